@@ -1,0 +1,164 @@
+//! What a text means: a filter, its callbacks and their statements.
+
+use crate::variable::{
+    Atom, ContextVariable, Expression, NumberVariable, OperationVariable, RemovedVariable,
+};
+use flt_rules::{Anchor, Existing, FinalStatus, LockKind, Operation};
+use sqlite_items::Items;
+
+/// A line and a column, each counted from 1.
+#[derive(Clone, Copy, Debug, PartialEq, Eq)]
+pub struct Position {
+    pub line: usize,
+    pub column: usize,
+}
+
+/// A callback status as it is written, with the completion context or the final status that it names.
+#[derive(Clone, Copy, Debug, PartialEq, Eq)]
+pub enum Status {
+    WithCallback(Option<ContextVariable>),
+    Synchronize(Option<ContextVariable>),
+    NoCallback,
+    Complete(FinalStatus),
+    Pending,
+    DisallowFastIo,
+    FinishedProcessing,
+    MoreProcessingRequired,
+}
+
+/// The name of a routine where a call uses it.
+#[derive(Debug, Drop)]
+pub struct Routine {
+    pub name: Items<u8>,
+    pub position: Position,
+}
+
+/// A call that can fail. It stands behind `if` alone, whose first block is taken where it succeeds.
+#[derive(Debug, Drop)]
+pub enum FallibleCall {
+    /// FltAllocateContext: the variable that receives the context.
+    AllocateContext(ContextVariable),
+    /// FltGetStreamContext, FltGetInstanceContext: the variable that receives the context.
+    GetContext(Anchor, ContextVariable),
+    /// FltSetStreamContext, FltSetInstanceContext: the context that is set, and the variable that receives the one
+    /// that was there.
+    SetContext(Anchor, Existing, ContextVariable, Option<ContextVariable>),
+    /// FltDeleteStreamContext, FltDeleteInstanceContext: the variable that receives the context that was there.
+    DeleteContextOf(Anchor, Option<ContextVariable>),
+    /// FltCbdqInsertIo of `data`, with the context that goes with it.
+    InsertIo(Option<ContextVariable>),
+    /// FltCbdqRemoveNextIo: the variables that receive the operation and its context.
+    RemoveNextIo(RemovedVariable, ContextVariable),
+    /// FltQueueDeferredIoWorkItem of `data`, with the context that goes with it.
+    QueueDeferredIoWorkItem(Routine, Option<ContextVariable>),
+    /// FltQueueGenericWorkItem, with the context that goes with it.
+    QueueGenericWorkItem(Routine, Option<ContextVariable>),
+}
+
+/// A call that always succeeds. Locks are named by their place among the filter's locks, from 0.
+#[derive(Clone, Copy, Debug, PartialEq, Eq)]
+pub enum PlainCall {
+    DeleteContext(ContextVariable),
+    /// FltReferenceContext of the first context, as the second.
+    ReferenceContext(ContextVariable, ContextVariable),
+    ReleaseContext(ContextVariable),
+    /// KeAcquireSpinLock, ExAcquireFastMutex, FltAcquirePushLockExclusive
+    AcquireLock(LockKind, usize),
+    /// KeReleaseSpinLock, ExReleaseFastMutex, FltReleasePushLock
+    ReleaseLock(LockKind, usize),
+    CompletePendedPreOperation(OperationVariable, Status),
+    /// FltCompletePendedPostOperation of `data`.
+    CompletePendedPostOperation,
+}
+
+/// What an `if` tests.
+#[derive(Debug, Drop)]
+pub enum Condition {
+    /// `c != NULL`
+    ContextIsSome(ContextVariable),
+    /// `o != NULL`
+    OperationIsSome(RemovedVariable),
+    /// `n == atom`
+    Equal(NumberVariable, Atom),
+    /// `n < atom`
+    Less(NumberVariable, Atom),
+    /// `irp data`
+    IsIrp,
+    /// `draining`
+    IsDraining,
+    /// Whether the call succeeds.
+    Succeeds(FallibleCall),
+}
+
+/// A statement without blocks.
+#[derive(Clone, Copy, Debug, PartialEq, Eq)]
+pub enum Action {
+    /// `n = atom`, `n = atom + atom`, `n = atom - atom`
+    SetNumber(NumberVariable, Expression),
+    /// `n = value c`
+    ReadValue(NumberVariable, ContextVariable),
+    /// `n = file d`
+    ReadFile(NumberVariable, OperationVariable),
+    /// `value c = atom`
+    WriteValue(ContextVariable, Atom),
+    /// `c = NULL`
+    ClearContext(ContextVariable),
+    /// `o = NULL`
+    ClearOperation(RemovedVariable),
+    Call(PlainCall),
+    /// `return`, with a status or without.
+    Return(Option<Status>),
+}
+
+/// A statement with the line of its first token, from 1.
+#[derive(Debug, Drop)]
+pub enum Statement {
+    Act(usize, Action),
+    /// The condition, what is done where it holds, and what is done otherwise. No `else` is an empty one.
+    If(usize, Condition, Items<Statement>, Items<Statement>),
+    /// The number of turns, and what is done in each.
+    Repeat(usize, u64, Items<Statement>),
+}
+
+/// What a callback is registered for. A routine has the name that work items use.
+#[derive(Debug, Drop)]
+pub enum Head {
+    Pre(Operation),
+    Post(Operation),
+    Canceled,
+    DeferredPre(Items<u8>),
+    DeferredPost(Items<u8>),
+    Generic(Items<u8>),
+}
+
+/// A callback.
+#[derive(Debug, Drop)]
+pub struct Callback {
+    pub head: Head,
+    /// Where its first head word stands.
+    pub position: Position,
+    pub body: Items<Statement>,
+    /// The line of the closing brace, from 1.
+    pub end_line: usize,
+}
+
+/// A declared lock.
+#[derive(Debug, Drop)]
+pub struct Lock {
+    pub kind: LockKind,
+    pub name: Items<u8>,
+}
+
+/// A filter as its text declares it.
+#[derive(Debug, Drop)]
+pub struct Filter {
+    pub name: Items<u8>,
+    /// From 1 to 4294967295. Filters see an operation from the highest altitude to the lowest.
+    pub altitude: u64,
+    /// In order of declaration, at most eight.
+    pub locks: Items<Lock>,
+    /// Where `queue` stands, if the filter has a cancel-safe queue.
+    pub queue: Option<Position>,
+    /// In order of the text, from 1 to 16.
+    pub callbacks: Items<Callback>,
+}

@@ -1,0 +1,15 @@
+//! The callback language: its trees, and how a text is read as one.
+#![tactic(auto)]
+
+mod filter;
+mod tree;
+mod variable;
+
+pub use filter::{
+    Action, Callback, Condition, FallibleCall, Filter, Head, Lock, PlainCall, Position, Routine,
+    Statement, Status,
+};
+pub use tree::Tree;
+pub use variable::{
+    Atom, ContextVariable, Expression, NumberVariable, OperationVariable, RemovedVariable,
+};
