@@ -25,6 +25,19 @@ pub enum LockKind {
     Push,
 }
 
+/// A lock, by its place among the locks that a filter declares, from `L0`.
+#[derive(Clone, Copy, Debug, PartialEq, Eq)]
+pub enum LockNumber {
+    L0,
+    L1,
+    L2,
+    L3,
+    L4,
+    L5,
+    L6,
+    L7,
+}
+
 /// Which operation a call names: the one that the callback was given, or one that it removed from the queue.
 #[derive(Clone, Copy, Debug, PartialEq, Eq)]
 pub enum Possessed {
@@ -76,4 +89,42 @@ pub fn is_legal_in_draining(call: Call) -> bool
         call,
         Call::ReleaseContext | Call::AcquireLock(LockKind::Spin) | Call::ReleaseLock(LockKind::Spin)
     )
+}
+
+impl LockNumber {
+    ghost use Rattle.std.specs.Prelude.{◌≡◌};
+    ghost use Rattle.flt_rules.specs.Call.{lock_at, place_of};
+
+    /// The lock at a place, from 0; none from 8 on.
+    pub fn at(place: usize) -> Option<LockNumber>
+        ensures { result ≡ lock_at place }
+    {
+        match place {
+            0 => Some(LockNumber::L0),
+            1 => Some(LockNumber::L1),
+            2 => Some(LockNumber::L2),
+            3 => Some(LockNumber::L3),
+            4 => Some(LockNumber::L4),
+            5 => Some(LockNumber::L5),
+            6 => Some(LockNumber::L6),
+            7 => Some(LockNumber::L7),
+            _ => None,
+        }
+    }
+
+    /// The place of the lock among the declared ones, from 0.
+    pub fn place(self) -> u8
+        ensures { result ≡ place_of self }
+    {
+        match self {
+            LockNumber::L0 => 0,
+            LockNumber::L1 => 1,
+            LockNumber::L2 => 2,
+            LockNumber::L3 => 3,
+            LockNumber::L4 => 4,
+            LockNumber::L5 => 5,
+            LockNumber::L6 => 6,
+            LockNumber::L7 => 7,
+        }
+    }
 }

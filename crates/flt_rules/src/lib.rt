@@ -10,7 +10,7 @@ mod rule;
 mod status;
 mod table;
 
-pub use call::{Anchor, Call, Existing, LockKind, Possessed, is_legal_in_draining};
+pub use call::{Anchor, Call, Existing, LockKind, LockNumber, Possessed, is_legal_in_draining};
 pub use columns::{Change, Effects, LockChange, LockNeed, Need, Needs, Places, Row};
 pub use place::{Level, Mode, Operation, Place, Stage, entry_level, raised_level};
 pub use rule::{Rule, number, text};
