@@ -10,6 +10,8 @@ use Rattle.flt_syntax.specs.declared.filter.Statement.TheFolds.{fold-Statement}
 -- each statement has one point
 abbrev pub points_step : Statement-F ℕ → ℕ
 points_step (Statement-F.Act line action) = 1
+points_step (Statement-F.Call line call) = 1
+points_step (Statement-F.Return line status) = 1
 points_step (Statement-F.If line condition granted refused) = 1 + (sum granted + sum refused)
 points_step (Statement-F.Repeat line turns body) = 1 + sum body
 
@@ -22,6 +24,8 @@ points body = sum (map points_of body)
 -- a simple statement costs 1, a choice 1 and its dearer branch, a repeat 1 and each turn its body and 1
 abbrev pub cost_step : Statement-F ℕ → ℕ
 cost_step (Statement-F.Act line action) = 1
+cost_step (Statement-F.Call line call) = 1
+cost_step (Statement-F.Return line status) = 1
 cost_step (Statement-F.If line condition granted refused) = 1 + max (sum granted) (sum refused)
 cost_step (Statement-F.Repeat line turns body) = 1 + turns * (1 + sum body)
 

@@ -3,7 +3,7 @@
 use crate::variable::{
     Atom, ContextVariable, Expression, NumberVariable, OperationVariable, RemovedVariable,
 };
-use flt_rules::{Anchor, Existing, FinalStatus, LockKind, Operation};
+use flt_rules::{Anchor, Existing, FinalStatus, LockKind, LockNumber, Operation};
 use sqlite_items::Items;
 
 /// A line and a column, each counted from 1.
@@ -55,7 +55,7 @@ pub enum FallibleCall {
     QueueGenericWorkItem(Routine, Option<ContextVariable>),
 }
 
-/// A call that always succeeds. Locks are named by their place among the filter's locks, from 0.
+/// A call that always succeeds.
 #[derive(Clone, Copy, Debug, PartialEq, Eq)]
 pub enum PlainCall {
     DeleteContext(ContextVariable),
@@ -63,17 +63,17 @@ pub enum PlainCall {
     ReferenceContext(ContextVariable, ContextVariable),
     ReleaseContext(ContextVariable),
     /// KeAcquireSpinLock, ExAcquireFastMutex, FltAcquirePushLockExclusive
-    AcquireLock(LockKind, usize),
+    AcquireLock(LockKind, LockNumber),
     /// KeReleaseSpinLock, ExReleaseFastMutex, FltReleasePushLock
-    ReleaseLock(LockKind, usize),
+    ReleaseLock(LockKind, LockNumber),
     CompletePendedPreOperation(OperationVariable, Status),
     /// FltCompletePendedPostOperation of `data`.
     CompletePendedPostOperation,
 }
 
-/// What an `if` tests.
-#[derive(Debug, Drop)]
-pub enum Condition {
+/// A test of the callback's own variables or of its operation.
+#[derive(Clone, Copy, Debug, PartialEq, Eq)]
+pub enum Test {
     /// `c != NULL`
     ContextIsSome(ContextVariable),
     /// `o != NULL`
@@ -86,11 +86,17 @@ pub enum Condition {
     IsIrp,
     /// `draining`
     IsDraining,
+}
+
+/// What an `if` asks.
+#[derive(Debug, Drop)]
+pub enum Condition {
+    Test(Test),
     /// Whether the call succeeds.
     Succeeds(FallibleCall),
 }
 
-/// A statement without blocks.
+/// A statement that neither calls nor branches.
 #[derive(Clone, Copy, Debug, PartialEq, Eq)]
 pub enum Action {
     /// `n = atom`, `n = atom + atom`, `n = atom - atom`
@@ -105,15 +111,15 @@ pub enum Action {
     ClearContext(ContextVariable),
     /// `o = NULL`
     ClearOperation(RemovedVariable),
-    Call(PlainCall),
-    /// `return`, with a status or without.
-    Return(Option<Status>),
 }
 
 /// A statement with the line of its first token, from 1.
 #[derive(Debug, Drop)]
 pub enum Statement {
     Act(usize, Action),
+    Call(usize, PlainCall),
+    /// `return`, with a status or without.
+    Return(usize, Option<Status>),
     /// The condition, what is done where it holds, and what is done otherwise. No `else` is an empty one.
     If(usize, Condition, Items<Statement>, Items<Statement>),
     /// The number of turns, and what is done in each.

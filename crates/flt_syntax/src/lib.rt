@@ -7,7 +7,7 @@ mod variable;
 
 pub use filter::{
     Action, Callback, Condition, FallibleCall, Filter, Head, Lock, PlainCall, Position, Routine,
-    Statement, Status,
+    Statement, Status, Test,
 };
 pub use tree::Tree;
 pub use variable::{
