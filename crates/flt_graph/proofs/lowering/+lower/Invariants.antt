@@ -1,0 +1,10 @@
+use Rattle.std.proofs.Common.{◌≡◌, ◌+◌, drop, length}
+use Rattle.flt_syntax.specs.Measures.{points}
+use Rattle.flt_graph.proofs.lowering.+lower.Given as goal
+
+abbrev pub invariant-add_block-loop-statement : goal.invariant-add_block-loop-statement
+invariant-add_block-loop-statement l =
+    record {
+      added : length l.found + points (drop l.statement-index l.block) ≡ length l.fn.found + points l.block;
+      left : l.left + l.statement-index ≡ length l.block;
+    }

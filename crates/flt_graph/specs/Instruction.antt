@@ -1,0 +1,70 @@
+-- Calls with their operands by what they are to the call. This project's own form of the call pages.
+use Rattle.std.specs.Prelude.{ℕ, Bool, true, false, List, Option, Some, None, position}
+use Rattle.std.specs.Str.{bytes_eq}
+use Rattle.flt_rules.specs.declared.call.Call.{Call}
+use Rattle.flt_rules.specs.declared.call.Call.TheVariants as call
+use Rattle.flt_rules.specs.declared.call.Possessed.{Possessed}
+use Rattle.flt_rules.specs.declared.call.Possessed.TheVariants.{Given, Removed}
+use Rattle.flt_syntax.specs.declared.filter.Callback.{Callback}
+use Rattle.flt_syntax.specs.declared.filter.FallibleCall.{FallibleCall}
+use Rattle.flt_syntax.specs.declared.filter.FallibleCall.TheVariants as fallible_call
+use Rattle.flt_syntax.specs.declared.filter.Head.{Head}
+use Rattle.flt_syntax.specs.declared.filter.Head.TheVariants as head
+use Rattle.flt_syntax.specs.declared.filter.PlainCall.{PlainCall}
+use Rattle.flt_syntax.specs.declared.filter.PlainCall.TheVariants as plain_call
+use Rattle.flt_syntax.specs.declared.filter.Routine.{Routine}
+use Rattle.flt_syntax.specs.declared.filter.Status.{Status}
+use Rattle.flt_syntax.specs.declared.filter.Status.TheVariants as status
+use Rattle.flt_syntax.specs.declared.variable.ContextVariable.{ContextVariable}
+use Rattle.flt_syntax.specs.declared.variable.OperationVariable.{OperationVariable}
+use Rattle.flt_syntax.specs.declared.variable.OperationVariable.TheVariants as operation
+use Rattle.flt_graph.specs.declared.instruction.Invocation.{Invocation}
+
+-- an invocation that names no operand
+abbrev pub bare : Call → Invocation
+bare c = record { call = c; context = None; output = None; operation = None; status = None; lock = None; routine = None }
+
+-- the completion context that a status names
+abbrev pub context_of : Status → Option ContextVariable
+context_of (status.WithCallback c) = c
+context_of (status.Synchronize c) = c
+context_of _ = None
+
+abbrev pub possessed : OperationVariable → Possessed
+possessed operation.Data = Given
+possessed (operation.Removed o) = Removed
+
+abbrev pub plain : PlainCall → Invocation
+plain (plain_call.DeleteContext c) = record (bare call.DeleteContext) { context = Some c }
+plain (plain_call.ReferenceContext c d) = record (bare call.ReferenceContext) { context = Some c; output = Some d }
+plain (plain_call.ReleaseContext c) = record (bare call.ReleaseContext) { context = Some c }
+plain (plain_call.AcquireLock k l) = record (bare (call.AcquireLock k)) { lock = Some l }
+plain (plain_call.ReleaseLock k l) = record (bare (call.ReleaseLock k)) { lock = Some l }
+plain (plain_call.CompletePendedPreOperation d st) =
+    record (bare (call.CompletePendedPreOperation (possessed d))) { operation = Some d; context = context_of st; status = Some st }
+plain plain_call.CompletePendedPostOperation = record (bare call.CompletePendedPostOperation) { operation = Some operation.Data }
+
+-- whether a head is that of the routine of a name
+abbrev pub is_named : List ℕ → Head → Bool
+is_named name (head.DeferredPre own) = bytes_eq own name
+is_named name (head.DeferredPost own) = bytes_eq own name
+is_named name (head.Generic own) = bytes_eq own name
+is_named name _ = false
+
+-- the callback that is the routine of a name, from 0
+abbrev pub routine_at : List Callback → Routine → Option ℕ
+routine_at callbacks r = position (λ c. is_named r.name c.head) callbacks
+
+abbrev pub fallible : List Callback → FallibleCall → Invocation
+fallible cs (fallible_call.AllocateContext d) = record (bare call.AllocateContext) { output = Some d }
+fallible cs (fallible_call.GetContext a d) = record (bare (call.GetContext a)) { output = Some d; operation = Some operation.Data }
+fallible cs (fallible_call.SetContext a e c d) =
+    record (bare (call.SetContext a e)) { context = Some c; output = d; operation = Some operation.Data }
+fallible cs (fallible_call.DeleteContextOf a d) = record (bare (call.DeleteContextOf a)) { output = d; operation = Some operation.Data }
+fallible cs (fallible_call.InsertIo c) = record (bare call.InsertIo) { context = c; operation = Some operation.Data }
+fallible cs (fallible_call.RemoveNextIo o d) =
+    record (bare call.RemoveNextIo) { operation = Some (operation.Removed o); output = Some d }
+fallible cs (fallible_call.QueueDeferredIoWorkItem r c) =
+    record (bare call.QueueDeferredIoWorkItem) { context = c; operation = Some operation.Data; routine = routine_at cs r }
+fallible cs (fallible_call.QueueGenericWorkItem r c) =
+    record (bare call.QueueGenericWorkItem) { context = c; routine = routine_at cs r }

@@ -1,0 +1,185 @@
+//! What is done at a point.
+
+ghost use Rattle.std.specs.Prelude.{◌≡◌};
+ghost use Rattle.flt_graph.specs.Instruction as spec;
+
+use flt_rules::{Call, LockNumber, Possessed};
+use flt_syntax::{
+    Action, Callback, ContextVariable, FallibleCall, Head, OperationVariable, PlainCall,
+    RemovedVariable, Routine, Status, Test,
+};
+
+/// A call with its operands by what they are to it.
+#[derive(Clone, Copy, Debug)]
+pub struct Invocation {
+    pub call: Call,
+    /// The context that it works on or hands over.
+    pub context: Option<ContextVariable>,
+    /// The variable that receives a context.
+    pub output: Option<ContextVariable>,
+    /// The operation that it works on, or the variable that receives one.
+    pub operation: Option<OperationVariable>,
+    pub status: Option<Status>,
+    pub lock: Option<LockNumber>,
+    /// The callback that a work item starts, from 0.
+    pub routine: Option<usize>,
+}
+
+/// What is done at a point, with the points that follow it, from 0.
+#[derive(Clone, Copy, Debug)]
+pub enum Instruction {
+    /// A statement that neither calls nor branches, and the next point.
+    Act(Action, usize),
+    /// A call, the point where it succeeds and the point where it fails. They are the same for a call that always
+    /// succeeds.
+    Call(Invocation, usize, usize),
+    /// A test, the point where it holds and the point where it doesn't.
+    Test(Test, usize, usize),
+    /// The number of turns, the point of the body and the point behind.
+    Repeat(u64, usize, usize),
+    Return(Option<Status>),
+    /// The end of the body.
+    End,
+}
+
+/// An invocation of a call that names no operand.
+fn bare(call: Call) -> Invocation
+    ensures { result ≡ spec.bare call }
+{
+    Invocation {
+        call,
+        context: None,
+        output: None,
+        operation: None,
+        status: None,
+        lock: None,
+        routine: None,
+    }
+}
+
+/// The context that a status names.
+pub fn context_of(status: Status) -> Option<ContextVariable>
+    ensures { result ≡ spec.context_of status }
+{
+    match status {
+        Status::WithCallback(context) | Status::Synchronize(context) => context,
+        _ => None,
+    }
+}
+
+fn possessed(operation: OperationVariable) -> Possessed
+    ensures { result ≡ spec.possessed operation }
+{
+    match operation {
+        OperationVariable::Data => Possessed::Given,
+        OperationVariable::Removed(_) => Possessed::Removed,
+    }
+}
+
+/// A plain call with its operands by role.
+pub fn plain(call: PlainCall) -> Invocation
+    ensures { result ≡ spec.plain call }
+{
+    match call {
+        PlainCall::DeleteContext(context) => Invocation {
+            context: Some(context),
+            ..bare(Call::DeleteContext)
+        },
+        PlainCall::ReferenceContext(context, output) => Invocation {
+            context: Some(context),
+            output: Some(output),
+            ..bare(Call::ReferenceContext)
+        },
+        PlainCall::ReleaseContext(context) => Invocation {
+            context: Some(context),
+            ..bare(Call::ReleaseContext)
+        },
+        PlainCall::AcquireLock(kind, lock) => Invocation {
+            lock: Some(lock),
+            ..bare(Call::AcquireLock(kind))
+        },
+        PlainCall::ReleaseLock(kind, lock) => Invocation {
+            lock: Some(lock),
+            ..bare(Call::ReleaseLock(kind))
+        },
+        PlainCall::CompletePendedPreOperation(operation, status) => Invocation {
+            operation: Some(operation),
+            context: context_of(status),
+            status: Some(status),
+            ..bare(Call::CompletePendedPreOperation(possessed(operation)))
+        },
+        PlainCall::CompletePendedPostOperation => Invocation {
+            operation: Some(OperationVariable::Data),
+            ..bare(Call::CompletePendedPostOperation)
+        },
+    }
+}
+
+fn is_named(head: &Head, name: &[u8]) -> bool
+    ensures { result ≡ spec.is_named name.now head.now }
+{
+    match head {
+        Head::DeferredPre(own) | Head::DeferredPost(own) | Head::Generic(own) => {
+            own.as_slice() == name
+        }
+        _ => false,
+    }
+}
+
+/// The callback that is the routine of a name, from 0.
+fn routine_at(callbacks: &[Callback], routine: &Routine) -> Option<usize>
+    ensures { result ≡ spec.routine_at callbacks.now routine.now }
+{
+    callbacks
+        .iter()
+        .position(|c| is_named(&c.head, routine.name.as_slice()))
+}
+
+/// A call that can fail, with its operands by role.
+pub fn fallible(callbacks: &[Callback], call: &FallibleCall) -> Invocation
+    ensures { result ≡ spec.fallible callbacks.now call.now }
+{
+    match call {
+        FallibleCall::AllocateContext(output) => Invocation {
+            output: Some(*output),
+            ..bare(Call::AllocateContext)
+        },
+        FallibleCall::GetContext(anchor, output) => Invocation {
+            output: Some(*output),
+            operation: Some(OperationVariable::Data),
+            ..bare(Call::GetContext(*anchor))
+        },
+        FallibleCall::SetContext(anchor, existing, context, output) => Invocation {
+            context: Some(*context),
+            output: *output,
+            operation: Some(OperationVariable::Data),
+            ..bare(Call::SetContext(*anchor, *existing))
+        },
+        FallibleCall::DeleteContextOf(anchor, output) => Invocation {
+            output: *output,
+            operation: Some(OperationVariable::Data),
+            ..bare(Call::DeleteContextOf(*anchor))
+        },
+        FallibleCall::InsertIo(context) => Invocation {
+            context: *context,
+            operation: Some(OperationVariable::Data),
+            ..bare(Call::InsertIo)
+        },
+        FallibleCall::RemoveNextIo(operation, output) => Invocation {
+            operation: Some(OperationVariable::Removed(*operation)),
+            output: Some(*output),
+            ..bare(Call::RemoveNextIo)
+        },
+        FallibleCall::QueueDeferredIoWorkItem(routine, context) => Invocation {
+            context: *context,
+            operation: Some(OperationVariable::Data),
+            routine: routine_at(callbacks, routine),
+            ..bare(Call::QueueDeferredIoWorkItem)
+        },
+        FallibleCall::QueueGenericWorkItem(routine, context) => Invocation {
+            context: *context,
+            routine: routine_at(callbacks, routine),
+            ..bare(Call::QueueGenericWorkItem)
+        },
+    }
+}

@@ -1,0 +1,14 @@
+//! Points: the statements of each callback by number, each with its successors.
+#![tactic(auto)]
+
+mod graph;
+mod instruction;
+mod lowering;
+
+pub use flt_rules::{Call, LockKind, LockNumber, Operation, Place};
+pub use flt_syntax::{
+    Action, ContextVariable, NumberVariable, OperationVariable, RemovedVariable, Status, Test, Tree,
+};
+pub use graph::{CallbackGraph, Graph, Point};
+pub use instruction::{Instruction, Invocation};
+pub use lowering::lower;

@@ -1,0 +1,191 @@
+//! From a tree to its points.
+
+ghost use Rattle.std.specs.Prelude.{◌≡◌, ◌≤◌, ◌+◌, length, map, IsTrue, OnOk, IfOk};
+ghost use Rattle.flt_syntax.specs.Measures.{points_of, points, max_points, is_small};
+ghost use Rattle.flt_graph.specs.Lowering as spec;
+
+use crate::graph::{CallbackGraph, Graph, Point};
+use crate::instruction::{Instruction, fallible, plain};
+use flt_rules::Place;
+use flt_syntax::{Callback, Condition, Head, Statement, Tree};
+use sqlite_items::Items;
+use std::alloc::{AllocError, Global};
+
+/// How many points a body has.
+#[cycle(size)]
+fn total(body: &[Statement]) -> usize
+    requires { points body.now ≤ max_points }
+    ensures { result ≡ points body.now }
+{
+    let mut sum = 0;
+    for statement in body {
+        sum += size(statement);
+    }
+    sum
+}
+
+/// How many points a statement has.
+#[cycle(size)]
+fn size(statement: &Statement) -> usize
+    requires { points_of statement.now ≤ max_points }
+    ensures { result ≡ points_of statement.now }
+{
+    match statement {
+        Statement::If(_, _, granted, refused) => {
+            1 + total(granted.as_slice()) + total(refused.as_slice())
+        }
+        Statement::Repeat(_, _, body) => 1 + total(body.as_slice()),
+        _ => 1,
+    }
+}
+
+/// Where a block begins: at its first statement, or where what follows it stands.
+fn entry(block: &[Statement], at: usize, after: usize) -> usize
+    ensures { result ≡ spec.entry block.now at after }
+{
+    if block.is_empty() { after } else { at }
+}
+
+/// What is done at the point of a statement, where it stands at a point and the next one at another.
+fn instruction(
+    callbacks: &[Callback],
+    statement: &Statement,
+    at: usize,
+    after: usize,
+) -> Instruction
+    requires { at + points_of statement.now ≤ max_points }
+{
+    match statement {
+        Statement::Act(_, action) => Instruction::Act(*action, after),
+        Statement::Call(_, call) => Instruction::Call(plain(*call), after, after),
+        Statement::Return(_, status) => Instruction::Return(*status),
+        Statement::If(_, condition, granted, refused) => {
+            let second = at + 1 + total(granted.as_slice());
+            let yes = entry(granted.as_slice(), at + 1, after);
+            let no = entry(refused.as_slice(), second, after);
+            match condition {
+                Condition::Test(test) => Instruction::Test(*test, yes, no),
+                Condition::Succeeds(call) => Instruction::Call(fallible(callbacks, call), yes, no),
+            }
+        }
+        Statement::Repeat(_, turns, body) => {
+            Instruction::Repeat(*turns, entry(body.as_slice(), at + 1, at), after)
+        }
+    }
+}
+
+/// The line of a statement's first token.
+fn line(statement: &Statement) -> usize {
+    match statement {
+        Statement::Act(line, _)
+        | Statement::Call(line, _)
+        | Statement::Return(line, _)
+        | Statement::If(line, _, _, _)
+        | Statement::Repeat(line, _, _) => *line,
+    }
+}
+
+/// Adds the points of a block, which ends where the point `after` stands.
+#[cycle(lower)]
+fn add_block(
+    callbacks: &[Callback],
+    found: &mut Items<Point>,
+    block: &[Statement],
+    after: usize,
+) -> Result<(), AllocError>
+    requires { length found.old + points block.now ≤ max_points }
+    ensures { OnOk result (length found.new ≡ length found.old + points block.now) }
+{
+    let mut left = block.len();
+    for statement in block {
+        left -= 1;
+        let next = if left == 0 {
+            after
+        } else {
+            found.len() + size(statement)
+        };
+        add_statement(callbacks, found, statement, next)?;
+    }
+    Ok(())
+}
+
+/// Adds the points of a statement, behind which the point `after` stands.
+#[cycle(lower)]
+fn add_statement(
+    callbacks: &[Callback],
+    found: &mut Items<Point>,
+    statement: &Statement,
+    after: usize,
+) -> Result<(), AllocError>
+    requires { length found.old + points_of statement.now ≤ max_points }
+    ensures { OnOk result (length found.new ≡ length found.old + points_of statement.now) }
+{
+    let at = found.len();
+    found.push(Point {
+        line: line(statement),
+        instruction: instruction(callbacks, statement, at, after),
+    })?;
+    match statement {
+        Statement::If(_, _, granted, refused) => {
+            add_block(callbacks, found, granted.as_slice(), after)?;
+            add_block(callbacks, found, refused.as_slice(), after)
+        }
+        Statement::Repeat(_, _, body) => add_block(callbacks, found, body.as_slice(), at),
+        _ => Ok(()),
+    }
+}
+
+fn place(head: &Head) -> Place
+    ensures { result ≡ spec.place_of head.now }
+{
+    match head {
+        Head::Pre(operation) => Place::Pre(*operation),
+        Head::Post(operation) => Place::Post(*operation),
+        Head::Canceled => Place::Canceled,
+        Head::DeferredPre(_) => Place::DeferredPre,
+        Head::DeferredPost(_) => Place::DeferredPost,
+        Head::Generic(_) => Place::Generic,
+    }
+}
+
+/// The points of a callback, the last of which is its end.
+fn callback_graph(
+    alloc: Global,
+    callbacks: &[Callback],
+    callback: &Callback,
+) -> Result<CallbackGraph, AllocError>
+    requires { IsTrue (is_small callback.now) }
+    ensures { IfOk result (λ g. spec.IsGraphOf callback.now g) }
+{
+    let mut found = Items::new(alloc);
+    let body = callback.body.as_slice();
+    add_block(callbacks, &mut found, body, total(body))?;
+    found.push(Point {
+        line: callback.end_line,
+        instruction: Instruction::End,
+    })?;
+    Ok(CallbackGraph {
+        place: place(&callback.head),
+        points: found,
+    })
+}
+
+/// The points of a tree.
+#[tactic(auto, using(crate::proofs::Lowerings::graphs_more))]
+pub fn lower(alloc: Global, tree: &Tree) -> Result<Graph, AllocError>
+    ensures { IfOk result (λ g. spec.IsLowered tree.now.filter g) }
+{
+    let mut locks = Items::new(alloc);
+    for lock in tree.filter.locks.as_slice() {
+        locks.push(lock.kind)?;
+    }
+    let callbacks = tree.filter.callbacks.as_slice();
+    let mut graphs = Items::new(alloc);
+    for callback in callbacks {
+        graphs.push(callback_graph(alloc, callbacks, callback)?)?;
+    }
+    Ok(Graph {
+        locks,
+        callbacks: graphs,
+    })
+}
