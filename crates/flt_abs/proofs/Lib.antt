@@ -1,0 +1,3 @@
+pub mod LockLaws
+pub mod Order
+pub mod SetLemmas

@@ -1,0 +1,4 @@
+pub mod Locks
+pub mod SetLaws
+pub mod Sets
+pub mod State

@@ -1,0 +1,192 @@
+//! Abstract states, their order and their join.
+
+ghost use Rattle.std.specs.List.{list_all};
+ghost use Rattle.flt_abs.specs.Sets.{is_possible};
+ghost use Rattle.std.specs.Prelude.{◌≡◌, ◌↔◌, length, IsTrue, IsOk, IfOk, IsSome, IfSome};
+ghost use Rattle.flt_abs.specs.State as spec;
+
+use crate::locks::LockList;
+use crate::sets::{Draining, Modes, Statuses};
+use std::marker::Model;
+
+/// How many variables of contexts a callback has: `c0` to `c7`, then `arg`.
+pub const CONTEXTS: usize = 9;
+
+/// How many variables of operations a callback has: `o0` to `o3`, then `data`.
+pub const OPERATIONS: usize = 5;
+
+/// What may be so at a point of a callback: a status of each variable, the mode of its operation, whether
+/// draining is set, and the locks that it holds. No set is empty, so it means some situation.
+#[derive(Debug, Drop)]
+pub struct Abs {
+    contexts: [Statuses; CONTEXTS],
+    operations: [Statuses; OPERATIONS],
+    modes: Modes,
+    draining: Draining,
+    locks: LockList,
+}
+
+impl Model for Abs {
+    ghost use Rattle.std.specs.Prelude.{IsTrue};
+    ghost use Rattle.flt_abs.specs.State.{State, state_of, is_proper};
+
+    ghost Value = { State };
+
+    ghost view = { λ a. state_of a.contexts a.operations a.modes a.draining a.locks };
+
+    ghost invariant = { λ a. IsTrue (is_proper (state_of a.contexts a.operations a.modes a.draining a.locks)) };
+}
+
+impl Abs {
+    /// The state with these sets and locks; none where a set is empty.
+    pub fn new(
+        contexts: [Statuses; CONTEXTS],
+        operations: [Statuses; OPERATIONS],
+        modes: Modes,
+        draining: Draining,
+        locks: LockList,
+    ) -> Option<Abs>
+        ensures known { IsSome result ↔ IsTrue (spec.is_proper (spec.state_of contexts operations modes draining locks)) }
+        ensures value { IfSome result (λ a. a ≡ spec.state_of contexts operations modes draining locks) }
+    {
+        let _places = locks.as_slice();
+        let sets_possible = are_possible(&contexts) && are_possible(&operations);
+        if !(sets_possible && modes.is_possible() && draining.is_possible()) {
+            return None;
+        }
+        Some(Abs {
+            contexts,
+            operations,
+            modes,
+            draining,
+            locks,
+        })
+    }
+
+    /// What may be so of `c0` to `c7` and `arg`.
+    pub fn contexts(&self) -> &[Statuses]
+        ensures value { result.now ≡ self.now.contexts }
+        ensures proper { IsTrue (spec.is_proper self.now) }
+    {
+        &self.contexts
+    }
+
+    /// What may be so of `o0` to `o3` and `data`.
+    pub fn operations(&self) -> &[Statuses]
+        ensures value { result.now ≡ self.now.operations }
+        ensures proper { IsTrue (spec.is_proper self.now) }
+    {
+        &self.operations
+    }
+
+    pub fn modes(&self) -> Modes
+        ensures { result ≡ self.now.modes }
+    {
+        self.modes
+    }
+
+    pub fn draining(&self) -> Draining
+        ensures { result ≡ self.now.draining }
+    {
+        self.draining
+    }
+
+    pub fn locks(&self) -> &LockList
+        ensures { result.now ≡ self.now.locks }
+    {
+        &self.locks
+    }
+
+    /// The same state.
+    pub fn copied(&self) -> Abs
+        ensures { result ≡ self.now }
+    {
+        Abs {
+            contexts: self.contexts,
+            operations: self.operations,
+            modes: self.modes,
+            draining: self.draining,
+            locks: self.locks.copied(),
+        }
+    }
+}
+
+fn are_possible(sets: &[Statuses]) -> bool
+    ensures { result ≡ list_all is_possible sets.now }
+{
+    sets.iter().all(|set| set.is_possible())
+}
+
+/// The lock lists of two states are not the same, so they have no join.
+#[derive(Clone, Copy, Debug, PartialEq, Eq)]
+pub struct LocksDiffer;
+
+#[tactic(auto, using(crate::proofs::Order::more_not_within))]
+fn all_within(a: &[Statuses], b: &[Statuses]) -> bool
+    ensures { result ≡ spec.all_within a.now b.now }
+{
+    match (a, b) {
+        ([], []) => true,
+        ([], [_, ..]) | ([_, ..], []) => false,
+        ([x, a @ ..], [y, b @ ..]) => x.is_within(*y) && all_within(a, b),
+    }
+}
+
+fn is_below(a: &Abs, b: &Abs) -> bool
+    ensures { result ≡ spec.is_below a.now b.now }
+{
+    let locks = a.locks.is_same(&b.locks);
+    let modes = a.modes.is_within(b.modes);
+    let draining = a.draining.is_within(b.draining);
+    let contexts = all_within(&a.contexts, &b.contexts);
+    let operations = all_within(&a.operations, &b.operations);
+    locks && modes && draining && contexts && operations
+}
+
+/// Whether each situation of the first state is one of the second, and both hold the same locks.
+pub fn leq(a: &Abs, b: &Abs) -> bool
+    ensures value { result ≡ spec.is_below a.now b.now }
+    ensures meaning { IsTrue result ↔ spec.IsBelow a.now b.now }
+{
+    let _sets = a.contexts();
+    is_below(a, b)
+}
+
+fn unite(into: &mut [Statuses], other: &[Statuses])
+    requires { length into.old ≡ length other.now }
+    ensures { into.new ≡ spec.either_all into.old other.now }
+{
+    for index in 0..into.len() {
+        into[index] = into[index].union(other[index]);
+    }
+}
+
+/// The state of the situations of both, each set the union of theirs.
+pub fn join(a: &Abs, b: &Abs) -> Result<Abs, LocksDiffer>
+    ensures known { IsOk result ↔ (a.now.locks ≡ b.now.locks) }
+    ensures value { IfOk result (λ c. c ≡ spec.join_of a.now b.now) }
+    ensures meaning { IfOk result (λ c. spec.IsJoin a.now b.now c) }
+{
+    if !a.locks.is_same(&b.locks) {
+        return Err(LocksDiffer);
+    }
+    let mut contexts = a.contexts;
+    unite(&mut contexts, &b.contexts);
+    let mut operations = a.operations;
+    unite(&mut operations, &b.operations);
+    Ok(Abs {
+        contexts,
+        operations,
+        modes: a.modes.union(b.modes),
+        draining: a.draining.union(b.draining),
+        locks: a.locks.copied(),
+    })
+}
+
+/// The order of states is a partial order, also as it is computed.
+#[tactic(auto, using(crate::proofs::Order::below_same))]
+pub fn is_partial_order()
+    ensures reflexive { (a : spec.State) → spec.IsBelow a a }
+    ensures transitive { (a b c : spec.State) → spec.IsBelow a b → spec.IsBelow b c → spec.IsBelow a c }
+    ensures antisymmetric { (a b : spec.State) → IsTrue (spec.is_below a b) → IsTrue (spec.is_below b a) → a ≡ b }
+{}
