@@ -1,3 +1,4 @@
 pub mod LockLaws
 pub mod Order
 pub mod SetLemmas
+pub mod Stays

@@ -74,6 +74,12 @@ abbrev pub mode_bits : ModeSet → ℕ
 mode_bits s = bit_of s.irp 1 + bit_of s.fast 2
 
 -- the union of two sets
+abbrev pub irp_alone : ModeSet
+irp_alone = record { irp = true; fast = false }
+
+abbrev pub fast_alone : ModeSet
+fast_alone = record { irp = false; fast = true }
+
 abbrev pub either_mode : ModeSet → ModeSet → ModeSet
 either_mode a b = record { irp = a.irp || b.irp; fast = a.fast || b.fast }
 
@@ -101,6 +107,12 @@ abbrev pub draining_bits : DrainingSet → ℕ
 draining_bits s = bit_of s.no 1 + bit_of s.yes 2
 
 -- the union of two sets
+abbrev pub no_alone : DrainingSet
+no_alone = record { no = true; yes = false }
+
+abbrev pub yes_alone : DrainingSet
+yes_alone = record { no = false; yes = true }
+
 abbrev pub either_draining : DrainingSet → DrainingSet → DrainingSet
 either_draining a b = record { no = a.no || b.no; yes = a.yes || b.yes }
 

@@ -1,10 +1,16 @@
 //! Abstract states: what may be so at a point of a callback, their order and their join.
 #![tactic(auto)]
 
+mod breaks;
 mod locks;
 mod sets;
+mod setting;
 mod state;
+mod step;
+mod variables;
 
 pub use locks::LockList;
 pub use sets::{Draining, DrainingBits, ModeBits, Modes, StatusBits, Statuses};
+pub use setting::Setting;
 pub use state::{Abs, CONTEXTS, LocksDiffer, OPERATIONS, is_partial_order, join, leq};
+pub use step::{Successor, Successors, transfer};

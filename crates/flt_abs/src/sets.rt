@@ -67,6 +67,56 @@ impl Statuses {
     ghost use Rattle.std.specs.Prelude.{◌≡◌, ◌<◌, IsSome, IfSome, ◌↔◌};
     ghost use Rattle.flt_abs.specs.Sets as spec;
 
+    /// NULL alone.
+    pub fn null() -> Statuses
+        ensures { result ≡ spec.null_alone }
+    {
+        Statuses {
+            bits: StatusBits::NULL,
+        }
+    }
+
+    /// Held alone.
+    pub fn held() -> Statuses
+        ensures { result ≡ spec.held_alone }
+    {
+        Statuses {
+            bits: StatusBits::HELD,
+        }
+    }
+
+    /// Stale alone.
+    pub fn stale() -> Statuses
+        ensures { result ≡ spec.stale_alone }
+    {
+        Statuses {
+            bits: StatusBits::STALE,
+        }
+    }
+
+    /// NULL or held.
+    pub fn null_or_held() -> Statuses
+        ensures { result ≡ spec.null_or_held }
+    {
+        Statuses {
+            bits: StatusBits(3),
+        }
+    }
+
+    /// Whether the variable is surely held.
+    pub fn is_held(self) -> bool
+        ensures { result ≡ spec.is_held self }
+    {
+        self.has_held() && !self.has_null() && !self.has_stale()
+    }
+
+    /// Whether the variable was surely released or handed over.
+    pub fn is_stale(self) -> bool
+        ensures { result ≡ spec.is_stale self }
+    {
+        self.has_stale() && !self.has_null() && !self.has_held()
+    }
+
     /// The set of a certificate's digit, the sum of NULL 1, held 2 and stale 4. 0 is the empty set.
     pub fn from_digit(digit: u8) -> Option<Statuses>
         ensures known { IsSome result ↔ (digit < 8) }
@@ -205,6 +255,24 @@ impl Modes {
     ghost use Rattle.std.specs.Prelude.{◌≡◌, ◌<◌, IsSome, IfSome, ◌↔◌};
     ghost use Rattle.flt_abs.specs.Sets as spec;
 
+    /// Irp alone.
+    pub fn irp() -> Modes
+        ensures { result ≡ spec.irp_alone }
+    {
+        Modes {
+            bits: ModeBits::IRP,
+        }
+    }
+
+    /// Fast alone.
+    pub fn fast() -> Modes
+        ensures { result ≡ spec.fast_alone }
+    {
+        Modes {
+            bits: ModeBits::FAST,
+        }
+    }
+
     /// The set of a certificate's digit: 1 for irp, 2 for fast, and 3 for both. 0 is the empty set.
     pub fn from_digit(digit: u8) -> Option<Modes>
         ensures known { IsSome result ↔ (digit < 4) }
@@ -326,6 +394,24 @@ impl Model for Draining {
 impl Draining {
     ghost use Rattle.std.specs.Prelude.{◌≡◌, ◌<◌, IsSome, IfSome, ◌↔◌};
     ghost use Rattle.flt_abs.specs.Sets as spec;
+
+    /// Surely not set.
+    pub fn no() -> Draining
+        ensures { result ≡ spec.no_alone }
+    {
+        Draining {
+            bits: DrainingBits::NO,
+        }
+    }
+
+    /// Surely set.
+    pub fn yes() -> Draining
+        ensures { result ≡ spec.yes_alone }
+    {
+        Draining {
+            bits: DrainingBits::YES,
+        }
+    }
 
     /// The set of a certificate's digit: 1 for no, 2 for yes, and 3 for both. 0 is the empty set.
     pub fn from_digit(digit: u8) -> Option<Draining>

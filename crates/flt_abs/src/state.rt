@@ -19,11 +19,11 @@ pub const OPERATIONS: usize = 5;
 /// draining is set, and the locks that it holds. No set is empty, so it means some situation.
 #[derive(Debug, Drop)]
 pub struct Abs {
-    contexts: [Statuses; CONTEXTS],
-    operations: [Statuses; OPERATIONS],
-    modes: Modes,
-    draining: Draining,
-    locks: LockList,
+    pub(crate) contexts: [Statuses; CONTEXTS],
+    pub(crate) operations: [Statuses; OPERATIONS],
+    pub(crate) modes: Modes,
+    pub(crate) draining: Draining,
+    pub(crate) locks: LockList,
 }
 
 impl Model for Abs {

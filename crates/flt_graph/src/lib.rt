@@ -10,5 +10,5 @@ pub use flt_syntax::{
     Action, ContextVariable, NumberVariable, OperationVariable, RemovedVariable, Status, Test, Tree,
 };
 pub use graph::{CallbackGraph, Graph, Point};
-pub use instruction::{Instruction, Invocation};
+pub use instruction::{Instruction, Invocation, context_of};
 pub use lowering::lower;

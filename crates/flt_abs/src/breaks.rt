@@ -1,0 +1,377 @@
+//! Which rules an instruction breaks in a state. Several can be broken at once; the least is told.
+
+ghost use Rattle.std.specs.Prelude.{◌≡◌};
+ghost use Rattle.flt_abs.specs.Breaks as spec;
+
+use crate::sets::{Modes, Statuses};
+use crate::setting::Setting;
+use crate::state::Abs;
+use crate::variables::context_place;
+use flt_graph::{
+    Action, ContextVariable, Instruction, Invocation, LockNumber, OperationVariable, Place, Status,
+    Test, context_of,
+};
+use flt_rules::{
+    FinalStatus, LockNeed, Mode, Need, Operation, Possession, Rule, Stage, StatusRow, StatusWord,
+    is_legal_in_draining, row, status_row,
+};
+
+/// Whether a context is named that isn't surely held.
+fn lacks_context(state: &Abs, variable: Option<ContextVariable>) -> bool
+    ensures { result ≡ spec.lacks_context state.now variable }
+{
+    match variable {
+        Some(variable) => !state.context(variable).is_held(),
+        None => false,
+    }
+}
+
+/// Whether an operation is named that isn't surely held.
+fn lacks_operation(state: &Abs, variable: Option<OperationVariable>) -> bool
+    ensures { result ≡ spec.lacks_operation state.now variable }
+{
+    match variable {
+        Some(variable) => !state.operation(variable).is_held(),
+        None => false,
+    }
+}
+
+/// Whether a variable of contexts is named that may be held.
+fn may_hold_context(state: &Abs, variable: Option<ContextVariable>) -> bool
+    ensures { result ≡ spec.may_hold_context state.now variable }
+{
+    match variable {
+        Some(variable) => state.context(variable).has_held(),
+        None => false,
+    }
+}
+
+/// Whether a variable of operations is named that may be held.
+fn may_hold_operation(state: &Abs, variable: Option<OperationVariable>) -> bool
+    ensures { result ≡ spec.may_hold_operation state.now variable }
+{
+    match variable {
+        Some(variable) => state.operation(variable).has_held(),
+        None => false,
+    }
+}
+
+/// Whether the operation is surely of a mode.
+fn is_mode_alone(modes: Modes, mode: Mode) -> bool
+    ensures { result ≡ spec.is_mode_alone modes mode }
+{
+    match mode {
+        Mode::Irp => modes.has_irp() && !modes.has_fast(),
+        Mode::Fast => modes.has_fast() && !modes.has_irp(),
+    }
+}
+
+/// Whether a statement that neither calls nor branches breaks a rule.
+pub(crate) fn action_breaks(state: &Abs, action: Action, rule: Rule) -> bool
+    ensures { result ≡ spec.action_breaks state.now action rule }
+{
+    match (action, rule) {
+        (Action::ReadValue(_, c) | Action::WriteValue(c, _), Rule::R01) => {
+            lacks_context(state, Some(c))
+        }
+        (Action::ClearContext(c), Rule::R03) => may_hold_context(state, Some(c)),
+        (Action::ClearOperation(o), Rule::R03) => {
+            may_hold_operation(state, Some(OperationVariable::Removed(o)))
+        }
+        (Action::ReadFile(_, d), Rule::R04) => lacks_operation(state, Some(d)),
+        _ => false,
+    }
+}
+
+/// Whether a test breaks a rule.
+pub(crate) fn test_breaks(setting: &Setting, state: &Abs, test: Test, rule: Rule) -> bool
+    ensures { result ≡ spec.test_breaks setting.now state.now test rule }
+{
+    match (test, rule) {
+        (Test::IsIrp, Rule::R04) => lacks_operation(state, Some(OperationVariable::Data)),
+        (Test::IsDraining, Rule::R08) => !matches!(setting.place, Place::Post(_)),
+        _ => false,
+    }
+}
+
+/// The word of a status.
+pub(crate) fn word_of(status: Status) -> StatusWord
+    ensures { result ≡ spec.word_of status }
+{
+    match status {
+        Status::WithCallback(_) => StatusWord::WithCallback,
+        Status::Synchronize(_) => StatusWord::Synchronize,
+        Status::NoCallback => StatusWord::NoCallback,
+        Status::Complete(_) => StatusWord::Complete,
+        Status::Pending => StatusWord::Pending,
+        Status::DisallowFastIo => StatusWord::DisallowFastIo,
+        Status::FinishedProcessing => StatusWord::FinishedProcessing,
+        Status::MoreProcessingRequired => StatusWord::MoreProcessingRequired,
+    }
+}
+
+/// Whether a status completes with STATUS_PENDING, which is never legal.
+fn completes_pending(status: Status) -> bool
+    ensures { result ≡ spec.completes_pending status }
+{
+    matches!(status, Status::Complete(FinalStatus::Pending))
+}
+
+/// Whether a status may be handed to a pended operation.
+fn is_handed_legally(setting: &Setting, call: &Invocation, status: Status) -> bool
+    ensures { result ≡ spec.is_handed_legally setting.now call.now status }
+{
+    let word = word_of(status);
+    let given_in_canceled = matches!(
+        (setting.place, call.operation),
+        (Place::Canceled, Some(OperationVariable::Data))
+    );
+    let only_complete = !given_in_canceled || matches!(word, StatusWord::Complete);
+    let paired = setting.all_registered || !matches!(word, StatusWord::WithCallback);
+    status_row(word).handed && !completes_pending(status) && only_complete && paired
+}
+
+fn hands_illegally(setting: &Setting, call: &Invocation) -> bool
+    ensures { result ≡ spec.hands_illegally setting.now call.now }
+{
+    match call.status {
+        Some(status) => !is_handed_legally(setting, call, status),
+        None => false,
+    }
+}
+
+fn releases_wrong_lock(state: &Abs, lock: Option<LockNumber>) -> bool
+    ensures { result ≡ spec.releases_wrong_lock state.now lock }
+{
+    match lock {
+        Some(lock) => !state.locks.is_latest(lock),
+        None => false,
+    }
+}
+
+fn takes_held_lock(state: &Abs, lock: Option<LockNumber>) -> bool
+    ensures { result ≡ spec.takes_held_lock state.now lock }
+{
+    match lock {
+        Some(lock) => state.locks.contains(lock),
+        None => false,
+    }
+}
+
+/// Whether a call breaks a rule: its row of the call table, read on the state.
+pub(crate) fn call_breaks(setting: &Setting, state: &Abs, call: &Invocation, rule: Rule) -> bool
+    ensures { result ≡ spec.call_breaks setting.now state.now call.now rule }
+{
+    let row = row(call.call);
+    let needs = row.needs;
+    match rule {
+        Rule::R01 => matches!(needs.context, Need::Held) && lacks_context(state, call.context),
+        Rule::R03 => {
+            (matches!(needs.output, Need::Output) && may_hold_context(state, call.output))
+                || (matches!(needs.operation, Need::Output)
+                    && may_hold_operation(state, call.operation))
+        }
+        Rule::R04 => {
+            matches!(needs.operation, Need::Held) && lacks_operation(state, call.operation)
+        }
+        Rule::R06 => {
+            (needs.irp && !is_mode_alone(state.modes, Mode::Irp))
+                || (needs.status && hands_illegally(setting, call))
+        }
+        Rule::R07 => setting.level.is_above(row.greatest),
+        Rule::R08 => {
+            !row.places.contains(setting.place)
+                || (state.draining.has_yes() && !is_legal_in_draining(call.call))
+        }
+        Rule::R09 => matches!(needs.lock, LockNeed::Latest)
+            && releases_wrong_lock(state, call.lock),
+        Rule::R11 => matches!(needs.lock, LockNeed::NotHeld) && takes_held_lock(state, call.lock),
+        Rule::R13 => {
+            matches!(needs.context, Need::HandedOver) && lacks_context(state, call.context)
+        }
+        _ => false,
+    }
+}
+
+/// Whether a callback of the place may return a status of the stage.
+fn fits_stage(place: Place, stage: Stage) -> bool
+    ensures { result ≡ spec.fits_stage place stage }
+{
+    matches!(
+        (place, stage),
+        (Place::Pre(_), Stage::Pre) | (Place::Post(_), Stage::Post)
+    )
+}
+
+/// Whether the operation is surely what a status asks of it.
+fn is_possessed(operation: Statuses, possession: Possession) -> bool
+    ensures { result ≡ spec.is_possessed operation possession }
+{
+    match possession {
+        Possession::Held => operation.is_held(),
+        Possession::GivenAway => operation.is_stale(),
+    }
+}
+
+fn has_mode(modes: Modes, mode: Option<Mode>) -> bool
+    ensures { result ≡ spec.is_of_mode modes mode }
+{
+    match mode {
+        Some(mode) => is_mode_alone(modes, mode),
+        None => true,
+    }
+}
+
+/// Whether a callback may return the status of a row at all.
+fn fits_setting(row: StatusRow, setting: &Setting) -> bool
+    ensures { result ≡ spec.fits_setting row setting.now }
+{
+    let in_create = matches!(setting.place, Place::Pre(Operation::Create));
+    fits_stage(setting.place, row.stage)
+        && (setting.registered || !row.needs_post)
+        && (row.in_create || !in_create)
+}
+
+/// Whether the operation is surely as the row of a status asks.
+fn fits_state(row: StatusRow, state: &Abs) -> bool
+    ensures { result ≡ spec.fits_state row state.now }
+{
+    is_possessed(state.operation(OperationVariable::Data), row.data)
+        && has_mode(state.modes, row.mode)
+        && (row.in_draining || !state.draining.has_yes())
+}
+
+/// Whether a status may be returned.
+fn is_returned_legally(setting: &Setting, state: &Abs, status: Status) -> bool
+    ensures { result ≡ spec.is_returned_legally setting.now state.now status }
+{
+    let row = status_row(word_of(status));
+    fits_setting(row, setting) && fits_state(row, state) && !completes_pending(status)
+}
+
+/// Whether a status is returned, or none is, where that breaks the rule on statuses.
+fn returns_illegally(setting: &Setting, state: &Abs, status: Option<Status>) -> bool
+    ensures { result ≡ spec.returns_illegally setting.now state.now status }
+{
+    match status {
+        Some(status) => !is_returned_legally(setting, state, status),
+        None => false,
+    }
+}
+
+/// The context that goes with a returned status.
+fn named_context(status: Option<Status>) -> Option<ContextVariable>
+    ensures { result ≡ spec.named_context status }
+{
+    match status {
+        Some(status) => context_of(status),
+        None => None,
+    }
+}
+
+/// Whether a context may be held that doesn't go with the returned status.
+fn keeps_context(state: &Abs, named: Option<ContextVariable>) -> bool
+    ensures { result ≡ spec.keeps_context state.now named }
+{
+    let mut contexts = state.contexts;
+    if let Some(variable) = named {
+        contexts[context_place(variable)] = Statuses::null();
+    }
+    is_any_held(&contexts)
+}
+
+/// Whether a callback of the place must complete the operation that it was given.
+fn owes_data(place: Place) -> bool
+    ensures { result ≡ spec.owes_data place }
+{
+    matches!(
+        place,
+        Place::Canceled | Place::DeferredPre | Place::DeferredPost
+    )
+}
+
+fn is_any_held(sets: &[Statuses]) -> bool
+    ensures { result ≡ spec.is_any_held sets.now }
+{
+    sets.iter().any(|s| s.has_held())
+}
+
+/// Whether an operation may be held that nobody would complete.
+fn keeps_operation(setting: &Setting, state: &Abs) -> bool
+    ensures { result ≡ spec.keeps_operation setting.now state.now }
+{
+    let removed = is_any_held(&state.operations[..4]);
+    let given = may_hold_operation(state, Some(OperationVariable::Data));
+    removed || (owes_data(setting.place) && given)
+}
+
+fn wants_status(place: Place) -> bool
+    ensures { result ≡ spec.wants_status place }
+{
+    matches!(place, Place::Pre(_) | Place::Post(_))
+}
+
+/// Whether a return, or the end of the body, breaks a rule.
+pub(crate) fn return_breaks(
+    setting: &Setting,
+    state: &Abs,
+    status: Option<Status>,
+    rule: Rule,
+) -> bool
+    ensures { result ≡ spec.return_breaks setting.now state.now status rule }
+{
+    match rule {
+        Rule::R02 => keeps_context(state, named_context(status)),
+        Rule::R05 => keeps_operation(setting, state),
+        Rule::R06 => returns_illegally(setting, state, status),
+        Rule::R10 => !state.locks.is_empty(),
+        Rule::R13 => lacks_context(state, named_context(status)),
+        Rule::R15 => status.is_none() && wants_status(setting.place),
+        _ => false,
+    }
+}
+
+/// Whether an instruction breaks a rule.
+pub(crate) fn breaks(setting: &Setting, state: &Abs, instruction: &Instruction, rule: Rule) -> bool
+    ensures { result ≡ spec.breaks setting.now state.now instruction.now rule }
+{
+    match instruction {
+        Instruction::Act(action, _) => action_breaks(state, *action, rule),
+        Instruction::Call(call, _, _) => call_breaks(setting, state, call, rule),
+        Instruction::Test(test, _, _) => test_breaks(setting, state, *test, rule),
+        Instruction::Repeat(_, _, _) => false,
+        Instruction::Return(status) => return_breaks(setting, state, *status, rule),
+        Instruction::End => return_breaks(setting, state, None, rule),
+    }
+}
+
+/// The rules that a point's own instruction can break, in their order.
+const RULES: [Rule; 13] = [
+    Rule::R01,
+    Rule::R02,
+    Rule::R03,
+    Rule::R04,
+    Rule::R05,
+    Rule::R06,
+    Rule::R07,
+    Rule::R08,
+    Rule::R09,
+    Rule::R10,
+    Rule::R11,
+    Rule::R13,
+    Rule::R15,
+];
+
+/// The least rule that an instruction breaks in a state.
+pub(crate) fn first_broken(
+    setting: &Setting,
+    state: &Abs,
+    instruction: &Instruction,
+) -> Option<Rule>
+    ensures { result ≡ spec.first_broken setting.now state.now instruction.now }
+{
+    RULES
+        .iter()
+        .copied()
+        .find(|rule| breaks(setting, state, instruction, *rule))
+}

@@ -1,0 +1,111 @@
+//! What the rules of a point read besides its variables: where it stands and at which level.
+
+ghost use Rattle.std.specs.Prelude.{◌≡◌, ◌<◌, length};
+ghost use Rattle.flt_abs.specs.Setting as spec;
+
+use crate::state::Abs;
+use flt_graph::{CallbackGraph, Graph, LockKind, Operation, Place};
+use flt_rules::{Level, entry_level, raised_level};
+
+/// Where a point stands.
+#[derive(Clone, Copy, Debug)]
+pub struct Setting {
+    pub place: Place,
+    /// The greatest of the entry level and the levels of the held locks.
+    pub level: Level,
+    /// Whether a post callback of the callback's own operation is registered.
+    pub registered: bool,
+    /// Whether each operation that has a pre callback has a post callback.
+    pub all_registered: bool,
+}
+
+fn same_operation(a: Operation, b: Operation) -> bool
+    ensures { result ≡ spec.same_operation a b }
+{
+    matches!(
+        (a, b),
+        (Operation::Create, Operation::Create)
+            | (Operation::Read, Operation::Read)
+            | (Operation::Write, Operation::Write)
+            | (Operation::Cleanup, Operation::Cleanup)
+    )
+}
+
+fn is_post_of(operation: Operation, callback: &CallbackGraph) -> bool
+    ensures { result ≡ spec.is_post_of operation callback.now }
+{
+    match callback.place {
+        Place::Post(own) => same_operation(own, operation),
+        _ => false,
+    }
+}
+
+fn has_post(callbacks: &[CallbackGraph], operation: Operation) -> bool
+    ensures { result ≡ spec.has_post callbacks.now operation }
+{
+    callbacks.iter().any(|c| is_post_of(operation, c))
+}
+
+/// Whether a callback that asks for a post callback gets one.
+fn is_registered(callbacks: &[CallbackGraph], place: Place) -> bool
+    ensures { result ≡ spec.is_registered callbacks.now place }
+{
+    match place {
+        Place::Pre(operation) => has_post(callbacks, operation),
+        _ => false,
+    }
+}
+
+fn is_paired(callbacks: &[CallbackGraph], callback: &CallbackGraph) -> bool
+    ensures { result ≡ spec.is_paired callbacks.now callback.now }
+{
+    match callback.place {
+        Place::Pre(operation) => has_post(callbacks, operation),
+        _ => true,
+    }
+}
+
+fn are_paired(callbacks: &[CallbackGraph]) -> bool
+    ensures { result ≡ spec.are_paired callbacks.now }
+{
+    callbacks.iter().all(|c| is_paired(callbacks, c))
+}
+
+/// The level to which the lock of a place raises. One that isn't declared raises nothing.
+fn raised_at(kinds: &[LockKind], place: u8) -> Level
+    ensures { result ≡ spec.raised_at kinds.now place }
+{
+    match kinds.get(usize::from(place)) {
+        Some(kind) => raised_level(*kind),
+        None => Level::Passive,
+    }
+}
+
+fn level_with(kinds: &[LockKind], locks: &[u8], entry: Level) -> Level
+    ensures { result ≡ spec.level_with kinds.now entry locks.now }
+{
+    let mut level = entry;
+    for place in locks {
+        level = level.max(raised_at(kinds, *place));
+    }
+    level
+}
+
+/// The setting of a callback's points in which a state's locks are held.
+pub fn setting_of(graph: &Graph, callback: usize, state: &Abs) -> Setting
+    requires { callback < length graph.now.callbacks }
+    ensures { result ≡ spec.setting_of graph.now callback state.now }
+{
+    let place = graph.place(callback);
+    let callbacks = graph.callbacks.as_slice();
+    Setting {
+        place,
+        level: level_with(
+            graph.locks.as_slice(),
+            state.locks.as_slice(),
+            entry_level(place),
+        ),
+        registered: is_registered(callbacks, place),
+        all_registered: are_paired(callbacks),
+    }
+}
