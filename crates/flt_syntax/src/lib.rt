@@ -2,6 +2,8 @@
 #![tactic(auto)]
 
 mod filter;
+mod lex;
+mod token;
 mod tree;
 mod variable;
 
