@@ -1,2 +1,4 @@
+pub mod Cursor
 pub mod Lex
 pub mod Measures
+pub mod Operand

@@ -1,12 +1,16 @@
 //! The callback language: its trees, and how a text is read as one.
 #![tactic(auto)]
 
+mod cursor;
+mod fault;
 mod filter;
 mod lex;
+mod operand;
 mod token;
 mod tree;
 mod variable;
 
+pub use fault::{FaultKind, ParseError, SyntaxFault};
 pub use filter::{
     Action, Callback, Condition, FallibleCall, Filter, Head, Lock, PlainCall, Position, Routine,
     Statement, Status,
