@@ -175,6 +175,16 @@ abbrev pub known_or : {A : Type 0} → SyntaxFault → Option A → Parser A
 known_or f None = λ i. Err f
 known_or f (Some a) = λ i. Ok (a, next i)
 
+-- a value that is there, else the fault
+abbrev pub found_or : {A : Type 0} → SyntaxFault → Option A → Parser A
+found_or f None = λ i. Err f
+found_or f (Some a) = λ i. Ok (a, i)
+
+-- goes on with a value if it is there, else with the other parser
+abbrev pub given : {A B : Type 0} → Option A → (A → Parser B) → Parser B → Parser B
+given None f p = p
+given (Some a) f p = f a
+
 -- why no block is read where none may stand
 unfoldable pub too_deep : Input → SyntaxFault
 too_deep i = if sees k.OpenBrace i then fault_at E06 i else refusal i

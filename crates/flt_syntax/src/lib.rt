@@ -6,6 +6,8 @@ mod fault;
 mod filter;
 mod lex;
 mod operand;
+mod scope;
+mod status;
 mod token;
 mod tree;
 mod variable;
