@@ -1,3 +1,6 @@
+pub mod Action
+pub mod Call
+pub mod Condition
 pub mod Cursor
 pub mod Lex
 pub mod Measures

@@ -4,6 +4,7 @@ use denote.Enum.Bare.{sameb}
 use Rattle.flt_syntax.specs.Cursor.{Input, Parser, and_then, ◌>>=◌, ◌>>◌, pure, ◌<$>◌, front, next, kind, unknown, refusal, refuse, fail, peek, take_token, sees, known_or, eat, expect}
 use Rattle.flt_syntax.specs.contracts.variable.ContextVariable.{the_type}
 use Rattle.flt_syntax.specs.declared.fault.FaultKind.TheVariants.{E08}
+use Rattle.flt_syntax.specs.declared.fault.SyntaxFault.{SyntaxFault}
 use Rattle.flt_syntax.specs.declared.token.Kind.{Kind}
 use Rattle.flt_syntax.specs.declared.token.Kind.TheVariants as k
 use Rattle.flt_syntax.specs.declared.variable.Atom.{Atom}
@@ -71,14 +72,18 @@ removed_variable = λ i. known_or (unknown i) (removed_variable_of (kind i)) i
 unfoldable pub operation_variable : Parser OperationVariable
 operation_variable = λ i. known_or (unknown i) (operation_variable_of (kind i)) i
 
--- an atom: a number or a variable of numbers
-abbrev pub atom_by : Option NumberVariable → Parser Atom
-atom_by (Some n) = λ i. Ok (atoms.Variable n, next i)
-atom_by None = λ i. if sees k.Number i then Ok (atoms.Number (front i).word.value, next i) else Err (unknown i)
+-- an atom: a number or a variable of numbers, else the fault
+abbrev pub atom_by : SyntaxFault → Option NumberVariable → Parser Atom
+atom_by f (Some n) = λ i. Ok (atoms.Variable n, next i)
+atom_by f None = λ i. if sees k.Number i then Ok (atoms.Number (front i).word.value, next i) else Err f
 
 -- an atom where nothing else may stand
 unfoldable pub atom : Parser Atom
-atom = λ i. atom_by (number_variable_of (kind i)) i
+atom = λ i. atom_by (unknown i) (number_variable_of (kind i)) i
+
+-- an atom where other words may stand too
+unfoldable pub leading_atom : Parser Atom
+leading_atom = λ i. atom_by (refusal i) (number_variable_of (kind i)) i
 
 -- ---- no variable twice in one call
 

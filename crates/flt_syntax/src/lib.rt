@@ -1,6 +1,9 @@
 //! The callback language: its trees, and how a text is read as one.
 #![tactic(auto)]
 
+mod action;
+mod call;
+mod condition;
 mod cursor;
 mod fault;
 mod filter;

@@ -121,6 +121,21 @@ pub fn atom(tokens: &mut Tokens<'_>) -> Result<Atom, ParseError>
     }
 }
 
+/// The same where other words may stand too.
+#[tactic(auto, unfolding(crate::specs::Operand::leading_atom))]
+pub fn leading_atom(tokens: &mut Tokens<'_>) -> Result<Atom, ParseError>
+    ensures { Reads (spec.leading_atom tokens.old.rest.now) result tokens.new.rest.now }
+{
+    match number_variable_of(tokens.peek()) {
+        Some(variable) => {
+            tokens.take();
+            Ok(Atom::Variable(variable))
+        }
+        None if tokens.sees(Kind::Number) => Ok(Atom::Number(tokens.take().word.value)),
+        None => Err(tokens.refuse()),
+    }
+}
+
 #[tactic(auto, unfolding(crate::specs::Operand::same_context))]
 fn same_context(a: ContextVariable, b: ContextVariable) -> bool
     ensures { result ≡ spec.same_context a b }
