@@ -6,4 +6,5 @@ pub mod Lex
 pub mod Measures
 pub mod Operand
 pub mod Scope
+pub mod Statement
 pub mod Status
