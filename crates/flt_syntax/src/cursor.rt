@@ -60,7 +60,7 @@ impl<'a> Tokens<'a> {
     pub fn fault(&self, kind: FaultKind) -> ParseError
         ensures { result ≡ ParseError.Syntax (spec.fault_at kind self.now.rest.now) }
     {
-        fault(kind, self.position())
+        ParseError::Syntax(fault(kind, self.position()))
     }
 
     /// Why no production reads the next token.
@@ -162,14 +162,14 @@ impl<'a> Tokens<'a> {
     }
 }
 
-pub fn fault(kind: FaultKind, at: Position) -> ParseError
-    ensures { result ≡ ParseError.Syntax (spec.fault kind at) }
+pub fn fault(kind: FaultKind, at: Position) -> SyntaxFault
+    ensures { result ≡ spec.fault kind at }
 {
-    ParseError::Syntax(SyntaxFault {
+    SyntaxFault {
         line: at.line,
         column: at.column,
         kind,
-    })
+    }
 }
 
 fn is_symbol(kind: Kind) -> bool

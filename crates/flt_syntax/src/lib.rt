@@ -6,18 +6,24 @@ mod call;
 mod condition;
 mod cursor;
 mod fault;
+mod file;
 mod filter;
+mod head;
 mod lex;
 mod measure;
 mod operand;
 mod scope;
 mod statement;
 mod status;
+#[cfg(test)]
+mod tests;
 mod token;
 mod tree;
 mod variable;
+mod whole;
 
 pub use fault::{FaultKind, ParseError, SyntaxFault};
+pub use file::parse;
 pub use filter::{
     Action, Callback, Condition, FallibleCall, Filter, Head, Lock, PlainCall, Position, Routine,
     Statement, Status,

@@ -13,6 +13,7 @@ use sqlite_items::Items;
 use std::alloc::Global;
 
 /// What the calls of a text may name.
+#[derive(Clone, Copy)]
 pub struct Scope<'a> {
     pub text: &'a [u8],
     pub locks: &'a [Lock],
