@@ -102,7 +102,7 @@ lacks_pre cs (Post operation) = not (has_event (Pre operation) cs)
 lacks_pre cs _ = false
 
 -- the first fault of a callback among the others
-abbrev pub callback_fault : List Callback → Callback → Option SyntaxFault
+unfoldable pub callback_fault : List Callback → Callback → Option SyntaxFault
 callback_fault cs c =
     if lacks_pre cs c.head then Some (fault E07 c.position) else option_map (fault E04) (missing cs c.head c.body)
 

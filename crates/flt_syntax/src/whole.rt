@@ -115,6 +115,7 @@ fn lacks_pre(callbacks: &[Callback], head: &Head) -> bool
     }
 }
 
+#[tactic(auto, unfolding(crate::specs::Whole::callback_fault))]
 fn callback_fault(callbacks: &[Callback], callback: &Callback) -> Option<SyntaxFault>
     ensures { result ≡ spec.callback_fault callbacks.now callback.now }
 {
