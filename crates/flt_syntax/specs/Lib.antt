@@ -1,1 +1,13 @@
+pub mod Action
+pub mod Call
+pub mod Condition
+pub mod Cursor
+pub mod File
+pub mod Head
+pub mod Lex
 pub mod Measures
+pub mod Operand
+pub mod Scope
+pub mod Statement
+pub mod Status
+pub mod Whole

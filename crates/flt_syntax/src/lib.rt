@@ -1,10 +1,29 @@
 //! The callback language: its trees, and how a text is read as one.
 #![tactic(auto)]
 
+mod action;
+mod call;
+mod condition;
+mod cursor;
+mod fault;
+mod file;
 mod filter;
+mod head;
+mod lex;
+mod measure;
+mod operand;
+mod scope;
+mod statement;
+mod status;
+#[cfg(test)]
+mod tests;
+mod token;
 mod tree;
 mod variable;
+mod whole;
 
+pub use fault::{FaultKind, ParseError, SyntaxFault};
+pub use file::parse;
 pub use filter::{
     Action, Callback, Condition, FallibleCall, Filter, Head, Lock, PlainCall, Position, Routine,
     Statement, Status, Test,

@@ -1,0 +1,75 @@
+-- How statements without blocks are read.
+use Rattle.std.specs.Prelude.{Option, Some, None, Ok, Err}
+use Rattle.flt_syntax.specs.Call.{plain_call}
+use Rattle.flt_syntax.specs.Cursor.{Parser, and_then, ◌>>=◌, ◌>>◌, pure, ◌<$>◌, kind, peek, take_token, given, expect}
+use Rattle.flt_syntax.specs.Operand.{atom, leading_atom, context_variable, operation_variable, context_variable_of, number_variable_of, removed_variable_of}
+use Rattle.flt_syntax.specs.Scope.{Scope}
+use Rattle.flt_syntax.specs.Status.{optional_status}
+use Rattle.flt_syntax.specs.declared.filter.Action.{Action}
+use Rattle.flt_syntax.specs.declared.filter.Action.TheVariants.{SetNumber, ReadValue, ReadFile, WriteValue, ClearContext, ClearOperation, Call, Return}
+use Rattle.flt_syntax.specs.declared.token.Kind.{Kind}
+use Rattle.flt_syntax.specs.declared.token.Kind.TheVariants as k
+use Rattle.flt_syntax.specs.declared.variable.Atom.{Atom}
+use Rattle.flt_syntax.specs.declared.variable.ContextVariable.{ContextVariable}
+use Rattle.flt_syntax.specs.declared.variable.Expression.{Expression}
+use Rattle.flt_syntax.specs.declared.variable.Expression.TheVariants as expressions
+use Rattle.flt_syntax.specs.declared.variable.NumberVariable.{NumberVariable}
+use Rattle.flt_syntax.specs.declared.variable.RemovedVariable.{RemovedVariable}
+
+-- what may stand behind the first atom, by its symbol
+abbrev pub expression_by : Atom → Kind → Parser Expression
+expression_by first k.Plus = take_token >> expressions.Sum first <$> atom
+expression_by first k.Minus = take_token >> expressions.Difference first <$> atom
+expression_by first _ = pure (expressions.Atom first)
+
+-- atom [ ("+" | "-") atom ]
+unfoldable pub expression : Parser Expression
+expression = do
+  first ← leading_atom
+  sign ← peek
+  expression_by first sign
+
+-- what a number is set to, by its first word
+abbrev pub number_by : NumberVariable → Kind → Parser Action
+number_by n k.Value = take_token >> ReadValue n <$> context_variable
+number_by n k.File = take_token >> ReadFile n <$> operation_variable
+number_by n _ = SetNumber n <$> expression
+
+-- N "=" ("value" C | "file" D | expression)
+unfoldable pub set_number : NumberVariable → Parser Action
+set_number n = take_token >> expect k.Assign >> (peek >>= number_by n)
+
+-- C "=" "NULL"
+unfoldable pub clear_context : ContextVariable → Parser Action
+clear_context c = take_token >> expect k.Assign >> expect k.Null >> pure (ClearContext c)
+
+-- O "=" "NULL"
+unfoldable pub clear_operation : RemovedVariable → Parser Action
+clear_operation o = take_token >> expect k.Assign >> expect k.Null >> pure (ClearOperation o)
+
+-- "value" C "=" atom
+unfoldable pub write_value : Parser Action
+write_value = do
+  take_token
+  c ← context_variable
+  expect k.Assign
+  a ← atom
+  pure (WriteValue c a)
+
+-- "value" C "=" atom | "return" [ status ] | plain, by the first word
+abbrev pub word_action_by : Scope → Kind → Parser Action
+word_action_by scope k.Value = write_value
+word_action_by scope k.Return = take_token >> Return <$> optional_status
+word_action_by scope _ = Call <$> plain_call scope
+
+-- a statement without blocks that begins with a word of its own
+unfoldable pub word_action : Scope → Parser Action
+word_action scope = peek >>= word_action_by scope
+
+-- a statement without blocks
+unfoldable pub action : Scope → Parser Action
+action scope = λ i.
+    given (number_variable_of (kind i)) set_number
+    (given (context_variable_of (kind i)) clear_context
+    (given (removed_variable_of (kind i)) clear_operation
+    (word_action scope))) i

@@ -1,0 +1,156 @@
+-- How a whole text is read.
+use Rattle.std.specs.Prelude.{◌≡◌, ℕ, zero, suc, ◌-◌, Bool, if◌then◌else◌, nat_lt, List, [], ◌∷◌, ◌++◌, length, is_some, Option, Some, None, Result, Ok, Err}
+use Rattle.std.specs.List.{list_any}
+use Rattle.std.specs.Str.{bytes_eq}
+use Rattle.flt_rules.specs.declared.call.LockKind.{LockKind}
+use Rattle.flt_rules.specs.declared.call.LockKind.TheVariants as locked
+use Rattle.flt_syntax.specs.Cursor.{Input, Outcome, Parser, and_then, ◌>>=◌, ◌>>◌, pure, ◌<$>◌, kind, place, position, refusal, refuse, fault, fault_at, known_or, sees, eat, expect, number_within}
+use Rattle.flt_syntax.specs.Head.{head}
+use Rattle.flt_syntax.specs.Lex.{Text, tokens}
+use Rattle.flt_syntax.specs.Measures.{is_small}
+use Rattle.flt_syntax.specs.Scope.{Scope, spelled}
+use Rattle.flt_syntax.specs.Statement.{statements, block}
+use Rattle.flt_syntax.specs.Whole.{whole_fault}
+use Rattle.flt_syntax.specs.declared.fault.FaultKind.TheVariants.{E05, E06}
+use Rattle.flt_syntax.specs.declared.fault.ParseError.{ParseError}
+use Rattle.flt_syntax.specs.declared.fault.ParseError.TheVariants.{Syntax, OutOfMemory}
+use Rattle.flt_syntax.specs.declared.fault.SyntaxFault.{SyntaxFault}
+use Rattle.flt_syntax.specs.declared.filter.Callback.{Callback}
+use Rattle.flt_syntax.specs.declared.filter.Filter.{Filter}
+use Rattle.flt_syntax.specs.declared.filter.Lock.{Lock}
+use Rattle.flt_syntax.specs.declared.filter.Position.{Position}
+use Rattle.flt_syntax.specs.declared.token.Kind.{Kind}
+use Rattle.flt_syntax.specs.declared.token.Kind.TheVariants as k
+
+-- ---- limits
+
+-- how many bytes a text may have
+abbrev pub max_text : ℕ
+max_text = 65536
+
+-- the highest altitude; the lowest is 1
+abbrev pub max_altitude : ℕ
+max_altitude = 4294967295
+
+-- how many locks a filter may have
+abbrev pub max_locks : ℕ
+max_locks = 8
+
+-- how deep blocks nest, the callback's own counted
+abbrev pub max_depth : ℕ
+max_depth = 32
+
+-- how deep repeats nest
+abbrev pub max_repeats : ℕ
+max_repeats = 4
+
+-- ---- locks
+
+-- the kind of lock that a word is
+abbrev pub lock_kind_of : Kind → Option LockKind
+lock_kind_of k.Spin = Some locked.Spin
+lock_kind_of k.Fast = Some locked.Fast
+lock_kind_of k.Push = Some locked.Push
+lock_kind_of _ = None
+
+-- "spin" | "fast" | "push"
+unfoldable pub lock_kind : Parser LockKind
+lock_kind = λ i. known_or (refusal i) (lock_kind_of (kind i)) i
+
+-- whether one of the locks has the name
+abbrev pub has_lock : Text → List Lock → Bool
+has_lock name = list_any (λ l. bytes_eq l.name name)
+
+-- a lock behind those before, unless its name, which stands at a place, is used or they are enough
+abbrev pub new_lock : List Lock → LockKind → Text → Position → Parser Lock
+new_lock found kind name at = λ i.
+    if has_lock name found then Err (fault E05 at)
+    else (if nat_lt (length found) max_locks then Ok (record { kind = kind; name = name }, i) else Err (fault E06 at))
+
+-- ("spin" | "fast" | "push") NAME, behind the locks that were found
+unfoldable pub lock : Text → List Lock → Parser Lock
+lock text found = do
+  kind ← lock_kind
+  at ← place
+  name ← spelled text
+  new_lock found kind name at
+
+-- { "lock" lock } behind the locks that were found; the number bounds the turns
+unfoldable pub locks_from : Text → ℕ → List Lock → Parser (List Lock)
+locks_from text zero found = refuse
+locks_from text (suc n) found = do
+  more ← eat k.Lock
+  if more then (do l ← lock text found; locks_from text n (found ++ l ∷ [])) else pure found
+
+-- { "lock" lock }
+unfoldable pub locks : Text → Parser (List Lock)
+locks text = λ i. locks_from text (length i) [] i
+
+-- [ "queue" ]: where it stands
+unfoldable pub queue : Parser (Option Position)
+queue = do
+  at ← place
+  found ← eat k.Queue
+  pure (if found then Some at else None)
+
+-- ---- callbacks
+
+-- a callback that is within the limits on points and cost, else a fault at its first word
+abbrev pub measured : Position → Callback → Parser Callback
+measured at c = λ i. if is_small c then Ok (c, i) else Err (fault E06 at)
+
+-- head block, behind the callbacks that were found
+unfoldable pub callback : Scope → List Callback → Parser Callback
+callback scope found = do
+  at ← place
+  h ← head scope.text found
+  expect k.OpenBrace
+  body ← statements scope (block scope (max_depth - 1)) max_repeats
+  end ← place
+  expect k.CloseBrace
+  measured at (record { head = h; position = at; body = body; end_line = end.line })
+
+-- callback { callback } behind the callbacks that were found; the number bounds the turns
+unfoldable pub callbacks_from : Scope → ℕ → List Callback → Parser (List Callback)
+callbacks_from scope zero found = refuse
+callbacks_from scope (suc n) found = do
+  c ← callback scope found
+  λ i. if sees k.End i then Ok (found ++ c ∷ [], i) else callbacks_from scope n (found ++ c ∷ []) i
+
+-- callback { callback }
+unfoldable pub callbacks : Scope → Parser (List Callback)
+callbacks scope = λ i. callbacks_from scope (length i) [] i
+
+-- ---- the text
+
+-- "filter" NAME "altitude" NUMBER { "lock" lock } [ "queue" ] callback { callback }
+unfoldable pub file : Text → Parser Filter
+file text = do
+  expect k.Filter
+  name ← spelled text
+  expect k.Altitude
+  n ← number_within 1 max_altitude
+  ls ← locks text
+  q ← queue
+  cs ← callbacks (record { text = text; locks = ls; queue = is_some q })
+  pure (record { name = name; altitude = n; locks = ls; queue = q; callbacks = cs })
+
+-- the filter, unless there is a fault
+abbrev pub unless_fault : Filter → Option SyntaxFault → Result Filter SyntaxFault
+unless_fault f None = Ok f
+unless_fault f (Some e) = Err e
+
+-- what was read, tested as a whole
+abbrev pub whole : Outcome Filter → Result Filter SyntaxFault
+whole (Ok p) = unless_fault p.0 (whole_fault p.0)
+whole (Err e) = Err e
+
+-- the filter that a text spells, or its first fault
+unfoldable pub filter_of : Text → Result Filter SyntaxFault
+filter_of text =
+    if nat_lt max_text (length text) then Err (record { line = 1; column = 1; kind = E06 }) else whole (file text (tokens text))
+
+-- an error is the fault, unless memory ran out
+abbrev pub IsFaultOf : {A : Type 0} → Result A SyntaxFault → ParseError → Type 0
+IsFaultOf outcome OutOfMemory = Unit {0}
+IsFaultOf outcome (Syntax f) = outcome ≡ Err f

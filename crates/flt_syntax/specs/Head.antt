@@ -1,0 +1,135 @@
+-- How the heads of callbacks are read.
+use Rattle.std.specs.Prelude.{ℕ, Bool, true, false, if◌then◌else◌, nat_lt, List, length, Option, Some, None, option_map, Ok, Err}
+use Rattle.std.specs.List.{list_any}
+use Rattle.std.specs.Str.{bytes_eq}
+use denote.Enum.Bare.{sameb}
+use Rattle.flt_rules.specs.contracts.place.Operation.{the_type}
+use Rattle.flt_rules.specs.declared.place.Operation.{Operation}
+use Rattle.flt_rules.specs.declared.place.Operation.TheVariants as operations
+use Rattle.flt_syntax.specs.Cursor.{Input, Parser, and_then, ◌>>=◌, ◌>>◌, pure, ◌<$>◌, kind, next, refusal, refuse, fault_at, fail, peek, take_token, known_or}
+use Rattle.flt_syntax.specs.Lex.{Text}
+use Rattle.flt_syntax.specs.Scope.{spelled}
+use Rattle.flt_syntax.specs.declared.fault.FaultKind.TheVariants.{E05, E06}
+use Rattle.flt_syntax.specs.declared.fault.SyntaxFault.{SyntaxFault}
+use Rattle.flt_syntax.specs.declared.filter.Callback.{Callback}
+use Rattle.flt_syntax.specs.declared.filter.Head.{Head}
+use Rattle.flt_syntax.specs.declared.filter.Head.TheVariants.{Pre, Post, Canceled, DeferredPre, DeferredPost, Generic}
+use Rattle.flt_syntax.specs.declared.token.Kind.{Kind}
+use Rattle.flt_syntax.specs.declared.token.Kind.TheVariants as k
+
+-- how many callbacks there may be
+abbrev pub max_callbacks : ℕ
+max_callbacks = 16
+
+-- OP: the operation that a word is
+abbrev pub operation_of : Kind → Option Operation
+operation_of k.Create = Some operations.Create
+operation_of k.Read = Some operations.Read
+operation_of k.Write = Some operations.Write
+operation_of k.Cleanup = Some operations.Cleanup
+operation_of _ = None
+
+-- OP
+unfoldable pub operation : Parser Operation
+operation = λ i. known_or (refusal i) (operation_of (kind i)) i
+
+-- ---- what is declared
+
+-- `==` on operations
+unfoldable pub same_operation : Operation → Operation → Bool
+same_operation = sameb the_type
+
+-- whether two heads are for the same event; routines are for none
+abbrev pub same_event : Head → Head → Bool
+same_event (Pre a) (Pre b) = same_operation a b
+same_event (Post a) (Post b) = same_operation a b
+same_event Canceled Canceled = true
+same_event _ _ = false
+
+-- whether one of the callbacks is for the event
+abbrev pub has_event : Head → List Callback → Bool
+has_event head = list_any (λ c. same_event c.head head)
+
+-- whether a head is a routine of the name
+abbrev pub is_named : Text → Head → Bool
+is_named name (DeferredPre routine) = bytes_eq routine name
+is_named name (DeferredPost routine) = bytes_eq routine name
+is_named name (Generic routine) = bytes_eq routine name
+is_named name _ = false
+
+-- whether one of the callbacks is a routine of the name
+abbrev pub has_routine : Text → List Callback → Bool
+has_routine name = list_any (λ c. is_named name c.head)
+
+-- ---- heads
+
+-- "pre" OP | "post" OP | "canceled", by the first word
+abbrev pub event_by : Kind → Parser Head
+event_by k.Pre = take_token >> Pre <$> operation
+event_by k.Post = take_token >> Post <$> operation
+event_by k.Canceled = take_token >> pure Canceled
+event_by _ = refuse
+
+-- "pre" OP | "post" OP | "canceled"
+unfoldable pub event : Parser Head
+event = peek >>= event_by
+
+-- an event of which there is none among the callbacks before; a second one is told at its first word
+unfoldable pub new_event : List Callback → Parser Head
+new_event found = λ i. and_then (event i) (λ q. if has_event q.0 found then fail E05 i else Ok q)
+
+-- NAME of a routine, told where one before has it
+abbrev pub new_name : Text → List Callback → Parser Text
+new_name text found = λ i. and_then (spelled text i) (λ q. if has_routine q.0 found then fail E05 i else Ok q)
+
+-- ("deferred_pre" | "deferred_post" | "generic") NAME
+unfoldable pub new_routine : Text → List Callback → Parser Text
+new_routine text found = take_token >> new_name text found
+
+-- head, by its first word
+abbrev pub new_head_by : Text → List Callback → Kind → Parser Head
+new_head_by text found k.DeferredPre = DeferredPre <$> new_routine text found
+new_head_by text found k.DeferredPost = DeferredPost <$> new_routine text found
+new_head_by text found k.Generic = Generic <$> new_routine text found
+new_head_by text found _ = new_event found
+
+-- a head that none of the callbacks before has
+unfoldable pub new_head : Text → List Callback → Parser Head
+new_head text found = peek >>= new_head_by text found
+
+-- ---- a head too many
+
+-- the event that two words name
+abbrev pub event_of : Kind → Kind → Option Head
+event_of k.Pre second = option_map Pre (operation_of second)
+event_of k.Post second = option_map Post (operation_of second)
+event_of k.Canceled second = Some Canceled
+event_of _ second = None
+
+-- whether there is an event, and one of the callbacks is for it
+abbrev pub is_among : Option Head → List Callback → Bool
+is_among None found = false
+is_among (Some head) found = has_event head found
+
+-- whether two words name an event that one of the callbacks is for
+abbrev pub is_taken : Kind → Kind → List Callback → Bool
+is_taken first second = is_among (event_of first second)
+
+-- the first words of a head
+abbrev pub begins_head : Kind → Bool
+begins_head k.Pre = true
+begins_head k.Post = true
+begins_head k.Canceled = true
+begins_head k.DeferredPre = true
+begins_head k.DeferredPost = true
+begins_head k.Generic = true
+begins_head _ = false
+
+-- why no head is read behind callbacks enough: an event a second time comes before the limit, at the same word
+unfoldable pub crowded : List Callback → Input → SyntaxFault
+crowded found i =
+    if begins_head (kind i) then fault_at (if is_taken (kind i) (kind (next i)) found then E05 else E06) i else refusal i
+
+-- head, behind the callbacks that were found
+unfoldable pub head : Text → List Callback → Parser Head
+head text found = λ i. if nat_lt (length found) max_callbacks then new_head text found i else Err (crowded found i)

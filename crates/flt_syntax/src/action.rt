@@ -1,0 +1,118 @@
+//! Reads statements without blocks.
+
+ghost use Rattle.flt_syntax.specs.Action as spec;
+ghost use Rattle.flt_syntax.specs.Cursor.{Reads};
+ghost use Rattle.flt_syntax.specs.Scope.{scope_of};
+
+use crate::call::plain_call;
+use crate::cursor::Tokens;
+use crate::fault::ParseError;
+use crate::filter::Action;
+use crate::operand::{
+    atom, context_variable, context_variable_of, leading_atom, number_variable_of,
+    operation_variable, removed_variable_of,
+};
+use crate::scope::Scope;
+use crate::status::optional_status;
+use crate::token::Kind;
+use crate::variable::{ContextVariable, Expression, NumberVariable, RemovedVariable};
+
+#[tactic(auto, unfolding(crate::specs::Action::expression))]
+fn expression(tokens: &mut Tokens<'_>) -> Result<Expression, ParseError>
+    ensures { Reads (spec.expression tokens.old.rest.now) result tokens.new.rest.now }
+{
+    let first = leading_atom(tokens)?;
+    match tokens.peek() {
+        Kind::Plus => {
+            tokens.take();
+            Ok(Expression::Sum(first, atom(tokens)?))
+        }
+        Kind::Minus => {
+            tokens.take();
+            Ok(Expression::Difference(first, atom(tokens)?))
+        }
+        _ => Ok(Expression::Atom(first)),
+    }
+}
+
+/// A number variable gets an expression, a context's value or an operation's file.
+#[tactic(auto, unfolding(crate::specs::Action::set_number))]
+fn set_number(tokens: &mut Tokens<'_>, n: NumberVariable) -> Result<Action, ParseError>
+    ensures { Reads (spec.set_number n tokens.old.rest.now) result tokens.new.rest.now }
+{
+    tokens.take();
+    tokens.expect(Kind::Assign)?;
+    match tokens.peek() {
+        Kind::Value => {
+            tokens.take();
+            Ok(Action::ReadValue(n, context_variable(tokens)?))
+        }
+        Kind::File => {
+            tokens.take();
+            Ok(Action::ReadFile(n, operation_variable(tokens)?))
+        }
+        _ => Ok(Action::SetNumber(n, expression(tokens)?)),
+    }
+}
+
+#[tactic(auto, unfolding(crate::specs::Action::clear_context))]
+fn clear_context(tokens: &mut Tokens<'_>, c: ContextVariable) -> Result<Action, ParseError>
+    ensures { Reads (spec.clear_context c tokens.old.rest.now) result tokens.new.rest.now }
+{
+    tokens.take();
+    tokens.expect(Kind::Assign)?;
+    tokens.expect(Kind::Null)?;
+    Ok(Action::ClearContext(c))
+}
+
+#[tactic(auto, unfolding(crate::specs::Action::clear_operation))]
+fn clear_operation(tokens: &mut Tokens<'_>, o: RemovedVariable) -> Result<Action, ParseError>
+    ensures { Reads (spec.clear_operation o tokens.old.rest.now) result tokens.new.rest.now }
+{
+    tokens.take();
+    tokens.expect(Kind::Assign)?;
+    tokens.expect(Kind::Null)?;
+    Ok(Action::ClearOperation(o))
+}
+
+#[tactic(auto, unfolding(crate::specs::Action::write_value))]
+fn write_value(tokens: &mut Tokens<'_>) -> Result<Action, ParseError>
+    ensures { Reads (spec.write_value tokens.old.rest.now) result tokens.new.rest.now }
+{
+    tokens.take();
+    let context = context_variable(tokens)?;
+    tokens.expect(Kind::Assign)?;
+    Ok(Action::WriteValue(context, atom(tokens)?))
+}
+
+/// A statement that begins with a word of its own.
+#[tactic(auto, unfolding(crate::specs::Action::word_action))]
+fn word_action(scope: &Scope<'_>, tokens: &mut Tokens<'_>) -> Result<Action, ParseError>
+    ensures { Reads (spec.word_action (scope_of scope.now) tokens.old.rest.now) result tokens.new.rest.now }
+{
+    match tokens.peek() {
+        Kind::Value => write_value(tokens),
+        Kind::Return => {
+            tokens.take();
+            Ok(Action::Return(optional_status(tokens)?))
+        }
+        _ => Ok(Action::Call(plain_call(scope, tokens)?)),
+    }
+}
+
+#[tactic(auto, unfolding(crate::specs::Action::action))]
+pub fn action(scope: &Scope<'_>, tokens: &mut Tokens<'_>) -> Result<Action, ParseError>
+    ensures { Reads (spec.action (scope_of scope.now) tokens.old.rest.now) result tokens.new.rest.now }
+{
+    let kind = tokens.peek();
+    if let Some(n) = number_variable_of(kind) {
+        return set_number(tokens, n);
+    }
+    if let Some(c) = context_variable_of(kind) {
+        return clear_context(tokens, c);
+    }
+    if let Some(o) = removed_variable_of(kind) {
+        return clear_operation(tokens, o);
+    }
+    word_action(scope, tokens)
+}

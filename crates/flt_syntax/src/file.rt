@@ -1,0 +1,220 @@
+//! Reads a whole text.
+
+ghost use Rattle.flt_syntax.specs.Cursor.{Reads};
+ghost use Rattle.flt_syntax.specs.Lex.{tokens};
+ghost use Rattle.flt_syntax.specs.Measures.{is_small, are_small};
+ghost use Rattle.flt_syntax.specs.File as spec;
+ghost use Rattle.flt_syntax.specs.Scope.{scope_of};
+ghost use Rattle.std.specs.List.{list_all};
+ghost use Rattle.std.specs.Prelude.{◌≡◌, ◌≤◌, length, IsTrue, IfOk, IfErr, Ok};
+
+use crate::cursor::{Tokens, fault};
+use crate::fault::{FaultKind, ParseError};
+use crate::filter::{Callback, Filter, Lock, Position};
+use crate::head::head;
+use crate::lex;
+use crate::measure::is_small;
+use crate::scope::{Scope, spelled};
+use crate::statement::statements;
+use crate::token::Kind;
+use crate::tree::Tree;
+use crate::whole::whole_fault;
+use flt_rules::LockKind;
+use sqlite_items::Items;
+use std::alloc::Global;
+
+const MAX_TEXT: usize = 65_536;
+
+const MAX_ALTITUDE: u64 = 4_294_967_295;
+
+const MAX_LOCKS: usize = 8;
+
+/// How deep blocks nest, the callback's own counted.
+const MAX_DEPTH: usize = 32;
+
+/// How deep `repeat` nests.
+const MAX_REPEATS: usize = 4;
+
+fn lock_kind_of(kind: Kind) -> Option<LockKind>
+    ensures { result ≡ spec.lock_kind_of kind }
+{
+    match kind {
+        Kind::Spin => Some(LockKind::Spin),
+        Kind::Fast => Some(LockKind::Fast),
+        Kind::Push => Some(LockKind::Push),
+        _ => None,
+    }
+}
+
+#[tactic(auto, unfolding(crate::specs::File::lock_kind))]
+fn lock_kind(tokens: &mut Tokens<'_>) -> Result<LockKind, ParseError>
+    ensures { Reads (spec.lock_kind tokens.old.rest.now) result tokens.new.rest.now }
+{
+    match lock_kind_of(tokens.peek()) {
+        None => Err(tokens.refuse()),
+        Some(kind) => {
+            tokens.take();
+            Ok(kind)
+        }
+    }
+}
+
+fn has_lock(name: &[u8], locks: &[Lock]) -> bool
+    ensures { result ≡ spec.has_lock name.now locks.now }
+{
+    locks.iter().any(|l| l.name.as_slice() == name)
+}
+
+/// A lock, behind its first word and the locks that were found.
+#[tactic(auto, unfolding(crate::specs::File::lock))]
+fn lock(
+    alloc: Global,
+    text: &[u8],
+    tokens: &mut Tokens<'_>,
+    found: &[Lock],
+) -> Result<Lock, ParseError>
+    ensures { Reads (spec.lock text.now found.now tokens.old.rest.now) result tokens.new.rest.now }
+{
+    let kind = lock_kind(tokens)?;
+    let twice = tokens.fault(FaultKind::E05);
+    let limit = tokens.fault(FaultKind::E06);
+    let name = spelled(alloc, text, tokens)?;
+    if has_lock(name.as_slice(), found) {
+        return Err(twice);
+    }
+    if found.len() < MAX_LOCKS {
+        Ok(Lock { kind, name })
+    } else {
+        Err(limit)
+    }
+}
+
+#[tactic(auto, using(crate::proofs::Turns::turn_left, crate::proofs::Turns::none_left), unfolding(crate::specs::File::locks, crate::specs::File::locks_from))]
+fn locks(
+    alloc: Global,
+    text: &[u8],
+    tokens: &mut Tokens<'_>,
+) -> Result<Items<Lock>, ParseError>
+    ensures { Reads (spec.locks text.now tokens.old.rest.now) result tokens.new.rest.now }
+{
+    let mut found = Items::new(alloc);
+    for _turn in 0..tokens.left() {
+        if !tokens.eat(Kind::Lock) {
+            return Ok(found);
+        }
+        let next = lock(alloc, text, tokens, found.as_slice())?;
+        found.push(next)?;
+    }
+    Err(tokens.refuse())
+}
+
+/// Where `queue` stands, if it does.
+#[tactic(auto, unfolding(crate::specs::File::queue))]
+fn queue(tokens: &mut Tokens<'_>) -> Option<Position>
+    ensures { spec.queue tokens.old.rest.now ≡ Ok (result, tokens.new.rest.now) }
+{
+    let position = tokens.position();
+    if tokens.eat(Kind::Queue) {
+        Some(position)
+    } else {
+        None
+    }
+}
+
+/// A callback behind those that were found.
+#[tactic(auto, unfolding(crate::specs::File::callback))]
+fn callback(
+    alloc: Global,
+    scope: &Scope<'_>,
+    tokens: &mut Tokens<'_>,
+    found: &[Callback],
+) -> Result<Callback, ParseError>
+    ensures reads { Reads (spec.callback (scope_of scope.now) found.now tokens.old.rest.now) result tokens.new.rest.now }
+    ensures small { IfOk result (λ c. IsTrue (is_small c)) }
+{
+    let position = tokens.position();
+    let limit = tokens.fault(FaultKind::E06);
+    let head = head(alloc, scope.text, tokens, found)?;
+    tokens.expect(Kind::OpenBrace)?;
+    let body = statements(alloc, scope, tokens, MAX_DEPTH - 1, MAX_REPEATS)?;
+    let end_line = tokens.position().line;
+    tokens.expect(Kind::CloseBrace)?;
+    let callback = Callback {
+        head,
+        position,
+        body,
+        end_line,
+    };
+    if is_small(&callback) {
+        Ok(callback)
+    } else {
+        Err(limit)
+    }
+}
+
+#[tactic(auto, using(crate::proofs::Turns::turn_left, crate::proofs::Turns::none_left, crate::proofs::Limits::all_small), unfolding(crate::specs::File::callbacks, crate::specs::File::callbacks_from))]
+fn callbacks(
+    alloc: Global,
+    scope: &Scope<'_>,
+    tokens: &mut Tokens<'_>,
+) -> Result<Items<Callback>, ParseError>
+    ensures reads { Reads (spec.callbacks (scope_of scope.now) tokens.old.rest.now) result tokens.new.rest.now }
+    ensures small { IfOk result (λ cs. IsTrue (list_all is_small cs)) }
+{
+    let mut found = Items::new(alloc);
+    for _turn in 0..tokens.left() {
+        let next = callback(alloc, scope, tokens, found.as_slice())?;
+        found.push(next)?;
+        if tokens.sees(Kind::End) {
+            return Ok(found);
+        }
+    }
+    Err(tokens.refuse())
+}
+
+#[tactic(auto, unfolding(crate::specs::File::file))]
+fn file(alloc: Global, text: &[u8], tokens: &mut Tokens<'_>) -> Result<Filter, ParseError>
+    ensures reads { Reads (spec.file text.now tokens.old.rest.now) result tokens.new.rest.now }
+    ensures small { IfOk result (λ f. IsTrue (are_small f)) }
+{
+    tokens.expect(Kind::Filter)?;
+    let name = spelled(alloc, text, tokens)?;
+    tokens.expect(Kind::Altitude)?;
+    let altitude = tokens.number_within(1, MAX_ALTITUDE)?;
+    let locks = locks(alloc, text, tokens)?;
+    let queue = queue(tokens);
+    let scope = Scope {
+        text,
+        locks: locks.as_slice(),
+        has_queue: queue.is_some(),
+    };
+    let callbacks = callbacks(alloc, &scope, tokens)?;
+    Ok(Filter {
+        name,
+        altitude,
+        locks,
+        queue,
+        callbacks,
+    })
+}
+
+/// The tree that a text spells, or its first fault.
+#[tactic(auto, unfolding(crate::specs::File::filter_of))]
+pub fn parse(alloc: Global, text: &[u8]) -> Result<Tree, ParseError>
+    ensures value { IfOk result (λ t. spec.filter_of text.now ≡ Ok t.filter) }
+    ensures fault { IfErr result (spec.IsFaultOf (spec.filter_of text.now)) }
+{
+    if MAX_TEXT < text.len() {
+        let start = Position { line: 1, column: 1 };
+        return Err(ParseError::Syntax(fault(FaultKind::E06, start)));
+    }
+    let found = lex::tokens(alloc, text)?;
+    let mut tokens = Tokens {
+        rest: found.as_slice(),
+    };
+    let filter = file(alloc, text, &mut tokens)?;
+    match whole_fault(&filter) {
+        None => Ok(Tree { filter }),
+        Some(fault) => Err(ParseError::Syntax(fault)),
+    }
+}

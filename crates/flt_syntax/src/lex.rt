@@ -1,0 +1,232 @@
+//! Cuts a text into tokens.
+
+ghost use Rattle.std.specs.Prelude.{◌≡◌, ◌≢◌, ◌<◌, ◌≤◌, ◌+◌, ◌^◌, length, map, slice_index, IfOk, true, false};
+ghost use Rattle.std.specs.List.{prefix_len};
+ghost use Rattle.flt_syntax.specs.Lex as spec;
+
+use crate::filter::Position;
+use crate::token::{KEYWORDS, Kind, Token, Word};
+use sqlite_items::Items;
+use std::alloc::{AllocError, Global};
+
+const MAX_WORD: usize = 64;
+
+#[tactic(auto, unfolding(crate::specs::Lex::same_kind))]
+pub fn same_kind(a: Kind, b: Kind) -> bool
+    ensures value { result ≡ spec.same_kind a b }
+    ensures same { result ≡ true → a ≡ b }
+    ensures other { result ≡ false → a ≢ b }
+{
+    a == b
+}
+
+fn word(kind: Kind) -> Word
+    ensures { result ≡ spec.word kind }
+{
+    Word { kind, value: 0 }
+}
+
+/// The place of the byte after `b`, which stands at a place.
+fn past(b: u8, at: Position) -> Position
+    requires line { at.line < 2 ^ 32 }
+    requires column { at.column < 2 ^ 32 }
+    ensures { result ≡ spec.past b at }
+{
+    if b == b'\n' {
+        Position {
+            line: at.line + 1,
+            column: 1,
+        }
+    } else {
+        Position {
+            line: at.line,
+            column: at.column + 1,
+        }
+    }
+}
+
+fn is_blank(b: u8) -> bool
+    ensures { result ≡ spec.is_blank b }
+{
+    b == b' ' || b == b'\t' || b == b'\n' || b == b'\r'
+}
+
+fn is_word(b: u8) -> bool
+    ensures { result ≡ spec.is_word b }
+{
+    b.is_ascii_alphanumeric() || b == b'_'
+}
+
+fn lookup(mut table: &[(&[u8], Kind)], name: &[u8]) -> Kind
+    ensures { result ≡ spec.lookup (map (λ e. (e.0.now, e.1)) table.entry.now) name.now }
+{
+    while let [entry, rest @ ..] = table {
+        if name == entry.0 {
+            return entry.1;
+        }
+        table = rest;
+    }
+    Kind::Name
+}
+
+#[tactic(auto, unfolding(crate::specs::Lex::keyword))]
+fn keyword(name: &[u8]) -> Word
+    ensures { result ≡ spec.keyword name.now }
+{
+    if MAX_WORD < name.len() {
+        return word(Kind::Malformed);
+    }
+    word(lookup(&KEYWORDS, name))
+}
+
+fn value(mut digits: &[u8]) -> Option<u64>
+    ensures { result ≡ spec.value_from 0 digits.entry.now }
+{
+    let mut n: u64 = 0;
+    while let [b, rest @ ..] = digits {
+        if !b.is_ascii_digit() {
+            return None;
+        }
+        let next = 10 * u128::from(n) + u128::from(*b - b'0');
+        if next > u128::from(u64::MAX) {
+            return None;
+        }
+        n = next as u64;
+        digits = rest;
+    }
+    Some(n)
+}
+
+#[tactic(auto, unfolding(crate::specs::Lex::number))]
+fn number(digits: &[u8]) -> Word
+    requires { 0 < length digits.now }
+    ensures { result ≡ spec.number digits.now }
+{
+    if digits[0] == b'0' && 1 < digits.len() {
+        return word(Kind::Malformed);
+    }
+    match value(digits) {
+        None => word(Kind::Malformed),
+        Some(value) => Word {
+            kind: Kind::Number,
+            value,
+        },
+    }
+}
+
+fn run_len(z: &[u8]) -> usize
+    ensures value { result ≡ prefix_len spec.is_word z.now }
+    ensures within { result ≤ length z.now }
+    ensures moves { 0 < length z.now → spec.is_word (slice_index z.now 0) ≡ true → 0 < result }
+{
+    let mut end = 0;
+    while end < z.len() && is_word(z[end]) {
+        end += 1;
+    }
+    end
+}
+
+/// What `=` or `!` begins: a pair with the `=` behind it, or something of its own.
+#[tactic(auto, unfolding(crate::specs::Lex::pair_or))]
+fn pair_or(pair: Kind, alone: Kind, z: &[u8]) -> (Word, usize)
+    requires { 0 < length z.now }
+    ensures value { result ≡ spec.pair_or pair alone z.now }
+    ensures within { (1 ≤ result.1) × (result.1 ≤ length z.now) }
+{
+    if 1 < z.len() && z[1] == b'=' {
+        (word(pair), 2)
+    } else {
+        (word(alone), 1)
+    }
+}
+
+#[tactic(auto, unfolding(crate::specs::Lex::run))]
+fn run(z: &[u8]) -> (Word, usize)
+    requires some { 0 < length z.now }
+    requires begins { spec.is_word (slice_index z.now 0) ≡ true }
+    ensures value { result ≡ spec.run z.now }
+    ensures within { (1 ≤ result.1) × (result.1 ≤ length z.now) }
+{
+    let end = run_len(z);
+    let run = &z[..end];
+    if z[0].is_ascii_digit() {
+        (number(run), end)
+    } else {
+        (keyword(run), end)
+    }
+}
+
+#[tactic(auto, unfolding(crate::specs::Lex::token))]
+fn token(z: &[u8]) -> (Word, usize)
+    requires { 0 < length z.now }
+    ensures value { result ≡ spec.token z.now }
+    ensures within { (1 ≤ result.1) × (result.1 ≤ length z.now) }
+{
+    match z[0] {
+        b'{' => (word(Kind::OpenBrace), 1),
+        b'}' => (word(Kind::CloseBrace), 1),
+        b'<' => (word(Kind::Less), 1),
+        b'+' => (word(Kind::Plus), 1),
+        b'-' => (word(Kind::Minus), 1),
+        b'=' => pair_or(Kind::Equal, Kind::Assign, z),
+        b'!' => pair_or(Kind::NotEqual, Kind::Stray, z),
+        b if is_word(b) => run(z),
+        _ => (word(Kind::Stray), 1),
+    }
+}
+
+fn is_fault(kind: Kind) -> bool
+    ensures { result ≡ spec.is_fault kind }
+{
+    matches!(kind, Kind::Stray | Kind::Malformed)
+}
+
+/// The tokens up to the end or the first that is none.
+#[tactic(auto, unfolding(crate::specs::Lex::tokens))]
+pub fn tokens(alloc: Global, text: &[u8]) -> Result<Items<Token>, AllocError>
+    requires { length text.now < 2 ^ 32 }
+    ensures { IfOk result (λ ts. ts ≡ spec.tokens text.now) }
+{
+    let mut found = Items::new(alloc);
+    let mut left = 0;
+    let mut comment = false;
+    let mut last = 0;
+    let mut at = Position { line: 1, column: 0 };
+    let mut offset = 0;
+    let mut rest = text;
+    while let [b, after @ ..] = rest {
+        at = past(last, at);
+        if left > 0 {
+            left -= 1;
+        } else if comment {
+            comment = *b != b'\n';
+        } else if *b == b'#' {
+            comment = true;
+        } else if !is_blank(*b) {
+            let (word, len) = token(rest);
+            found.push(Token {
+                word,
+                position: at,
+                start: offset,
+                end: offset + len,
+            })?;
+            if is_fault(word.kind) {
+                return Ok(found);
+            }
+            left = len - 1;
+        }
+        last = *b;
+        offset += 1;
+        rest = after;
+    }
+    found.push(Token {
+        word: word(Kind::End),
+        position: Position {
+            line: at.line,
+            column: at.column + 1,
+        },
+        start: offset,
+        end: offset,
+    })?;
+    Ok(found)
+}
