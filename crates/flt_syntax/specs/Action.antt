@@ -1,12 +1,14 @@
 -- How statements without blocks are read.
-use Rattle.std.specs.Prelude.{Option, Some, None, Ok, Err}
+use Rattle.std.specs.Prelude.{ℕ, Option, Some, None, Ok, Err}
 use Rattle.flt_syntax.specs.Call.{plain_call}
 use Rattle.flt_syntax.specs.Cursor.{Parser, and_then, ◌>>=◌, ◌>>◌, pure, ◌<$>◌, kind, peek, take_token, given, expect}
 use Rattle.flt_syntax.specs.Operand.{atom, leading_atom, context_variable, operation_variable, context_variable_of, number_variable_of, removed_variable_of}
 use Rattle.flt_syntax.specs.Scope.{Scope}
 use Rattle.flt_syntax.specs.Status.{optional_status}
 use Rattle.flt_syntax.specs.declared.filter.Action.{Action}
-use Rattle.flt_syntax.specs.declared.filter.Action.TheVariants.{SetNumber, ReadValue, ReadFile, WriteValue, ClearContext, ClearOperation, Call, Return}
+use Rattle.flt_syntax.specs.declared.filter.Action.TheVariants.{SetNumber, ReadValue, ReadFile, WriteValue, ClearContext, ClearOperation}
+use Rattle.flt_syntax.specs.declared.filter.Statement.{Statement}
+use Rattle.flt_syntax.specs.declared.filter.Statement.TheVariants as made
 use Rattle.flt_syntax.specs.declared.token.Kind.{Kind}
 use Rattle.flt_syntax.specs.declared.token.Kind.TheVariants as k
 use Rattle.flt_syntax.specs.declared.variable.Atom.{Atom}
@@ -57,19 +59,19 @@ write_value = do
   pure (WriteValue c a)
 
 -- "value" C "=" atom | "return" [ status ] | plain, by the first word
-abbrev pub word_action_by : Scope → Kind → Parser Action
-word_action_by scope k.Value = write_value
-word_action_by scope k.Return = take_token >> Return <$> optional_status
-word_action_by scope _ = Call <$> plain_call scope
+abbrev pub word_statement_by : Scope → ℕ → Kind → Parser Statement
+word_statement_by scope line k.Value = made.Act line <$> write_value
+word_statement_by scope line k.Return = take_token >> made.Return line <$> optional_status
+word_statement_by scope line _ = made.Call line <$> plain_call scope
 
--- a statement without blocks that begins with a word of its own
-unfoldable pub word_action : Scope → Parser Action
-word_action scope = peek >>= word_action_by scope
+-- a statement without blocks that begins with a word of its own, on a line
+unfoldable pub word_statement : Scope → ℕ → Parser Statement
+word_statement scope line = peek >>= word_statement_by scope line
 
--- a statement without blocks
-unfoldable pub action : Scope → Parser Action
-action scope = λ i.
-    given (number_variable_of (kind i)) set_number
-    (given (context_variable_of (kind i)) clear_context
-    (given (removed_variable_of (kind i)) clear_operation
-    (word_action scope))) i
+-- a statement without blocks, on a line
+unfoldable pub simple_statement : Scope → ℕ → Parser Statement
+simple_statement scope line = λ i.
+    given (number_variable_of (kind i)) (λ n. made.Act line <$> set_number n)
+    (given (context_variable_of (kind i)) (λ c. made.Act line <$> clear_context c)
+    (given (removed_variable_of (kind i)) (λ o. made.Act line <$> clear_operation o)
+    (word_statement scope line))) i

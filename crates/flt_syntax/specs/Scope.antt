@@ -3,7 +3,9 @@ use Rattle.std.specs.Prelude.{ℕ, Bool, ◌&&◌, if◌then◌else◌, List, Op
 use Rattle.std.specs.Str.{bytes_eq}
 use denote.Enum.Bare.{sameb}
 use Rattle.flt_rules.specs.contracts.call.LockKind.{the_type}
+use Rattle.flt_rules.specs.Call.{lock_at}
 use Rattle.flt_rules.specs.declared.call.LockKind.{LockKind}
+use Rattle.flt_rules.specs.declared.call.LockNumber.{LockNumber}
 use Rattle.flt_syntax.specs.Cursor.{Parser, and_then, ◌>>=◌, ◌>>◌, pure, ◌<$>◌, place, bytes_of, fault_at, found_or, name, fail}
 use Rattle.flt_syntax.specs.Lex.{Text}
 use Rattle.flt_syntax.specs.declared.fault.FaultKind.TheVariants.{E04}
@@ -26,11 +28,19 @@ unfoldable pub same_lock_kind : LockKind → LockKind → Bool
 same_lock_kind = sameb the_type
 
 -- the place, from 0, of the lock of a kind and a name
-abbrev pub lock_number : LockKind → Text → List Lock → Option ℕ
-lock_number kind name = position (λ l. same_lock_kind l.kind kind && bytes_eq l.name name)
+abbrev pub lock_place : LockKind → Text → List Lock → Option ℕ
+lock_place kind name = position (λ l. same_lock_kind l.kind kind && bytes_eq l.name name)
+
+abbrev pub lock_at_place : Option ℕ → Option LockNumber
+lock_at_place (Some place) = lock_at place
+lock_at_place None = None
+
+-- the lock of a kind and a name
+abbrev pub lock_number : LockKind → Text → List Lock → Option LockNumber
+lock_number kind name locks = lock_at_place (lock_place kind name locks)
 
 -- NAME where only a declared lock of the kind may stand
-unfoldable pub lock_named : Scope → LockKind → Parser ℕ
+unfoldable pub lock_named : Scope → LockKind → Parser LockNumber
 lock_named scope kind = λ i.
     and_then (name i) (λ q. found_or (fault_at E04 i) (lock_number kind (bytes_of scope.text q.0) scope.locks) q.1)
 

@@ -1,12 +1,12 @@
 -- How statements and blocks are read.
 use Rattle.std.specs.Prelude.{ℕ, zero, suc, ◌-◌, Bool, if◌then◌else◌, ◌==◌, List, [], ◌∷◌, ◌++◌, length, Ok, Err}
-use Rattle.flt_syntax.specs.Action.{action}
+use Rattle.flt_syntax.specs.Action.{simple_statement}
 use Rattle.flt_syntax.specs.Condition.{condition}
 use Rattle.flt_syntax.specs.Cursor.{Parser, and_then, ◌>>=◌, ◌>>◌, pure, ◌<$>◌, place, refuse, fail, peek, take_token, sees, eat, expect, number_within, too_deep}
 use Rattle.flt_syntax.specs.Scope.{Scope}
 use Rattle.flt_syntax.specs.declared.fault.FaultKind.TheVariants.{E06}
 use Rattle.flt_syntax.specs.declared.filter.Statement.{Statement}
-use Rattle.flt_syntax.specs.declared.filter.Statement.TheVariants.{Act, If, Repeat}
+use Rattle.flt_syntax.specs.declared.filter.Statement.TheVariants.{If, Repeat}
 use Rattle.flt_syntax.specs.declared.token.Kind.{Kind}
 use Rattle.flt_syntax.specs.declared.token.Kind.TheVariants as k
 
@@ -47,8 +47,7 @@ module _ (scope : Scope) (inner : ℕ → Parser (List Statement)) where
   statement_by repeats k.Repeat = repetition repeats
   statement_by repeats _ = do
     at ← place
-    a ← action scope
-    pure (Act at.line a)
+    simple_statement scope at.line
 
   -- stmt
   unfoldable pub statement : ℕ → Parser Statement

@@ -82,6 +82,8 @@ missing_by cs from _ = None
 -- the same of a statement, whose blocks come after its test
 abbrev pub missing_step : List Callback → Head → Statement-F (Option Position) → Option Position
 missing_step cs from (Statement-F.Act line action) = None
+missing_step cs from (Statement-F.Call line call) = None
+missing_step cs from (Statement-F.Return line status) = None
 missing_step cs from (Statement-F.If line condition granted refused) =
     first_of (missing_by cs from condition) (first_of (first_some granted) (first_some refused))
 missing_step cs from (Statement-F.Repeat line turns body) = first_some body

@@ -7,7 +7,7 @@ ghost use Rattle.flt_syntax.specs.Scope.{scope_of};
 use crate::call::plain_call;
 use crate::cursor::Tokens;
 use crate::fault::ParseError;
-use crate::filter::Action;
+use crate::filter::{Action, Statement};
 use crate::operand::{
     atom, context_variable, context_variable_of, leading_atom, number_variable_of,
     operation_variable, removed_variable_of,
@@ -85,34 +85,43 @@ fn write_value(tokens: &mut Tokens<'_>) -> Result<Action, ParseError>
     Ok(Action::WriteValue(context, atom(tokens)?))
 }
 
-/// A statement that begins with a word of its own.
-#[tactic(auto, unfolding(crate::specs::Action::word_action))]
-fn word_action(scope: &Scope<'_>, tokens: &mut Tokens<'_>) -> Result<Action, ParseError>
-    ensures { Reads (spec.word_action (scope_of scope.now) tokens.old.rest.now) result tokens.new.rest.now }
+/// A statement without blocks that begins with a word of its own, on a line.
+#[tactic(auto, unfolding(crate::specs::Action::word_statement))]
+fn word_statement(
+    scope: &Scope<'_>,
+    tokens: &mut Tokens<'_>,
+    line: usize,
+) -> Result<Statement, ParseError>
+    ensures { Reads (spec.word_statement (scope_of scope.now) line tokens.old.rest.now) result tokens.new.rest.now }
 {
     match tokens.peek() {
-        Kind::Value => write_value(tokens),
+        Kind::Value => Ok(Statement::Act(line, write_value(tokens)?)),
         Kind::Return => {
             tokens.take();
-            Ok(Action::Return(optional_status(tokens)?))
+            Ok(Statement::Return(line, optional_status(tokens)?))
         }
-        _ => Ok(Action::Call(plain_call(scope, tokens)?)),
+        _ => Ok(Statement::Call(line, plain_call(scope, tokens)?)),
     }
 }
 
-#[tactic(auto, unfolding(crate::specs::Action::action))]
-pub fn action(scope: &Scope<'_>, tokens: &mut Tokens<'_>) -> Result<Action, ParseError>
-    ensures { Reads (spec.action (scope_of scope.now) tokens.old.rest.now) result tokens.new.rest.now }
+/// A statement without blocks, on a line.
+#[tactic(auto, unfolding(crate::specs::Action::simple_statement))]
+pub fn simple_statement(
+    scope: &Scope<'_>,
+    tokens: &mut Tokens<'_>,
+    line: usize,
+) -> Result<Statement, ParseError>
+    ensures { Reads (spec.simple_statement (scope_of scope.now) line tokens.old.rest.now) result tokens.new.rest.now }
 {
     let kind = tokens.peek();
     if let Some(n) = number_variable_of(kind) {
-        return set_number(tokens, n);
+        return Ok(Statement::Act(line, set_number(tokens, n)?));
     }
     if let Some(c) = context_variable_of(kind) {
-        return clear_context(tokens, c);
+        return Ok(Statement::Act(line, clear_context(tokens, c)?));
     }
     if let Some(o) = removed_variable_of(kind) {
-        return clear_operation(tokens, o);
+        return Ok(Statement::Act(line, clear_operation(tokens, o)?));
     }
-    word_action(scope, tokens)
+    word_statement(scope, tokens, line)
 }

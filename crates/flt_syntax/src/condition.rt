@@ -7,7 +7,7 @@ ghost use Rattle.flt_syntax.specs.Scope.{scope_of};
 use crate::call::fallible_call;
 use crate::cursor::Tokens;
 use crate::fault::ParseError;
-use crate::filter::Condition;
+use crate::filter::{Condition, Test};
 use crate::operand::{atom, context_variable_of, number_variable_of, removed_variable_of};
 use crate::scope::Scope;
 use crate::token::Kind;
@@ -15,38 +15,38 @@ use crate::variable::{ContextVariable, NumberVariable, RemovedVariable};
 use std::alloc::Global;
 
 #[tactic(auto, unfolding(crate::specs::Condition::context_test))]
-fn context_test(tokens: &mut Tokens<'_>, c: ContextVariable) -> Result<Condition, ParseError>
+fn context_test(tokens: &mut Tokens<'_>, c: ContextVariable) -> Result<Test, ParseError>
     ensures { Reads (spec.context_test c tokens.old.rest.now) result tokens.new.rest.now }
 {
     tokens.take();
     tokens.expect(Kind::NotEqual)?;
     tokens.expect(Kind::Null)?;
-    Ok(Condition::ContextIsSome(c))
+    Ok(Test::ContextIsSome(c))
 }
 
 #[tactic(auto, unfolding(crate::specs::Condition::operation_test))]
-fn operation_test(tokens: &mut Tokens<'_>, o: RemovedVariable) -> Result<Condition, ParseError>
+fn operation_test(tokens: &mut Tokens<'_>, o: RemovedVariable) -> Result<Test, ParseError>
     ensures { Reads (spec.operation_test o tokens.old.rest.now) result tokens.new.rest.now }
 {
     tokens.take();
     tokens.expect(Kind::NotEqual)?;
     tokens.expect(Kind::Null)?;
-    Ok(Condition::OperationIsSome(o))
+    Ok(Test::OperationIsSome(o))
 }
 
 #[tactic(auto, unfolding(crate::specs::Condition::number_test))]
-fn number_test(tokens: &mut Tokens<'_>, n: NumberVariable) -> Result<Condition, ParseError>
+fn number_test(tokens: &mut Tokens<'_>, n: NumberVariable) -> Result<Test, ParseError>
     ensures { Reads (spec.number_test n tokens.old.rest.now) result tokens.new.rest.now }
 {
     tokens.take();
     match tokens.peek() {
         Kind::Equal => {
             tokens.take();
-            Ok(Condition::Equal(n, atom(tokens)?))
+            Ok(Test::Equal(n, atom(tokens)?))
         }
         Kind::Less => {
             tokens.take();
-            Ok(Condition::Less(n, atom(tokens)?))
+            Ok(Test::Less(n, atom(tokens)?))
         }
         _ => Err(tokens.refuse()),
     }
@@ -65,11 +65,11 @@ fn word_test(
         Kind::Irp => {
             tokens.take();
             tokens.expect(Kind::Data)?;
-            Ok(Condition::IsIrp)
+            Ok(Condition::Test(Test::IsIrp))
         }
         Kind::Draining => {
             tokens.take();
-            Ok(Condition::IsDraining)
+            Ok(Condition::Test(Test::IsDraining))
         }
         _ => Ok(Condition::Succeeds(fallible_call(alloc, scope, tokens)?)),
     }
@@ -85,13 +85,13 @@ pub fn condition(
 {
     let kind = tokens.peek();
     if let Some(c) = context_variable_of(kind) {
-        return context_test(tokens, c);
+        return Ok(Condition::Test(context_test(tokens, c)?));
     }
     if let Some(o) = removed_variable_of(kind) {
-        return operation_test(tokens, o);
+        return Ok(Condition::Test(operation_test(tokens, o)?));
     }
     if let Some(n) = number_variable_of(kind) {
-        return number_test(tokens, n);
+        return Ok(Condition::Test(number_test(tokens, n)?));
     }
     word_test(alloc, scope, tokens)
 }

@@ -26,7 +26,7 @@ fn points_of(statement: &Statement) -> usize
     ensures { result ≡ min (spec.points_of statement.now) spec.max_points }
 {
     match statement {
-        Statement::Act(_, _) => 1,
+        Statement::Act(_, _) | Statement::Call(_, _) | Statement::Return(_, _) => 1,
         Statement::If(_, _, granted, refused) => {
             MAX_POINTS.min(1 + points(granted.as_slice()) + points(refused.as_slice()))
         }
@@ -51,7 +51,7 @@ fn cost_of(statement: &Statement) -> u64
     ensures { result ≡ min (spec.cost_of statement.now) spec.max_cost }
 {
     match statement {
-        Statement::Act(_, _) => 1,
+        Statement::Act(_, _) | Statement::Call(_, _) | Statement::Return(_, _) => 1,
         Statement::If(_, _, granted, refused) => {
             MAX_COST.min(1 + cost(granted.as_slice()).max(cost(refused.as_slice())))
         }

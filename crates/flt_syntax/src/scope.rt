@@ -8,7 +8,7 @@ ghost use Rattle.std.specs.Prelude.{◌≡◌};
 use crate::cursor::{Tokens, bytes_of};
 use crate::fault::{FaultKind, ParseError};
 use crate::filter::{Lock, Routine};
-use flt_rules::LockKind;
+use flt_rules::{LockKind, LockNumber};
 use sqlite_items::Items;
 use std::alloc::Global;
 
@@ -28,12 +28,19 @@ fn same_lock_kind(a: LockKind, b: LockKind) -> bool
 }
 
 /// The place of a lock among the locks of a filter.
-fn lock_number(kind: LockKind, name: &[u8], locks: &[Lock]) -> Option<usize>
+fn lock_place(kind: LockKind, name: &[u8], locks: &[Lock]) -> Option<usize>
+    ensures { result ≡ spec.lock_place kind name.now locks.now }
+{
+    locks.iter().position(|l| same_lock_kind(l.kind, kind) && l.name.as_slice() == name)
+}
+
+fn lock_number(kind: LockKind, name: &[u8], locks: &[Lock]) -> Option<LockNumber>
     ensures { result ≡ spec.lock_number kind name.now locks.now }
 {
-    locks
-        .iter()
-        .position(|l| same_lock_kind(l.kind, kind) && l.name.as_slice() == name)
+    match lock_place(kind, name, locks) {
+        Some(place) => LockNumber::at(place),
+        None => None,
+    }
 }
 
 /// A declared lock of the kind.
@@ -42,7 +49,7 @@ pub fn lock_named(
     scope: &Scope<'_>,
     tokens: &mut Tokens<'_>,
     kind: LockKind,
-) -> Result<usize, ParseError>
+) -> Result<LockNumber, ParseError>
     ensures { Reads (spec.lock_named (scope_of scope.now) kind tokens.old.rest.now) result tokens.new.rest.now }
 {
     let unknown = tokens.fault(FaultKind::E04);
@@ -55,11 +62,7 @@ pub fn lock_named(
 
 /// The bytes of a word.
 #[tactic(auto, unfolding(crate::specs::Scope::spelled))]
-pub fn spelled(
-    alloc: Global,
-    text: &[u8],
-    tokens: &mut Tokens<'_>,
-) -> Result<Items<u8>, ParseError>
+pub fn spelled(alloc: Global, text: &[u8], tokens: &mut Tokens<'_>) -> Result<Items<u8>, ParseError>
     ensures { Reads (spec.spelled text.now tokens.old.rest.now) result tokens.new.rest.now }
 {
     let name = tokens.name()?;

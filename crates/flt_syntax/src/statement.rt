@@ -4,7 +4,7 @@ ghost use Rattle.flt_syntax.specs.Cursor.{Reads};
 ghost use Rattle.flt_syntax.specs.Scope.{scope_of};
 ghost use Rattle.flt_syntax.specs.Statement as spec;
 
-use crate::action::action;
+use crate::action::simple_statement;
 use crate::condition::condition;
 use crate::cursor::Tokens;
 use crate::fault::{FaultKind, ParseError};
@@ -91,7 +91,7 @@ fn statement(
         Kind::Repeat => repetition(alloc, scope, tokens, depth, repeats),
         _ => {
             let line = tokens.position().line;
-            Ok(Statement::Act(line, action(scope, tokens)?))
+            simple_statement(scope, tokens, line)
         }
     }
 }

@@ -82,7 +82,7 @@ fn missing_of(callbacks: &[Callback], from: &Head, statement: &Statement) -> Opt
     ensures { result ≡ spec.missing_of callbacks.now from.now statement.now }
 {
     match statement {
-        Statement::Act(_, _) => None,
+        Statement::Act(_, _) | Statement::Call(_, _) | Statement::Return(_, _) => None,
         Statement::If(_, condition, granted, refused) => {
             if let Some(at) = missing_by(callbacks, from, condition) {
                 return Some(at);
