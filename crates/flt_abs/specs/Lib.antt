@@ -1,4 +1,5 @@
 pub mod Breaks
+pub mod Entry
 pub mod Locks
 pub mod SetLaws
 pub mod Sets

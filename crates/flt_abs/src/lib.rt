@@ -2,6 +2,7 @@
 #![tactic(auto)]
 
 mod breaks;
+mod entry;
 mod locks;
 mod sets;
 mod setting;
@@ -9,6 +10,7 @@ mod state;
 mod step;
 mod variables;
 
+pub use entry::{entry_state, is_entry_below};
 pub use locks::LockList;
 pub use sets::{Draining, DrainingBits, ModeBits, Modes, StatusBits, Statuses};
 pub use setting::Setting;

@@ -122,7 +122,7 @@ fn are_possible(sets: &[Statuses]) -> bool
 pub struct LocksDiffer;
 
 #[tactic(auto, using(crate::proofs::Order::more_not_within))]
-fn all_within(a: &[Statuses], b: &[Statuses]) -> bool
+pub(crate) fn all_within(a: &[Statuses], b: &[Statuses]) -> bool
     ensures { result ≡ spec.all_within a.now b.now }
 {
     match (a, b) {
