@@ -1,0 +1,99 @@
+-- What is wrong with a certificate of a text, and where first. This project's own definitions.
+use Rattle.std.specs.Prelude.{◌≡◌, ℕ, ◌-◌, ◌<◌, ◌≤◌, Bool, true, false, not, ◌==◌, if◌then◌else◌, nat_lt, length, [], Option, Some, None, option_map, Result, Ok, Err, slice_index_or}
+use Rattle.std.specs.Str.{bytes_eq}
+use Rattle.flt_rules.specs.Rule.{number}
+use Rattle.flt_rules.specs.declared.rule.Rule.{Rule}
+use Rattle.flt_rules.specs.declared.rule.Rule.TheVariants.{R12, R14}
+use Rattle.flt_graph.specs.Graph.{place_at, points_at, line_at}
+use Rattle.flt_graph.specs.declared.graph.Graph.{Graph}
+use Rattle.flt_abs.specs.Entry.{entry_state}
+use Rattle.flt_abs.specs.State.{State, is_below}
+use Rattle.flt_abs.specs.Step.{transfer}
+use Rattle.flt_abs.specs.declared.step.Successor.{Successor}
+use Rattle.flt_abs.specs.declared.step.Successors.{Successors}
+use Rattle.flt_cert.specs.Format.{Certificate, Point}
+use Rattle.flt_check.specs.declared.checker.Refusal.{Refusal}
+
+-- ---- what a certificate says
+
+abbrev pub state_at : Certificate → ℕ → ℕ → Option State
+state_at k callback point = slice_index_or (slice_index_or k callback []) point None
+
+abbrev pub count_at : Certificate → ℕ → ℕ
+count_at k callback = length (slice_index_or k callback [])
+
+-- ---- the least rule that is broken at a point
+
+-- a state that leads to a point: it must be reached, with the same locks, and with a state that isn't below
+abbrev pub lead_fault : State → Option State → Option Rule
+lead_fault x None = Some R14
+lead_fault x (Some y) = if not (bytes_eq x.locks y.locks) then Some R12 else (if not (is_below x y) then Some R14 else None)
+
+abbrev pub successor_fault : Certificate → ℕ → Option Successor → Option Rule
+successor_fault k callback (Some next) = lead_fault next.state (state_at k callback next.point)
+successor_fault k callback None = None
+
+-- the one of the lesser number
+abbrev pub lesser : Option Rule → Option Rule → Option Rule
+lesser (Some x) (Some y) = if nat_lt (number y) (number x) then Some y else Some x
+lesser (Some x) None = Some x
+lesser None b = b
+
+abbrev pub leads_fault : Certificate → ℕ → Successors → Option Rule
+leads_fault k callback next = lesser (successor_fault k callback next.first) (successor_fault k callback next.second)
+
+-- where a rule fires the successors aren't looked at
+abbrev pub result_fault : Certificate → ℕ → Result Successors Rule → Option Rule
+result_fault k callback (Err r) = Some r
+result_fault k callback (Ok next) = leads_fault k callback next
+
+abbrev pub state_fault : Graph → Certificate → ℕ → ℕ → State → Option Rule
+state_fault g k callback point x = result_fault k callback (transfer g callback point x)
+
+-- a point that isn't reached breaks no rule of its own
+abbrev pub own_fault : Graph → Certificate → ℕ → ℕ → Option State → Option Rule
+own_fault g k callback point (Some x) = state_fault g k callback point x
+own_fault g k callback point None = None
+
+-- the state of point 0 must be above the entry's
+abbrev pub entry_by : Graph → ℕ → Option State → Option Rule
+entry_by g callback (Some x) = if is_below (entry_state (place_at g callback)) x then None else Some R14
+entry_by g callback None = Some R14
+
+abbrev pub entry_fault : Graph → Certificate → ℕ → Option Rule
+entry_fault g k callback = entry_by g callback (state_at k callback 0)
+
+abbrev pub point_fault : Graph → Certificate → ℕ → ℕ → Option Rule
+point_fault g k callback point =
+    let own = own_fault g k callback point (state_at k callback point) in
+    if point == 0 then lesser own (entry_fault g k callback) else own
+
+-- ---- faults of a certificate
+
+-- the certificate has as many callbacks and points as the text
+pub record AgreeOnCounts (g : Graph) (k : Certificate) : Type 0 where
+  pub callbacks : length k ≡ length g.callbacks
+  pub points : (callback : ℕ) → callback < length g.callbacks → points_at g callback ≡ count_at k callback
+
+-- up to a point of a callback, that point left out, no rule is broken
+abbrev pub NoneBefore : Graph → Certificate → ℕ → ℕ → Type 0
+NoneBefore g k callback point = (p : ℕ) → p < point → point_fault g k callback p ≡ None
+
+-- up to a callback, that one left out, no rule is broken
+abbrev pub NoneIn : Graph → Certificate → ℕ → Type 0
+NoneIn g k callbacks = (c : ℕ) → c < callbacks → NoneBefore g k c (points_at g c)
+
+-- no fault: the counts agree, and no rule is broken at any point
+pub record IsFaultless (g : Graph) (k : Certificate) : Type 0 where
+  pub counts : AgreeOnCounts g k
+  pub points : NoneIn g k (length g.callbacks)
+
+-- a point of the text at which a rule is broken, and no earlier one
+pub record IsFirstBroken (g : Graph) (k : Certificate) (f : Refusal) : Type 0 where
+  pub counts : AgreeOnCounts g k
+  pub callback : f.callback < length g.callbacks
+  pub point : f.point < points_at g f.callback
+  pub broken : point_fault g k f.callback f.point ≡ Some f.rule
+  pub line : f.line ≡ line_at g f.callback f.point
+  pub earlier_callbacks : NoneIn g k f.callback
+  pub earlier_points : NoneBefore g k f.callback f.point

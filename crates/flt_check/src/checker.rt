@@ -1,0 +1,180 @@
+//! Goes over the points of a text with its certificate.
+
+ghost use Rattle.std.specs.Prelude.{◌≡◌, ◌<◌, ◌↔◌, length, IsOk, IfErr, IfSome, IfNone};
+ghost use Rattle.std.specs.Option.{option_copied};
+ghost use Rattle.flt_check.specs.Checker as spec;
+ghost use Rattle.flt_graph.specs.Graph.{points_at};
+
+use flt_abs::{Abs, Successor, Successors, is_entry_below, leq, transfer};
+use flt_cert::Cert;
+use flt_graph::Graph;
+use flt_rules::Rule;
+
+/// Why a certificate isn't accepted: the least fault. Callbacks and points count from 0, lines from 1.
+#[derive(Clone, Copy, Debug, PartialEq, Eq)]
+pub struct Refusal {
+    pub callback: usize,
+    pub point: usize,
+    pub line: usize,
+    pub rule: Rule,
+}
+
+/// What is wrong with a state that leads to a point, if anything is.
+fn lead_fault(state: &Abs, at: Option<&Abs>) -> Option<Rule>
+    ensures { result ≡ spec.lead_fault state.now (option_copied at.entry) }
+{
+    match at {
+        None => Some(Rule::R14),
+        Some(there) if !state.locks().is_same(there.locks()) => Some(Rule::R12),
+        Some(there) if !leq(state, there) => Some(Rule::R14),
+        Some(_) => None,
+    }
+}
+
+fn successor_fault(cert: &Cert, callback: usize, successor: &Option<Successor>) -> Option<Rule>
+    ensures { result ≡ spec.successor_fault cert.now callback successor.now }
+{
+    match successor {
+        Some(next) => lead_fault(&next.state, cert.state(callback, next.point)),
+        None => None,
+    }
+}
+
+/// The lesser of two faults.
+fn lesser(a: Option<Rule>, b: Option<Rule>) -> Option<Rule>
+    ensures { result ≡ spec.lesser a b }
+{
+    match (a, b) {
+        (Some(x), Some(y)) => {
+            if flt_rules::number(y) < flt_rules::number(x) {
+                Some(y)
+            } else {
+                Some(x)
+            }
+        }
+        (None, b) => b,
+        (a, None) => a,
+    }
+}
+
+fn leads_fault(cert: &Cert, callback: usize, next: &Successors) -> Option<Rule>
+    ensures { result ≡ spec.leads_fault cert.now callback next.now }
+{
+    let first = successor_fault(cert, callback, &next.first);
+    let second = successor_fault(cert, callback, &next.second);
+    lesser(first, second)
+}
+
+/// The least rule that a point breaks with its state, or that is broken where it leads.
+fn state_fault(
+    graph: &Graph,
+    cert: &Cert,
+    callback: usize,
+    point: usize,
+    state: &Abs,
+) -> Option<Rule>
+    requires callback { callback < length graph.now.callbacks }
+    requires point { point < points_at graph.now callback }
+    ensures { result ≡ spec.state_fault graph.now cert.now callback point state.now }
+{
+    match transfer(graph, callback, point, state) {
+        Err(rule) => Some(rule),
+        Ok(next) => leads_fault(cert, callback, &next),
+    }
+}
+
+/// What is wrong with the entry of a callback.
+fn entry_fault(graph: &Graph, cert: &Cert, callback: usize) -> Option<Rule>
+    requires { callback < length graph.now.callbacks }
+    ensures { result ≡ spec.entry_fault graph.now cert.now callback }
+{
+    match cert.state(callback, 0) {
+        Some(state) if is_entry_below(graph.place(callback), state) => None,
+        _ => Some(Rule::R14),
+    }
+}
+
+/// The least rule that is broken at a point. One that isn't reached breaks none of its own.
+fn point_fault(graph: &Graph, cert: &Cert, callback: usize, point: usize) -> Option<Rule>
+    requires callback { callback < length graph.now.callbacks }
+    requires point { point < points_at graph.now callback }
+    ensures { result ≡ spec.point_fault graph.now cert.now callback point }
+{
+    let own = match cert.state(callback, point) {
+        Some(state) => state_fault(graph, cert, callback, point, state),
+        None => None,
+    };
+    if point == 0 {
+        lesser(own, entry_fault(graph, cert, callback))
+    } else {
+        own
+    }
+}
+
+/// The first point of a callback at which a rule is broken, and the least such rule.
+fn callback_fault(graph: &Graph, cert: &Cert, callback: usize) -> Option<(usize, Rule)>
+    requires { callback < length graph.now.callbacks }
+    ensures { spec.IsFirstPoint graph.now cert.now callback result }
+{
+    for point in 0..graph.points(callback) {
+        if let Some(rule) = point_fault(graph, cert, callback, point) {
+            return Some((point, rule));
+        }
+    }
+    None
+}
+
+/// The first callback of which the certificate has not as many points as the text; where it only has callbacks too many,
+/// the text's last one.
+fn count_fault(graph: &Graph, cert: &Cert) -> Option<usize>
+    ensures { spec.IsCountFault graph.now cert.now result }
+{
+    for callback in 0..graph.callbacks() {
+        if graph.points(callback) != cert.points(callback).len() {
+            return Some(callback);
+        }
+    }
+    let callbacks = graph.callbacks();
+    if callbacks < cert.callbacks().len() {
+        Some(callbacks.saturating_sub(1))
+    } else {
+        None
+    }
+}
+
+fn line_of(graph: &Graph, callback: usize, point: usize) -> usize
+    ensures { result ≡ spec.line_of graph.now callback point }
+{
+    if callback < graph.callbacks() && point < graph.points(callback) {
+        graph.line(callback, point)
+    } else {
+        0
+    }
+}
+
+/// Whether a certificate covers a text's points; if not, the least fault: a number of callbacks or points that isn't the
+/// text's comes first, then the least callback, point and rule. It takes no memory.
+pub fn check(graph: &Graph, cert: &Cert) -> Result<(), Refusal>
+    ensures accepted { IsOk result ↔ spec.Covers graph.now cert.now }
+    ensures refused { IfErr result (spec.IsLeastFault graph.now cert.now) }
+{
+    if let Some(callback) = count_fault(graph, cert) {
+        return Err(Refusal {
+            callback,
+            point: 0,
+            line: line_of(graph, callback, 0),
+            rule: Rule::R14,
+        });
+    }
+    for callback in 0..graph.callbacks() {
+        if let Some((point, rule)) = callback_fault(graph, cert, callback) {
+            return Err(Refusal {
+                callback,
+                point,
+                line: line_of(graph, callback, point),
+                rule,
+            });
+        }
+    }
+    Ok(())
+}
