@@ -1,8 +1,8 @@
 -- How statements and blocks are read.
-use Rattle.std.specs.Prelude.{ℕ, zero, suc, ◌-◌, Bool, if◌then◌else◌, ◌==◌, List, [], ◌∷◌, ◌++◌, length, Ok, Err}
+use Rattle.std.specs.Prelude.{ℕ, zero, suc, ◌-◌, if◌then◌else◌, ◌==◌, List, [], ◌∷◌, ◌++◌, length, Ok, Err}
 use Rattle.flt_syntax.specs.Action.{action}
 use Rattle.flt_syntax.specs.Condition.{condition}
-use Rattle.flt_syntax.specs.Cursor.{Parser, and_then, ◌>>=◌, ◌>>◌, pure, ◌<$>◌, place, refuse, fail, peek, take_token, sees, eat, expect, number_within, too_deep}
+use Rattle.flt_syntax.specs.Cursor.{Parser, ◌>>=◌, ◌>>◌, pure, place, refuse, fail, peek, take_token, sees, eat, expect, number_within, too_deep}
 use Rattle.flt_syntax.specs.Scope.{Scope}
 use Rattle.flt_syntax.specs.declared.fault.FaultKind.TheVariants.{E06}
 use Rattle.flt_syntax.specs.declared.filter.Statement.{Statement}

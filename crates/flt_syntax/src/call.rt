@@ -204,10 +204,7 @@ fn acquire_lock(
     ensures { Reads (spec.acquire_lock (scope_of scope.now) kind tokens.old.rest.now) result tokens.new.rest.now }
 {
     tokens.take();
-    Ok(PlainCall::AcquireLock(
-        kind,
-        lock_named(scope, tokens, kind)?,
-    ))
+    Ok(PlainCall::AcquireLock(kind, lock_named(scope, tokens, kind)?))
 }
 
 #[tactic(auto, unfolding(crate::specs::Call::release_lock))]
@@ -219,10 +216,7 @@ fn release_lock(
     ensures { Reads (spec.release_lock (scope_of scope.now) kind tokens.old.rest.now) result tokens.new.rest.now }
 {
     tokens.take();
-    Ok(PlainCall::ReleaseLock(
-        kind,
-        lock_named(scope, tokens, kind)?,
-    ))
+    Ok(PlainCall::ReleaseLock(kind, lock_named(scope, tokens, kind)?))
 }
 
 #[tactic(auto, unfolding(crate::specs::Call::complete_pre))]

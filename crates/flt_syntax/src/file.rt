@@ -90,11 +90,7 @@ fn lock(
 }
 
 #[tactic(auto, using(crate::proofs::Turns::turn_left, crate::proofs::Turns::none_left), unfolding(crate::specs::File::locks, crate::specs::File::locks_from))]
-fn locks(
-    alloc: Global,
-    text: &[u8],
-    tokens: &mut Tokens<'_>,
-) -> Result<Items<Lock>, ParseError>
+fn locks(alloc: Global, text: &[u8], tokens: &mut Tokens<'_>) -> Result<Items<Lock>, ParseError>
     ensures { Reads (spec.locks text.now tokens.old.rest.now) result tokens.new.rest.now }
 {
     let mut found = Items::new(alloc);

@@ -31,9 +31,7 @@ fn same_lock_kind(a: LockKind, b: LockKind) -> bool
 fn lock_number(kind: LockKind, name: &[u8], locks: &[Lock]) -> Option<usize>
     ensures { result ≡ spec.lock_number kind name.now locks.now }
 {
-    locks
-        .iter()
-        .position(|l| same_lock_kind(l.kind, kind) && l.name.as_slice() == name)
+    locks.iter().position(|l| same_lock_kind(l.kind, kind) && l.name.as_slice() == name)
 }
 
 /// A declared lock of the kind.
@@ -55,11 +53,7 @@ pub fn lock_named(
 
 /// The bytes of a word.
 #[tactic(auto, unfolding(crate::specs::Scope::spelled))]
-pub fn spelled(
-    alloc: Global,
-    text: &[u8],
-    tokens: &mut Tokens<'_>,
-) -> Result<Items<u8>, ParseError>
+pub fn spelled(alloc: Global, text: &[u8], tokens: &mut Tokens<'_>) -> Result<Items<u8>, ParseError>
     ensures { Reads (spec.spelled text.now tokens.old.rest.now) result tokens.new.rest.now }
 {
     let name = tokens.name()?;

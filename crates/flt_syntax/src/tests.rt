@@ -33,18 +33,43 @@ fn nested(
 }
 
 /// A filter that pends its reads.
-const PENDING_READS: &[u8] = b"filter q altitude 100\nqueue\npre read {\n  if irp data {\n    if FltCbdqInsertIo data {\n      return PENDING\n    }\n  }\n  return NO_CALLBACK\n}\ncanceled {\n  if arg != NULL {\n    FltReleaseContext arg\n  }\n  FltCompletePendedPreOperation data COMPLETE STATUS_CANCELLED\n}\n";
+const PENDING_READS: &[u8] =
+    b"filter q altitude 100\nqueue\npre read {\n  if irp data {\n    if FltCbdqInsertIo data {\n      return PENDING\n    }\n  }\n  return NO_CALLBACK\n}\ncanceled {\n  if arg != NULL {\n    FltReleaseContext arg\n  }\n  FltCompletePendedPreOperation data COMPLETE STATUS_CANCELLED\n}\n";
 
 const BYTES_AND_WORDS: [(&[u8], &str); 10] = [
-    (b"filter a altitude 100\npre read {\nreturn $\n}\n", "3:8 E01"),
-    (b"filter a altitude 100\npre read {\nif c0 ! = NULL {\n}\n}\n", "3:7 E01"),
-    (b"filter a altitude 100\npre read {\nif n0 > 1 {\n}\n}\n", "3:7 E01"),
+    (
+        b"filter a altitude 100\npre read {\nreturn $\n}\n",
+        "3:8 E01",
+    ),
+    (
+        b"filter a altitude 100\npre read {\nif c0 ! = NULL {\n}\n}\n",
+        "3:7 E01",
+    ),
+    (
+        b"filter a altitude 100\npre read {\nif n0 > 1 {\n}\n}\n",
+        "3:7 E01",
+    ),
     (b"filter a altitude 007", "1:19 E02"),
-    (b"filter a altitude 100\npre read {\nn0 = 12ab\n}\n", "3:6 E02"),
-    (b"filter a altitude 100\npre read {\nn0 = 0x1\n}\n", "3:6 E02"),
-    (b"filter a altitude 100\npre read {\nn0 = 18446744073709551616\n}\n", "3:6 E02"),
-    (b"filter a altitude 100\npre read {\nn0 = 18446744073709551615\n}\n", "ok"),
-    (b"filter a altitude 100\npre read {\nn0 = 0 # $ 007 \\u\n}\n", "ok"),
+    (
+        b"filter a altitude 100\npre read {\nn0 = 12ab\n}\n",
+        "3:6 E02",
+    ),
+    (
+        b"filter a altitude 100\npre read {\nn0 = 0x1\n}\n",
+        "3:6 E02",
+    ),
+    (
+        b"filter a altitude 100\npre read {\nn0 = 18446744073709551616\n}\n",
+        "3:6 E02",
+    ),
+    (
+        b"filter a altitude 100\npre read {\nn0 = 18446744073709551615\n}\n",
+        "ok",
+    ),
+    (
+        b"filter a altitude 100\npre read {\nn0 = 0 # $ 007 \\u\n}\n",
+        "ok",
+    ),
     (b"filter a\taltitude\r\n1 pre read { }", "ok"),
 ];
 
@@ -52,102 +77,389 @@ const TOKENS: [(&[u8], &str); 22] = [
     (b"", "1:1 E03"),
     (b"filter a altitude 100\n", "1:23 E03"),
     (b"filter a altitude 100\n\n\n", "3:2 E03"),
-    (b"filter filter altitude 1\nlock spin data\npre read {\n}\n", "ok"),
-    (b"filter a altitude 100\npre read {\nif n0 === 1 {\n}\n}\n", "3:9 E03"),
-    (b"filter a altitude 100\npre read {\nn0 = foo\n}\n", "3:6 E03"),
-    (b"filter a altitude 100\npre read {\nn0 = c1\n}\n", "3:6 E03"),
+    (
+        b"filter filter altitude 1\nlock spin data\npre read {\n}\n",
+        "ok",
+    ),
+    (
+        b"filter a altitude 100\npre read {\nif n0 === 1 {\n}\n}\n",
+        "3:9 E03",
+    ),
+    (
+        b"filter a altitude 100\npre read {\nn0 = foo\n}\n",
+        "3:6 E03",
+    ),
+    (
+        b"filter a altitude 100\npre read {\nn0 = c1\n}\n",
+        "3:6 E03",
+    ),
     (b"filter a altitude foo", "1:19 E03"),
-    (b"filter a altitude 100\npre read {\nrepeat foo {\n}\n}\n", "3:8 E03"),
-    (b"filter a altitude 100\npre read {\nif irp o0 {\n}\n}\n", "3:8 E03"),
-    (b"filter a altitude 100\nqueue\npre read {\nif FltCbdqInsertIo o0 {\n}\n}\ncanceled {\n}\n", "4:20 E03"),
-    (b"filter a altitude 100\npre read {\nFltReleaseContext 1\n}\n", "3:19 E03"),
-    (b"filter a altitude 100\npre read {\ndata = NULL\n}\n", "3:1 E03"),
-    (b"filter a altitude 100\npre read {\nreturn FOO\n}\n", "3:8 E03"),
-    (b"filter a altitude 100\npre read {\nFltCbdqInsertIo data\n}\n", "3:1 E03"),
-    (b"filter a altitude 100\nqueue\npre read {\nFltCbdqInsertIo data\n}\ncanceled {\n}\n", "4:1 E03"),
-    (b"filter a altitude 100\npre read {\nreturn COMPLETE foo\n}\n", "3:17 E03"),
-    (b"filter a altitude 100\npre read {\nFltCompletePendedPreOperation data foo\n}\n", "3:36 E03"),
-    (b"filter a altitude 100\npre read {\nif FltSetStreamContext c0 {\n}\n}\n", "3:24 E03"),
-    (b"filter a altitude 100\npre read {\nreturn\n}\n}", "5:1 E03"),
+    (
+        b"filter a altitude 100\npre read {\nrepeat foo {\n}\n}\n",
+        "3:8 E03",
+    ),
+    (
+        b"filter a altitude 100\npre read {\nif irp o0 {\n}\n}\n",
+        "3:8 E03",
+    ),
+    (
+        b"filter a altitude 100\nqueue\npre read {\nif FltCbdqInsertIo o0 {\n}\n}\ncanceled {\n}\n",
+        "4:20 E03",
+    ),
+    (
+        b"filter a altitude 100\npre read {\nFltReleaseContext 1\n}\n",
+        "3:19 E03",
+    ),
+    (
+        b"filter a altitude 100\npre read {\ndata = NULL\n}\n",
+        "3:1 E03",
+    ),
+    (
+        b"filter a altitude 100\npre read {\nreturn FOO\n}\n",
+        "3:8 E03",
+    ),
+    (
+        b"filter a altitude 100\npre read {\nFltCbdqInsertIo data\n}\n",
+        "3:1 E03",
+    ),
+    (
+        b"filter a altitude 100\nqueue\npre read {\nFltCbdqInsertIo data\n}\ncanceled {\n}\n",
+        "4:1 E03",
+    ),
+    (
+        b"filter a altitude 100\npre read {\nreturn COMPLETE foo\n}\n",
+        "3:17 E03",
+    ),
+    (
+        b"filter a altitude 100\npre read {\nFltCompletePendedPreOperation data foo\n}\n",
+        "3:36 E03",
+    ),
+    (
+        b"filter a altitude 100\npre read {\nif FltSetStreamContext c0 {\n}\n}\n",
+        "3:24 E03",
+    ),
+    (
+        b"filter a altitude 100\npre read {\nreturn\n}\n}",
+        "5:1 E03",
+    ),
     (b"filter a altitude 100\nqueue\nlock spin s\n", "3:1 E03"),
-    (b"filter a altitude 100\npre read {\nif data != NULL {\n}\n}\n", "3:4 E03"),
+    (
+        b"filter a altitude 100\npre read {\nif data != NULL {\n}\n}\n",
+        "3:4 E03",
+    ),
 ];
 
 const NAMES: [(&[u8], &str); 14] = [
-    (b"filter a altitude 100\npre read {\nFltReleaseContext c9\n}\n", "3:19 E04"),
-    (b"filter a altitude 100\npre read {\nn0 = 1 + foo\n}\n", "3:10 E04"),
-    (b"filter a altitude 100\npre read {\nif n0 == foo {\n}\n}\n", "3:10 E04"),
-    (b"filter a altitude 100\npre read {\nvalue c0 = foo\n}\n", "3:12 E04"),
-    (b"filter a altitude 100\npre read {\nn0 = file c0\n}\n", "3:11 E04"),
-    (b"filter a altitude 100\npre read {\nif FltCbdqInsertIo data {\n}\n}\n", "3:4 E04"),
-    (b"filter a altitude 100\nqueue\npre read {\nif FltCbdqRemoveNextIo data context c0 {\n}\n}\ncanceled {\n}\n", "4:24 E04"),
-    (b"filter a altitude 100\nlock fast s\npre read {\nKeAcquireSpinLock s\n}\n", "4:19 E04"),
-    (b"filter a altitude 100\npre read {\nExReleaseFastMutex s\n}\n", "3:20 E04"),
-    (b"filter a altitude 100\npre read {\nif FltQueueGenericWorkItem w {\n}\n}\n", "3:28 E04"),
-    (b"filter a altitude 100\npre read {\nif FltQueueGenericWorkItem w {\n}\n}\ngeneric w {\n}\n", "ok"),
-    (b"filter a altitude 100\npre read {\nif FltQueueDeferredIoWorkItem data w {\n}\n}\ndeferred_post w {\n}\n", "3:36 E04"),
-    (b"filter a altitude 100\npre read {\nif FltQueueDeferredIoWorkItem data w {\n}\n}\ndeferred_pre w {\n}\n", "ok"),
-    (b"filter a altitude 100\ngeneric g {\nif FltQueueDeferredIoWorkItem data w {\n}\n}\ndeferred_post w {\n}\n", "ok"),
+    (
+        b"filter a altitude 100\npre read {\nFltReleaseContext c9\n}\n",
+        "3:19 E04",
+    ),
+    (
+        b"filter a altitude 100\npre read {\nn0 = 1 + foo\n}\n",
+        "3:10 E04",
+    ),
+    (
+        b"filter a altitude 100\npre read {\nif n0 == foo {\n}\n}\n",
+        "3:10 E04",
+    ),
+    (
+        b"filter a altitude 100\npre read {\nvalue c0 = foo\n}\n",
+        "3:12 E04",
+    ),
+    (
+        b"filter a altitude 100\npre read {\nn0 = file c0\n}\n",
+        "3:11 E04",
+    ),
+    (
+        b"filter a altitude 100\npre read {\nif FltCbdqInsertIo data {\n}\n}\n",
+        "3:4 E04",
+    ),
+    (
+        b"filter a altitude 100\nqueue\npre read {\nif FltCbdqRemoveNextIo data context c0 {\n}\n}\ncanceled {\n}\n",
+        "4:24 E04",
+    ),
+    (
+        b"filter a altitude 100\nlock fast s\npre read {\nKeAcquireSpinLock s\n}\n",
+        "4:19 E04",
+    ),
+    (
+        b"filter a altitude 100\npre read {\nExReleaseFastMutex s\n}\n",
+        "3:20 E04",
+    ),
+    (
+        b"filter a altitude 100\npre read {\nif FltQueueGenericWorkItem w {\n}\n}\n",
+        "3:28 E04",
+    ),
+    (
+        b"filter a altitude 100\npre read {\nif FltQueueGenericWorkItem w {\n}\n}\ngeneric w {\n}\n",
+        "ok",
+    ),
+    (
+        b"filter a altitude 100\npre read {\nif FltQueueDeferredIoWorkItem data w {\n}\n}\ndeferred_post w {\n}\n",
+        "3:36 E04",
+    ),
+    (
+        b"filter a altitude 100\npre read {\nif FltQueueDeferredIoWorkItem data w {\n}\n}\ndeferred_pre w {\n}\n",
+        "ok",
+    ),
+    (
+        b"filter a altitude 100\ngeneric g {\nif FltQueueDeferredIoWorkItem data w {\n}\n}\ndeferred_post w {\n}\n",
+        "ok",
+    ),
 ];
 
 const TWICE: [(&[u8], &str); 11] = [
-    (b"filter a altitude 100\nlock spin s\nlock spin s\npre read {\n}\n", "3:11 E05"),
-    (b"filter a altitude 100\nlock spin s\nlock push s\npre read {\n}\n", "3:11 E05"),
-    (b"filter a altitude 100\npre read {\n\n}\npre read {\n}\n", "5:1 E05"),
-    (b"filter a altitude 100\ncanceled {\n}\ncanceled {\n}\n", "4:1 E05"),
-    (b"filter a altitude 100\ngeneric w {\n}\ndeferred_pre w {\n}\n", "4:14 E05"),
-    (b"filter a altitude 100\nlock spin w\ngeneric w {\n}\n", "ok"),
-    (b"filter a altitude 100\npre read {\nif FltSetInstanceContext KEEP_IF_EXISTS c0 old c0 {\n}\n}\n", "3:48 E08"),
-    (b"filter a altitude 100\npre read {\nFltReferenceContext arg as arg\n}\n", "3:28 E08"),
-    (b"filter a altitude 100\npre read {\nFltReferenceContext arg as c0\n}\n", "ok"),
-    (b"filter a altitude 100\npre read {\nif FltDeleteStreamContext old c0 {\n}\n}\n", "ok"),
-    (b"filter a altitude 100\npre read {\nif FltQueueGenericWorkItem c0 context c0 {\n}\n}\ngeneric c0 {\n}\n", "ok"),
+    (
+        b"filter a altitude 100\nlock spin s\nlock spin s\npre read {\n}\n",
+        "3:11 E05",
+    ),
+    (
+        b"filter a altitude 100\nlock spin s\nlock push s\npre read {\n}\n",
+        "3:11 E05",
+    ),
+    (
+        b"filter a altitude 100\npre read {\n\n}\npre read {\n}\n",
+        "5:1 E05",
+    ),
+    (
+        b"filter a altitude 100\ncanceled {\n}\ncanceled {\n}\n",
+        "4:1 E05",
+    ),
+    (
+        b"filter a altitude 100\ngeneric w {\n}\ndeferred_pre w {\n}\n",
+        "4:14 E05",
+    ),
+    (
+        b"filter a altitude 100\nlock spin w\ngeneric w {\n}\n",
+        "ok",
+    ),
+    (
+        b"filter a altitude 100\npre read {\nif FltSetInstanceContext KEEP_IF_EXISTS c0 old c0 {\n}\n}\n",
+        "3:48 E08",
+    ),
+    (
+        b"filter a altitude 100\npre read {\nFltReferenceContext arg as arg\n}\n",
+        "3:28 E08",
+    ),
+    (
+        b"filter a altitude 100\npre read {\nFltReferenceContext arg as c0\n}\n",
+        "ok",
+    ),
+    (
+        b"filter a altitude 100\npre read {\nif FltDeleteStreamContext old c0 {\n}\n}\n",
+        "ok",
+    ),
+    (
+        b"filter a altitude 100\npre read {\nif FltQueueGenericWorkItem c0 context c0 {\n}\n}\ngeneric c0 {\n}\n",
+        "ok",
+    ),
 ];
 
 const WHOLE: [(&[u8], &str); 8] = [
-    (b"filter a altitude 100\npost read {\nreturn FINISHED_PROCESSING\n}\n", "2:1 E07"),
+    (
+        b"filter a altitude 100\npost read {\nreturn FINISHED_PROCESSING\n}\n",
+        "2:1 E07",
+    ),
     (b"filter a altitude 100\nqueue\npre read {\n}\n", "2:1 E07"),
     (b"filter a altitude 100\ncanceled {\n}\n", "ok"),
-    (b"filter a altitude 100\npost read {\n}\npre read {\n}\n", "ok"),
-    (b"filter a altitude 100\npre read {\nif FltQueueGenericWorkItem w {\n}\n}\npost write {\n}\n", "3:28 E04"),
-    (b"filter a altitude 100\npost write {\nif FltQueueGenericWorkItem w {\n}\n}\n", "2:1 E07"),
-    (b"filter q altitude 100\nqueue\npre read {\n  if irp data {\n    if FltCbdqInsertIo data {\n      return PENDING\n    }\n  }\n  return NO_CALLBACK\n}\n", "2:1 E07"),
-    (b"filter q altitude 100\nqueue\npre read {\n  if irp data {\n    if FltCbdqInsertIo data {\n      return PENDING\n    }\n  }\n  return NO_CALLBACK\n}\ncanceled {\n  if arg != NULL {\n    FltReleaseContext arg\n  }\n  FltCompletePendedPreOperation data COMPLETE STATUS_CANCELLED\n}", "ok"),
+    (
+        b"filter a altitude 100\npost read {\n}\npre read {\n}\n",
+        "ok",
+    ),
+    (
+        b"filter a altitude 100\npre read {\nif FltQueueGenericWorkItem w {\n}\n}\npost write {\n}\n",
+        "3:28 E04",
+    ),
+    (
+        b"filter a altitude 100\npost write {\nif FltQueueGenericWorkItem w {\n}\n}\n",
+        "2:1 E07",
+    ),
+    (
+        b"filter q altitude 100\nqueue\npre read {\n  if irp data {\n    if FltCbdqInsertIo data {\n      return PENDING\n    }\n  }\n  return NO_CALLBACK\n}\n",
+        "2:1 E07",
+    ),
+    (
+        b"filter q altitude 100\nqueue\npre read {\n  if irp data {\n    if FltCbdqInsertIo data {\n      return PENDING\n    }\n  }\n  return NO_CALLBACK\n}\ncanceled {\n  if arg != NULL {\n    FltReleaseContext arg\n  }\n  FltCompletePendedPreOperation data COMPLETE STATUS_CANCELLED\n}",
+        "ok",
+    ),
 ];
 
 const LIMITS: [(&[u8], &str); 18] = [
     (b"filter a altitude 0\npre read {\n}\n", "1:19 E06"),
     (b"filter a altitude 4294967295\npre read {\n}\n", "ok"),
     (b"filter a altitude 4294967296\npre read {\n}\n", "1:19 E06"),
-    (b"filter a altitude 100\npre read {\nrepeat 1000 {\n}\n}\n", "ok"),
-    (b"filter a altitude 100\npre read {\nrepeat 1001 {\n}\n}\n", "3:8 E06"),
-    (b"filter a altitude 100\nlock spin l0\nlock spin l1\nlock spin l2\nlock spin l3\nlock spin l4\nlock spin l5\nlock spin l6\nlock spin l7\npre read {\n}\n", "ok"),
-    (b"filter a altitude 100\nlock spin l0\nlock spin l1\nlock spin l2\nlock spin l3\nlock spin l4\nlock spin l5\nlock spin l6\nlock spin l7\nlock spin l8\n", "10:11 E06"),
-    (b"filter a altitude 100\nlock spin l0\nlock spin l1\nlock spin l2\nlock spin l3\nlock spin l4\nlock spin l5\nlock spin l6\nlock spin l7\nlock fast l7\n", "10:11 E05"),
-    (b"filter a altitude 100\npre create {\n}\npre read {\n}\npre write {\n}\npre cleanup {\n}\npost create {\n}\npost read {\n}\npost write {\n}\npost cleanup {\n}\ncanceled {\n}\ngeneric g0 {\n}\ngeneric g1 {\n}\ngeneric g2 {\n}\ngeneric g3 {\n}\ngeneric g4 {\n}\ngeneric g5 {\n}\ngeneric g6 {\n}\n", "ok"),
-    (b"filter a altitude 100\npre create {\n}\npre read {\n}\npre write {\n}\npre cleanup {\n}\npost create {\n}\npost read {\n}\npost write {\n}\npost cleanup {\n}\ncanceled {\n}\ngeneric g0 {\n}\ngeneric g1 {\n}\ngeneric g2 {\n}\ngeneric g3 {\n}\ngeneric g4 {\n}\ngeneric g5 {\n}\ngeneric g6 {\n}\ngeneric 1", "34:1 E06"),
-    (b"filter a altitude 100\npre create {\n}\npre read {\n}\npre write {\n}\npre cleanup {\n}\npost create {\n}\npost read {\n}\npost write {\n}\npost cleanup {\n}\ncanceled {\n}\ngeneric g0 {\n}\ngeneric g1 {\n}\ngeneric g2 {\n}\ngeneric g3 {\n}\ngeneric g4 {\n}\ngeneric g5 {\n}\ngeneric g6 {\n}\npre read $", "34:1 E05"),
-    (b"filter a altitude 100\npre create {\n}\npre read {\n}\npre write {\n}\npre cleanup {\n}\npost create {\n}\npost read {\n}\npost write {\n}\npost cleanup {\n}\ncanceled {\n}\ngeneric g0 {\n}\ngeneric g1 {\n}\ngeneric g2 {\n}\ngeneric g3 {\n}\ngeneric g4 {\n}\ngeneric g5 {\n}\ngeneric g6 {\n}\npre $", "34:1 E06"),
-    (b"filter a altitude 100\npre create {\n}\npre read {\n}\npre write {\n}\npre cleanup {\n}\npost create {\n}\npost read {\n}\npost write {\n}\npost cleanup {\n}\ncanceled {\n}\ngeneric g0 {\n}\ngeneric g1 {\n}\ngeneric g2 {\n}\ngeneric g3 {\n}\ngeneric g4 {\n}\ngeneric g5 {\n}\ngeneric g6 {\n}\ngeneric g0", "34:1 E06"),
-    (b"filter a altitude 100\npre create {\n}\npre read {\n}\npre write {\n}\npre cleanup {\n}\npost create {\n}\npost read {\n}\npost write {\n}\npost cleanup {\n}\ncanceled {\n}\ngeneric g0 {\n}\ngeneric g1 {\n}\ngeneric g2 {\n}\ngeneric g3 {\n}\ngeneric g4 {\n}\ngeneric g5 {\n}\ngeneric g6 {\n}\nqueue", "34:1 E03"),
-    (b"filter a altitude 100\npre read {\nn0 = 0\nrepeat 998 {\nrepeat 500 {\nn0 = 1\n}\n}\nreturn NO_CALLBACK\n}\n", "ok"),
-    (b"filter a altitude 100\npre read {\nn0 = 0\nn0 = 0\nrepeat 998 {\nrepeat 500 {\nn0 = 1\n}\n}\nreturn NO_CALLBACK\n}\n", "2:1 E06"),
-    (b"filter a altitude 100\npre read {\nrepeat 1000 {\nrepeat 1000 {\n}\n}\nreturn foo\n}\n", "7:8 E03"),
-    (b"filter a altitude 100\npre read {\nrepeat 1000 {\nrepeat 1000 {\n}\n}\n}\n$", "2:1 E06"),
+    (
+        b"filter a altitude 100\npre read {\nrepeat 1000 {\n}\n}\n",
+        "ok",
+    ),
+    (
+        b"filter a altitude 100\npre read {\nrepeat 1001 {\n}\n}\n",
+        "3:8 E06",
+    ),
+    (
+        b"filter a altitude 100\nlock spin l0\nlock spin l1\nlock spin l2\nlock spin l3\nlock spin l4\nlock spin l5\nlock spin l6\nlock spin l7\npre read {\n}\n",
+        "ok",
+    ),
+    (
+        b"filter a altitude 100\nlock spin l0\nlock spin l1\nlock spin l2\nlock spin l3\nlock spin l4\nlock spin l5\nlock spin l6\nlock spin l7\nlock spin l8\n",
+        "10:11 E06",
+    ),
+    (
+        b"filter a altitude 100\nlock spin l0\nlock spin l1\nlock spin l2\nlock spin l3\nlock spin l4\nlock spin l5\nlock spin l6\nlock spin l7\nlock fast l7\n",
+        "10:11 E05",
+    ),
+    (
+        b"filter a altitude 100\npre create {\n}\npre read {\n}\npre write {\n}\npre cleanup {\n}\npost create {\n}\npost read {\n}\npost write {\n}\npost cleanup {\n}\ncanceled {\n}\ngeneric g0 {\n}\ngeneric g1 {\n}\ngeneric g2 {\n}\ngeneric g3 {\n}\ngeneric g4 {\n}\ngeneric g5 {\n}\ngeneric g6 {\n}\n",
+        "ok",
+    ),
+    (
+        b"filter a altitude 100\npre create {\n}\npre read {\n}\npre write {\n}\npre cleanup {\n}\npost create {\n}\npost read {\n}\npost write {\n}\npost cleanup {\n}\ncanceled {\n}\ngeneric g0 {\n}\ngeneric g1 {\n}\ngeneric g2 {\n}\ngeneric g3 {\n}\ngeneric g4 {\n}\ngeneric g5 {\n}\ngeneric g6 {\n}\ngeneric 1",
+        "34:1 E06",
+    ),
+    (
+        b"filter a altitude 100\npre create {\n}\npre read {\n}\npre write {\n}\npre cleanup {\n}\npost create {\n}\npost read {\n}\npost write {\n}\npost cleanup {\n}\ncanceled {\n}\ngeneric g0 {\n}\ngeneric g1 {\n}\ngeneric g2 {\n}\ngeneric g3 {\n}\ngeneric g4 {\n}\ngeneric g5 {\n}\ngeneric g6 {\n}\npre read $",
+        "34:1 E05",
+    ),
+    (
+        b"filter a altitude 100\npre create {\n}\npre read {\n}\npre write {\n}\npre cleanup {\n}\npost create {\n}\npost read {\n}\npost write {\n}\npost cleanup {\n}\ncanceled {\n}\ngeneric g0 {\n}\ngeneric g1 {\n}\ngeneric g2 {\n}\ngeneric g3 {\n}\ngeneric g4 {\n}\ngeneric g5 {\n}\ngeneric g6 {\n}\npre $",
+        "34:1 E06",
+    ),
+    (
+        b"filter a altitude 100\npre create {\n}\npre read {\n}\npre write {\n}\npre cleanup {\n}\npost create {\n}\npost read {\n}\npost write {\n}\npost cleanup {\n}\ncanceled {\n}\ngeneric g0 {\n}\ngeneric g1 {\n}\ngeneric g2 {\n}\ngeneric g3 {\n}\ngeneric g4 {\n}\ngeneric g5 {\n}\ngeneric g6 {\n}\ngeneric g0",
+        "34:1 E06",
+    ),
+    (
+        b"filter a altitude 100\npre create {\n}\npre read {\n}\npre write {\n}\npre cleanup {\n}\npost create {\n}\npost read {\n}\npost write {\n}\npost cleanup {\n}\ncanceled {\n}\ngeneric g0 {\n}\ngeneric g1 {\n}\ngeneric g2 {\n}\ngeneric g3 {\n}\ngeneric g4 {\n}\ngeneric g5 {\n}\ngeneric g6 {\n}\nqueue",
+        "34:1 E03",
+    ),
+    (
+        b"filter a altitude 100\npre read {\nn0 = 0\nrepeat 998 {\nrepeat 500 {\nn0 = 1\n}\n}\nreturn NO_CALLBACK\n}\n",
+        "ok",
+    ),
+    (
+        b"filter a altitude 100\npre read {\nn0 = 0\nn0 = 0\nrepeat 998 {\nrepeat 500 {\nn0 = 1\n}\n}\nreturn NO_CALLBACK\n}\n",
+        "2:1 E06",
+    ),
+    (
+        b"filter a altitude 100\npre read {\nrepeat 1000 {\nrepeat 1000 {\n}\n}\nreturn foo\n}\n",
+        "7:8 E03",
+    ),
+    (
+        b"filter a altitude 100\npre read {\nrepeat 1000 {\nrepeat 1000 {\n}\n}\n}\n$",
+        "2:1 E06",
+    ),
 ];
 
 const NESTED: [([&[u8]; 5], usize, &str); 11] = [
-    ([b"filter a altitude 100\npre read {\n", b"n0 = 1\n", b"", b"", b"}\n"], 511, "ok"),
-    ([b"filter a altitude 100\npre read {\n", b"n0 = 1\n", b"", b"", b"}\n"], 512, "2:1 E06"),
-    ([b"filter a altitude 100\npre read {\n", b"if draining {\n", b"", b"}\n", b"}\n"], 31, "ok"),
-    ([b"filter a altitude 100\npre read {\n", b"if draining {\n", b"", b"}\n", b"}\n"], 32, "34:13 E06"),
-    ([b"filter a altitude 100\npre read {\n", b"if draining {\n", b"if irp data { } else { }", b"}\n", b"}\n"], 31, "34:13 E06"),
-    ([b"filter a altitude 100\npre read {\n", b"repeat 1 {\n", b"", b"}\n", b"}\n"], 4, "ok"),
-    ([b"filter a altitude 100\npre read {\n", b"repeat 1 {\n", b"", b"}\n", b"}\n"], 5, "7:1 E06"),
-    ([b"filter ", b"a", b" altitude 1\npre read {\n}\n", b"", b""], 64, "ok"),
-    ([b"filter ", b"a", b" altitude 1\npre read {\n}\n", b"", b""], 65, "1:8 E02"),
-    ([b"filter a altitude 100\npre read {\n}\n", b" ", b"", b"", b""], 65501, "ok"),
-    ([b"filter a altitude 100\npre read {\n}\n", b" ", b"", b"", b""], 65502, "1:1 E06"),
+    (
+        [
+            b"filter a altitude 100\npre read {\n",
+            b"n0 = 1\n",
+            b"",
+            b"",
+            b"}\n",
+        ],
+        511,
+        "ok",
+    ),
+    (
+        [
+            b"filter a altitude 100\npre read {\n",
+            b"n0 = 1\n",
+            b"",
+            b"",
+            b"}\n",
+        ],
+        512,
+        "2:1 E06",
+    ),
+    (
+        [
+            b"filter a altitude 100\npre read {\n",
+            b"if draining {\n",
+            b"",
+            b"}\n",
+            b"}\n",
+        ],
+        31,
+        "ok",
+    ),
+    (
+        [
+            b"filter a altitude 100\npre read {\n",
+            b"if draining {\n",
+            b"",
+            b"}\n",
+            b"}\n",
+        ],
+        32,
+        "34:13 E06",
+    ),
+    (
+        [
+            b"filter a altitude 100\npre read {\n",
+            b"if draining {\n",
+            b"if irp data { } else { }",
+            b"}\n",
+            b"}\n",
+        ],
+        31,
+        "34:13 E06",
+    ),
+    (
+        [
+            b"filter a altitude 100\npre read {\n",
+            b"repeat 1 {\n",
+            b"",
+            b"}\n",
+            b"}\n",
+        ],
+        4,
+        "ok",
+    ),
+    (
+        [
+            b"filter a altitude 100\npre read {\n",
+            b"repeat 1 {\n",
+            b"",
+            b"}\n",
+            b"}\n",
+        ],
+        5,
+        "7:1 E06",
+    ),
+    (
+        [b"filter ", b"a", b" altitude 1\npre read {\n}\n", b"", b""],
+        64,
+        "ok",
+    ),
+    (
+        [b"filter ", b"a", b" altitude 1\npre read {\n}\n", b"", b""],
+        65,
+        "1:8 E02",
+    ),
+    (
+        [
+            b"filter a altitude 100\npre read {\n}\n",
+            b" ",
+            b"",
+            b"",
+            b"",
+        ],
+        65501,
+        "ok",
+    ),
+    (
+        [
+            b"filter a altitude 100\npre read {\n}\n",
+            b" ",
+            b"",
+            b"",
+            b"",
+        ],
+        65502,
+        "1:1 E06",
+    ),
 ];
 
 #[test]

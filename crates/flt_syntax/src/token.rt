@@ -178,7 +178,10 @@ pub const KEYWORDS: [(&[u8], Kind); 89] = [
     (b"STATUS_SUCCESS", Kind::StatusSuccess),
     (b"STATUS_ACCESS_DENIED", Kind::StatusAccessDenied),
     (b"STATUS_CANCELLED", Kind::StatusCancelled),
-    (b"STATUS_INSUFFICIENT_RESOURCES", Kind::StatusInsufficientResources),
+    (
+        b"STATUS_INSUFFICIENT_RESOURCES",
+        Kind::StatusInsufficientResources,
+    ),
     (b"STATUS_INVALID_PARAMETER", Kind::StatusInvalidParameter),
     (b"STATUS_PENDING", Kind::StatusPending),
     (b"FltAllocateContext", Kind::AllocateContext),
@@ -205,8 +208,14 @@ pub const KEYWORDS: [(&[u8], Kind); 89] = [
     (b"ExReleaseFastMutex", Kind::ReleaseFastMutex),
     (b"FltAcquirePushLockExclusive", Kind::AcquirePushLock),
     (b"FltReleasePushLock", Kind::ReleasePushLock),
-    (b"FltCompletePendedPreOperation", Kind::CompletePendedPreOperation),
-    (b"FltCompletePendedPostOperation", Kind::CompletePendedPostOperation),
+    (
+        b"FltCompletePendedPreOperation",
+        Kind::CompletePendedPreOperation,
+    ),
+    (
+        b"FltCompletePendedPostOperation",
+        Kind::CompletePendedPostOperation,
+    ),
     (b"n0", Kind::N0),
     (b"n1", Kind::N1),
     (b"n2", Kind::N2),
