@@ -1,7 +1,7 @@
 -- How variables, numbers and operations are read. A word that is none of those that are asked is an unknown name.
-use Rattle.std.specs.Prelude.{ℕ, Bool, if◌then◌else◌, Option, Some, None, Ok, Err}
+use Rattle.std.specs.Prelude.{Bool, if◌then◌else◌, Option, Some, None, Ok, Err}
 use denote.Enum.Bare.{sameb}
-use Rattle.flt_syntax.specs.Cursor.{Input, Parser, and_then, ◌>>=◌, ◌>>◌, pure, ◌<$>◌, front, next, kind, unknown, refusal, refuse, fail, peek, take_token, sees, known_or, eat, expect}
+use Rattle.flt_syntax.specs.Cursor.{Parser, and_then, ◌>>=◌, pure, ◌<$>◌, front, next, kind, unknown, refusal, fail, sees, known_or, eat}
 use Rattle.flt_syntax.specs.contracts.variable.ContextVariable.{the_type}
 use Rattle.flt_syntax.specs.declared.fault.FaultKind.TheVariants.{E08}
 use Rattle.flt_syntax.specs.declared.fault.SyntaxFault.{SyntaxFault}

@@ -1,8 +1,8 @@
 -- How callback statuses are read.
-use Rattle.std.specs.Prelude.{Bool, true, false, ◌||◌, is_some, if◌then◌else◌, Option, Some, None, Ok, Err}
+use Rattle.std.specs.Prelude.{Bool, true, false, ◌||◌, is_some, if◌then◌else◌, Option, Some, None, Ok}
 use Rattle.flt_rules.specs.declared.status.FinalStatus.{FinalStatus}
 use Rattle.flt_rules.specs.declared.status.FinalStatus.TheVariants as finals
-use Rattle.flt_syntax.specs.Cursor.{Parser, and_then, ◌>>=◌, ◌>>◌, pure, ◌<$>◌, kind, refusal, peek, take_token, known_or}
+use Rattle.flt_syntax.specs.Cursor.{Parser, ◌>>=◌, ◌>>◌, ◌<$>◌, kind, refusal, peek, take_token, known_or}
 use Rattle.flt_syntax.specs.Operand.{with_context}
 use Rattle.flt_syntax.specs.declared.filter.Status.{Status}
 use Rattle.flt_syntax.specs.declared.filter.Status.TheVariants as statuses
