@@ -1,12 +1,13 @@
 -- What is wrong with a certificate of a text, and where first. This project's own definitions.
-use Rattle.std.specs.Prelude.{◌≡◌, ℕ, ◌-◌, ◌<◌, ◌≤◌, Bool, true, false, not, ◌==◌, if◌then◌else◌, nat_lt, length, [], Option, Some, None, option_map, Result, Ok, Err, slice_index_or}
+use Rattle.std.specs.Prelude.{◌≡◌, ℕ, ◌-◌, ◌<◌, ◌≤◌, ◌⊎◌, Bool, true, false, not, ◌||◌, ◌==◌, if◌then◌else◌, nat_lt, nat_le, length, [], Option, Some, None, Result, Ok, Err, slice_index_or}
 use Rattle.std.specs.Str.{bytes_eq}
 use Rattle.flt_rules.specs.Rule.{number}
+use Rattle.flt_rules.specs.declared.place.Place.{Place}
 use Rattle.flt_rules.specs.declared.rule.Rule.{Rule}
 use Rattle.flt_rules.specs.declared.rule.Rule.TheVariants.{R12, R14}
 use Rattle.flt_graph.specs.Graph.{place_at, points_at, line_at}
 use Rattle.flt_graph.specs.declared.graph.Graph.{Graph}
-use Rattle.flt_abs.specs.Entry.{entry_state}
+use Rattle.flt_abs.specs.Entry.{entry}
 use Rattle.flt_abs.specs.State.{State, is_below}
 use Rattle.flt_abs.specs.Step.{transfer}
 use Rattle.flt_abs.specs.declared.step.Successor.{Successor}
@@ -56,12 +57,12 @@ own_fault g k callback point (Some x) = state_fault g k callback point x
 own_fault g k callback point None = None
 
 -- the state of point 0 must be above the entry's
-abbrev pub entry_by : Graph → ℕ → Option State → Option Rule
-entry_by g callback (Some x) = if is_below (entry_state (place_at g callback)) x then None else Some R14
-entry_by g callback None = Some R14
+abbrev pub entry_by : Place → Option State → Option Rule
+entry_by place (Some x) = if is_below (entry place) x then None else Some R14
+entry_by place None = Some R14
 
 abbrev pub entry_fault : Graph → Certificate → ℕ → Option Rule
-entry_fault g k callback = entry_by g callback (state_at k callback 0)
+entry_fault g k callback = entry_by (place_at g callback) (state_at k callback 0)
 
 abbrev pub point_fault : Graph → Certificate → ℕ → ℕ → Option Rule
 point_fault g k callback point =
@@ -70,10 +71,29 @@ point_fault g k callback point =
 
 -- ---- faults of a certificate
 
+-- the certificate lacks the callback, or has not as many points for it
+abbrev pub differs : Graph → Certificate → ℕ → Bool
+differs g k callback = nat_le (length k) callback || not (points_at g callback == count_at k callback)
+
 -- the certificate has as many callbacks and points as the text
 pub record AgreeOnCounts (g : Graph) (k : Certificate) : Type 0 where
-  pub callbacks : length k ≡ length g.callbacks
-  pub points : (callback : ℕ) → callback < length g.callbacks → points_at g callback ≡ count_at k callback
+  pub callbacks : length k ≤ length g.callbacks
+  pub points : (callback : ℕ) → callback < length g.callbacks → differs g k callback ≡ false
+
+-- the first callback that differs
+pub record IsFirstToDiffer (g : Graph) (k : Certificate) (callback : ℕ) : Type 0 where
+  pub within : callback < length g.callbacks
+  pub here : differs g k callback ≡ true
+  pub earlier : (c : ℕ) → c < callback → differs g k c ≡ false
+
+-- none differs, but the certificate has more: told of the text's last one
+pub record HasMore (g : Graph) (k : Certificate) (callback : ℕ) : Type 0 where
+  pub last : callback ≡ length g.callbacks - 1
+  pub more : length g.callbacks < length k
+  pub none : (c : ℕ) → c < length g.callbacks → differs g k c ≡ false
+
+abbrev pub IsCountFault : Graph → Certificate → ℕ → Type 0
+IsCountFault g k callback = IsFirstToDiffer g k callback ⊎ HasMore g k callback
 
 -- up to a point of a callback, that point left out, no rule is broken
 abbrev pub NoneBefore : Graph → Certificate → ℕ → ℕ → Type 0
@@ -83,17 +103,32 @@ NoneBefore g k callback point = (p : ℕ) → p < point → point_fault g k call
 abbrev pub NoneIn : Graph → Certificate → ℕ → Type 0
 NoneIn g k callbacks = (c : ℕ) → c < callbacks → NoneBefore g k c (points_at g c)
 
+-- the first point of a callback at which a rule is broken, and the least rule there
+pub record IsFirstPoint (g : Graph) (k : Certificate) (callback point : ℕ) (rule : Rule) : Type 0 where
+  pub within : point < points_at g callback
+  pub broken : point_fault g k callback point ≡ Some rule
+  pub earlier : NoneBefore g k callback point
+
 -- no fault: the counts agree, and no rule is broken at any point
 pub record IsFaultless (g : Graph) (k : Certificate) : Type 0 where
   pub counts : AgreeOnCounts g k
   pub points : NoneIn g k (length g.callbacks)
 
+-- a fault of the counts
+pub record IsCountRefusal (g : Graph) (k : Certificate) (f : Refusal) : Type 0 where
+  pub callback : IsCountFault g k f.callback
+  pub point : f.point ≡ 0
+  pub line : f.line ≡ line_at g f.callback 0
+  pub rule : f.rule ≡ R14
+
 -- a point of the text at which a rule is broken, and no earlier one
-pub record IsFirstBroken (g : Graph) (k : Certificate) (f : Refusal) : Type 0 where
+pub record IsPointRefusal (g : Graph) (k : Certificate) (f : Refusal) : Type 0 where
   pub counts : AgreeOnCounts g k
   pub callback : f.callback < length g.callbacks
-  pub point : f.point < points_at g f.callback
-  pub broken : point_fault g k f.callback f.point ≡ Some f.rule
+  pub point : IsFirstPoint g k f.callback f.point f.rule
   pub line : f.line ≡ line_at g f.callback f.point
-  pub earlier_callbacks : NoneIn g k f.callback
-  pub earlier_points : NoneBefore g k f.callback f.point
+  pub earlier : NoneIn g k f.callback
+
+-- the first fault: the counts come before the points
+abbrev pub IsLeastFault : Graph → Certificate → Refusal → Type 0
+IsLeastFault g k f = IsCountRefusal g k f ⊎ IsPointRefusal g k f

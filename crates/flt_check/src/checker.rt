@@ -1,13 +1,13 @@
 //! Goes over the points of a text with its certificate.
 
-ghost use Rattle.std.specs.Prelude.{◌≡◌, ◌<◌, ◌↔◌, length, IsOk, IfErr, IfSome, IfNone};
+ghost use Rattle.std.specs.Prelude.{◌≡◌, ◌<◌, length, OnOk, IfErr, IfSome, IfNone};
 ghost use Rattle.std.specs.Option.{option_copied};
 ghost use Rattle.flt_check.specs.Checker as spec;
-ghost use Rattle.flt_graph.specs.Graph.{points_at};
+ghost use Rattle.flt_graph.specs.Graph.{points_at, line_at};
 
 use flt_abs::{Abs, Successor, Successors, is_entry_below, leq, transfer};
 use flt_cert::Cert;
-use flt_graph::Graph;
+use flt_graph::{Graph, Place};
 use flt_rules::Rule;
 
 /// Why a certificate isn't accepted: the least fault. Callbacks and points count from 0, lines from 1.
@@ -83,15 +83,28 @@ fn state_fault(
     }
 }
 
+/// What is wrong where a callback of the place is entered with a point in this state.
+fn entry_by(place: Place, state: Option<&Abs>) -> Option<Rule>
+    ensures { result ≡ spec.entry_by place (option_copied state.entry) }
+{
+    match state {
+        Some(state) => {
+            if is_entry_below(place, state) {
+                None
+            } else {
+                Some(Rule::R14)
+            }
+        }
+        None => Some(Rule::R14),
+    }
+}
+
 /// What is wrong with the entry of a callback.
 fn entry_fault(graph: &Graph, cert: &Cert, callback: usize) -> Option<Rule>
     requires { callback < length graph.now.callbacks }
     ensures { result ≡ spec.entry_fault graph.now cert.now callback }
 {
-    match cert.state(callback, 0) {
-        Some(state) if is_entry_below(graph.place(callback), state) => None,
-        _ => Some(Rule::R14),
-    }
+    entry_by(graph.place(callback), cert.state(callback, 0))
 }
 
 /// The least rule that is broken at a point. One that isn't reached breaks none of its own.
@@ -114,7 +127,8 @@ fn point_fault(graph: &Graph, cert: &Cert, callback: usize, point: usize) -> Opt
 /// The first point of a callback at which a rule is broken, and the least such rule.
 fn callback_fault(graph: &Graph, cert: &Cert, callback: usize) -> Option<(usize, Rule)>
     requires { callback < length graph.now.callbacks }
-    ensures { spec.IsFirstPoint graph.now cert.now callback result }
+    ensures none { IfNone result (spec.NoneBefore graph.now cert.now callback (points_at graph.now callback)) }
+    ensures some { IfSome result (λ q. spec.IsFirstPoint graph.now cert.now callback q.0 q.1) }
 {
     for point in 0..graph.points(callback) {
         if let Some(rule) = point_fault(graph, cert, callback, point) {
@@ -124,26 +138,33 @@ fn callback_fault(graph: &Graph, cert: &Cert, callback: usize) -> Option<(usize,
     None
 }
 
-/// The first callback of which the certificate has not as many points as the text; where it only has callbacks too many,
-/// the text's last one.
+/// Whether a certificate lacks a callback of the text, or has not as many points for it.
+fn differs(graph: &Graph, cert: &Cert, callback: usize) -> bool
+    requires { callback < length graph.now.callbacks }
+    ensures { result ≡ spec.differs graph.now cert.now callback }
+{
+    cert.callbacks().len() <= callback || graph.points(callback) != cert.points(callback).len()
+}
+
+/// The first callback that differs; where there is none and the certificate has callbacks too many, the text's last one.
 fn count_fault(graph: &Graph, cert: &Cert) -> Option<usize>
-    ensures { spec.IsCountFault graph.now cert.now result }
+    ensures none { IfNone result (spec.AgreeOnCounts graph.now cert.now) }
+    ensures some { IfSome result (spec.IsCountFault graph.now cert.now) }
 {
     for callback in 0..graph.callbacks() {
-        if graph.points(callback) != cert.points(callback).len() {
+        if differs(graph, cert, callback) {
             return Some(callback);
         }
     }
-    let callbacks = graph.callbacks();
-    if callbacks < cert.callbacks().len() {
-        Some(callbacks.saturating_sub(1))
+    if graph.callbacks() < cert.callbacks().len() {
+        Some(graph.callbacks().saturating_sub(1))
     } else {
         None
     }
 }
 
 fn line_of(graph: &Graph, callback: usize, point: usize) -> usize
-    ensures { result ≡ spec.line_of graph.now callback point }
+    ensures { result ≡ line_at graph.now callback point }
 {
     if callback < graph.callbacks() && point < graph.points(callback) {
         graph.line(callback, point)
@@ -154,8 +175,9 @@ fn line_of(graph: &Graph, callback: usize, point: usize) -> usize
 
 /// Whether a certificate covers a text's points; if not, the least fault: a number of callbacks or points that isn't the
 /// text's comes first, then the least callback, point and rule. It takes no memory.
+#[tactic(auto, using(crate::proofs::Points::none_in_more))]
 pub fn check(graph: &Graph, cert: &Cert) -> Result<(), Refusal>
-    ensures accepted { IsOk result ↔ spec.Covers graph.now cert.now }
+    ensures accepted { OnOk result (spec.IsFaultless graph.now cert.now) }
     ensures refused { IfErr result (spec.IsLeastFault graph.now cert.now) }
 {
     if let Some(callback) = count_fault(graph, cert) {

@@ -1,0 +1,125 @@
+//! The commands, over inputs and writers.
+
+use crate::answer::Answer;
+use crate::inputs::Inputs;
+use crate::sink::{Sink, WriteFailed, put_all};
+use crate::split::certificate_start;
+use crate::words::{Request, request};
+use flt_cert::CertFault;
+use flt_check::check;
+use flt_graph::lower;
+use flt_syntax::{ParseError, parse};
+use std::alloc::{AllocError, Global};
+use thiserror::Error;
+
+/// Why a command ended without its answer.
+#[derive(Clone, Copy, Debug, PartialEq, Eq, Error)]
+pub enum CommandFault {
+    #[error("out of memory")]
+    OutOfMemory,
+    #[error("cannot write")]
+    Write,
+}
+
+impl From<AllocError> for CommandFault {
+    ghost use Rattle.std.specs.Prelude.{◌≡◌};
+    ghost use Rattle.fltstack.specs.declared.command.CommandFault.TheVariants.{OutOfMemory};
+
+    ghost from_gives = { λ _ e. e ≡ OutOfMemory };
+
+    fn from(_: AllocError) -> CommandFault {
+        CommandFault::OutOfMemory
+    }
+}
+
+impl From<WriteFailed> for CommandFault {
+    ghost use Rattle.std.specs.Prelude.{◌≡◌};
+    ghost use Rattle.fltstack.specs.declared.command.CommandFault.TheVariants.{Write};
+
+    ghost from_gives = { λ _ e. e ≡ Write };
+
+    fn from(_: WriteFailed) -> CommandFault {
+        CommandFault::Write
+    }
+}
+
+/// Whether a certificate covers a text.
+fn verdict<'a>(alloc: Global, text: &[u8], certificate: &[u8]) -> Result<Answer<'a>, AllocError> {
+    let tree = match parse(alloc, text) {
+        Ok(tree) => tree,
+        Err(ParseError::Syntax(fault)) => return Ok(Answer::Syntax(fault)),
+        Err(ParseError::OutOfMemory) => return Err(AllocError),
+    };
+    let cert = match flt_cert::read(alloc, certificate) {
+        Ok(cert) => cert,
+        Err(CertFault::Line(line)) => return Ok(Answer::Certificate(line)),
+        Err(CertFault::OutOfMemory) => return Err(AllocError),
+    };
+    let graph = lower(alloc, &tree)?;
+    match check(&graph, &cert) {
+        Ok(()) => Ok(Answer::Accepted),
+        Err(refusal) => Ok(Answer::Refused(refusal)),
+    }
+}
+
+/// The bytes of a second name. The standard input can be read once.
+fn read_second<I: Inputs>(
+    alloc: Global,
+    inputs: &I,
+    first: &str,
+    second: &str,
+) -> Result<Option<Vec<u8>>, AllocError> {
+    if first == "-" && second == "-" {
+        return Ok(None);
+    }
+    inputs.read(alloc, second)
+}
+
+fn check_files<'a, I: Inputs>(
+    alloc: Global,
+    inputs: &I,
+    file: &'a str,
+    cert: Option<&'a str>,
+) -> Result<Answer<'a>, AllocError> {
+    let Some(input) = inputs.read(alloc, file)? else {
+        return Ok(Answer::CannotRead(file));
+    };
+    match cert {
+        None => {
+            let (text, certificate) = input.as_slice().split_at(certificate_start(input.as_slice()));
+            verdict(alloc, text, certificate)
+        }
+        Some(name) => match read_second(alloc, inputs, file, name)? {
+            None => Ok(Answer::CannotRead(name)),
+            Some(certificate) => verdict(alloc, input.as_slice(), certificate.as_slice()),
+        },
+    }
+}
+
+/// Runs the command of a program's words, its own name left out, and answers the exit status: 0 for yes, 1 for no, and 2
+/// where there is no answer. What it says goes to `out`, why there is no answer to `err`.
+pub fn command<I: Inputs, O: Sink, E: Sink>(
+    alloc: Global,
+    words: &[String],
+    inputs: &I,
+    out: &mut O,
+    err: &mut E,
+) -> Result<u8, CommandFault> {
+    match request(alloc, words)? {
+        Request::Usage(text) => {
+            put_all(err, text.as_bytes())?;
+            Ok(2)
+        }
+        Request::Check { file, cert } => {
+            let answer = check_files(alloc, inputs, file, cert)?;
+            let line = format!(in alloc; "{answer}\n")?;
+            let status = answer.status();
+            if status == 2 {
+                put_all(err, line.as_bytes())?;
+            } else {
+                put_all(out, line.as_bytes())?;
+            }
+            Ok(status)
+        }
+    }
+}

@@ -1,0 +1,77 @@
+//! The files and the streams of the system.
+
+use crate::inputs::{Inputs, MAX_INPUT};
+use crate::sink::{Sink, WriteFailed};
+use std::alloc::{AllocError, Global};
+use std::io::{Read, Write};
+use std::{env, fs, io};
+
+/// Files by their paths, and the standard input as `-`.
+pub struct Files<'a> {
+    pub rt: &'a HostRuntime,
+}
+
+/// The bytes that a reader has; none if it fails or has too many.
+fn read_within<R: Read>(alloc: Global, reader: &mut R) -> Result<Option<Vec<u8>>, AllocError> {
+    let mut found = Vec::new(alloc);
+    let mut buffer = [0u8; 4096];
+    for _ in 0..u64::MAX {
+        match reader.read(&mut buffer) {
+            Err(_) => return Ok(None),
+            Ok(0) => return Ok(Some(found)),
+            Ok(n) => found.extend_from_slice(&buffer[..n])?,
+        }
+        if MAX_INPUT < found.len() {
+            return Ok(None);
+        }
+    }
+    Ok(None)
+}
+
+impl Inputs for Files<'_> {
+    fn read(&self, alloc: Global, name: &str) -> Result<Option<Vec<u8>>, AllocError> {
+        if name == "-" {
+            return read_within(alloc, &mut self.rt.stdin());
+        }
+        match fs::open(self.rt, name) {
+            Ok(mut file) => read_within(alloc, &mut file),
+            Err(_) => Ok(None),
+        }
+    }
+}
+
+/// A stream of the system, with a count of its failures.
+#[derive(Drop)]
+pub struct Stream<W: Write + Drop> {
+    inner: W,
+    failures: u64,
+}
+
+impl<W: Write + Drop> Stream<W> {
+    pub fn new(inner: W) -> Stream<W> {
+        Stream { inner, failures: 0 }
+    }
+}
+
+impl<W: Write + Drop> Sink for Stream<W> {
+    ghost use Rattle.std.specs.Prelude.{None};
+
+    ghost taken = { λ _. None };
+
+    ghost failures = { λ s. s.failures };
+
+    fn put(&mut self, bytes: &[u8]) -> Result<usize, WriteFailed> {
+        match self.inner.write(bytes) {
+            Ok(n) if 0 < n || bytes.is_empty() => Ok(n),
+            _ => {
+                self.failures = self.failures.wrapping_add(1);
+                Err(WriteFailed)
+            }
+        }
+    }
+}
+
+/// The words of the command line, the program's own name left out.
+pub fn arguments(rt: &HostRuntime) -> io::Result<Vec<String>> {
+    env::args(rt)?.skip(1).collect(rt.alloc())
+}
