@@ -4,12 +4,12 @@ use crate::answer::Answer;
 use crate::inputs::Inputs;
 use crate::sink::{Sink, WriteFailed, put_all};
 use crate::split::certificate_start;
-use crate::words::{Request, request};
+use crate::words::{Request, read_words};
 use flt_cert::CertFault;
 use flt_check::check;
 use flt_graph::lower;
 use flt_syntax::{ParseError, parse};
-use std::alloc::{AllocError, Global};
+use std::alloc::{AllocError, AllocFailed, Global};
 use thiserror::Error;
 
 /// Why a command ended without its answer.
@@ -28,6 +28,17 @@ impl From<AllocError> for CommandFault {
     ghost from_gives = { λ _ e. e ≡ OutOfMemory };
 
     fn from(_: AllocError) -> CommandFault {
+        CommandFault::OutOfMemory
+    }
+}
+
+impl<T: Drop> From<AllocFailed<T>> for CommandFault {
+    ghost use Rattle.std.specs.Prelude.{◌≡◌};
+    ghost use Rattle.fltstack.specs.declared.command.CommandFault.TheVariants.{OutOfMemory};
+
+    ghost from_gives = { λ _ e. e ≡ OutOfMemory };
+
+    fn from(_: AllocFailed<T>) -> CommandFault {
         CommandFault::OutOfMemory
     }
 }
@@ -86,7 +97,9 @@ fn check_files<'a, I: Inputs>(
     };
     match cert {
         None => {
-            let (text, certificate) = input.as_slice().split_at(certificate_start(input.as_slice()));
+            let (text, certificate) = input
+                .as_slice()
+                .split_at(certificate_start(input.as_slice()));
             verdict(alloc, text, certificate)
         }
         Some(name) => match read_second(alloc, inputs, file, name)? {
@@ -105,7 +118,7 @@ pub fn command<I: Inputs, O: Sink, E: Sink>(
     out: &mut O,
     err: &mut E,
 ) -> Result<u8, CommandFault> {
-    match request(alloc, words)? {
+    match read_words(alloc, words)? {
         Request::Usage(text) => {
             put_all(err, text.as_bytes())?;
             Ok(2)

@@ -7,6 +7,7 @@ use std::io::{Read, Write};
 use std::{env, fs, io};
 
 /// Files by their paths, and the standard input as `-`.
+#[derive(Drop)]
 pub struct Files<'a> {
     pub rt: &'a HostRuntime,
 }
@@ -73,5 +74,5 @@ impl<W: Write + Drop> Sink for Stream<W> {
 
 /// The words of the command line, the program's own name left out.
 pub fn arguments(rt: &HostRuntime) -> io::Result<Vec<String>> {
-    env::args(rt)?.skip(1).collect(rt.alloc())
+    Ok(env::args(rt)?.skip(1).collect(rt.alloc())?)
 }

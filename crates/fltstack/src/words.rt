@@ -1,6 +1,7 @@
 //! The words of the command line.
 
-use clap::{Arg, Command, ErrorKind};
+use clap::error::ErrorKind;
+use clap::{Arg, Command};
 use std::alloc::{AllocError, Global};
 
 /// What the words ask for.
@@ -19,8 +20,9 @@ fn check_command<'a>(alloc: Global) -> Result<Command<'a>, AllocError> {
     let file = Arg::new(alloc, "FILE")
         .required(true)
         .help("The filter's text; `-` is the standard input");
-    let cert = Arg::new(alloc, "CERT")
-        .help("Its certificate; without it, FILE's first line `fltcert 1` begins it");
+    let cert = Arg::new(alloc, "CERT").help(
+        "Its certificate; without it, FILE's first line `fltcert 1` begins it",
+    );
     Command::new(alloc, "check")
         .about("Says whether a certificate covers a filter's text")
         .after_help(
@@ -39,7 +41,7 @@ fn program<'a>(alloc: Global) -> Result<Command<'a>, AllocError> {
 }
 
 /// What a program's words ask for, its own name left out.
-pub fn request<'a>(alloc: Global, words: &'a [String]) -> Result<Request<'a>, AllocError> {
+pub fn read_words<'a>(alloc: Global, words: &'a [String]) -> Result<Request<'a>, AllocError> {
     if words.is_empty() {
         return Ok(Request::Check {
             file: "-",

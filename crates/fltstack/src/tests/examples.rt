@@ -1,0 +1,121 @@
+//! The smallest filter, and each way in which `check` ends.
+
+use super::{Given, Kept, run};
+use crate::command::{CommandFault, command};
+use std::test::Fail;
+
+const SMALLEST: &[u8] = b"filter a altitude 100\npre read {\nreturn NO_CALLBACK\n}\n";
+
+const ITS_CERTIFICATE: &[u8] = b"fltcert 1\ncallback 0 2\n0 111111111 11112 3 1 -\n1 !\nend\n";
+
+const BOTH: &[u8] =
+    b"filter a altitude 100\npre read {\nreturn NO_CALLBACK\n}\nfltcert 1\ncallback 0 2\n0 111111111 11112 3 1 -\n1 !\nend\n";
+
+const CUT: &[u8] =
+    b"filter a altitude 100\npre read {\nreturn NO_CALLBACK\n}\nfltcert 1\ncallback 0 2\n0 111111111 11112 3 1 -\n1 !\nend";
+
+#[test]
+fn accepts_the_smallest_filter(rt: HostRuntime) -> Result<(), Fail> {
+    for words in [["check", "-"].as_slice(), [].as_slice()] {
+        let ran = run(rt.alloc(), words, &[("-", BOTH)])?;
+        assert_eq!(rt; ran.out.as_slice(), b"accepted\n".as_slice());
+        assert_eq!(rt; ran.err.as_slice(), b"".as_slice());
+        assert_eq!(rt; ran.status, 0);
+    }
+    Ok(())
+}
+
+#[test]
+fn takes_a_certificate_of_its_own(rt: HostRuntime) -> Result<(), Fail> {
+    let files = [("a.flt", SMALLEST), ("a.cert", ITS_CERTIFICATE)];
+    for words in [["check", "a.flt", "a.cert"], ["check", "a.flt", "-"]] {
+        let inputs = [files[0], files[1], ("-", ITS_CERTIFICATE)];
+        let ran = run(rt.alloc(), &words, &inputs)?;
+        assert_eq!(rt; ran.out.as_slice(), b"accepted\n".as_slice());
+        assert_eq!(rt; ran.status, 0);
+    }
+    Ok(())
+}
+
+#[test]
+fn tells_each_error_in_one_line(rt: HostRuntime) -> Result<(), Fail> {
+    let table: [(&[&str], &[u8], &str); 8] = [
+        (&["check", "-"], b"", "syntax 1:1 E03\n"),
+        (&["check", "-"], CUT, "certificate line 5\n"),
+        (&["check", "-"], SMALLEST, "certificate line 1\n"),
+        (
+            &["check", "-"],
+            b"filter a altitude 100\npre read {\nreturn NO_CALLBACK\n}\nfltcert 1",
+            "certificate line 1\n",
+        ),
+        (&["check", "missing"], BOTH, "cannot read missing\n"),
+        (&["check", "-", "missing"], BOTH, "cannot read missing\n"),
+        (&["check", "-", "-"], BOTH, "cannot read -\n"),
+        (&["check", "missing", "gone"], BOTH, "cannot read missing\n"),
+    ];
+    for (words, input, line) in table {
+        let ran = run(rt.alloc(), words, &[("-", input)])?;
+        assert_eq!(rt; ran.err.as_slice(), line.as_bytes(), "of {line}");
+        assert_eq!(rt; ran.out.as_slice(), b"".as_slice());
+        assert_eq!(rt; ran.status, 2);
+    }
+    Ok(())
+}
+
+/// With a certificate named, FILE isn't split: the line that would begin one is no text.
+#[test]
+fn splits_no_file_with_a_certificate(rt: HostRuntime) -> Result<(), Fail> {
+    let files = [("both", BOTH), ("cert", ITS_CERTIFICATE)];
+    let ran = run(rt.alloc(), &["check", "both", "cert"], &files)?;
+    assert_eq!(rt; ran.err.as_slice(), b"syntax 5:1 E03\n".as_slice());
+    assert_eq!(rt; ran.status, 2);
+    Ok(())
+}
+
+/// A line with more on it than `fltcert 1` is text.
+#[test]
+fn splits_at_the_exact_line_alone(rt: HostRuntime) -> Result<(), Fail> {
+    let input: &[u8] = b"filter a altitude 100\nfltcert 1 \n";
+    let ran = run(rt.alloc(), &["check", "-"], &[("-", input)])?;
+    assert_eq!(rt; ran.err.as_slice(), b"syntax 2:1 E03\n".as_slice());
+    Ok(())
+}
+
+#[test]
+fn tells_how_it_is_used(rt: HostRuntime) -> Result<(), Fail> {
+    let table: [&[&str]; 7] = [
+        &["analyse", "-"],
+        &["run", "-", "-"],
+        &["replay", "-", "-"],
+        &["check"],
+        &["check", "a", "b", "c"],
+        &["--help"],
+        &["check", "--help"],
+    ];
+    for words in table {
+        let ran = run(rt.alloc(), words, &[("-", BOTH)])?;
+        assert_eq!(rt; ran.status, 2);
+        assert_eq!(rt; ran.out.as_slice(), b"".as_slice());
+        assert!(rt; !ran.err.is_empty());
+    }
+    Ok(())
+}
+
+#[test]
+fn tells_a_writer_that_fails(rt: HostRuntime) -> Result<(), Fail> {
+    let alloc = rt.alloc();
+    for slow in [false, true] {
+        for fails_at in 0..9 {
+            let mut out = Kept::new(alloc);
+            out.slow = slow;
+            out.fails_at = Some(fails_at);
+            let mut err = Kept::new(alloc);
+            let files = [("-", BOTH)];
+            let answer = command(alloc, &[], &Given { files: &files }, &mut out, &mut err);
+            let failed = fails_at == 0 || slow;
+            assert_eq!(rt; answer == Err(CommandFault::Write), failed);
+            assert_eq!(rt; answer == Ok(0), !failed);
+        }
+    }
+    Ok(())
+}
