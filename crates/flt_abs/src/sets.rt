@@ -67,6 +67,15 @@ impl Statuses {
     ghost use Rattle.std.specs.Prelude.{◌≡◌, ◌<◌, IsSome, IfSome, ◌↔◌};
     ghost use Rattle.flt_abs.specs.Sets as spec;
 
+    /// NULL alone.
+    pub fn null() -> Statuses
+        ensures { result ≡ spec.null_alone }
+    {
+        Statuses {
+            bits: StatusBits::NULL,
+        }
+    }
+
     /// The set of a certificate's digit, the sum of NULL 1, held 2 and stale 4. 0 is the empty set.
     pub fn from_digit(digit: u8) -> Option<Statuses>
         ensures known { IsSome result ↔ (digit < 8) }

@@ -1,0 +1,79 @@
+//! Certificates from their text.
+
+ghost use Rattle.std.specs.Prelude.{◌≡◌, ◌<◌, ◌≤◌, [], IsTrue, IfOk, MatchResult};
+ghost use Rattle.flt_cert.specs.Format as format;
+ghost use Rattle.flt_cert.specs.Reading as spec;
+
+use crate::cert::{Cert, MAX_CALLBACKS};
+use crate::fault::CertFault;
+use crate::fields::{head_of, is_end, is_first, point_of};
+use crate::lines::Lines;
+use flt_abs::Abs;
+use sqlite_items::Items;
+use std::alloc::Global;
+
+#[tactic(auto, unfolding(crate::specs::Reading::first))]
+fn first(lines: &mut Lines) -> Result<(), CertFault>
+    ensures { spec.Reads (spec.first lines.old) result lines.new }
+{
+    let line = lines.next()?;
+    lines.asked(is_first(line))
+}
+
+#[tactic(auto, unfolding(crate::specs::Reading::point))]
+fn point(alloc: Global, lines: &mut Lines, number: usize) -> Result<Option<Abs>, CertFault>
+    requires { number < 1000 }
+    ensures { spec.Reads (spec.point number lines.old) result lines.new }
+{
+    let line = lines.next()?;
+    lines.asked(point_of(alloc, number, line))
+}
+
+#[tactic(auto, unfolding(crate::specs::Reading::points))]
+fn points(alloc: Global, lines: &mut Lines, count: usize) -> Result<Items<Option<Abs>>, CertFault>
+    requires { count ≤ 512 }
+    ensures { spec.Reads (spec.points count lines.old) result lines.new }
+{
+    let mut found = Items::new(alloc);
+    for number in 0..count {
+        let point = point(alloc, lines, number)?;
+        found.push(point)?;
+    }
+    Ok(found)
+}
+
+#[tactic(auto, unfolding(crate::specs::Reading::callbacks))]
+fn callbacks(alloc: Global, lines: &mut Lines) -> Result<Items<Items<Option<Abs>>>, CertFault>
+    ensures { spec.Reads (spec.callbacks lines.old) result lines.new }
+{
+    let mut found = Items::new(alloc);
+    for number in 0..MAX_CALLBACKS {
+        let line = lines.next()?;
+        if number > 0 && is_end(line) {
+            lines.end()?;
+            return Ok(found);
+        }
+        let count = lines.asked(head_of(number, line))?;
+        let points = points(alloc, lines, count)?;
+        found.push(points)?;
+    }
+    let line = lines.next()?;
+    lines.asked(if is_end(line) { Some(()) } else { None })?;
+    lines.end()?;
+    Ok(found)
+}
+
+#[tactic(auto, unfolding(crate::specs::Reading::certificate))]
+fn certificate(alloc: Global, lines: &mut Lines) -> Result<Items<Items<Option<Abs>>>, CertFault>
+    ensures { spec.Reads (spec.certificate lines.old) result lines.new }
+{
+    first(lines)?;
+    callbacks(alloc, lines)
+}
+
+/// The certificate that the bytes spell, all of the bytes.
+pub fn read(alloc: Global, bytes: &[u8]) -> Result<Cert, CertFault> {
+    let mut lines = Lines::new(bytes);
+    let callbacks = certificate(alloc, &mut lines)?;
+    Ok(Cert::new(callbacks).unwrap())
+}
