@@ -1,5 +1,5 @@
 -- Reading a certificate line by line, with the first line that isn't as asked.
-use Rattle.std.specs.Prelude.{◌≡◌, ℕ, zero, suc, ◌+◌, ◌-◌, Bool, ◌&&◌, ◌==◌, not, nat_lt, if◌then◌else◌, List, [], ◌∷◌, ◌++◌, length, codes, Option, Some, None, Result, Ok, Err}
+use Rattle.std.specs.Prelude.{◌≡◌, ℕ, zero, suc, ◌+◌, ◌-◌, Bool, ◌&&◌, ◌==◌, not, nat_lt, if◌then◌else◌, List, [], ◌∷◌, ◌++◌, length, take, drop, codes, Option, Some, None, Result, Ok, Err}
 use Rattle.std.specs.Str.{bytes_eq}
 use Rattle.flt_abs.specs.Locks.{holds_lock}
 use Rattle.flt_abs.specs.Sets.{StatusSet, ModeSet, DrainingSet, statuses, modes, draining}
@@ -15,21 +15,28 @@ use Rattle.flt_cert.specs.Format.{Point, Certificate, first_line, last_line}
 abbrev pub status_of : ℕ → Option StatusSet
 status_of b = if nat_lt 48 b && nat_lt b 56 then Some (statuses (b - 48)) else None
 
--- as many digits as are left, behind what was found
-abbrev pub sets_at : ℕ → List StatusSet → Text → Option (List StatusSet × Text)
-sets_at zero found text = Some (found, text)
-sets_at (suc left) found [] = None
-sets_at (suc left) found (b ∷ text) = status_of b >>= λ s. sets_at left (found ++ s ∷ []) text
+-- the sets of digits, behind what was found
+abbrev pub sets_from : List StatusSet → Text → Option (List StatusSet)
+sets_from found [] = Some found
+sets_from found (b ∷ text) = status_of b >>= λ s. sets_from (found ++ s ∷ []) text
 
--- the set of a digit, 1 to 3, at the front
-abbrev pub modes_at : Text → Option (ModeSet × Text)
-modes_at [] = None
-modes_at (b ∷ text) = if nat_lt 48 b && nat_lt b 52 then Some (modes (b - 48), text) else None
+-- as many bytes, and what follows them
+abbrev pub front_of : ℕ → Text → Option (Text × Text)
+front_of n text = if nat_lt (length text) n then None else Some (take n text, drop n text)
 
-abbrev pub draining_at : Text → Option (DrainingSet × Text)
-draining_at [] = None
-draining_at (b ∷ text) = if nat_lt 48 b && nat_lt b 52 then Some (draining (b - 48), text) else None
+-- the sets of a digit, 1 to 3
+abbrev pub modes_of : ℕ → Option ModeSet
+modes_of b = if nat_lt 48 b && nat_lt b 52 then Some (modes (b - 48)) else None
 
+abbrev pub draining_of : ℕ → Option DrainingSet
+draining_of b = if nat_lt 48 b && nat_lt b 52 then Some (draining (b - 48)) else None
+
+-- one byte, and what follows it
+abbrev pub byte_at : Text → Option (ℕ × Text)
+byte_at [] = None
+byte_at (b ∷ text) = Some (b, text)
+
+-- what follows one blank
 abbrev pub blank : Text → Option Text
 blank = after (32 ∷ [])
 
@@ -45,8 +52,8 @@ with_lock found b = lock_of found b >>= λ p. Some (found ++ p ∷ [])
 abbrev pub places_at : List ℕ → Text → Option (List ℕ)
 places_at found [] = None
 places_at found (b ∷ []) = None
-places_at found (b ∷ c ∷ []) = if c == 10 then with_lock found b else None
-places_at found (b ∷ c ∷ d ∷ text) = if c == 44 then (with_lock found b >>= λ more. places_at more (d ∷ text)) else None
+places_at found (b ∷ c ∷ text) =
+    with_lock found b >>= λ more. if c == 44 then places_at more text else (if c == 10 && length text == 0 then Some more else None)
 
 -- the last field
 unfoldable pub locks_of : Text → Option (List ℕ)
@@ -59,16 +66,20 @@ made s = if is_proper s then Some s else None
 -- the five fields
 unfoldable pub state_at : Text → Option State
 state_at text = do
-  contexts ← sets_at 9 [] text
-  text ← blank contexts.1
-  operations ← sets_at 5 [] text
-  text ← blank operations.1
-  modes ← modes_at text
-  text ← blank modes.1
-  draining ← draining_at text
-  text ← blank draining.1
+  front ← front_of 9 text
+  contexts ← sets_from [] front.0
+  text ← blank front.1
+  front ← front_of 5 text
+  operations ← sets_from [] front.0
+  text ← blank front.1
+  digit ← byte_at text
+  modes ← modes_of digit.0
+  text ← blank digit.1
+  digit ← byte_at text
+  draining ← draining_of digit.0
+  text ← blank digit.1
   locks ← locks_of text
-  made (state_of contexts.0 operations.0 modes.0 draining.0 locks)
+  made (state_of contexts operations modes draining locks)
 
 -- the point with this number
 unfoldable pub point_of : ℕ → Text → Option Point

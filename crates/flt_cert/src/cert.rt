@@ -1,6 +1,7 @@
 //! Certificates as values.
 
-ghost use Rattle.std.specs.Prelude.{◌≡◌, ◌<◌, ◌↔◌, length, get_or, IsTrue, IsSome, IfSome};
+ghost use Rattle.std.specs.Prelude.{◌≡◌, ◌<◌, ◌↔◌, length, [], get_or, IsTrue, IsSome, IfSome};
+ghost use Rattle.std.specs.List.{list_all};
 ghost use Rattle.std.specs.Option.{option_copied};
 ghost use Rattle.flt_cert.specs.Format as spec;
 
@@ -38,7 +39,7 @@ impl Cert {
         ensures known { IsSome result ↔ IsTrue (spec.is_certificate callbacks) }
         ensures value { IfSome result (λ c. c ≡ callbacks) }
     {
-        if is_certificate(&callbacks) {
+        if is_certificate(callbacks.as_slice()) {
             Some(Cert { callbacks })
         } else {
             None
@@ -54,6 +55,7 @@ impl Cert {
     }
 
     /// The points of a callback, none where there is no such callback.
+    #[tactic(auto, using(crate::proofs::Certificates::no_points))]
     pub fn points(&self, callback: usize) -> &[Option<Abs>]
         ensures { result.now ≡ get_or self.now callback [] }
     {
@@ -80,19 +82,34 @@ fn is_point(point: &Option<Abs>) -> bool
     }
 }
 
+fn are_points(points: &[Option<Abs>]) -> bool
+    ensures { result ≡ list_all spec.is_point points.now }
+{
+    points.iter().all(|point| is_point(point))
+}
+
 fn is_callback(points: &[Option<Abs>]) -> bool
     ensures { result ≡ spec.is_callback points.now }
 {
-    let few = 0 < points.len() && points.len() <= MAX_POINTS;
-    few && points.iter().all(is_point)
+    if points.is_empty() || points.len() > MAX_POINTS {
+        return false;
+    }
+    are_points(points)
 }
 
-fn is_certificate(callbacks: &Items<Items<Option<Abs>>>) -> bool
-    ensures { result ≡ spec.is_certificate callbacks.now }
+fn are_callbacks(callbacks: &[Items<Option<Abs>>]) -> bool
+    ensures { result ≡ list_all spec.is_callback callbacks.now }
 {
-    let few = 0 < callbacks.len() && callbacks.len() <= MAX_CALLBACKS;
-    few && callbacks
-        .as_slice()
+    callbacks
         .iter()
         .all(|points| is_callback(points.as_slice()))
+}
+
+fn is_certificate(callbacks: &[Items<Option<Abs>>]) -> bool
+    ensures { result ≡ spec.is_certificate callbacks.now }
+{
+    if callbacks.is_empty() || callbacks.len() > MAX_CALLBACKS {
+        return false;
+    }
+    are_callbacks(callbacks)
 }

@@ -1,6 +1,6 @@
 //! What stands in one line.
 
-ghost use Rattle.std.specs.Prelude.{◌≡◌, ◌<◌, [], length, MatchOption};
+ghost use Rattle.std.specs.Prelude.{◌≡◌, ◌<◌, [], length, Some, None, IsTrue, IsFalse, IfSome};
 ghost use Rattle.std.specs.Option.{option_copied, option_map};
 ghost use Rattle.std.specs.Str.{bytes_eq};
 ghost use Rattle.flt_abs.specs.State.{state_of};
@@ -63,41 +63,58 @@ fn status_of(digit: u8) -> Option<Statuses>
     }
 }
 
-/// Sets each of `sets` by a digit, and gives what follows the digits.
-fn fill<'a>(sets: &mut [Statuses], text: &'a [u8]) -> Option<&'a [u8]>
-    ensures { MatchOption result (spec.sets_at (length sets.old) [] text.now ≡ None)
-        (λ rest. spec.sets_at (length sets.old) [] text.now ≡ Some (sets.new, rest.now)) }
+/// Sets each of `sets` by its digit. Whether each is a digit of a set.
+fn fill(sets: &mut [Statuses], digits: &[u8]) -> bool
+    requires { length sets.old ≡ length digits.now }
+    ensures known { IsTrue result → spec.sets_from [] digits.now ≡ Some sets.new }
+    ensures unknown { IsFalse result → spec.sets_from [] digits.now ≡ None }
 {
-    let mut rest = text;
     for index in 0..sets.len() {
-        let [digit, after @ ..] = rest else {
-            return None;
-        };
-        sets[index] = status_of(*digit)?;
-        rest = after;
+        match status_of(digits[index]) {
+            Some(set) => sets[index] = set,
+            None => return false,
+        }
     }
-    Some(rest)
+    true
 }
 
-fn modes_of(text: &[u8]) -> Option<(Modes, &[u8])>
-    ensures { option_map (λ x. (x.0, x.1.now)) result ≡ spec.modes_at text.now }
+/// As many bytes, and what follows them.
+fn front_of(text: &[u8], len: usize) -> Option<(&[u8], &[u8])>
+    ensures value { option_map (λ x. (x.0.now, x.1.now)) result ≡ spec.front_of len text.now }
+    ensures front { IfSome result (λ x. length x.0.now ≡ len) }
 {
-    match text {
-        [digit, after @ ..] if (b'1'..=b'3').contains(digit) => {
-            Some((Modes::from_digit(*digit - b'0')?, after))
-        }
+    if text.len() < len {
+        None
+    } else {
+        Some(text.split_at(len))
+    }
+}
+
+fn modes_of(digit: u8) -> Option<Modes>
+    ensures { result ≡ spec.modes_of digit }
+{
+    match digit {
+        b'1'..=b'3' => Modes::from_digit(digit - b'0'),
         _ => None,
     }
 }
 
-fn draining_of(text: &[u8]) -> Option<(Draining, &[u8])>
-    ensures { option_map (λ x. (x.0, x.1.now)) result ≡ spec.draining_at text.now }
+fn draining_of(digit: u8) -> Option<Draining>
+    ensures { result ≡ spec.draining_of digit }
+{
+    match digit {
+        b'1'..=b'3' => Draining::from_digit(digit - b'0'),
+        _ => None,
+    }
+}
+
+/// One byte, and what follows it.
+fn byte_at(text: &[u8]) -> Option<(u8, &[u8])>
+    ensures { option_map (λ x. (x.0, x.1.now)) result ≡ spec.byte_at text.now }
 {
     match text {
-        [digit, after @ ..] if (b'1'..=b'3').contains(digit) => {
-            Some((Draining::from_digit(*digit - b'0')?, after))
-        }
-        _ => None,
+        [byte, after @ ..] => Some((*byte, after)),
+        [] => None,
     }
 }
 
@@ -117,12 +134,20 @@ fn with_lock(mut locks: LockList, digit: u8) -> Option<LockList>
 fn places_at(locks: LockList, text: &[u8]) -> Option<LockList>
     ensures { result ≡ spec.places_at locks text.now }
 {
-    match text {
-        [digit, b'\n'] => with_lock(locks, *digit),
-        [digit, b',', after @ ..] if !after.is_empty() => {
-            places_at(with_lock(locks, *digit)?, after)
-        }
-        _ => None,
+    let [digit, after @ ..] = text else {
+        return None;
+    };
+    let locks = with_lock(locks, *digit)?;
+    let [next, after @ ..] = after else {
+        return None;
+    };
+    if *next == b',' {
+        return places_at(locks, after);
+    }
+    if *next == b'\n' && after.is_empty() {
+        Some(locks)
+    } else {
+        None
     }
 }
 
@@ -154,13 +179,23 @@ fn made(
 fn state_at(alloc: Global, text: &[u8]) -> Option<Abs>
     ensures { result ≡ spec.state_at text.now }
 {
+    let (digits, text) = front_of(text, CONTEXTS)?;
     let mut contexts = [Statuses::null(); CONTEXTS];
-    let text = blank(fill(&mut contexts, text)?)?;
-    let mut operations = [Statuses::null(); OPERATIONS];
-    let text = blank(fill(&mut operations, text)?)?;
-    let (modes, text) = modes_of(text)?;
+    if !fill(&mut contexts, digits) {
+        return None;
+    }
     let text = blank(text)?;
-    let (draining, text) = draining_of(text)?;
+    let (digits, text) = front_of(text, OPERATIONS)?;
+    let mut operations = [Statuses::null(); OPERATIONS];
+    if !fill(&mut operations, digits) {
+        return None;
+    }
+    let text = blank(text)?;
+    let (digit, text) = byte_at(text)?;
+    let modes = modes_of(digit)?;
+    let text = blank(text)?;
+    let (digit, text) = byte_at(text)?;
+    let draining = draining_of(digit)?;
     let text = blank(text)?;
     let locks = locks_of(alloc, text)?;
     made(contexts, operations, modes, draining, locks)

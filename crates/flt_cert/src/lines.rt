@@ -1,7 +1,8 @@
 //! The lines of a text, one after the other, with their numbers.
 
-ghost use Rattle.std.specs.Prelude.{◌≡◌, ◌<◌, ◌≤◌, ◌∷◌, length, take, drop};
+ghost use Rattle.std.specs.Prelude.{◌≡◌, ◌==◌, ◌<◌, ◌≤◌, ◌∷◌, length, take, drop};
 ghost use Rattle.flt_cert.specs.Reading as spec;
+ghost use Rattle.std.specs.List.{position};
 ghost use Rattle.flt_cert.specs.Text.{lines_of};
 
 use crate::fault::CertFault;
@@ -23,7 +24,7 @@ impl<'a> Model for Lines<'a> {
 
     ghost view = { λ l. record { number = l.number; lines = lines_of l.rest.now } };
 
-    ghost invariant = { λ l. l.number + length l.rest.now < 2 ^ 64 };
+    ghost invariant = { λ l. l.number + length l.rest.now < 2 ^ 63 };
 }
 
 impl<'a> Lines<'a> {
@@ -37,6 +38,7 @@ impl<'a> Lines<'a> {
     }
 
     /// The next line, with its LF if it has one.
+    #[tactic(auto, unfolding(crate::specs::Reading::line))]
     pub(crate) fn next(&mut self) -> Result<&'a [u8], CertFault>
         ensures { spec.ReadsBy (λ l. l.now) (spec.line self.old) result self.new }
     {
@@ -58,6 +60,7 @@ impl<'a> Lines<'a> {
     }
 
     /// That no line is left.
+    #[tactic(auto, using(crate::proofs::LineLaws::closed_more), unfolding(crate::specs::Reading::closed))]
     pub(crate) fn end(&self) -> Result<(), CertFault>
         ensures { spec.Reads (spec.closed tt self.now) result self.now }
     {
@@ -69,14 +72,21 @@ impl<'a> Lines<'a> {
     }
 }
 
+fn end_of_line(text: &[u8]) -> Option<usize>
+    ensures { result ≡ position (λ b. b == 10) text.now }
+{
+    text.iter().position(|b| *b == b'\n')
+}
+
 /// How long the first line is, with its LF if it has one.
+#[tactic(auto, using(crate::proofs::LineLaws::whole_line, crate::proofs::LineLaws::unended_line))]
 fn line_len(text: &[u8]) -> usize
     requires { 0 < length text.now }
     ensures small { result ≤ length text.now }
     ensures some { 0 < result }
     ensures lines { lines_of text.now ≡ take result text.now ∷ lines_of (drop result text.now) }
 {
-    match text.iter().position(|b| *b == b'\n') {
+    match end_of_line(text) {
         Some(place) => place + 1,
         None => text.len(),
     }

@@ -1,6 +1,6 @@
 //! The text of certificates.
 
-ghost use Rattle.std.specs.Prelude.{◌≡◌, ◌<◌, ◌++◌, length, IfOk, OnOk, IsTrue};
+ghost use Rattle.std.specs.Prelude.{◌≡◌, ◌<◌, ◌+◌, [], ◌∷◌, ◌++◌, length, IfOk, OnOk, IsTrue};
 ghost use Rattle.flt_abs.specs.Locks.{are_locks};
 ghost use Rattle.flt_cert.specs.Format as format;
 ghost use Rattle.flt_cert.specs.Text.{decimal};
@@ -34,6 +34,23 @@ fn push_digits(out: &mut Vec<u8>, sets: &[Statuses]) -> Result<(), AllocError>
     Ok(())
 }
 
+fn push_field(out: &mut Vec<u8>, sets: &[Statuses]) -> Result<(), AllocError>
+    ensures { OnOk result (out.new.items ≡ out.old.items ++ (format.digits sets.now ++ 32 ∷ [])) }
+{
+    push_digits(out, sets)?;
+    out.push(b' ')?;
+    Ok(())
+}
+
+fn push_digit(out: &mut Vec<u8>, digit: u8) -> Result<(), AllocError>
+    requires { digit < 10 }
+    ensures { OnOk result (out.new.items ≡ out.old.items ++ (48 + digit) ∷ 32 ∷ []) }
+{
+    out.push(b'0' + digit)?;
+    out.push(b' ')?;
+    Ok(())
+}
+
 fn push_places(out: &mut Vec<u8>, places: &[u8]) -> Result<(), AllocError>
     requires { IsTrue (are_locks places.now) }
     ensures { OnOk result (out.new.items ≡ out.old.items ++ format.places_text places.now) }
@@ -60,15 +77,12 @@ fn push_more_places(out: &mut Vec<u8>, places: &[u8]) -> Result<(), AllocError>
 fn push_state(out: &mut Vec<u8>, state: &Abs) -> Result<(), AllocError>
     ensures { OnOk result (out.new.items ≡ out.old.items ++ format.state_text state.now) }
 {
-    push_digits(out, state.contexts())?;
-    out.push(b' ')?;
-    push_digits(out, state.operations())?;
-    out.push(b' ')?;
-    out.push(b'0' + state.modes().digit())?;
-    out.push(b' ')?;
-    out.push(b'0' + state.draining().digit())?;
-    out.push(b' ')?;
-    push_places(out, state.locks().as_slice())
+    push_field(out, state.contexts())?;
+    push_field(out, state.operations())?;
+    push_digit(out, state.modes().digit())?;
+    push_digit(out, state.draining().digit())?;
+    push_places(out, state.locks().as_slice())?;
+    Ok(())
 }
 
 fn push_point(out: &mut Vec<u8>, number: usize, point: &Option<Abs>) -> Result<(), AllocError>
@@ -95,10 +109,8 @@ fn push_callback(out: &mut Vec<u8>, number: usize, points: &[Option<Abs>]) -> Re
     out.push(b' ')?;
     push_number(out, points.len())?;
     out.push(b'\n')?;
-    let mut number = 0;
-    for point in points {
-        push_point(out, number, point)?;
-        number += 1;
+    for (at, point) in points.iter().enumerate() {
+        push_point(out, at, point)?;
     }
     Ok(())
 }
@@ -109,10 +121,8 @@ pub fn write(alloc: Global, cert: &Cert) -> Result<Vec<u8>, AllocError>
 {
     let mut out = Vec::new(alloc);
     out.extend_from_slice(b"fltcert 1\n")?;
-    let mut number = 0;
-    for points in cert.callbacks() {
-        push_callback(&mut out, number, points.as_slice())?;
-        number += 1;
+    for (at, points) in cert.callbacks().iter().enumerate() {
+        push_callback(&mut out, at, points.as_slice())?;
     }
     out.extend_from_slice(b"end\n")?;
     Ok(out)

@@ -1,0 +1,265 @@
+-- What is read from a line is spelled so, and what is spelled so is read.
+use Rattle.std.proofs.Common.{◌≡◌, ◌<◌, ◌≤◌, ◌+◌, ◌-◌, ◌*◌, ◌/◌, ◌%◌, ℕ, zero, suc, Bool, true, false, List, [], ◌∷◌, ◌++◌, length, map, take, drop, refl, sym, ap, subst, arith, ◌∙◌, append_assoc, append-nil, lit<}
+use Rattle.std.specs.Prelude.{not, ◌==◌, ◌&&◌, ◌||◌, nat_lt, if◌then◌else◌, Option, Some, None, codes}
+use Rattle.std.specs.List.{list_all}
+use Rattle.std.specs.Str.{bytes_eq}
+use Rattle.std.proofs.lemmas.Bool.{and_parts, and_from, or_parts, or_from, eqb-true, eqb-false, eq-eqb, ne_eqb, ltb-true, ltb-false, lt-ltb, le-ltb, not-true, not_from_false, agree_below, agree_below_at}
+use Rattle.std.proofs.lemmas.Slice.Eq.{bytes_eq-Decides}
+use Rattle.std.proofs.Math.Seq.{take-length, drop-length}
+use Rattle.std.proofs.lemmas.List.{take-append-drop}
+use Rattle.flt_abs.specs.Locks.{holds_lock, are_locks}
+use Rattle.flt_abs.specs.Sets.{StatusSet, ModeSet, DrainingSet, statuses, status_bits, modes, mode_bits, draining, draining_bits, is_possible, is_mode_possible, is_draining_possible}
+use Rattle.flt_abs.specs.SetLaws.{status_bits-statuses, mode_bits-modes, draining_bits-draining}
+use Rattle.flt_abs.specs.State.{State, state_of, is_proper}
+use Rattle.flt_cert.specs.Text.{Text, decimal, after, count_of, leading, digit_of, ◌>>=◌}
+use Rattle.flt_cert.specs.Format.{Point, is_point, digits, more_places, places_text, state_text, point_text, point_line, callback_line}
+use Rattle.flt_cert.specs.Reading.{status_of, sets_from, front_of, byte_at, modes_of, draining_of, blank, lock_of, with_lock, places_at, locks_of, made, state_at, point_of, head_of}
+
+-- ---- steps that may fail
+
+some_bind : {A B : Type 0} {y : B} (o : Option A) (f : A → Option B) → (o >>= f) ≡ Some y → (x : A) × (o ≡ Some x) × (f x ≡ Some y)
+some_bind None f h = cc
+some_bind (Some x) f h = (x, refl, h)
+
+bind_again : {A B : Type 0} {r : Option B} (o : Option A) (f : A → Option B) (x : A) → o ≡ Some x → f x ≡ r → (o >>= f) ≡ r
+bind_again o f x e h = rw e h
+
+chosen : {A : Type 0} {x y : A} (b : Bool) → (if b then Some x else None) ≡ Some y → (b ≡ true) × (x ≡ y)
+chosen true h = (refl, cc)
+chosen false h = cc
+
+taken : {A : Type 0} {o : Option A} {y : A} (b : Bool) → (if b then o else None) ≡ Some y → (b ≡ true) × (o ≡ Some y)
+taken true h = (refl, h)
+taken false h = cc
+
+-- ---- the front of a text
+
+pub after_takes : (front text rest : Text) → after front text ≡ Some rest → text ≡ front ++ rest
+after_takes [] text rest h = cc
+after_takes (a ∷ front) [] rest h = cc
+after_takes (a ∷ front) (b ∷ text) rest h =
+    let both = taken (b == a) h in
+    let same : b ≡ a = eqb-true b a both.0 in
+    let others = after_takes front text rest both.1 in
+    cc
+
+pub after_again : (front rest : Text) → after front (front ++ rest) ≡ Some rest
+after_again [] rest = refl
+after_again (a ∷ front) rest = rw (eq-eqb a a refl) (after_again front rest)
+
+front_takes : (n : ℕ) (text front rest : Text) → front_of n text ≡ Some (front, rest) → text ≡ front ++ rest
+front_takes n text front rest h = go (nat_lt (length text) n) h
+  where
+    go : (b : Bool) → (if b then None else Some (take n text, drop n text)) ≡ Some (front, rest) → text ≡ front ++ rest
+    go true h = cc
+    go false h =
+        let pair : (take n text, drop n text) ≡ (front, rest) = cc in
+        let whole = take-append-drop n text in
+        let left : take n text ≡ front = ap (λ (p : Text × Text). p.0) pair in
+        let right : drop n text ≡ rest = ap (λ (p : Text × Text). p.1) pair in
+        cc
+
+take_front : (front rest : Text) → take (length front) (front ++ rest) ≡ front
+take_front [] rest = refl
+take_front (b ∷ front) rest = ap (λ z. b ∷ z) (take_front front rest)
+
+drop_front : (front rest : Text) → drop (length front) (front ++ rest) ≡ rest
+drop_front [] rest = refl
+drop_front (b ∷ front) rest = drop_front front rest
+
+longer : (front rest : Text) → length front ≤ length (front ++ rest)
+longer [] rest = omega arith
+longer (b ∷ front) rest = let less = longer front rest in omega arith
+
+front_again : (n : ℕ) (front rest : Text) → n ≡ length front → front_of n (front ++ rest) ≡ Some (front, rest)
+front_again n front rest e = rw e (rw (le-ltb _ _ (longer front rest), take_front front rest, drop_front front rest) refl)
+
+byte_takes : (text rest : Text) (b : ℕ) → byte_at text ≡ Some (b, rest) → text ≡ b ∷ rest
+byte_takes [] rest b h = cc
+byte_takes (a ∷ text) rest b h =
+    let pair : (a, text) ≡ (b, rest) = cc in
+    let left : a ≡ b = ap (λ (p : ℕ × Text). p.0) pair in
+    let right : text ≡ rest = ap (λ (p : ℕ × Text). p.1) pair in
+    cc
+
+-- ---- sets
+
+status_takes : (b : ℕ) (s : StatusSet) → status_of b ≡ Some s → b ≡ 48 + status_bits s
+status_takes b s h =
+    let both = chosen _ h in
+    let range = and_parts (nat_lt 48 b) (nat_lt b 56) both.0 in
+    let low = ltb-true 48 b range.0 in
+    let high = ltb-true b 56 range.1 in
+    let small : b - 48 < 8 = omega arith in
+    let bits : status_bits s ≡ b - 48 = rw (← both.1) (status_bits-statuses (b - 48) small) in
+    omega arith
+
+set_again : (x y z : Bool) → (x || (y || z)) ≡ true → status_of (48 + status_bits (record { null = x; held = y; stale = z })) ≡ Some (record { null = x; held = y; stale = z })
+set_again true true true h = refl
+set_again true true false h = refl
+set_again true false true h = refl
+set_again true false false h = refl
+set_again false true true h = refl
+set_again false true false h = refl
+set_again false false true h = refl
+set_again false false false h = cc
+
+status_again : (s : StatusSet) → is_possible s ≡ true → status_of (48 + status_bits s) ≡ Some s
+status_again s h = set_again s.null s.held s.stale h
+
+sets_take : (text : Text) (found sets : List StatusSet) → sets_from found text ≡ Some sets → (more : List StatusSet) × (sets ≡ found ++ more) × (text ≡ digits more)
+sets_take [] found sets h = ([], (let same : found ≡ sets = cc in sym same ∙ sym (append-nil found)), refl)
+sets_take (b ∷ text) found sets h =
+    let one = some_bind (status_of b) (λ s. sets_from (found ++ s ∷ []) text) h in
+    let others = sets_take text (found ++ one.0 ∷ []) sets one.2 in
+    let first = status_takes b one.0 one.1 in
+    let regrouped : (found ++ one.0 ∷ []) ++ others.0 ≡ found ++ one.0 ∷ others.0 = append_assoc found (one.0 ∷ []) others.0 in
+    (one.0 ∷ others.0, others.1 ∙ regrouped, (let rest = others.2 in cc))
+
+sets_again : (found more : List StatusSet) → list_all is_possible more ≡ true → sets_from found (digits more) ≡ Some (found ++ more)
+sets_again found [] h = ap (λ z. Some z) (sym (append-nil found))
+sets_again found (s ∷ more) h =
+    let both = and_parts (is_possible s) (list_all is_possible more) h in
+    bind_again (status_of (48 + status_bits s)) (λ t. sets_from (found ++ t ∷ []) (digits more)) s (status_again s both.0)
+    (sets_again (found ++ s ∷ []) more both.1 ∙ ap (λ z. Some z) (append_assoc found (s ∷ []) more))
+
+modes_take : (b : ℕ) (s : ModeSet) → modes_of b ≡ Some s → b ≡ 48 + mode_bits s
+modes_take b s h =
+    let both = chosen _ h in
+    let range = and_parts (nat_lt 48 b) (nat_lt b 52) both.0 in
+    let low = ltb-true 48 b range.0 in
+    let high = ltb-true b 52 range.1 in
+    let small : b - 48 < 4 = omega arith in
+    let bits : mode_bits s ≡ b - 48 = rw (← both.1) (mode_bits-modes (b - 48) small) in
+    omega arith
+
+modes_again : (s : ModeSet) → is_mode_possible s ≡ true → modes_of (48 + mode_bits s) ≡ Some s
+modes_again s h = go s.irp s.fast h
+  where
+    go : (x y : Bool) → (x || y) ≡ true → modes_of (48 + mode_bits (record { irp = x; fast = y })) ≡ Some (record { irp = x; fast = y })
+    go true true h = refl
+    go true false h = refl
+    go false true h = refl
+    go false false h = cc
+
+draining_takes : (b : ℕ) (s : DrainingSet) → draining_of b ≡ Some s → b ≡ 48 + draining_bits s
+draining_takes b s h =
+    let both = chosen _ h in
+    let range = and_parts (nat_lt 48 b) (nat_lt b 52) both.0 in
+    let low = ltb-true 48 b range.0 in
+    let high = ltb-true b 52 range.1 in
+    let small : b - 48 < 4 = omega arith in
+    let bits : draining_bits s ≡ b - 48 = rw (← both.1) (draining_bits-draining (b - 48) small) in
+    omega arith
+
+draining_again : (s : DrainingSet) → is_draining_possible s ≡ true → draining_of (48 + draining_bits s) ≡ Some s
+draining_again s h = go s.no s.yes h
+  where
+    go : (x y : Bool) → (x || y) ≡ true → draining_of (48 + draining_bits (record { no = x; yes = y })) ≡ Some (record { no = x; yes = y })
+    go true true h = refl
+    go true false h = refl
+    go false true h = refl
+    go false false h = cc
+
+-- ---- locks
+
+lock_takes : (found more : List ℕ) (b : ℕ) → with_lock found b ≡ Some more → (p : ℕ) × (b ≡ 48 + p) × (more ≡ found ++ p ∷ [])
+lock_takes found more b h =
+    let one = some_bind (lock_of found b) (λ p. Some (found ++ p ∷ [])) h in
+    let both = chosen _ one.1 in
+    let range = and_parts (nat_lt 47 b) _ both.0 in
+    let low = ltb-true 47 b range.0 in
+    let same : b - 48 ≡ one.0 = both.1 in
+    let list : found ++ one.0 ∷ [] ≡ more = cc in
+    (one.0, omega arith, sym list)
+
+turned : (p q : ℕ) → (p == q) ≡ false → (q == p) ≡ false
+turned p q h = ne_eqb q p (λ e. eqb-false p q h (sym e))
+
+apart : (x p : ℕ) (found after : List ℕ) → holds_lock x (found ++ p ∷ after) ≡ false → (p == x) ≡ false
+apart x p [] after h = (or_parts (p == x) (holds_lock x after) h).0
+apart x p (q ∷ found) after h = apart x p found after (or_parts (q == x) (holds_lock x (found ++ p ∷ after)) h).1
+
+middle : (found : List ℕ) (p : ℕ) (after : List ℕ) → are_locks (found ++ p ∷ after) ≡ true → (p < 8) × (holds_lock p found ≡ false)
+middle [] p after h = (ltb-true p 8 (and_parts (nat_lt p 8) _ h).0, refl)
+middle (q ∷ found) p after h =
+    let here = and_parts (nat_lt q 8) _ h in
+    let rest = and_parts (not (holds_lock q (found ++ p ∷ after))) (are_locks (found ++ p ∷ after)) here.1 in
+    let inner = middle found p after rest.1 in
+    (inner.0, or_from _ _ (turned p q (apart q p found after (not-true _ rest.0))) inner.1)
+
+lock_again : (found : List ℕ) (p : ℕ) → p < 8 → holds_lock p found ≡ false → with_lock found (48 + p) ≡ Some (found ++ p ∷ [])
+lock_again found p low new =
+    let less : 48 + p - 48 ≡ p = omega arith in
+    let tests : (nat_lt 47 (48 + p) && (nat_lt (48 + p) 56 && not (holds_lock (48 + p - 48) found))) ≡ true =
+    and_from _ _ (lt-ltb 47 (48 + p) (omega arith)) (and_from _ _ (lt-ltb (48 + p) 56 (omega arith)) (rw (less, new) refl)) in
+    bind_again (lock_of found (48 + p)) (λ q. Some (found ++ q ∷ [])) p (rw (tests, less) refl) refl
+
+Placed : List ℕ → Text → List ℕ → Type 0
+Placed found text places = (p : ℕ) × (more : List ℕ) × (places ≡ found ++ p ∷ more) × (text ≡ (48 + p) ∷ (more_places more ++ 10 ∷ []))
+
+no_more : (text : Text) → (length text == 0) ≡ true → text ≡ []
+no_more [] h = refl
+no_more (b ∷ text) h = absurd (omega (arith, eqb-true _ _ h))
+
+places_take : (text : Text) (found places : List ℕ) → places_at found text ≡ Some places → Placed found text places
+unfolding Placed
+places_take [] found places h = cc
+places_take (b ∷ []) found places h = cc
+places_take (b ∷ c ∷ text) found places h =
+    let one = some_bind (with_lock found b) (λ more. if c == 44 then places_at more text else (if c == 10 && length text == 0 then Some more else None)) h in
+    go one.0 (lock_takes found one.0 b one.1) (c == 44) refl one.2 (λ more g. places_take text more places g)
+  where
+    go : (more : List ℕ) → (p : ℕ) × (b ≡ 48 + p) × (more ≡ found ++ p ∷ []) → (x : Bool) → (c == 44) ≡ x →
+        (if x then places_at more text else (if c == 10 && length text == 0 then Some more else None)) ≡ Some places →
+        ((more : List ℕ) → places_at more text ≡ Some places → Placed more text places) → Placed found (b ∷ c ∷ text) places
+    go more first true e h rest =
+        let comma : c ≡ 44 = eqb-true c 44 e in
+        let others = rest more h in
+        let list : places ≡ (found ++ first.0 ∷ []) ++ others.0 ∷ others.1 = others.2 ∙ ap (λ z. z ++ others.0 ∷ others.1) first.2 in
+        let byte : b ≡ 48 + first.0 = first.1 in
+        let tail : text ≡ (48 + others.0) ∷ (more_places others.1 ++ 10 ∷ []) = others.3 in
+        let whole : b ∷ c ∷ text ≡ (48 + first.0) ∷ 44 ∷ (48 + others.0) ∷ (more_places others.1 ++ 10 ∷ []) = cc in
+        (first.0, others.0 ∷ others.1, list ∙ append_assoc found (first.0 ∷ []) (others.0 ∷ others.1), whole)
+    go more first false e h rest =
+        let both = chosen (c == 10 && length text == 0) h in
+        let parts = and_parts (c == 10) (length text == 0) both.0 in
+        let ten : c ≡ 10 = eqb-true c 10 parts.0 in
+        let nothing : text ≡ [] = no_more text parts.1 in
+        let byte : b ≡ 48 + first.0 = first.1 in
+        let whole : b ∷ c ∷ text ≡ (48 + first.0) ∷ 10 ∷ [] = cc in
+        (first.0, [], sym both.1 ∙ first.2, whole)
+
+places_again : (more : List ℕ) (found : List ℕ) (p : ℕ) → are_locks (found ++ p ∷ more) ≡ true →
+    places_at found ((48 + p) ∷ (more_places more ++ 10 ∷ [])) ≡ Some (found ++ p ∷ more)
+places_again [] found p h =
+    let one = middle found p [] h in
+    bind_again (with_lock found (48 + p)) (λ some. if 10 == 44 then places_at some [] else (if 10 == 10 && length {A = ℕ} [] == 0 then Some some else None)) (found ++ p ∷ []) (lock_again found p one.0 one.1) refl
+places_again (q ∷ more) found p h =
+    let one = middle found p (q ∷ more) h in
+    let grouped : (found ++ p ∷ []) ++ q ∷ more ≡ found ++ p ∷ q ∷ more = append_assoc found (p ∷ []) (q ∷ more) in
+    let text : Text = (48 + q) ∷ (more_places more ++ 10 ∷ []) in
+    bind_again (with_lock found (48 + p)) (λ some. if 44 == 44 then places_at some text else (if 44 == 10 && length text == 0 then Some some else None)) (found ++ p ∷ []) (lock_again found p one.0 one.1)
+    (places_again more (found ++ p ∷ []) q (rw grouped h) ∙ ap (λ z. Some z) grouped)
+
+placed_parts : (text : Text) (places : List ℕ) → Placed [] text places → (p : ℕ) × (more : List ℕ) × (places ≡ p ∷ more) × (text ≡ (48 + p) ∷ (more_places more ++ 10 ∷ []))
+unfolding Placed
+placed_parts text places h = h
+
+locks_take : (text : Text) (places : List ℕ) → locks_of text ≡ Some places → text ≡ places_text places ++ 10 ∷ []
+unfolding locks_of
+locks_take text places h = go (bytes_eq text (45 ∷ 10 ∷ [])) refl h
+  where
+    go : (x : Bool) → bytes_eq text (45 ∷ 10 ∷ []) ≡ x → (if x then Some [] else places_at [] text) ≡ Some places → text ≡ places_text places ++ 10 ∷ []
+    go true e h =
+        let same : text ≡ 45 ∷ 10 ∷ [] = (bytes_eq-Decides text (45 ∷ 10 ∷ [])).0 e in
+        let none : [] ≡ places = cc in
+        rw (← none) same
+    go false e h = let some = placed_parts text places (places_take text [] places h) in rw some.2 some.3
+
+locks_again : (places : List ℕ) → are_locks places ≡ true → locks_of (places_text places ++ 10 ∷ []) ≡ Some places
+unfolding locks_of
+locks_again [] h = refl
+locks_again (p ∷ places) h =
+    let other : (48 + p == 45) ≡ false = ne_eqb (48 + p) 45 (λ e. omega arith) in
+    rw other (places_again places [] p h)

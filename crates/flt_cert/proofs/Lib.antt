@@ -1,0 +1,4 @@
+pub mod Certificates
+pub mod FieldLaws
+pub mod LineLaws
+pub mod WriteLaws
