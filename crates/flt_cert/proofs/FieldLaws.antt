@@ -47,17 +47,17 @@ pub after_again : (front rest : Text) → after front (front ++ rest) ≡ Some r
 after_again [] rest = refl
 after_again (a ∷ front) rest = rw (eq-eqb a a refl) (after_again front rest)
 
+otherwise : {A : Type 0} {x y : A} (b : Bool) → (if b then None else Some x) ≡ Some y → x ≡ y
+otherwise true h = cc
+otherwise false h = cc
+
 front_takes : (n : ℕ) (text front rest : Text) → front_of n text ≡ Some (front, rest) → text ≡ front ++ rest
-front_takes n text front rest h = go (nat_lt (length text) n) h
-  where
-    go : (b : Bool) → (if b then None else Some (take n text, drop n text)) ≡ Some (front, rest) → text ≡ front ++ rest
-    go true h = cc
-    go false h =
-        let pair : (take n text, drop n text) ≡ (front, rest) = cc in
-        let whole = take-append-drop n text in
-        let left : take n text ≡ front = ap (λ (p : Text × Text). p.0) pair in
-        let right : drop n text ≡ rest = ap (λ (p : Text × Text). p.1) pair in
-        cc
+front_takes n text front rest h =
+    let pair = otherwise (nat_lt (length text) n) h in
+    let left : take n text ≡ front = ap (λ (p : Text × Text). p.0) pair in
+    let right : drop n text ≡ rest = ap (λ (p : Text × Text). p.1) pair in
+    let whole = take-append-drop n text in
+    cc
 
 take_front : (front rest : Text) → take (length front) (front ++ rest) ≡ front
 take_front [] rest = refl
@@ -263,3 +263,54 @@ locks_again [] h = refl
 locks_again (p ∷ places) h =
     let other : (48 + p == 45) ≡ false = ne_eqb (48 + p) 45 (λ e. omega arith) in
     rw other (places_again places [] p h)
+
+-- ---- a state
+
+made_takes : (s t : State) → made s ≡ Some t → (is_proper s ≡ true) × (s ≡ t)
+made_takes s t h = chosen (is_proper s) h
+
+blank_takes : (text rest : Text) → blank text ≡ Some rest → text ≡ 32 ∷ rest
+blank_takes text rest h = after_takes (32 ∷ []) text rest h
+
+state_takes : (text : Text) (s : State) → state_at text ≡ Some s → (text ≡ state_text s ++ 10 ∷ []) × (is_proper s ≡ true)
+unfolding state_at
+state_takes text s h =
+    let a = some_bind (front_of 9 text) _ h in
+    let b = some_bind (sets_from [] a.0.0) _ a.2 in
+    let c = some_bind (blank a.0.1) _ b.2 in
+    let d = some_bind (front_of 5 c.0) _ c.2 in
+    let e = some_bind (sets_from [] d.0.0) _ d.2 in
+    let f = some_bind (blank d.0.1) _ e.2 in
+    let g = some_bind (byte_at f.0) _ f.2 in
+    let i = some_bind (modes_of g.0.0) _ g.2 in
+    let j = some_bind (blank g.0.1) _ i.2 in
+    let k = some_bind (byte_at j.0) _ j.2 in
+    let l = some_bind (draining_of k.0.0) _ k.2 in
+    let m = some_bind (blank k.0.1) _ l.2 in
+    let n = some_bind (locks_of m.0) _ m.2 in
+    let o = made_takes (state_of b.0 e.0 i.0 l.0 n.0) s n.2 in
+    let contexts = sets_take a.0.0 [] b.0 b.1 in
+    let operations = sets_take d.0.0 [] e.0 e.1 in
+    let x1 : text ≡ a.0.0 ++ a.0.1 = front_takes 9 text a.0.0 a.0.1 a.1 in
+    let x2 : a.0.0 ≡ digits b.0 = contexts.2 ∙ ap digits (sym contexts.1) in
+    let x3 : a.0.1 ≡ 32 ∷ c.0 = blank_takes a.0.1 c.0 c.1 in
+    let x4 : c.0 ≡ d.0.0 ++ d.0.1 = front_takes 5 c.0 d.0.0 d.0.1 d.1 in
+    let x5 : d.0.0 ≡ digits e.0 = operations.2 ∙ ap digits (sym operations.1) in
+    let x6 : d.0.1 ≡ 32 ∷ f.0 = blank_takes d.0.1 f.0 f.1 in
+    let x7 : f.0 ≡ g.0.0 ∷ g.0.1 = byte_takes f.0 g.0.1 g.0.0 g.1 in
+    let x8 : g.0.0 ≡ 48 + mode_bits i.0 = modes_take g.0.0 i.0 i.1 in
+    let x9 : g.0.1 ≡ 32 ∷ j.0 = blank_takes g.0.1 j.0 j.1 in
+    let y1 : j.0 ≡ k.0.0 ∷ k.0.1 = byte_takes j.0 k.0.1 k.0.0 k.1 in
+    let y2 : k.0.0 ≡ 48 + draining_bits l.0 = draining_takes k.0.0 l.0 l.1 in
+    let y3 : k.0.1 ≡ 32 ∷ m.0 = blank_takes k.0.1 m.0 m.1 in
+    let y4 : m.0 ≡ places_text n.0 ++ 10 ∷ [] = locks_take m.0 n.0 n.1 in (
+      spelled text s b.0 e.0 i.0 l.0 n.0 a.0.0 a.0.1 c.0 d.0.0 d.0.1 f.0 g.0.1 j.0 k.0.1 m.0 g.0.0 k.0.0 o.1 x1 x2 x3 x4 x5 x6 x7 x8 x9 y1 y2 y3 y4,
+      (let P : State → Type 0 = λ t. is_proper t ≡ true in subst P o.1 o.0),
+    )
+  where
+    spelled : (text : Text) (s : State) (contexts operations : List StatusSet) (some : ModeSet) (answers : DrainingSet) (places : List ℕ)
+        (t1 t2 t3 t4 t5 t6 t7 t8 t9 t10 : Text) (u v : ℕ) → state_of contexts operations some answers places ≡ s →
+        text ≡ t1 ++ t2 → t1 ≡ digits contexts → t2 ≡ 32 ∷ t3 → t3 ≡ t4 ++ t5 → t4 ≡ digits operations → t5 ≡ 32 ∷ t6 → t6 ≡ u ∷ t7 → u ≡ 48 + mode_bits some →
+        t7 ≡ 32 ∷ t8 → t8 ≡ v ∷ t9 → v ≡ 48 + draining_bits answers → t9 ≡ 32 ∷ t10 → t10 ≡ places_text places ++ 10 ∷ [] → text ≡ state_text s ++ 10 ∷ []
+    spelled text s contexts operations some answers places t1 t2 t3 t4 t5 t6 t7 t8 t9 t10 u v o x1 x2 x3 x4 x5 x6 x7 x8 x9 y1 y2 y3 y4 =
+        rw (x1, x2, x3, x4, x5, x6, x7, x8, x9, y1, y2, y3, y4, ← o) (simp append_assoc)

@@ -69,5 +69,5 @@ some_line (b ∷ text) h = by_byte (b == 10) (lines_of text)
     by_byte false [] = (_, _, refl)
     by_byte false (line ∷ lines) = (_, _, refl)
 
-pub closed_more : {A : Type 0} (text : Text) (found : A) (i : Place) → 0 < length text → closed_by (lines_of text) found i ≡ Err (i.number + 1)
-closed_more text found i h = let some = some_line text h in rw some.2 refl
+pub closed_more : (text : Text) (i : Place) → 0 < length text → closed_by (lines_of text) i ≡ Err (i.number + 1)
+closed_more text i h = let some = some_line text h in rw some.2 refl

@@ -141,27 +141,33 @@ unfoldable pub points : ℕ → Place → Outcome (List Point)
 points n = points_from n []
 
 -- nothing follows the last line
-abbrev pub closed_by : {A : Type 0} → List Text → A → Place → Outcome A
-closed_by [] found i = Ok (found, i)
-closed_by (line ∷ lines) found i = Err (i.number + 1)
+abbrev pub closed_by : List Text → Place → Outcome (Unit {0})
+closed_by [] i = Ok (tt, i)
+closed_by (line ∷ lines) i = Err (i.number + 1)
 
-unfoldable pub closed : {A : Type 0} → A → Place → Outcome A
-closed found i = closed_by i.lines found i
+unfoldable pub closed : Place → Outcome (Unit {0})
+closed i = closed_by i.lines i
 
 -- the last line, behind one callback or more
 abbrev pub is_last : Certificate → Text → Bool
 is_last found line = nat_lt 0 (length found) && bytes_eq line last_line
 
+-- the callback with this number, from its first line on
+unfoldable pub callback : ℕ → Text → Place → Outcome (List Point)
+callback k line i = and_then (asked (head_of k line) i) (λ n. points n.0 n.1)
+
+abbrev pub finished : Certificate → Place → Outcome Certificate
+finished found i = and_then (closed i) (λ e. Ok (found, e.1))
+
 -- as many callbacks as may still come, behind what was found, and the last line
-abbrev pub callbacks_from : ℕ → Certificate → Place → Outcome Certificate
-callbacks_from zero found i = and_then (line i) (λ q. if is_last found q.0 then closed found q.1 else Err q.1.number)
+unfoldable pub callbacks_from : ℕ → Certificate → Place → Outcome Certificate
+callbacks_from zero found i = and_then (line i) (λ q. if is_last found q.0 then finished found q.1 else Err q.1.number)
 callbacks_from (suc left) found i =
     and_then (line i) (λ q.
-    if is_last found q.0 then closed found q.1
-    else and_then (asked (head_of (length found) q.0) q.1) (λ n.
-    and_then (points n.0 n.1) (λ ps. callbacks_from left (found ++ ps.0 ∷ []) ps.1)))
+    if is_last found q.0 then finished found q.1
+    else and_then (callback (length found) q.0 q.1) (λ ps. callbacks_from left (found ++ ps.0 ∷ []) ps.1))
 
-unfoldable pub callbacks : Place → Outcome Certificate
+abbrev pub callbacks : Place → Outcome Certificate
 callbacks = callbacks_from 16 []
 
 -- the first line of a certificate

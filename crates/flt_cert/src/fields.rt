@@ -1,6 +1,6 @@
 //! What stands in one line.
 
-ghost use Rattle.std.specs.Prelude.{◌≡◌, ◌<◌, [], length, Some, None, IsTrue, IsFalse, IfSome};
+ghost use Rattle.std.specs.Prelude.{◌≡◌, ◌<◌, ◌≤◌, [], length, Some, None, IsTrue, IsFalse, IfSome};
 ghost use Rattle.std.specs.Option.{option_copied, option_map};
 ghost use Rattle.std.specs.Str.{bytes_eq};
 ghost use Rattle.flt_abs.specs.State.{state_of};
@@ -218,7 +218,8 @@ pub(crate) fn point_of(alloc: Global, number: usize, line: &[u8]) -> Option<Opti
 #[tactic(auto, unfolding(crate::specs::Reading::head_of))]
 pub(crate) fn head_of(number: usize, line: &[u8]) -> Option<usize>
     requires { number < 1000 }
-    ensures { result ≡ spec.head_of number line.now }
+    ensures value { result ≡ spec.head_of number line.now }
+    ensures few { IfSome result (λ n. n ≤ 512) }
 {
     let text = after(CALLBACK, line)?;
     count_of(blank(after_number(number, text)?)?)
@@ -245,7 +246,8 @@ fn digit_of(byte: u8) -> Option<usize>
 
 /// A number from 1 to 512, up to the end of the line.
 fn count_of(text: &[u8]) -> Option<usize>
-    ensures { result ≡ text_spec.count_of text.now }
+    ensures value { result ≡ text_spec.count_of text.now }
+    ensures few { IfSome result (λ n. n ≤ 512) }
 {
     match text {
         [a, b'\n'] => leading(*a),

@@ -1,6 +1,6 @@
 //! The lines of a text, one after the other, with their numbers.
 
-ghost use Rattle.std.specs.Prelude.{◌≡◌, ◌==◌, ◌<◌, ◌≤◌, ◌∷◌, length, take, drop};
+ghost use Rattle.std.specs.Prelude.{◌≡◌, ◌==◌, ◌<◌, ◌≤◌, ◌∷◌, length, take, drop, IfOk};
 ghost use Rattle.flt_cert.specs.Reading as spec;
 ghost use Rattle.std.specs.List.{position};
 ghost use Rattle.flt_cert.specs.Text.{lines_of};
@@ -54,15 +54,23 @@ impl<'a> Lines<'a> {
 
     /// What the latest line says, or that it isn't as asked.
     pub(crate) fn asked<T: Drop>(&self, what: Option<T>) -> Result<T, CertFault>
-        ensures { spec.Reads (spec.asked what self.now) result self.now }
+        ensures value { spec.Reads (spec.asked what self.now) result self.now }
+        ensures said { IfOk result (λ x. what ≡ Some x) }
     {
-        what.ok_or(CertFault::Line(self.number))
+        what.ok_or(self.refused())
+    }
+
+    /// That the latest line isn't as asked.
+    pub(crate) fn refused(&self) -> CertFault
+        ensures { result ≡ CertFault.Line self.now.number }
+    {
+        CertFault::Line(self.number)
     }
 
     /// That no line is left.
     #[tactic(auto, using(crate::proofs::LineLaws::closed_more), unfolding(crate::specs::Reading::closed))]
     pub(crate) fn end(&self) -> Result<(), CertFault>
-        ensures { spec.Reads (spec.closed tt self.now) result self.now }
+        ensures { spec.Reads (spec.closed self.now) result self.now }
     {
         if self.rest.is_empty() {
             Ok(())

@@ -29,7 +29,7 @@ fn point(alloc: Global, lines: &mut Lines, number: usize) -> Result<Option<Abs>,
     lines.asked(point_of(alloc, number, line))
 }
 
-#[tactic(auto, unfolding(crate::specs::Reading::points))]
+#[tactic(auto, using(crate::proofs::ReadLaws::points_step), unfolding(crate::specs::Reading::points))]
 fn points(alloc: Global, lines: &mut Lines, count: usize) -> Result<Items<Option<Abs>>, CertFault>
     requires { count ≤ 512 }
     ensures { spec.Reads (spec.points count lines.old) result lines.new }
@@ -42,23 +42,46 @@ fn points(alloc: Global, lines: &mut Lines, count: usize) -> Result<Items<Option
     Ok(found)
 }
 
-#[tactic(auto, unfolding(crate::specs::Reading::callbacks))]
+/// The callback with this number, from its first line on.
+#[tactic(auto, unfolding(crate::specs::Reading::callback))]
+fn callback(
+    alloc: Global,
+    lines: &mut Lines,
+    number: usize,
+    line: &[u8],
+) -> Result<Items<Option<Abs>>, CertFault>
+    requires { number < 1000 }
+    ensures { spec.Reads (spec.callback number line.now lines.old) result lines.new }
+{
+    let count = lines.asked(head_of(number, line))?;
+    points(alloc, lines, count)
+}
+
+/// Whether the line is the last one, behind these callbacks.
+fn is_last(found: &Items<Items<Option<Abs>>>, line: &[u8]) -> bool
+    ensures { result ≡ spec.is_last found.now line.now }
+{
+    found.len() > 0 && is_end(line)
+}
+
+#[tactic(auto, using(crate::proofs::ReadLaws::last_callback, crate::proofs::ReadLaws::no_line, crate::proofs::ReadLaws::next_callback, crate::proofs::ReadLaws::bad_callback, crate::proofs::ReadLaws::no_last))]
 fn callbacks(alloc: Global, lines: &mut Lines) -> Result<Items<Items<Option<Abs>>>, CertFault>
     ensures { spec.Reads (spec.callbacks lines.old) result lines.new }
 {
     let mut found = Items::new(alloc);
     for number in 0..MAX_CALLBACKS {
         let line = lines.next()?;
-        if number > 0 && is_end(line) {
+        if is_last(&found, line) {
             lines.end()?;
             return Ok(found);
         }
-        let count = lines.asked(head_of(number, line))?;
-        let points = points(alloc, lines, count)?;
+        let points = callback(alloc, lines, number, line)?;
         found.push(points)?;
     }
     let line = lines.next()?;
-    lines.asked(if is_end(line) { Some(()) } else { None })?;
+    if !is_last(&found, line) {
+        return Err(lines.refused());
+    }
     lines.end()?;
     Ok(found)
 }
