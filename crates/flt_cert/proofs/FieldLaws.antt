@@ -1,5 +1,5 @@
 -- What is read from a line is spelled so, and what is spelled so is read.
-use Rattle.std.proofs.Common.{◌≡◌, ◌<◌, ◌≤◌, ◌+◌, ◌-◌, ◌*◌, ◌/◌, ◌%◌, ℕ, zero, suc, Bool, true, false, List, [], ◌∷◌, ◌++◌, length, map, take, drop, refl, sym, ap, subst, arith, ◌∙◌, append_assoc, append-nil, lit<}
+use Rattle.std.proofs.Common.{◌≡◌, ◌<◌, ◌≤◌, ◌+◌, ◌-◌, ◌*◌, ◌/◌, ◌%◌, ℕ, zero, suc, Bool, true, false, List, [], ◌∷◌, ◌++◌, length, map, take, drop, refl, sym, ap, subst, arith, ◌∙◌, append_assoc, append-nil, length-drop, get_or}
 use Rattle.std.specs.Prelude.{not, ◌==◌, ◌&&◌, ◌||◌, nat_lt, if◌then◌else◌, Option, Some, None, codes}
 use Rattle.std.specs.List.{list_all}
 use Rattle.std.specs.Str.{bytes_eq}
@@ -263,6 +263,17 @@ locks_again [] h = refl
 locks_again (p ∷ places) h =
     let other : (48 + p == 45) ≡ false = ne_eqb (48 + p) 45 (λ e. omega arith) in
     rw other (places_again places [] p h)
+
+-- ---- steps as the code makes them
+
+pub rest_of : (text : Text) → take (length text - 1) (drop 1 text) ≡ drop 1 text
+rest_of text = rw (← length-drop 1 text) (take-length (drop 1 text))
+
+pub place_step : (found more : List ℕ) (text : Text) → 1 ≤ length text → 1 ≤ length (drop 1 text) → get_or (drop 1 text) 0 0 ≡ 44 →
+    with_lock found (get_or text 0 0) ≡ Some more → places_at found text ≡ places_at more (drop 1 (drop 1 text))
+place_step found more [] h k e lock = absurd (omega arith)
+place_step found more (b ∷ []) h k e lock = absurd (omega arith)
+place_step found more (b ∷ c ∷ text) h k e lock = rw (lock, e) refl
 
 -- ---- a state
 

@@ -29,7 +29,7 @@ fn point(alloc: Global, lines: &mut Lines, number: usize) -> Result<Option<Abs>,
     lines.asked(point_of(alloc, number, line))
 }
 
-#[tactic(auto, using(crate::proofs::ReadLaws::points_step), unfolding(crate::specs::Reading::points))]
+#[tactic(auto, unfolding(crate::specs::Reading::points))]
 fn points(alloc: Global, lines: &mut Lines, count: usize) -> Result<Items<Option<Abs>>, CertFault>
     requires { count ≤ 512 }
     ensures { spec.Reads (spec.points count lines.old) result lines.new }
@@ -57,6 +57,17 @@ fn callback(
     points(alloc, lines, count)
 }
 
+/// The callbacks, if nothing follows the last line.
+fn finish(
+    lines: &Lines,
+    found: Items<Items<Option<Abs>>>,
+) -> Result<Items<Items<Option<Abs>>>, CertFault>
+    ensures { spec.Reads (spec.finished found lines.now) result lines.now }
+{
+    lines.end()?;
+    Ok(found)
+}
+
 /// Whether the line is the last one, behind these callbacks.
 fn is_last(found: &Items<Items<Option<Abs>>>, line: &[u8]) -> bool
     ensures { result ≡ spec.is_last found.now line.now }
@@ -64,7 +75,7 @@ fn is_last(found: &Items<Items<Option<Abs>>>, line: &[u8]) -> bool
     found.len() > 0 && is_end(line)
 }
 
-#[tactic(auto, using(crate::proofs::ReadLaws::last_callback, crate::proofs::ReadLaws::no_line, crate::proofs::ReadLaws::next_callback, crate::proofs::ReadLaws::bad_callback, crate::proofs::ReadLaws::no_last))]
+#[tactic(auto, using(crate::proofs::ReadLaws::no_line, crate::proofs::ReadLaws::bad_callback, crate::proofs::ReadLaws::no_last))]
 fn callbacks(alloc: Global, lines: &mut Lines) -> Result<Items<Items<Option<Abs>>>, CertFault>
     ensures { spec.Reads (spec.callbacks lines.old) result lines.new }
 {
@@ -72,18 +83,17 @@ fn callbacks(alloc: Global, lines: &mut Lines) -> Result<Items<Items<Option<Abs>
     for number in 0..MAX_CALLBACKS {
         let line = lines.next()?;
         if is_last(&found, line) {
-            lines.end()?;
-            return Ok(found);
+            return finish(lines, found);
         }
         let points = callback(alloc, lines, number, line)?;
         found.push(points)?;
     }
     let line = lines.next()?;
-    if !is_last(&found, line) {
-        return Err(lines.refused());
+    if is_last(&found, line) {
+        finish(lines, found)
+    } else {
+        Err(lines.refused())
     }
-    lines.end()?;
-    Ok(found)
 }
 
 #[tactic(auto, unfolding(crate::specs::Reading::certificate))]
