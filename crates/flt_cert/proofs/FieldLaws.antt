@@ -314,14 +314,204 @@ state_takes text s h =
     let y1 : j.0 ≡ k.0.0 ∷ k.0.1 = byte_takes j.0 k.0.1 k.0.0 k.1 in
     let y2 : k.0.0 ≡ 48 + draining_bits l.0 = draining_takes k.0.0 l.0 l.1 in
     let y3 : k.0.1 ≡ 32 ∷ m.0 = blank_takes k.0.1 m.0 m.1 in
-    let y4 : m.0 ≡ places_text n.0 ++ 10 ∷ [] = locks_take m.0 n.0 n.1 in (
-      spelled text s b.0 e.0 i.0 l.0 n.0 a.0.0 a.0.1 c.0 d.0.0 d.0.1 f.0 g.0.1 j.0 k.0.1 m.0 g.0.0 k.0.0 o.1 x1 x2 x3 x4 x5 x6 x7 x8 x9 y1 y2 y3 y4,
-      (let P : State → Type 0 = λ t. is_proper t ≡ true in subst P o.1 o.0),
-    )
+    let y4 : m.0 ≡ places_text n.0 ++ 10 ∷ [] = locks_take m.0 n.0 n.1 in
+    spelled text s b.0 e.0 i.0 l.0 n.0 a.0.0 a.0.1 c.0 d.0.0 d.0.1 f.0 g.0.1 j.0 k.0.1 m.0 g.0.0 k.0.0 o.0 o.1 x1 x2 x3 x4 x5 x6 x7 x8 x9 y1 y2 y3 y4
   where
     spelled : (text : Text) (s : State) (contexts operations : List StatusSet) (some : ModeSet) (answers : DrainingSet) (places : List ℕ)
-        (t1 t2 t3 t4 t5 t6 t7 t8 t9 t10 : Text) (u v : ℕ) → state_of contexts operations some answers places ≡ s →
+        (t1 t2 t3 t4 t5 t6 t7 t8 t9 t10 : Text) (u v : ℕ) → is_proper (state_of contexts operations some answers places) ≡ true → state_of contexts operations some answers places ≡ s →
         text ≡ t1 ++ t2 → t1 ≡ digits contexts → t2 ≡ 32 ∷ t3 → t3 ≡ t4 ++ t5 → t4 ≡ digits operations → t5 ≡ 32 ∷ t6 → t6 ≡ u ∷ t7 → u ≡ 48 + mode_bits some →
-        t7 ≡ 32 ∷ t8 → t8 ≡ v ∷ t9 → v ≡ 48 + draining_bits answers → t9 ≡ 32 ∷ t10 → t10 ≡ places_text places ++ 10 ∷ [] → text ≡ state_text s ++ 10 ∷ []
-    spelled text s contexts operations some answers places t1 t2 t3 t4 t5 t6 t7 t8 t9 t10 u v o x1 x2 x3 x4 x5 x6 x7 x8 x9 y1 y2 y3 y4 =
-        rw (x1, x2, x3, x4, x5, x6, x7, x8, x9, y1, y2, y3, y4, ← o) (simp append_assoc)
+        t7 ≡ 32 ∷ t8 → t8 ≡ v ∷ t9 → v ≡ 48 + draining_bits answers → t9 ≡ 32 ∷ t10 → t10 ≡ places_text places ++ 10 ∷ [] → (text ≡ state_text s ++ 10 ∷ []) × (is_proper s ≡ true)
+    spelled text s contexts operations some answers places t1 t2 t3 t4 t5 t6 t7 t8 t9 t10 u v q o x1 x2 x3 x4 x5 x6 x7 x8 x9 y1 y2 y3 y4 =
+        (rw (x1, x2, x3, x4, x5, x6, x7, x8, x9, y1, y2, y3, y4, ← o) (simp append_assoc), rw (← o) q)
+
+-- ---- whole lines
+
+lead_takes : (a n : ℕ) → leading a ≡ Some n → (a ≡ 48 + n) × (0 < n) × (n < 10)
+lead_takes a n h =
+    let both = chosen _ h in
+    let range = and_parts (nat_lt 48 a) (nat_lt a 58) both.0 in
+    let low = ltb-true 48 a range.0 in
+    let high = ltb-true a 58 range.1 in
+    let same : a - 48 ≡ n = both.1 in
+    (omega arith, omega arith, omega arith)
+
+digit_takes : (a n : ℕ) → digit_of a ≡ Some n → (a ≡ 48 + n) × (n < 10)
+digit_takes a n h =
+    let both = chosen _ h in
+    let range = and_parts (nat_lt 47 a) (nat_lt a 58) both.0 in
+    let low = ltb-true 47 a range.0 in
+    let high = ltb-true a 58 range.1 in
+    let same : a - 48 ≡ n = both.1 in
+    (omega arith, omega arith)
+
+Counted : Text → ℕ → Type 0
+Counted text n = (text ≡ decimal n ++ 10 ∷ []) × (0 < n) × (n < 513)
+
+one_digit : (n : ℕ) → n < 10 → decimal n ≡ (48 + n) ∷ []
+one_digit n h = rw (lt-ltb n 10 h) refl
+
+two_digits : (m n : ℕ) → 0 < m → m < 10 → n < 10 → decimal (10 * m + n) ≡ (48 + m) ∷ (48 + n) ∷ []
+two_digits m n h k l =
+    let high : (10 * m + n) / 10 ≡ m = omega arith in
+    let low : (10 * m + n) % 10 ≡ n = omega arith in
+    rw (le-ltb (10 * m + n) 10 (omega arith), lt-ltb (10 * m + n) 100 (omega arith), high, low) refl
+
+three_digits : (l m n : ℕ) → 0 < l → m < 10 → n < 10 → decimal (100 * l + 10 * m + n) ≡ (48 + l) ∷ (48 + m) ∷ (48 + n) ∷ []
+three_digits l m n h k j =
+    let high : (100 * l + 10 * m + n) / 100 ≡ l = omega arith in
+    let middle : (100 * l + 10 * m + n) / 10 % 10 ≡ m = omega arith in
+    let low : (100 * l + 10 * m + n) % 10 ≡ n = omega arith in
+    rw (le-ltb (100 * l + 10 * m + n) 10 (omega arith), le-ltb (100 * l + 10 * m + n) 100 (omega arith), high, middle, low) refl
+
+same_bytes : (a b c x y z : ℕ) → a ≡ x → b ≡ y → c ≡ z → a ∷ b ∷ c ∷ [] ≡ x ∷ y ∷ z ∷ []
+same_bytes a b c x y z h k l = cc
+
+count_takes : (text : Text) (n : ℕ) → count_of text ≡ Some n → Counted text n
+unfolding Counted
+count_takes [] n h = cc
+count_takes (a ∷ []) n h = cc
+count_takes (a ∷ z ∷ []) n h =
+    let end = taken (z == 10) h in
+    let ten : z ≡ 10 = eqb-true z 10 end.0 in
+    let one = lead_takes a n end.1 in
+    let byte = one.0 in
+    let text : decimal n ≡ (48 + n) ∷ [] = one_digit n one.2 in
+    (rw (text, byte, ten) refl, one.1, omega arith)
+count_takes (a ∷ b ∷ z ∷ []) n h =
+    let end = taken (z == 10) h in
+    let ten : z ≡ 10 = eqb-true z 10 end.0 in
+    let x = some_bind (leading a) _ end.1 in
+    let y = some_bind (digit_of b) _ x.2 in
+    let one = lead_takes a x.0 x.1 in
+    let two = digit_takes b y.0 y.1 in
+    let sum : 10 * x.0 + y.0 ≡ n = cc (y.2) in
+    let text = two_digits x.0 y.0 one.1 one.2 two.1 in
+    (same_bytes a b z (48 + x.0) (48 + y.0) 10 one.0 two.0 ten ∙ ap (λ t. t ++ 10 ∷ []) (sym text ∙ ap decimal sum), omega arith, omega arith)
+count_takes (a ∷ b ∷ c ∷ z ∷ []) n h =
+    let end = taken (z == 10) h in
+    let ten : z ≡ 10 = eqb-true z 10 end.0 in
+    let x = some_bind (leading a) _ end.1 in
+    let y = some_bind (digit_of b) _ x.2 in
+    let w = some_bind (digit_of c) _ y.2 in
+    let few = chosen _ w.2 in
+    let one = lead_takes a x.0 x.1 in
+    let two = digit_takes b y.0 y.1 in
+    let three = digit_takes c w.0 w.1 in
+    let sum : 100 * x.0 + 10 * y.0 + w.0 ≡ n = few.1 in
+    let most : 100 * x.0 + 10 * y.0 + w.0 < 513 = ltb-true _ _ few.0 in
+    let text = three_digits x.0 y.0 w.0 one.1 two.1 three.1 in
+    (ap (λ t. a ∷ t) (same_bytes b c z (48 + y.0) (48 + w.0) 10 two.0 three.0 ten) ∙ ap (λ h. h ∷ (48 + y.0) ∷ (48 + w.0) ∷ 10 ∷ []) one.0 ∙ ap (λ t. t ++ 10 ∷ []) (sym text ∙ ap decimal sum), omega arith, omega arith)
+count_takes (a ∷ b ∷ c ∷ d ∷ e ∷ text) n h = cc
+
+matches : Option ℕ → ℕ → Bool
+matches None n = false
+matches (Some m) n = m == n
+
+abbrev counts : ℕ → Bool
+counts n = n == 0 || matches (count_of (decimal n ++ 10 ∷ [])) n
+
+all_count : agree_below counts (λ n. true) 513 ≡ true
+unfolding matches
+all_count = refl
+
+count_again : (n : ℕ) → 0 < n → n < 513 → count_of (decimal n ++ 10 ∷ []) ≡ Some n
+unfolding matches
+count_again n h k =
+    go (n == 0) (ne_eqb n 0 (λ e. omega arith)) (count_of (decimal n ++ 10 ∷ [])) (agree_below_at counts (λ m. true) 513 n all_count k)
+  where
+    go : (x : Bool) → x ≡ false → (o : Option ℕ) → (x || matches o n) ≡ true → o ≡ Some n
+    go true e o t = cc
+    go false e None t = cc
+    go false e (Some m) t = ap (λ z. Some z) (eqb-true m n t)
+
+pub head_takes : (k : ℕ) (text : Text) (n : ℕ) → head_of k text ≡ Some n → (text ≡ callback_line k n) × (0 < n) × (n < 513)
+unfolding head_of Counted
+head_takes k text n h =
+    let a = some_bind (after (codes "callback ") text) _ h in
+    let b = some_bind (after (decimal k) a.0) _ a.2 in
+    let c = some_bind (blank b.0) _ b.2 in
+    let d = count_takes c.0 n c.2 in
+    let x : text ≡ codes "callback " ++ a.0 = after_takes (codes "callback ") text a.0 a.1 in
+    let y : a.0 ≡ decimal k ++ b.0 = after_takes (decimal k) a.0 b.0 b.1 in
+    let z : b.0 ≡ 32 ∷ c.0 = blank_takes b.0 c.0 c.1 in
+    let w : c.0 ≡ decimal n ++ 10 ∷ [] = d.0 in
+    (x ∙ ap (λ t. codes "callback " ++ t) (y ∙ ap (λ t. decimal k ++ t) (z ∙ ap (λ t. 32 ∷ t) w)), d.1, d.2)
+
+pub head_again : (k n : ℕ) → 0 < n → n < 513 → head_of k (callback_line k n) ≡ Some n
+unfolding head_of
+head_again k n h l =
+    bind_again (after (codes "callback ") (callback_line k n)) (λ text. after (decimal k) text >>= λ text. blank text >>= λ text. count_of text)
+    (decimal k ++ 32 ∷ (decimal n ++ 10 ∷ [])) (after_again (codes "callback ") (decimal k ++ 32 ∷ (decimal n ++ 10 ∷ [])))
+    (bind_again (after (decimal k) (decimal k ++ 32 ∷ (decimal n ++ 10 ∷ []))) (λ text. blank text >>= λ text. count_of text)
+    (32 ∷ (decimal n ++ 10 ∷ [])) (after_again (decimal k) (32 ∷ (decimal n ++ 10 ∷ [])))
+    (count_again n h l))
+
+pub point_takes : (p : ℕ) (text : Text) (point : Point) → point_of p text ≡ Some point → (text ≡ point_line p point) × (is_point point ≡ true)
+unfolding point_of
+point_takes p text point h =
+    let a = some_bind (after (decimal p) text) _ h in
+    let b = some_bind (blank a.0) _ a.2 in
+    let x : text ≡ decimal p ++ a.0 = after_takes (decimal p) text a.0 a.1 in
+    let y : a.0 ≡ 32 ∷ b.0 = blank_takes a.0 b.0 b.1 in
+    let rest = go b.0 point (bytes_eq b.0 (33 ∷ 10 ∷ [])) refl b.2 in
+    (x ∙ ap (λ t. decimal p ++ t) (y ∙ ap (λ t. 32 ∷ t) rest.0), rest.1)
+  where
+    go : (text : Text) (point : Point) (x : Bool) → bytes_eq text (33 ∷ 10 ∷ []) ≡ x →
+        (if x then Some None else (state_at text >>= λ s. Some (Some s))) ≡ Some point → (text ≡ point_text point ++ 10 ∷ []) × (is_point point ≡ true)
+    go text None true e h = ((bytes_eq-Decides text (33 ∷ 10 ∷ [])).0 e, refl)
+    go text (Some s) true e h = cc
+    go text None false e h = let one = some_bind (state_at text) _ h in let wrong = one.2 in cc
+    go text (Some s) false e h =
+        let one = some_bind (state_at text) _ h in
+        let same : one.0 ≡ s = cc (one.2) in
+        let spelled = state_takes text one.0 one.1 in
+        let P : State → Type 0 = λ t. (text ≡ state_text t ++ 10 ∷ []) × (is_proper t ≡ true) in
+        subst P same spelled
+
+state_again : (s : State) → is_proper s ≡ true → state_at (state_text s ++ 10 ∷ []) ≡ Some s
+unfolding state_at
+state_again s h =
+    let nine = and_parts (length s.contexts == 9) _ h in
+    let five = and_parts (length s.operations == 5) _ nine.1 in
+    let contexts = and_parts (list_all is_possible s.contexts) _ five.1 in
+    let operations = and_parts (list_all is_possible s.operations) _ contexts.1 in
+    let some = and_parts (is_mode_possible s.modes) _ operations.1 in
+    let answers = and_parts (is_draining_possible s.draining) (are_locks s.locks) some.1 in
+    let end : Text = places_text s.locks ++ 10 ∷ [] in
+    let fourth : Text = (48 + draining_bits s.draining) ∷ 32 ∷ end in
+    let third : Text = (48 + mode_bits s.modes) ∷ 32 ∷ fourth in
+    let second : Text = digits s.operations ++ 32 ∷ third in
+    let regrouped : state_text s ++ 10 ∷ [] ≡ digits s.contexts ++ 32 ∷ second = simp append_assoc in
+    let nine_digits : 9 ≡ length (digits s.contexts) = sym (length_digits s.contexts ∙ eqb-true _ _ nine.0) in
+    let five_digits : 5 ≡ length (digits s.operations) = sym (length_digits s.operations ∙ eqb-true _ _ five.0) in
+    rw regrouped
+    (bind_again (front_of 9 (digits s.contexts ++ 32 ∷ second)) _ (digits s.contexts, 32 ∷ second) (front_again 9 (digits s.contexts) (32 ∷ second) nine_digits)
+    (bind_again (sets_from [] (digits s.contexts)) _ s.contexts (sets_again [] s.contexts contexts.0)
+    (bind_again (front_of 5 second) _ (digits s.operations, 32 ∷ third) (front_again 5 (digits s.operations) (32 ∷ third) five_digits)
+    (bind_again (sets_from [] (digits s.operations)) _ s.operations (sets_again [] s.operations operations.0)
+    (bind_again (modes_of (48 + mode_bits s.modes)) _ s.modes (modes_again s.modes some.0)
+    (bind_again (draining_of (48 + draining_bits s.draining)) _ s.draining (draining_again s.draining answers.0)
+    (bind_again (locks_of end) _ s.locks (locks_again s.locks answers.1) (rw h refl))))))))
+  where
+    length_digits : (sets : List StatusSet) → length (digits sets) ≡ length sets
+    length_digits [] = refl
+    length_digits (t ∷ sets) = ap (λ n. suc n) (length_digits sets)
+
+pub point_again : (p : ℕ) (point : Point) → is_point point ≡ true → point_of p (point_line p point) ≡ Some point
+unfolding point_of
+point_again p point h =
+    bind_again (after (decimal p) (point_line p point)) _ (32 ∷ (point_text point ++ 10 ∷ [])) (after_again (decimal p) _) (go point h)
+  where
+    begins : (sets : List StatusSet) (rest : Text) → (length sets == 9) ≡ true → bytes_eq (digits sets ++ rest) (33 ∷ 10 ∷ []) ≡ false
+    begins [] rest e = cc
+    begins (t ∷ sets) rest e = let other : (48 + status_bits t == 33) ≡ false = ne_eqb (48 + status_bits t) 33 (λ e. omega arith) in rw other refl
+
+    go : (point : Point) → is_point point ≡ true →
+        (if bytes_eq (point_text point ++ 10 ∷ []) (33 ∷ 10 ∷ []) then Some None else (state_at (point_text point ++ 10 ∷ []) >>= λ s. Some (Some s))) ≡ Some point
+    go None h = refl
+    go (Some s) h =
+        let others : Text = 32 ∷ (digits s.operations ++ 32 ∷ (48 + mode_bits s.modes) ∷ 32 ∷ (48 + draining_bits s.draining) ∷ 32 ∷ places_text s.locks) in
+        let grouped : state_text s ++ 10 ∷ [] ≡ digits s.contexts ++ (others ++ 10 ∷ []) = append_assoc (digits s.contexts) others (10 ∷ []) in
+        let other : bytes_eq (state_text s ++ 10 ∷ []) (33 ∷ 10 ∷ []) ≡ false =
+        ap (λ t. bytes_eq t (33 ∷ 10 ∷ [])) grouped ∙ begins s.contexts (others ++ 10 ∷ []) (and_parts (length s.contexts == 9) _ h).0 in
+        rw other (bind_again (state_at (state_text s ++ 10 ∷ [])) (λ t. Some (Some t)) s (state_again s h) refl)

@@ -1,5 +1,7 @@
 pub mod Certificates
+pub mod Complete
 pub mod FieldLaws
 pub mod LineLaws
 pub mod ReadLaws
+pub mod Sound
 pub mod WriteLaws

@@ -1,4 +1,4 @@
-use Rattle.std.proofs.Common.{◌≡◌, ◌+◌, ◌-◌, [], ◌∷◌, ◌++◌, length, sym, ap, subst, ◌∙◌, arith, length-append, Ok, true, false}
+use Rattle.std.proofs.Common.{◌≡◌, ◌+◌, ◌-◌, [], ◌∷◌, ◌++◌, length, sym, ap, subst, ◌∙◌, arith, length-append, refl, Ok, true, false}
 use Rattle.flt_cert.specs.Format.{Certificate}
 use Rattle.flt_cert.specs.Reading as spec
 use Rattle.flt_cert.proofs.ReadLaws.{last_callback, next_callback}
@@ -25,3 +25,11 @@ loop-number-preserved c =
       count = rw (pushed, length-append, count) refl;
       read = rw pushed (sym step ∙ c.loop-number.invariant.read);
     }
+
+pub returns-then-is_last-2 : goal.returns-then-is_last-2
+returns-then-is_last-2 c =
+    let read : spec.line c.loop-number.lines ≡ Ok (c.in_ok-line-2.line.now, c.next-2.new.self) = cc (c.in_ok-line-2.ensures) in
+    let last : spec.is_last c.loop-number.found c.in_ok-line-2.line.now ≡ true = cc (c.is_last-2.ensures, c.if-is_last-2.true) in
+    let same = sym c.loop-number.invariant.read ∙ last_callback (16 - c.loop-number.number) c.loop-number.found c.in_ok-line-2.line.now c.loop-number.lines c.next-2.new.self read last in
+    let P : spec.Outcome Certificate → Type 0 = λ o. spec.Reads o c.finish-then-is_last-2.result c.next-2.new.self in
+    subst P (sym same) c.finish-then-is_last-2.ensures
