@@ -20,31 +20,32 @@ plain = list_all (λ b. not (b == 10))
 
 ended : (text rest : Text) → plain text ≡ true → lines_of (text ++ 10 ∷ rest) ≡ (text ++ 10 ∷ []) ∷ lines_of rest
 ended [] rest h = refl
-ended (b ∷ text) rest h = go (b == 10) refl
+ended (b ∷ text) rest h = go (b == 10) refl (ended text rest)
   where
     parts : (not (b == 10) ≡ true) × (plain text ≡ true)
     parts = and_parts (not (b == 10)) (plain text) h
 
-    go : (x : Bool) → (b == 10) ≡ x → lines_of (b ∷ text ++ 10 ∷ rest) ≡ (b ∷ text ++ 10 ∷ []) ∷ lines_of rest
-    go true e = let wrong = ap not e in let right = parts.0 in cc
-    go false e = rw (e, ended text rest parts.1) refl
+    go : (x : Bool) → (b == 10) ≡ x → (plain text ≡ true → lines_of (text ++ 10 ∷ rest) ≡ (text ++ 10 ∷ []) ∷ lines_of rest) →
+        lines_of (b ∷ text ++ 10 ∷ rest) ≡ (b ∷ text ++ 10 ∷ []) ∷ lines_of rest
+    go true e others = let wrong : not (b == 10) ≡ false = ap not e in let right = parts.0 in cc
+    go false e others = rw (e, others parts.1) refl
 
 -- a line with LF at its end and nowhere else
 Ended : Text → Type 0
 Ended text = (front : Text) × (plain front ≡ true) × (text ≡ front ++ 10 ∷ [])
 
 data AllEnded : List Text → Type 0 where
-  none : AllEnded []
-  more : (text : Text) (lines : List Text) → Ended text → AllEnded lines → AllEnded (text ∷ lines)
+  no_lines : AllEnded []
+  begins_with : {text : Text} {lines : List Text} → Ended text → AllEnded lines → AllEnded (text ∷ lines)
 
 both_ended : (xs ys : List Text) → AllEnded xs → AllEnded ys → AllEnded (xs ++ ys)
-both_ended [] ys none h = h
-both_ended (text ∷ xs) ys (more text xs e others) h = more text (xs ++ ys) e (both_ended xs ys others h)
+both_ended [] ys no_lines h = h
+both_ended (text ∷ xs) ys (begins_with e others) h = begins_with e (both_ended xs ys others h)
 
 lines_joined : (lines : List Text) → AllEnded lines → lines_of (joined lines) ≡ lines
 unfolding Ended
-lines_joined [] none = refl
-lines_joined (text ∷ lines) (more text lines e others) =
+lines_joined [] no_lines = refl
+lines_joined (text ∷ lines) (begins_with e others) =
     let grouped : text ++ joined lines ≡ e.0 ++ 10 ∷ joined lines = ap (λ z. z ++ joined lines) e.2 ∙ append_assoc e.0 (10 ∷ []) (joined lines) in
     ap lines_of grouped ∙ ended e.0 (joined lines) e.1 ∙ ap (λ z. z ∷ lines_of (joined lines)) (sym e.2) ∙ ap (λ z. text ∷ z) (lines_joined lines others)
 
@@ -101,21 +102,21 @@ callback_ended k n = (
 )
 
 points_ended : (p : ℕ) (points : List Point) → AllEnded (point_lines p points)
-points_ended p [] = none
-points_ended p (point ∷ points) = more (point_line p point) (point_lines (suc p) points) (point_ended p point) (points_ended (suc p) points)
+points_ended p [] = no_lines
+points_ended p (point ∷ points) = begins_with (point_ended p point) (points_ended (suc p) points)
 
 callbacks_ended : (k : ℕ) (cs : Certificate) → AllEnded (callback_lines k cs)
-callbacks_ended k [] = none
+callbacks_ended k [] = no_lines
 callbacks_ended k (points ∷ cs) =
     both_ended (one_callback k points) (callback_lines (suc k) cs)
-    (more (callback_line k (length points)) (point_lines 0 points) (callback_ended k (length points)) (points_ended 0 points)) (callbacks_ended (suc k) cs)
+    (begins_with (callback_ended k (length points)) (points_ended 0 points)) (callbacks_ended (suc k) cs)
 
 -- the lines of a spelling
 pub lines_spelled : (cs : Certificate) → lines_of (spelling cs) ≡ lines_for cs
 unfolding Ended
 lines_spelled cs =
-    lines_joined (lines_for cs) (more first_line (callback_lines 0 cs ++ last_line ∷ []) (codes "fltcert 1", refl, refl)
-    (both_ended (callback_lines 0 cs) (last_line ∷ []) (callbacks_ended 0 cs) (more last_line [] (codes "end", refl, refl) none)))
+    lines_joined (lines_for cs) (begins_with (codes "fltcert 1", refl, refl)
+    (both_ended (callback_lines 0 cs) (last_line ∷ []) (callbacks_ended 0 cs) (begins_with (codes "end", refl, refl) no_lines)))
 
 -- ---- reading them
 

@@ -43,13 +43,17 @@ pub record Begun (all : List Text) (n : ℕ) : Type 0 where
 -- ---- lists of lines
 
 point_lines_more : (p : ℕ) (ps qs : List Point) → point_lines p (ps ++ qs) ≡ point_lines p ps ++ point_lines (p + length ps) qs
-point_lines_more p [] qs = ap (λ n. point_lines n qs) (omega arith)
+point_lines_more p [] qs =
+    let same : p ≡ p + length {A = Point} [] = omega arith in
+    ap (λ n. point_lines n qs) same
 point_lines_more p (x ∷ ps) qs =
     let shifted : suc p + length ps ≡ p + length (x ∷ ps) = omega arith in
     ap (λ z. point_line p x ∷ z) (point_lines_more (suc p) ps qs ∙ ap (λ n. point_lines (suc p) ps ++ point_lines n qs) shifted)
 
 callback_lines_more : (k : ℕ) (found : Certificate) (ps : List Point) → callback_lines k (found ++ ps ∷ []) ≡ callback_lines k found ++ one_callback (k + length found) ps
-callback_lines_more k [] ps = append-nil (one_callback k ps) ∙ ap (λ n. one_callback n ps) (omega arith)
+callback_lines_more k [] ps =
+    let same : k ≡ k + length {A = List Point} [] = omega arith in
+    append-nil (one_callback k ps) ∙ ap (λ n. one_callback n ps) same
 callback_lines_more k (qs ∷ found) ps =
     let shifted : suc k + length found ≡ k + length (qs ∷ found) = omega arith in
     let rest = callback_lines_more (suc k) found ps ∙ ap (λ n. callback_lines (suc k) found ++ one_callback n ps) shifted in
@@ -125,7 +129,7 @@ begun_opened all cs n left found i opening here =
     let one : one_callback (length cs) ps ≡ callback_line (length cs) n ∷ (point_lines 0 found ++ point_lines (0 + length found) rest) =
     rw (len, point_lines_more 0 found rest) refl in
     let lines : lines_for (cs ++ ps ∷ []) ≡ opened cs n found ++ (point_lines (0 + length found) rest ++ last_line ∷ []) =
-    ap (λ z. first_line ∷ (z ++ last_line ∷ [])) (callback_lines_more 0 cs ps ∙ ap (λ m. callback_lines 0 cs ++ one_callback m ps) (omega arith) ∙ ap (λ z. callback_lines 0 cs ++ z) one)
+    ap (λ z. first_line ∷ (z ++ last_line ∷ [])) (callback_lines_more 0 cs ps ∙ ap (λ m. callback_lines 0 cs ++ one_callback m ps) (let e : 0 + length cs ≡ length cs = omega arith in e) ∙ ap (λ z. callback_lines 0 cs ++ z) one)
     ∙ simp append_assoc in
     begun_by all (opened cs n found) (point_lines (0 + length found) rest ++ last_line ∷ []) i (cs ++ ps ∷ []) here whole lines
 

@@ -7,7 +7,7 @@ use Rattle.flt_abs.specs.State.{State, state_of, is_proper}
 use Rattle.flt_cert.specs.declared.fault.CertFault.{CertFault}
 use Rattle.flt_cert.specs.declared.fault.CertFault.TheVariants.{Line, OutOfMemory}
 use Rattle.flt_cert.specs.Text.{Text, lines_of, decimal, after, count_of, ◌>>=◌}
-use Rattle.flt_cert.specs.Format.{Point, Certificate, first_line, last_line}
+use Rattle.flt_cert.specs.Format.{Point, Certificate, first_line, last_line, IsFirstFault}
 
 -- ---- one line
 
@@ -193,3 +193,8 @@ ReadsBy view outcome (Err e) new = Fails outcome e
 
 abbrev pub Reads : {A : Type 0} → Outcome A → Result A CertFault → Place → Type 0
 Reads = ReadsBy (λ x. x)
+
+-- a fault names the first line that isn't as asked
+abbrev pub IsFaultOf : Text → CertFault → Type 0
+IsFaultOf text OutOfMemory = Unit {0}
+IsFaultOf text (Line n) = IsFirstFault text n

@@ -105,8 +105,18 @@ fn certificate(alloc: Global, lines: &mut Lines) -> Result<Items<Items<Option<Ab
 }
 
 /// The certificate that the bytes spell, all of the bytes.
-pub fn read(alloc: Global, bytes: &[u8]) -> Result<Cert, CertFault> {
+pub fn read(alloc: Global, bytes: &[u8]) -> Result<Cert, CertFault>
+    // What is read is spelled so.
+    ensures spelled { IfOk result (λ cert. bytes.now ≡ format.spelling cert) }
+    ensures certificate { IfOk result (λ cert. IsTrue (format.is_certificate cert)) }
+    // What is spelled so is read, unless memory runs out.
+    ensures read { (callbacks : format.Certificate) → IsTrue (format.is_certificate callbacks) → bytes.now ≡ format.spelling callbacks → MatchResult result (λ cert. cert ≡ callbacks) (λ e. e ≡ CertFault.OutOfMemory) }
+    // A fault names the first line that isn't as asked.
+    ensures fault { MatchResult result (λ _. Unit {0}) (λ e. spec.IsFaultOf bytes.now e) }
+{
     let mut lines = Lines::new(bytes);
-    let callbacks = certificate(alloc, &mut lines)?;
-    Ok(Cert::new(callbacks).unwrap())
+    match certificate(alloc, &mut lines) {
+        Ok(callbacks) => Ok(Cert::new(callbacks).unwrap()),
+        Err(fault) => Err(fault),
+    }
 }
