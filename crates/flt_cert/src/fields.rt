@@ -1,0 +1,273 @@
+//! What stands in one line.
+
+ghost use Rattle.std.specs.Prelude.{◌≡◌, ◌<◌, ◌≤◌, [], length, Some, None, IsTrue, IsFalse, IfSome};
+ghost use Rattle.std.specs.Option.{option_copied, option_map};
+ghost use Rattle.std.specs.Str.{bytes_eq};
+ghost use Rattle.flt_abs.specs.State.{state_of};
+ghost use Rattle.flt_cert.specs.Format.{last_line};
+ghost use Rattle.flt_cert.specs.Reading as spec;
+ghost use Rattle.flt_cert.specs.Text as text_spec;
+
+use flt_abs::{Abs, CONTEXTS, Draining, LockList, Modes, OPERATIONS, Statuses};
+use flt_rules::LockNumber;
+use std::alloc::Global;
+
+const LAST_LINE: &[u8] = b"end\n";
+
+const FIRST_LINE: &[u8] = b"fltcert 1\n";
+
+const CALLBACK: &[u8] = b"callback ";
+
+/// What follows `front` at the front of a text.
+fn after<'a>(front: &[u8], text: &'a [u8]) -> Option<&'a [u8]>
+    ensures { option_copied result ≡ text_spec.after front.now text.now }
+{
+    match front {
+        [] => Some(text),
+        [a, front @ ..] => match text {
+            [b, text @ ..] if b == a => after(front, text),
+            _ => None,
+        },
+    }
+}
+
+/// What follows a number in decimal.
+fn after_number(number: usize, text: &[u8]) -> Option<&[u8]>
+    requires { number < 1000 }
+    ensures { option_copied result ≡ text_spec.after (text_spec.decimal number) text.now }
+{
+    let low = b'0' + (number % 10) as u8;
+    if number < 10 {
+        return after(&[low], text);
+    }
+    let middle = b'0' + (number / 10 % 10) as u8;
+    if number < 100 {
+        return after(&[middle, low], text);
+    }
+    let high = b'0' + (number / 100) as u8;
+    after(&[high, middle, low], text)
+}
+
+fn blank(text: &[u8]) -> Option<&[u8]>
+    ensures { option_copied result ≡ spec.blank text.now }
+{
+    after(b" ", text)
+}
+
+fn status_of(digit: u8) -> Option<Statuses>
+    ensures { result ≡ spec.status_of digit }
+{
+    match digit {
+        b'1'..=b'7' => Statuses::from_digit(digit - b'0'),
+        _ => None,
+    }
+}
+
+/// Sets each of `sets` by its digit. Whether each is a digit of a set.
+fn fill(sets: &mut [Statuses], digits: &[u8]) -> bool
+    requires { length sets.old ≡ length digits.now }
+    ensures known { IsTrue result → spec.sets_from [] digits.now ≡ Some sets.new }
+    ensures unknown { IsFalse result → spec.sets_from [] digits.now ≡ None }
+{
+    for index in 0..sets.len() {
+        match status_of(digits[index]) {
+            Some(set) => sets[index] = set,
+            None => return false,
+        }
+    }
+    true
+}
+
+/// As many bytes, and what follows them.
+fn front_of(text: &[u8], len: usize) -> Option<(&[u8], &[u8])>
+    ensures value { option_map (λ x. (x.0.now, x.1.now)) result ≡ spec.front_of len text.now }
+    ensures front { IfSome result (λ x. length x.0.now ≡ len) }
+{
+    if text.len() < len {
+        None
+    } else {
+        Some(text.split_at(len))
+    }
+}
+
+fn modes_of(digit: u8) -> Option<Modes>
+    ensures { result ≡ spec.modes_of digit }
+{
+    match digit {
+        b'1'..=b'3' => Modes::from_digit(digit - b'0'),
+        _ => None,
+    }
+}
+
+fn draining_of(digit: u8) -> Option<Draining>
+    ensures { result ≡ spec.draining_of digit }
+{
+    match digit {
+        b'1'..=b'3' => Draining::from_digit(digit - b'0'),
+        _ => None,
+    }
+}
+
+/// One byte, and what follows it.
+fn byte_at(text: &[u8]) -> Option<(u8, &[u8])>
+    ensures { option_map (λ x. (x.0, x.1.now)) result ≡ spec.byte_at text.now }
+{
+    match text {
+        [byte, after @ ..] => Some((*byte, after)),
+        [] => None,
+    }
+}
+
+/// The locks, with the one of this digit as the latest.
+fn with_lock(mut locks: LockList, digit: u8) -> Option<LockList>
+    ensures { result ≡ spec.with_lock locks digit }
+{
+    let place = digit.checked_sub(b'0')?;
+    let lock = LockNumber::at(place as usize)?;
+    if locks.contains(lock) {
+        return None;
+    }
+    locks.take(lock);
+    Some(locks)
+}
+
+fn places_at(locks: LockList, text: &[u8]) -> Option<LockList>
+    ensures { result ≡ spec.places_at locks text.now }
+{
+    let [digit, after @ ..] = text else {
+        return None;
+    };
+    let locks = with_lock(locks, *digit)?;
+    let [next, after @ ..] = after else {
+        return None;
+    };
+    if *next == b',' {
+        return places_at(locks, after);
+    }
+    if *next == b'\n' && after.is_empty() {
+        Some(locks)
+    } else {
+        None
+    }
+}
+
+#[tactic(auto, unfolding(crate::specs::Reading::locks_of))]
+fn locks_of(alloc: Global, text: &[u8]) -> Option<LockList>
+    ensures { result ≡ spec.locks_of text.now }
+{
+    let none = LockList::none(alloc);
+    if text == b"-\n".as_slice() {
+        Some(none)
+    } else {
+        places_at(none, text)
+    }
+}
+
+fn made(
+    contexts: [Statuses; CONTEXTS],
+    operations: [Statuses; OPERATIONS],
+    modes: Modes,
+    draining: Draining,
+    locks: LockList,
+) -> Option<Abs>
+    ensures { result ≡ spec.made (state_of contexts operations modes draining locks) }
+{
+    Abs::new(contexts, operations, modes, draining, locks)
+}
+
+#[tactic(auto, unfolding(crate::specs::Reading::state_at))]
+fn state_at(alloc: Global, text: &[u8]) -> Option<Abs>
+    ensures { result ≡ spec.state_at text.now }
+{
+    let (digits, text) = front_of(text, CONTEXTS)?;
+    let mut contexts = [Statuses::null(); CONTEXTS];
+    if !fill(&mut contexts, digits) {
+        return None;
+    }
+    let text = blank(text)?;
+    let (digits, text) = front_of(text, OPERATIONS)?;
+    let mut operations = [Statuses::null(); OPERATIONS];
+    if !fill(&mut operations, digits) {
+        return None;
+    }
+    let text = blank(text)?;
+    let (digit, text) = byte_at(text)?;
+    let modes = modes_of(digit)?;
+    let text = blank(text)?;
+    let (digit, text) = byte_at(text)?;
+    let draining = draining_of(digit)?;
+    let text = blank(text)?;
+    let locks = locks_of(alloc, text)?;
+    made(contexts, operations, modes, draining, locks)
+}
+
+/// What may be so at a point, from its line; the inner `None` where it isn't reached.
+#[tactic(auto, unfolding(crate::specs::Reading::point_of))]
+pub(crate) fn point_of(alloc: Global, number: usize, line: &[u8]) -> Option<Option<Abs>>
+    requires { number < 1000 }
+    ensures { result ≡ spec.point_of number line.now }
+{
+    let text = blank(after_number(number, line)?)?;
+    if text == b"!\n".as_slice() {
+        return Some(None);
+    }
+    Some(Some(state_at(alloc, text)?))
+}
+
+/// How many points a callback has, from its line.
+#[tactic(auto, unfolding(crate::specs::Reading::head_of))]
+pub(crate) fn head_of(number: usize, line: &[u8]) -> Option<usize>
+    requires { number < 1000 }
+    ensures value { result ≡ spec.head_of number line.now }
+    ensures few { IfSome result (λ n. n ≤ 512) }
+{
+    let text = after(CALLBACK, line)?;
+    count_of(blank(after_number(number, text)?)?)
+}
+
+/// A digit that may stand first.
+fn leading(byte: u8) -> Option<usize>
+    ensures { result ≡ text_spec.leading byte }
+{
+    match byte {
+        b'1'..=b'9' => Some((byte - b'0') as usize),
+        _ => None,
+    }
+}
+
+fn digit_of(byte: u8) -> Option<usize>
+    ensures { result ≡ text_spec.digit_of byte }
+{
+    match byte {
+        b'0'..=b'9' => Some((byte - b'0') as usize),
+        _ => None,
+    }
+}
+
+/// A number from 1 to 512, up to the end of the line.
+fn count_of(text: &[u8]) -> Option<usize>
+    ensures value { result ≡ text_spec.count_of text.now }
+    ensures few { IfSome result (λ n. n ≤ 512) }
+{
+    match text {
+        [a, b'\n'] => leading(*a),
+        [a, b, b'\n'] => Some(10 * leading(*a)? + digit_of(*b)?),
+        [a, b, c, b'\n'] => {
+            let count = 100 * leading(*a)? + 10 * digit_of(*b)? + digit_of(*c)?;
+            if count <= 512 { Some(count) } else { None }
+        }
+        _ => None,
+    }
+}
+
+pub(crate) fn is_first(line: &[u8]) -> Option<()>
+    ensures { result ≡ spec.is_first line.now }
+{
+    if line == FIRST_LINE { Some(()) } else { None }
+}
+
+pub(crate) fn is_end(line: &[u8]) -> bool
+    ensures { result ≡ bytes_eq line.now last_line }
+{
+    line == LAST_LINE
+}

@@ -1,0 +1,101 @@
+//! The lines of a text, one after the other, with their numbers.
+
+ghost use Rattle.std.specs.Prelude.{◌≡◌, ◌==◌, ◌<◌, ◌≤◌, ◌∷◌, length, take, drop, IfOk};
+ghost use Rattle.flt_cert.specs.Reading as spec;
+ghost use Rattle.std.specs.List.{position};
+ghost use Rattle.flt_cert.specs.Text.{lines_of};
+
+use crate::fault::CertFault;
+use std::marker::Model;
+
+/// What is left of a text, and how many lines were taken from it.
+#[derive(Debug, Drop)]
+pub(crate) struct Lines<'a> {
+    number: usize,
+    rest: &'a [u8],
+}
+
+impl<'a> Model for Lines<'a> {
+    ghost use Rattle.std.specs.Prelude.{◌+◌, ◌<◌, ◌^◌, length};
+    ghost use Rattle.flt_cert.specs.Reading.{Place};
+    ghost use Rattle.flt_cert.specs.Text.{lines_of};
+
+    ghost Value = { Place };
+
+    ghost view = { λ l. record { number = l.number; lines = lines_of l.rest.now } };
+
+    ghost invariant = { λ l. l.number + length l.rest.now < 2 ^ 63 };
+}
+
+impl<'a> Lines<'a> {
+    pub(crate) fn new(text: &'a [u8]) -> Lines<'a>
+        ensures { result ≡ spec.start text.now }
+    {
+        Lines {
+            number: 0,
+            rest: text,
+        }
+    }
+
+    /// The next line, with its LF if it has one.
+    #[tactic(auto, unfolding(crate::specs::Reading::line))]
+    pub(crate) fn next(&mut self) -> Result<&'a [u8], CertFault>
+        ensures { spec.ReadsBy (λ l. l.now) (spec.line self.old) result self.new }
+    {
+        if self.rest.is_empty() {
+            return Err(CertFault::Line(self.number + 1));
+        }
+        let len = line_len(self.rest);
+        let (line, rest) = self.rest.split_at(len);
+        self.number += 1;
+        self.rest = rest;
+        Ok(line)
+    }
+
+    /// What the latest line says, or that it isn't as asked.
+    pub(crate) fn asked<T: Drop>(&self, what: Option<T>) -> Result<T, CertFault>
+        ensures value { spec.Reads (spec.asked what self.now) result self.now }
+        ensures said { IfOk result (λ x. what ≡ Some x) }
+    {
+        what.ok_or(self.refused())
+    }
+
+    /// That the latest line isn't as asked.
+    pub(crate) fn refused(&self) -> CertFault
+        ensures { result ≡ CertFault.Line self.now.number }
+    {
+        CertFault::Line(self.number)
+    }
+
+    /// That no line is left.
+    #[tactic(auto, using(crate::proofs::LineLaws::closed_more), unfolding(crate::specs::Reading::closed))]
+    pub(crate) fn end(&self) -> Result<(), CertFault>
+        ensures { spec.Reads (spec.closed self.now) result self.now }
+    {
+        if self.rest.is_empty() {
+            Ok(())
+        } else {
+            Err(CertFault::Line(self.number + 1))
+        }
+    }
+}
+
+fn end_of_line(text: &[u8]) -> Option<usize>
+    ensures { result ≡ position (λ b. b == 10) text.now }
+{
+    text.iter().position(|b| *b == b'\n')
+}
+
+/// How long the first line is, with its LF if it has one.
+#[tactic(auto, using(crate::proofs::LineLaws::whole_line, crate::proofs::LineLaws::unended_line))]
+fn line_len(text: &[u8]) -> usize
+    requires { 0 < length text.now }
+    ensures small { result ≤ length text.now }
+    ensures some { 0 < result }
+    ensures lines { lines_of text.now ≡ take result text.now ∷ lines_of (drop result text.now) }
+{
+    match end_of_line(text) {
+        Some(place) => place + 1,
+        None => text.len(),
+    }
+}

@@ -1,0 +1,129 @@
+//! The text of certificates.
+
+ghost use Rattle.std.specs.Prelude.{◌≡◌, ◌<◌, ◌+◌, [], ◌∷◌, ◌++◌, length, IfOk, OnOk, IsTrue};
+ghost use Rattle.flt_abs.specs.Locks.{are_locks};
+ghost use Rattle.flt_cert.specs.Format as format;
+ghost use Rattle.flt_cert.specs.Text.{decimal};
+
+use crate::cert::Cert;
+use flt_abs::{Abs, Statuses};
+use std::alloc::{AllocError, Global};
+
+fn push_number(out: &mut Vec<u8>, number: usize) -> Result<(), AllocError>
+    requires { number < 1000 }
+    ensures { OnOk result (out.new.items ≡ out.old.items ++ decimal number) }
+{
+    let low = b'0' + (number % 10) as u8;
+    if number < 10 {
+        return out.extend_from_slice(&[low]);
+    }
+    let middle = b'0' + (number / 10 % 10) as u8;
+    if number < 100 {
+        return out.extend_from_slice(&[middle, low]);
+    }
+    let high = b'0' + (number / 100) as u8;
+    out.extend_from_slice(&[high, middle, low])
+}
+
+fn push_digits(out: &mut Vec<u8>, sets: &[Statuses]) -> Result<(), AllocError>
+    ensures { OnOk result (out.new.items ≡ out.old.items ++ format.digits sets.now) }
+{
+    for set in sets {
+        out.push(b'0' + set.digit())?;
+    }
+    Ok(())
+}
+
+fn push_field(out: &mut Vec<u8>, sets: &[Statuses]) -> Result<(), AllocError>
+    ensures { OnOk result (out.new.items ≡ out.old.items ++ (format.digits sets.now ++ 32 ∷ [])) }
+{
+    push_digits(out, sets)?;
+    out.push(b' ')?;
+    Ok(())
+}
+
+fn push_digit(out: &mut Vec<u8>, digit: u8) -> Result<(), AllocError>
+    requires { digit < 10 }
+    ensures { OnOk result (out.new.items ≡ out.old.items ++ (48 + digit) ∷ 32 ∷ []) }
+{
+    out.push(b'0' + digit)?;
+    out.push(b' ')?;
+    Ok(())
+}
+
+fn push_places(out: &mut Vec<u8>, places: &[u8]) -> Result<(), AllocError>
+    requires { IsTrue (are_locks places.now) }
+    ensures { OnOk result (out.new.items ≡ out.old.items ++ format.places_text places.now) }
+{
+    let [oldest, others @ ..] = places else {
+        out.push(b'-')?;
+        return Ok(());
+    };
+    out.push(b'0' + *oldest)?;
+    push_more_places(out, others)
+}
+
+fn push_more_places(out: &mut Vec<u8>, places: &[u8]) -> Result<(), AllocError>
+    requires { IsTrue (are_locks places.now) }
+    ensures { OnOk result (out.new.items ≡ out.old.items ++ format.more_places places.now) }
+{
+    if let [place, others @ ..] = places {
+        out.extend_from_slice(&[b',', b'0' + *place])?;
+        push_more_places(out, others)?;
+    }
+    Ok(())
+}
+
+fn push_state(out: &mut Vec<u8>, state: &Abs) -> Result<(), AllocError>
+    ensures { OnOk result (out.new.items ≡ out.old.items ++ format.state_text state.now) }
+{
+    push_field(out, state.contexts())?;
+    push_field(out, state.operations())?;
+    push_digit(out, state.modes().digit())?;
+    push_digit(out, state.draining().digit())?;
+    push_places(out, state.locks().as_slice())?;
+    Ok(())
+}
+
+fn push_point(out: &mut Vec<u8>, number: usize, point: &Option<Abs>) -> Result<(), AllocError>
+    requires { number < 1000 }
+    ensures { OnOk result (out.new.items ≡ out.old.items ++ format.point_line number point.now) }
+{
+    push_number(out, number)?;
+    out.push(b' ')?;
+    match point {
+        None => out.push(b'!')?,
+        Some(state) => push_state(out, state)?,
+    }
+    out.push(b'\n')?;
+    Ok(())
+}
+
+fn push_callback(out: &mut Vec<u8>, number: usize, points: &[Option<Abs>]) -> Result<(), AllocError>
+    requires small { number < 1000 }
+    requires few { length points.now < 1000 }
+    ensures { OnOk result (out.new.items ≡ out.old.items ++ format.joined (format.one_callback number points.now)) }
+{
+    out.extend_from_slice(b"callback ")?;
+    push_number(out, number)?;
+    out.push(b' ')?;
+    push_number(out, points.len())?;
+    out.push(b'\n')?;
+    for (at, point) in points.iter().enumerate() {
+        push_point(out, at, point)?;
+    }
+    Ok(())
+}
+
+/// The one spelling of a certificate.
+pub fn write(alloc: Global, cert: &Cert) -> Result<Vec<u8>, AllocError>
+    ensures { IfOk result (λ text. text.items ≡ format.spelling cert.now) }
+{
+    let mut out = Vec::new(alloc);
+    out.extend_from_slice(b"fltcert 1\n")?;
+    for (at, points) in cert.callbacks().iter().enumerate() {
+        push_callback(&mut out, at, points.as_slice())?;
+    }
+    out.extend_from_slice(b"end\n")?;
+    Ok(out)
+}
