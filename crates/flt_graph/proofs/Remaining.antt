@@ -1,18 +1,20 @@
 -- Which remaining lists stand where, and what is there.
-use Rattle.std.proofs.Common.{◌≡◌, ℕ, zero, suc, ◌+◌, ◌<◌, ◌≤◌, Bool, true, false, List, [], ◌∷◌, ◌++◌, ◌∙◌, Option, Some, None, ap, sym, subst, refl, arith}
+use Rattle.std.proofs.Common.{◌≡◌, ℕ, zero, suc, ◌+◌, ◌<◌, ◌≤◌, Bool, true, false, List, [], ◌∷◌, length, slice_get, slice_index_or, ◌++◌, ◌∙◌, Option, Some, None, ap, sym, subst, refl, arith}
 use Rattle.std.proofs.lemmas.List.{append-nil}
 use Rattle.flt_syntax.specs.Measures.{points_of, points}
 use Rattle.flt_syntax.specs.declared.filter.Callback.{Callback}
 use Rattle.flt_syntax.specs.declared.filter.Condition.{Condition}
 use Rattle.flt_syntax.specs.declared.filter.Condition.TheVariants as condition
+use Rattle.flt_syntax.specs.declared.filter.Filter.{Filter}
 use Rattle.flt_syntax.specs.declared.filter.Statement.{Statement, out-Statement}
 use Rattle.flt_syntax.specs.declared.filter.Statement.TheOpen.{Statement-F}
 use Rattle.flt_syntax.specs.declared.filter.Statement.TheVariants as tree
 use Rattle.flt_syntax.specs.declared.filter.Statement.TheViews.{outs-Repeat}
-use Rattle.flt_graph.specs.Graph.{point_in}
-use Rattle.flt_graph.specs.Lowering.{IsGraphOf, end_of}
+use Rattle.flt_graph.specs.Graph.{point_in, no_callback, callback_at}
+use Rattle.flt_graph.specs.Lowering.{IsGraphOf, AreGraphsOf, IsLowered, end_of}
 use Rattle.flt_graph.specs.Points.{entry, instruction_of, point_of, choice, In, top, later, granted_block, refused_block, turn, Stands, end, before, again, remaining_turns, remaining_of, remaining, successor, StandsAt, IsLeftOf, IsFirst}
 use Rattle.flt_graph.specs.declared.graph.CallbackGraph.{CallbackGraph}
+use Rattle.flt_graph.specs.declared.graph.Graph.{Graph}
 use Rattle.flt_graph.specs.declared.graph.Point.{Point}
 use Rattle.flt_graph.specs.declared.instruction.Instruction.{Instruction}
 use Rattle.flt_graph.specs.declared.instruction.Instruction.TheVariants as instruction
@@ -30,7 +32,7 @@ unwind top = end
 unwind (later i) = unwind i
 unwind (granted_block {rest = rest} i o) = stands_of rest (later i) (unwind i)
 unwind (refused_block {rest = rest} i o) = stands_of rest (later i) (unwind i)
-unwind (turn i o h) = again i o (omega arith)
+unwind (turn i o h) = again i o h
 
 stands : {body follows : List Statement} {n q : ℕ} (block : List Statement) → In body block n q follows → Stands body (entry block n q) (block ++ follows)
 stands block i = stands_of block i (unwind i)
@@ -93,3 +95,24 @@ next_there all c g p list outcome made (before {s = s} {rest = rest} {n = n} {q 
     rw (made.statements s rest follows n q i) (layer_leads all (out-Statement s) outcome i refl)
 next_there all c g p list outcome made (again {s = s} {rest = rest} {block = block} {line = line} {turns = turns} {left = left} {n = n} {q = q} {follows = follows} i o h) =
     rw (made.statements s rest follows n q i, o, outs-Repeat line left block) (turns_lead left outcome i o h)
+
+-- ---- the callbacks of a filter
+
+pub graphs_count : (all cs : List Callback) (gs : List CallbackGraph) → AreGraphsOf all cs gs → length gs ≡ length cs
+graphs_count all [] [] made = refl
+graphs_count all (c ∷ cs) (g ∷ gs) made = ap suc (graphs_count all cs gs made.1)
+graphs_count all [] (g ∷ gs) made = absurd made
+graphs_count all (c ∷ cs) [] made = absurd made
+
+pub graph_at : (all cs : List Callback) (gs : List CallbackGraph) (k : ℕ) (c : Callback) → AreGraphsOf all cs gs → slice_get cs k ≡ Some c → IsGraphOf all c (slice_index_or gs k no_callback)
+graph_at all [] [] k c made e = absurd (cc)
+graph_at all (x ∷ cs) (g ∷ gs) zero c made e = subst (λ (y : Callback). IsGraphOf all y g) (cc) made.0
+graph_at all (x ∷ cs) (g ∷ gs) (suc k) c made e = graph_at all cs gs k c made.1 e
+graph_at all [] (g ∷ gs) k c made e = absurd made
+graph_at all (x ∷ cs) [] k c made e = absurd made
+
+pub callbacks_counted : (f : Filter) (g : Graph) → IsLowered f g → length g.callbacks ≡ length f.callbacks
+callbacks_counted f g made = graphs_count f.callbacks f.callbacks g.callbacks made.callbacks
+
+pub callbacks_there : (f : Filter) (g : Graph) (k : ℕ) (c : Callback) → IsLowered f g → slice_get f.callbacks k ≡ Some c → IsGraphOf f.callbacks c (callback_at g k)
+callbacks_there f g k c made e = graph_at f.callbacks f.callbacks g.callbacks k c made.callbacks e

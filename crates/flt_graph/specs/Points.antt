@@ -1,6 +1,6 @@
 -- Which statement stands at which point. Each statement has one point; they are numbered in order of the text, an `if` or
 -- a `repeat` before its blocks; the last point is the end of the body. This project's own numbering.
-use Rattle.std.specs.Prelude.{ℕ, zero, suc, ◌+◌, ◌≤◌, ◌<◌, ◌≡◌, Bool, true, false, if◌then◌else◌, List, [], ◌∷◌, ◌++◌, Option, Some, None}
+use Rattle.std.specs.Prelude.{ℕ, zero, suc, ◌+◌, ◌≤◌, ◌≡◌, Bool, true, false, if◌then◌else◌, List, [], ◌∷◌, ◌++◌, Option, Some, None}
 use Rattle.flt_syntax.specs.Measures.{points_of, points}
 use Rattle.flt_syntax.specs.declared.filter.Callback.{Callback}
 use Rattle.flt_syntax.specs.declared.filter.Condition.{Condition}
@@ -47,8 +47,8 @@ point_of cs s at after = record { line = line_of s; instruction = instruction_of
 
 -- ---- remaining lists
 
--- in the text of a body a block begins at a point, and what follows the block is this list, at another point: the turns
--- that are left of a `repeat` follow its body
+-- in the text of a body a block begins at a point, and what follows the block is this list, at another point: behind the
+-- body of a `repeat` that is the `repeat` with the turns that are left of it, never more than the text has
 pub data In (body : List Statement) : List Statement → ℕ → ℕ → List Statement → Type 0 where
   top : In body body 0 (points body) []
   later : {s : Statement} {rest : List Statement} {n q : ℕ} {follows : List Statement} →
@@ -60,7 +60,7 @@ pub data In (body : List Statement) : List Statement → ℕ → ℕ → List St
       In body (s ∷ rest) n q follows → out-Statement s ≡ Statement-F.If line asked yes_block no_block →
       In body no_block (n + 1 + points yes_block) (entry rest (n + points_of s) q) (rest ++ follows)
   turn : {s : Statement} {rest block : List Statement} {line turns left n q : ℕ} {follows : List Statement} →
-      In body (s ∷ rest) n q follows → out-Statement s ≡ Statement-F.Repeat line turns block → left < turns →
+      In body (s ∷ rest) n q follows → out-Statement s ≡ Statement-F.Repeat line turns block → left ≤ turns →
       In body block (n + 1) n (tree.Repeat line left block ∷ (rest ++ follows))
 
 -- in a run of a body a remaining list stands at a point: a `repeat` with the turns that are left of it stands where the

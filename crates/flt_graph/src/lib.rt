@@ -13,4 +13,4 @@ pub use flt_syntax::{
 pub use graph::{CallbackGraph, Graph, Point};
 pub use instruction::{Instruction, Invocation, context_of};
 pub use lowering::lower;
-pub use points::lists_have_points;
+pub use points::{callbacks_have_graphs, lists_have_points};

@@ -44,10 +44,10 @@ add_statement-returns-in_default t c =
 pub add_block-loop-statement-preserved : goal.add_block-loop-statement-preserved
 add_block-loop-statement-preserved t c =
     let next : c.if-left-eq0.next ≡ entry (drop (c.loop-statement.statement-index + 1) c.args.block.now) (length c.loop-statement.found + points_of c.statement-item.result) c.args.after =
-        elim c.if-left-eq0.branch [
-          | add_block-then-left-eq0 w ↦ w.next-is ∙ sym (entry_last c.args.block.now c.loop-statement.statement-index (length c.loop-statement.found + points_of c.statement-item.result) c.args.after (omega arith))
-          | add_block-else-left-eq0 w ↦ w.next-is ∙ (omega arith ∙ sym (entry_next c.args.block.now c.loop-statement.statement-index (length c.loop-statement.found + points_of c.statement-item.result) c.args.after (omega arith)))
-        ] in
+    elim c.if-left-eq0.branch [
+      | add_block-then-left-eq0 w ↦ w.next-is ∙ sym (entry_last c.args.block.now c.loop-statement.statement-index (length c.loop-statement.found + points_of c.statement-item.result) c.args.after (omega arith))
+      | add_block-else-left-eq0 w ↦ w.next-is ∙ (omega arith ∙ sym (entry_next c.args.block.now c.loop-statement.statement-index (length c.loop-statement.found + points_of c.statement-item.result) c.args.after (omega arith)))
+    ] in
     record {
       added = omega (arith, c.in_ok-add_statement.ensures.count, points_more c.args.block.now c.loop-statement.statement-index c.statement-item.result (omega arith) c.statement-item.is);
       left = omega arith;
