@@ -1,5 +1,5 @@
 -- What the functions that add points add.
-use Rattle.std.proofs.Common.{◌≡◌, ℕ, ◌+◌, ◌≤◌, ◌<◌, List, [], ◌∷◌, ◌++◌, ◌∙◌, length, drop, get_or, append_assoc, ap, sym, subst, refl, arith}
+use Rattle.std.proofs.Common.{◌≡◌, ℕ, ◌+◌, ◌≤◌, ◌<◌, List, [], ◌∷◌, ◌++◌, ◌∙◌, length, drop, get_or, append_assoc, ap, sym, refl, arith}
 use Rattle.std.proofs.lemmas.List.{length-append, length-drop, append-nil, drop_more, drop_all}
 use Rattle.flt_syntax.specs.Measures.{points_of, points, points_step}
 use Rattle.flt_syntax.specs.declared.filter.Callback.{Callback}

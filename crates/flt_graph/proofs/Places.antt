@@ -1,15 +1,14 @@
 -- What a block adds stands where the text has it.
-use Rattle.std.proofs.Common.{◌≡◌, ℕ, zero, suc, ◌+◌, ◌<◌, ◌≤◌, List, [], ◌∷◌, ◌++◌, ◌∙◌, length, get_or, ap, sym, subst, refl, arith}
+use Rattle.std.proofs.Common.{◌≡◌, ℕ, ◌+◌, List, [], ◌∷◌, ◌++◌, ◌∙◌, length, get_or, ap, subst, refl, arith}
 use Rattle.std.proofs.lemmas.List.{length-append, get_or_push}
 use Rattle.flt_syntax.specs.Measures.{points_of, points}
 use Rattle.flt_syntax.specs.declared.filter.Callback.{Callback}
-use Rattle.flt_syntax.specs.declared.filter.Condition.{Condition}
 use Rattle.flt_syntax.specs.declared.filter.Statement.{Statement, out-Statement}
 use Rattle.flt_syntax.specs.declared.filter.Statement.TheOpen.{Statement-F}
-use Rattle.flt_graph.proofs.Codes.{block_nil, block_cons, inner_code, out_code, code_length, block_length}
+use Rattle.flt_graph.proofs.Codes.{block_cons, inner_code, out_code, code_length, block_length}
 use Rattle.flt_graph.proofs.Segments.{IsAt, at_first, at_second, at_tail, at_head}
 use Rattle.flt_graph.specs.Codes.{statement_code, block_code}
-use Rattle.flt_graph.specs.Graph.{no_point, point_in}
+use Rattle.flt_graph.specs.Graph.{no_point}
 use Rattle.flt_graph.specs.Lowering.{IsGraphOf, end_of, place_of}
 use Rattle.flt_graph.specs.Points.{entry, point_of, In, top, later, granted_block, refused_block, turn}
 use Rattle.flt_graph.specs.declared.graph.CallbackGraph.{CallbackGraph}

@@ -1,5 +1,5 @@
 -- Parts of a list by where they begin.
-use Rattle.std.proofs.Common.{◌≡◌, ℕ, ◌+◌, List, [], ◌∷◌, ◌++◌, ◌∙◌, length, get_or, append_assoc, ap, sym, refl, arith}
+use Rattle.std.proofs.Common.{◌≡◌, ℕ, ◌+◌, List, [], ◌∷◌, ◌++◌, ◌∙◌, length, get_or, append_assoc, ap, refl, arith}
 use Rattle.std.proofs.lemmas.List.{length-append, get_or_at}
 
 -- a list has a part at a number

@@ -3,7 +3,7 @@
 use Rattle.std.specs.Prelude.{ℕ, ◌+◌, List, [], ◌∷◌, ◌++◌, map}
 use Rattle.flt_syntax.specs.Measures.{points_of, points}
 use Rattle.flt_syntax.specs.declared.filter.Callback.{Callback}
-use Rattle.flt_syntax.specs.declared.filter.Statement.{Statement, out-Statement}
+use Rattle.flt_syntax.specs.declared.filter.Statement.{Statement}
 use Rattle.flt_syntax.specs.declared.filter.Statement.TheFolds.{map-Statement, para-Statement}
 use Rattle.flt_syntax.specs.declared.filter.Statement.TheOpen.{Statement-F}
 use Rattle.flt_graph.specs.Points.{entry, point_of}

@@ -1,6 +1,6 @@
 -- What a graph holds at a number of a callback and of a point. What isn't there is a callback without points, and the
 -- end of a body.
-use Rattle.std.specs.Prelude.{ℕ, List, [], ◌∷◌, length, slice_index_or}
+use Rattle.std.specs.Prelude.{ℕ, [], length, slice_index_or}
 use Rattle.flt_rules.specs.declared.place.Place.{Place}
 use Rattle.flt_rules.specs.declared.place.Place.TheVariants as place
 use Rattle.flt_graph.specs.declared.graph.CallbackGraph.{CallbackGraph}

@@ -1,4 +1,4 @@
-use Rattle.std.proofs.Common.{◌≡◌, ◌++◌, ◌∙◌, ◌∷◌, [], List, ap}
+use Rattle.std.proofs.Common.{◌++◌, ◌∙◌, ◌∷◌, [], List, ap}
 use Rattle.flt_graph.proofs.Places.{graph_made}
 use Rattle.flt_graph.proofs.lowering.callback_graph.Goals as goal
 use Rattle.flt_graph.specs.Lowering.{end_of}
