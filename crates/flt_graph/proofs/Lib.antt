@@ -1,1 +1,6 @@
+pub mod Added
+pub mod Codes
 pub mod Lowerings
+pub mod Places
+pub mod Remaining
+pub mod Segments

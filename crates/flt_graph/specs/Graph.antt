@@ -1,6 +1,6 @@
 -- What a graph holds at a number of a callback and of a point. What isn't there is a callback without points, and the
 -- end of a body.
-use Rattle.std.specs.Prelude.{ℕ, List, [], ◌∷◌, length, slice_index_or}
+use Rattle.std.specs.Prelude.{ℕ, [], length, slice_index_or}
 use Rattle.flt_rules.specs.declared.place.Place.{Place}
 use Rattle.flt_rules.specs.declared.place.Place.TheVariants as place
 use Rattle.flt_graph.specs.declared.graph.CallbackGraph.{CallbackGraph}
@@ -25,8 +25,12 @@ place_at g callback = (callback_at g callback).place
 abbrev pub points_at : Graph → ℕ → ℕ
 points_at g callback = length (callback_at g callback).points
 
+-- the point of a callback at a number
+abbrev pub point_in : CallbackGraph → ℕ → Point
+point_in g point = slice_index_or g.points point no_point
+
 abbrev pub point_at : Graph → ℕ → ℕ → Point
-point_at g callback point = slice_index_or (callback_at g callback).points point no_point
+point_at g callback point = point_in (callback_at g callback) point
 
 abbrev pub line_at : Graph → ℕ → ℕ → ℕ
 line_at g callback point = (point_at g callback point).line

@@ -1,5 +1,5 @@
 -- Calls with their operands by what they are to the call. This project's own form of the call pages.
-use Rattle.std.specs.Prelude.{ℕ, Bool, true, false, List, Option, Some, None, position}
+use Rattle.std.specs.Prelude.{ℕ, Bool, false, List, Option, Some, None, position}
 use Rattle.std.specs.Str.{bytes_eq}
 use Rattle.flt_rules.specs.declared.call.Call.{Call}
 use Rattle.flt_rules.specs.declared.call.Call.TheVariants as call

@@ -1,3 +1,5 @@
+pub mod Codes
 pub mod Graph
 pub mod Instruction
 pub mod Lowering
+pub mod Points

@@ -1,21 +1,20 @@
 -- From a tree to its points.
 use Rattle.std.specs.Prelude.{◌≡◌, ℕ, ◌+◌, List, [], ◌∷◌, length, map}
-use Rattle.flt_rules.specs.declared.call.LockKind.{LockKind}
 use Rattle.flt_rules.specs.declared.place.Place.{Place}
 use Rattle.flt_rules.specs.declared.place.Place.TheVariants as place
-use Rattle.flt_syntax.specs.Measures.{points}
+use Rattle.flt_syntax.specs.Measures.{points_of, points}
 use Rattle.flt_syntax.specs.declared.filter.Callback.{Callback}
 use Rattle.flt_syntax.specs.declared.filter.Filter.{Filter}
 use Rattle.flt_syntax.specs.declared.filter.Head.{Head}
 use Rattle.flt_syntax.specs.declared.filter.Head.TheVariants as head
 use Rattle.flt_syntax.specs.declared.filter.Lock.{Lock}
+use Rattle.flt_syntax.specs.declared.filter.Statement.{Statement, out-Statement}
+use Rattle.flt_graph.specs.Graph.{point_in}
+use Rattle.flt_graph.specs.Points.{entry, point_of, In}
 use Rattle.flt_graph.specs.declared.graph.CallbackGraph.{CallbackGraph}
 use Rattle.flt_graph.specs.declared.graph.Graph.{Graph}
-
--- where a block begins: at its first statement, or, where it is empty, where what follows it stands
-abbrev pub entry : {A : Type 0} → List A → ℕ → ℕ → ℕ
-entry [] at after = after
-entry (s ∷ rest) at after = at
+use Rattle.flt_graph.specs.declared.graph.Point.{Point}
+use Rattle.flt_graph.specs.declared.instruction.Instruction.TheVariants as instruction
 
 -- the place of a callback by its head
 abbrev pub place_of : Head → Place
@@ -26,17 +25,24 @@ place_of (head.DeferredPre name) = place.DeferredPre
 place_of (head.DeferredPost name) = place.DeferredPost
 place_of (head.Generic name) = place.Generic
 
--- a callback has the point of each of its statements, and one for its end
-pub record IsGraphOf (c : Callback) (g : CallbackGraph) : Type 0 where
+-- the end of a callback's body, which has the line of the closing brace
+abbrev pub end_of : Callback → Point
+end_of c = record { line = c.end_line; instruction = instruction.End }
+
+-- a callback has the point of each of its statements, whose next one is where the text goes on, and one for its end
+pub record IsGraphOf (all : List Callback) (c : Callback) (g : CallbackGraph) : Type 0 where
   pub place : g.place ≡ place_of c.head
   pub count : length g.points ≡ points c.body + 1
+  pub statements : (s : Statement) (rest follows : List Statement) (n q : ℕ) → In c.body (s ∷ rest) n q follows →
+      point_in g n ≡ point_of all (out-Statement s) n (entry rest (n + points_of s) q)
+  pub end : point_in g (points c.body) ≡ end_of c
 
-abbrev pub AreGraphsOf : List Callback → List CallbackGraph → Type 0
-AreGraphsOf [] [] = Unit {0}
-AreGraphsOf (c ∷ cs) (g ∷ gs) = IsGraphOf c g × AreGraphsOf cs gs
-AreGraphsOf _ _ = ⊥
+abbrev pub AreGraphsOf : List Callback → List Callback → List CallbackGraph → Type 0
+AreGraphsOf all [] [] = Unit {0}
+AreGraphsOf all (c ∷ cs) (g ∷ gs) = IsGraphOf all c g × AreGraphsOf all cs gs
+AreGraphsOf all _ _ = ⊥
 
 -- the graph has a filter's locks and the points of its callbacks
 pub record IsLowered (f : Filter) (g : Graph) : Type 0 where
   pub locks : g.locks ≡ map (λ (l : Lock). l.kind) f.locks
-  pub callbacks : AreGraphsOf f.callbacks g.callbacks
+  pub callbacks : AreGraphsOf f.callbacks f.callbacks g.callbacks

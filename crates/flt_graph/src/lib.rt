@@ -4,6 +4,7 @@
 mod graph;
 mod instruction;
 mod lowering;
+mod points;
 
 pub use flt_rules::{Call, LockKind, LockNumber, Operation, Place};
 pub use flt_syntax::{
@@ -12,3 +13,4 @@ pub use flt_syntax::{
 pub use graph::{CallbackGraph, Graph, Point};
 pub use instruction::{Instruction, Invocation, context_of};
 pub use lowering::lower;
+pub use points::{callbacks_have_graphs, lists_have_points};

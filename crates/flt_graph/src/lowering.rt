@@ -1,8 +1,11 @@
 //! From a tree to its points.
 
-ghost use Rattle.std.specs.Prelude.{◌≡◌, ◌≤◌, ◌+◌, length, map, IsTrue, OnOk, IfOk};
+ghost use Rattle.std.specs.Prelude.{◌≡◌, ◌≤◌, ◌+◌, ◌++◌, length, map, IsTrue, OnOk, IfOk};
 ghost use Rattle.flt_syntax.specs.Measures.{points_of, points, max_points, is_small};
+ghost use Rattle.flt_syntax.specs.declared.filter.Statement.{out-Statement};
+ghost use Rattle.flt_graph.specs.Codes as code;
 ghost use Rattle.flt_graph.specs.Lowering as spec;
+ghost use Rattle.flt_graph.specs.Points.{entry as entry_of, line_of, instruction_of};
 
 use crate::graph::{CallbackGraph, Graph, Point};
 use crate::instruction::{Instruction, fallible, plain};
@@ -41,7 +44,7 @@ fn size(statement: &Statement) -> usize
 
 /// Where a block begins: at its first statement, or where what follows it stands.
 fn entry(block: &[Statement], at: usize, after: usize) -> usize
-    ensures { result ≡ spec.entry block.now at after }
+    ensures { result ≡ entry_of block.now at after }
 {
     if block.is_empty() { after } else { at }
 }
@@ -54,6 +57,7 @@ fn instruction(
     after: usize,
 ) -> Instruction
     requires { at + points_of statement.now ≤ max_points }
+    ensures { result ≡ instruction_of callbacks.now (out-Statement statement.now) at after }
 {
     match statement {
         Statement::Act(_, action) => Instruction::Act(*action, after),
@@ -75,7 +79,9 @@ fn instruction(
 }
 
 /// The line of a statement's first token.
-fn line(statement: &Statement) -> usize {
+fn line(statement: &Statement) -> usize
+    ensures { result ≡ line_of (out-Statement statement.now) }
+{
     match statement {
         Statement::Act(line, _)
         | Statement::Call(line, _)
@@ -94,7 +100,8 @@ fn add_block(
     after: usize,
 ) -> Result<(), AllocError>
     requires { length found.old + points block.now ≤ max_points }
-    ensures { OnOk result (length found.new ≡ length found.old + points block.now) }
+    ensures count { OnOk result (length found.new ≡ length found.old + points block.now) }
+    ensures points { OnOk result (found.new ≡ found.old ++ code.block_code callbacks.now block.now (length found.old) after) }
 {
     let mut left = block.len();
     for statement in block {
@@ -118,7 +125,8 @@ fn add_statement(
     after: usize,
 ) -> Result<(), AllocError>
     requires { length found.old + points_of statement.now ≤ max_points }
-    ensures { OnOk result (length found.new ≡ length found.old + points_of statement.now) }
+    ensures count { OnOk result (length found.new ≡ length found.old + points_of statement.now) }
+    ensures points { OnOk result (found.new ≡ found.old ++ code.statement_code callbacks.now statement.now (length found.old) after) }
 {
     let at = found.len();
     found.push(Point {
@@ -155,7 +163,7 @@ fn callback_graph(
     callback: &Callback,
 ) -> Result<CallbackGraph, AllocError>
     requires { IsTrue (is_small callback.now) }
-    ensures { IfOk result (λ g. spec.IsGraphOf callback.now g) }
+    ensures { IfOk result (λ g. spec.IsGraphOf callbacks.now callback.now g) }
 {
     let mut found = Items::new(alloc);
     let body = callback.body.as_slice();

@@ -8,4 +8,4 @@ invariant-loop-lock l = l.locks ≡ map (λ (x : Lock). x.kind) (take l.lock-ind
 
 abbrev pub invariant-loop-callback : goal.invariant-loop-callback
 invariant-loop-callback l =
-    (l.locks ≡ map (λ (x : Lock). x.kind) l.tree.filter.locks) × AreGraphsOf (take l.callback-index l.callbacks) l.graphs
+    (l.locks ≡ map (λ (x : Lock). x.kind) l.tree.filter.locks) × AreGraphsOf l.callbacks (take l.callback-index l.callbacks) l.graphs

@@ -1,0 +1,25 @@
+//! The laws of points: where the remaining lists of a run stand in a lowered callback.
+
+ghost use Rattle.std.specs.Prelude.{◌≡◌, ℕ, List, Bool, Some, length, slice_get};
+ghost use Rattle.flt_graph.specs.Graph.{point_in, callback_at};
+ghost use Rattle.flt_graph.specs.Lowering.{IsGraphOf, IsLowered, end_of};
+ghost use Rattle.flt_graph.specs.Points as spec;
+ghost use Rattle.flt_graph.specs.declared.graph.CallbackGraph.{CallbackGraph};
+ghost use Rattle.flt_graph.specs.declared.graph.Graph.{Graph};
+ghost use Rattle.flt_syntax.specs.declared.filter.Callback.{Callback};
+ghost use Rattle.flt_syntax.specs.declared.filter.Filter.{Filter};
+ghost use Rattle.flt_syntax.specs.declared.filter.Statement.{Statement};
+
+/// Each remaining list of a callback has a point, where its first statement is done, and what remains after an outcome
+/// of that statement stands at that outcome's successor. It does nothing: its clauses are the law.
+pub fn lists_have_points()
+    ensures whole { (body : List Statement) → spec.Stands body 0 body }
+    ensures first { (all : List Callback) (c : Callback) (g : CallbackGraph) (p : ℕ) (list : List Statement) → IsGraphOf all c g → spec.Stands c.body p list → spec.IsFirst all (end_of c) p list (point_in g p) }
+    ensures next { (all : List Callback) (c : Callback) (g : CallbackGraph) (p : ℕ) (list : List Statement) (outcome : Bool) → IsGraphOf all c g → spec.Stands c.body p list → spec.StandsAt c.body (spec.successor (point_in g p).instruction outcome) (spec.remaining list outcome) }
+{}
+
+/// Each callback of a filter has its own graph, at its number from 0. It does nothing: its clauses are the law.
+pub fn callbacks_have_graphs()
+    ensures count { (f : Filter) (g : Graph) → IsLowered f g → length g.callbacks ≡ length f.callbacks }
+    ensures each { (f : Filter) (g : Graph) (k : ℕ) (c : Callback) → IsLowered f g → slice_get f.callbacks k ≡ Some c → IsGraphOf f.callbacks c (callback_at g k) }
+{}
