@@ -8,3 +8,6 @@ mod state;
 pub use locks::LockList;
 pub use sets::{Draining, DrainingBits, ModeBits, Modes, StatusBits, Statuses};
 pub use state::{Abs, CONTEXTS, LocksDiffer, OPERATIONS, is_partial_order, join, leq};
+
+#[cfg(test)]
+mod tests;
