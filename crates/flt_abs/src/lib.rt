@@ -1,4 +1,5 @@
-//! Abstract states: what may be so at a point of a callback, their order and their join.
+//! Abstract states: what may be so at a point of a callback, their order, their join, and what each instruction makes of
+//! them.
 #![tactic(auto)]
 
 mod breaks;
@@ -8,11 +9,13 @@ mod sets;
 mod setting;
 mod state;
 mod step;
+#[cfg(test)]
+mod tests;
 mod variables;
 
 pub use entry::{entry_state, is_entry_below};
 pub use locks::LockList;
 pub use sets::{Draining, DrainingBits, ModeBits, Modes, StatusBits, Statuses};
-pub use setting::Setting;
+pub use setting::{Setting, setting_of};
 pub use state::{Abs, CONTEXTS, LocksDiffer, OPERATIONS, is_partial_order, join, leq};
 pub use step::{Successor, Successors, transfer};

@@ -1,7 +1,7 @@
 -- Certificates as lists.
-use Rattle.std.proofs.Common.{◌≡◌, ℕ, zero, suc, List, [], ◌∷◌, get_or, refl}
+use Rattle.std.proofs.Common.{◌≡◌, ℕ, zero, suc, [], ◌∷◌, get_or, refl}
 use Rattle.std.specs.Prelude.{slice_get, None}
-use Rattle.flt_cert.specs.Format.{Point, Certificate}
+use Rattle.flt_cert.specs.Format.{Certificate}
 
 -- there are no points where there is no callback
 pub no_points : (callbacks : Certificate) (k : ℕ) → slice_get callbacks k ≡ None → get_or callbacks k [] ≡ []

@@ -1,15 +1,15 @@
 -- What is spelled so is read.
-use Rattle.std.proofs.Common.{◌≡◌, ◌<◌, ◌≤◌, ◌+◌, ◌/◌, ◌%◌, ℕ, zero, suc, Bool, true, false, List, [], ◌∷◌, ◌++◌, length, map, refl, sym, ap, arith, ◌∙◌, append_assoc, append-nil, length-append}
-use Rattle.std.specs.Prelude.{not, ◌==◌, ◌&&◌, nat_lt, if◌then◌else◌, Result, Ok, Err, Option, Some, None, codes}
+use Rattle.std.proofs.Common.{◌≡◌, ◌<◌, ◌≤◌, ◌+◌, ◌/◌, ◌%◌, ℕ, zero, suc, Bool, true, false, List, [], ◌∷◌, ◌++◌, length, refl, sym, ap, arith, ◌∙◌, append_assoc, append-nil, length-append}
+use Rattle.std.specs.Prelude.{not, ◌==◌, nat_lt, if◌then◌else◌, Ok, Some, None, codes}
 use Rattle.std.specs.List.{list_all}
 use Rattle.std.specs.Str.{bytes_eq}
 use Rattle.std.proofs.lemmas.Bool.{and_parts, and_from, and_right, lt-ltb, ltb-true, ne_eqb, not_from_false}
 use Rattle.std.proofs.lemmas.List.Folds.{list_all-append}
 use Rattle.flt_abs.specs.Sets.{StatusSet, status_bits, mode_bits, draining_bits}
 use Rattle.flt_abs.specs.State.{State}
-use Rattle.flt_cert.specs.Text.{Text, lines_of, begun_by, decimal}
-use Rattle.flt_cert.specs.Format.{Point, Certificate, is_point, is_callback, is_certificate, digits, more_places, places_text, state_text, point_text, point_line, callback_line, first_line, last_line, point_lines, one_callback, callback_lines, lines_for, joined, spelling}
-use Rattle.flt_cert.specs.Reading.{Place, Outcome, and_then, line, line_at, asked, head_of, point_of, point, points_from, points, callback, callbacks_from, callbacks, closed, closed_by, finished, is_last, is_first, first, certificate, start}
+use Rattle.flt_cert.specs.Text.{Text, lines_of, decimal}
+use Rattle.flt_cert.specs.Format.{Point, Certificate, is_point, is_callback, is_certificate, digits, more_places, places_text, state_text, point_text, point_line, callback_line, last_line, point_lines, one_callback, callback_lines, lines_for, joined, spelling}
+use Rattle.flt_cert.specs.Reading.{Place, and_then, line, point, points_from, points, callback, callbacks_from, closed, is_last, first, certificate, start}
 use Rattle.flt_cert.proofs.FieldLaws.{point_again, head_again}
 
 -- ---- lines

@@ -1,14 +1,14 @@
 -- What is read from a line is spelled so, and what is spelled so is read.
-use Rattle.std.proofs.Common.{◌≡◌, ◌<◌, ◌≤◌, ◌+◌, ◌-◌, ◌*◌, ◌/◌, ◌%◌, ℕ, zero, suc, Bool, true, false, List, [], ◌∷◌, ◌++◌, length, map, take, drop, refl, sym, ap, subst, arith, ◌∙◌, append_assoc, append-nil, length-drop, get_or}
+use Rattle.std.proofs.Common.{◌≡◌, ◌<◌, ◌≤◌, ◌+◌, ◌-◌, ◌*◌, ◌/◌, ◌%◌, ℕ, suc, Bool, true, false, List, [], ◌∷◌, ◌++◌, length, take, drop, refl, sym, ap, subst, arith, ◌∙◌, append_assoc, append-nil, length-drop, get_or}
 use Rattle.std.specs.Prelude.{not, ◌==◌, ◌&&◌, ◌||◌, nat_lt, if◌then◌else◌, Option, Some, None, codes}
 use Rattle.std.specs.List.{list_all}
 use Rattle.std.specs.Str.{bytes_eq}
-use Rattle.std.proofs.lemmas.Bool.{and_parts, and_from, or_parts, or_from, eqb-true, eqb-false, eq-eqb, ne_eqb, ltb-true, ltb-false, lt-ltb, le-ltb, not-true, not_from_false, agree_below, agree_below_at}
+use Rattle.std.proofs.lemmas.Bool.{and_parts, and_from, or_parts, or_from, eqb-true, eqb-false, eq-eqb, ne_eqb, ltb-true, lt-ltb, le-ltb, not-true, agree_below, agree_below_at}
 use Rattle.std.proofs.lemmas.Slice.Eq.{bytes_eq-Decides}
-use Rattle.std.proofs.Math.Seq.{take-length, drop-length}
+use Rattle.std.proofs.Math.Seq.{take-length}
 use Rattle.std.proofs.lemmas.List.{take-append-drop}
 use Rattle.flt_abs.specs.Locks.{holds_lock, are_locks}
-use Rattle.flt_abs.specs.Sets.{StatusSet, ModeSet, DrainingSet, statuses, status_bits, modes, mode_bits, draining, draining_bits, is_possible, is_mode_possible, is_draining_possible}
+use Rattle.flt_abs.specs.Sets.{StatusSet, ModeSet, DrainingSet, status_bits, mode_bits, draining_bits, is_possible, is_mode_possible, is_draining_possible}
 use Rattle.flt_abs.specs.SetLaws.{status_bits-statuses, mode_bits-modes, draining_bits-draining}
 use Rattle.flt_abs.specs.State.{State, state_of, is_proper}
 use Rattle.flt_cert.specs.Text.{Text, decimal, after, count_of, leading, digit_of, ◌>>=◌}

@@ -1,12 +1,12 @@
 -- A fault depends on no line after the one that it names.
 use Rattle.std.proofs.Common.{◌≡◌, ◌<◌, ◌≤◌, ◌+◌, ℕ, zero, suc, Bool, true, false, List, [], ◌∷◌, ◌++◌, length, take, refl, sym, ap, subst, arith, ◌∙◌}
-use Rattle.std.specs.Prelude.{if◌then◌else◌, Result, Ok, Err, Option, Some, None, IsTrue}
+use Rattle.std.specs.Prelude.{if◌then◌else◌, Ok, Err, Option, Some, None}
 use Rattle.flt_cert.specs.Text.{Text, lines_of}
-use Rattle.flt_cert.specs.Format.{Point, Certificate, is_certificate, lines_for, joined, spelling, IsFirstFault}
+use Rattle.flt_cert.specs.Format.{Point, Certificate, is_certificate, joined, spelling, IsFirstFault}
 use Rattle.flt_cert.specs.Reading.{Place, Outcome, and_then, line, line_at, asked, head_of, point_of, point, points_from, points, callback, callbacks_from, callbacks, closed, closed_by, finished, is_last, is_first, first, certificate, start, Fails, IsFaultOf}
 use Rattle.flt_cert.specs.declared.fault.CertFault.{CertFault}
 use Rattle.flt_cert.specs.declared.fault.CertFault.TheVariants.{Line, OutOfMemory}
-use Rattle.flt_cert.proofs.Sound.{Begun, fault_begun, read_lines, joined_lines}
+use Rattle.flt_cert.proofs.Sound.{fault_begun, read_lines, joined_lines}
 use Rattle.flt_cert.proofs.Complete.{lines_read, lines_spelled}
 
 abbrev place : ℕ → List Text → Place

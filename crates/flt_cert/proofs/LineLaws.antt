@@ -1,10 +1,10 @@
 -- The first line of a text.
-use Rattle.std.proofs.Common.{◌≡◌, ◌<◌, ◌≤◌, ◌+◌, ℕ, zero, suc, Bool, true, false, List, [], ◌∷◌, length, take, drop, refl, sym, ap, arith, ◌∙◌, add-one}
-use Rattle.std.specs.Prelude.{not, ◌==◌, nat_lt, if◌then◌else◌, Ok, Err, Some, None}
+use Rattle.std.proofs.Common.{◌≡◌, ◌<◌, ◌≤◌, ◌+◌, ℕ, suc, Bool, true, false, List, [], ◌∷◌, length, take, drop, refl, ap, arith}
+use Rattle.std.specs.Prelude.{◌==◌, nat_lt, if◌then◌else◌, Err, Some, None}
 use Rattle.std.specs.List.{position, position_or_len}
 use Rattle.std.proofs.lemmas.Bool.{eqb-true, ltb-true, ltb-false}
 use Rattle.flt_cert.specs.Text.{Text, lines_of, begun_by}
-use Rattle.flt_cert.specs.Reading.{Place, Outcome, closed_by}
+use Rattle.flt_cert.specs.Reading.{Place, closed_by}
 
 abbrev length_before : Text → ℕ
 length_before = position_or_len (λ b. b == 10)

@@ -1,9 +1,9 @@
 -- The steps of reading, as the loops make them.
-use Rattle.std.proofs.Common.{◌≡◌, ◌<◌, ◌+◌, ◌-◌, ℕ, zero, suc, Bool, true, false, List, [], ◌∷◌, ◌++◌, length, refl, sym, ap, arith, ◌∙◌}
-use Rattle.std.specs.Prelude.{if◌then◌else◌, Result, Ok, Err}
+use Rattle.std.proofs.Common.{◌≡◌, ◌<◌, ◌+◌, ◌-◌, ℕ, zero, suc, true, false, List, [], ◌∷◌, ◌++◌, length, refl, arith}
+use Rattle.std.specs.Prelude.{Ok, Err}
 use Rattle.flt_cert.specs.Text.{Text}
 use Rattle.flt_cert.specs.Format.{Point, Certificate}
-use Rattle.flt_cert.specs.Reading.{Place, Outcome, and_then, line, point, points_from, callback, callbacks_from, finished, is_last}
+use Rattle.flt_cert.specs.Reading.{Place, line, point, points_from, callback, callbacks_from, finished, is_last}
 
 one_left : (n number : ℕ) → number < n → n - number ≡ suc (n - (number + 1))
 one_left n number h = omega arith

@@ -1,5 +1,5 @@
 -- Texts that are written piece by piece.
-use Rattle.std.proofs.Common.{◌≡◌, ℕ, List, [], ◌∷◌, ◌++◌, append_assoc}
+use Rattle.std.proofs.Common.{◌≡◌, ℕ, [], ◌∷◌, ◌++◌, append_assoc}
 use Rattle.flt_cert.specs.Text.{Text}
 
 pub five_fields : (out a b e : Text) (c d : ℕ) (one two three four five : Text) →

@@ -1,4 +1,4 @@
-use Rattle.std.proofs.Common.{◌≡◌, ◌+◌, ◌-◌, [], ◌∷◌, ◌++◌, length, sym, ap, subst, ◌∙◌, arith, length-append, refl, Ok, true, false}
+use Rattle.std.proofs.Common.{◌≡◌, ◌-◌, [], ◌∷◌, ◌++◌, length, sym, subst, ◌∙◌, length-append, refl, Ok, true, false}
 use Rattle.flt_cert.specs.Format.{Certificate}
 use Rattle.flt_cert.specs.Reading as spec
 use Rattle.flt_cert.proofs.ReadLaws.{last_callback, next_callback}

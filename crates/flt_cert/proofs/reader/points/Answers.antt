@@ -1,4 +1,4 @@
-use Rattle.std.proofs.Common.{◌≡◌, ◌+◌, [], ◌∷◌, ◌++◌, length, sym, ◌∙◌, arith, length-append, refl, Ok}
+use Rattle.std.proofs.Common.{◌≡◌, [], ◌∷◌, ◌++◌, length, sym, ◌∙◌, length-append, refl, Ok}
 use Rattle.flt_cert.specs.Reading as spec
 use Rattle.flt_cert.proofs.ReadLaws.{points_step}
 use Rattle.flt_cert.proofs.reader.points.Goals as goal

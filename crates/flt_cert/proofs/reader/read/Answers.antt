@@ -1,4 +1,4 @@
-use Rattle.std.proofs.Common.{◌≡◌, Ok, true, rules, sym, ◌∙◌}
+use Rattle.std.proofs.Common.{◌≡◌, Ok, ◌∙◌}
 use Rattle.flt_cert.specs.Reading as spec
 use Rattle.flt_cert.proofs.FirstFault.{is_spelled, is_certified, is_read, is_fault, only_memory}
 use Rattle.flt_cert.proofs.reader.read.Goals as goal
