@@ -1,2 +1,4 @@
 pub mod Limits
+pub mod Sound
+pub mod SoundCalls
 pub mod Turns
