@@ -1,4 +1,5 @@
 pub mod Limits
 pub mod Sound
 pub mod SoundCalls
+pub mod SoundStatements
 pub mod Turns
