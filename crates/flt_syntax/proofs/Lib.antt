@@ -1,5 +1,6 @@
 pub mod Limits
 pub mod Sound
 pub mod SoundCalls
+pub mod SoundFiles
 pub mod SoundStatements
 pub mod Turns
