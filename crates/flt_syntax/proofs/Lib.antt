@@ -1,3 +1,4 @@
+pub mod Complete
 pub mod Laws
 pub mod Limits
 pub mod Sound
