@@ -1,4 +1,7 @@
 pub mod Complete
+pub mod CompleteCalls
+pub mod CompleteFiles
+pub mod CompleteStatements
 pub mod Laws
 pub mod Limits
 pub mod Sound

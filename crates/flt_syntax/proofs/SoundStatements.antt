@@ -175,7 +175,7 @@ condition_gives scope i = condition_by_gives scope i _ _ _ refl refl refl
 
 -- ---- statements
 
-suc_some : (n : ℕ) → suc n ≡ 0 → ⊥
+pub suc_some : (n : ℕ) → suc n ≡ 0 → ⊥
 suc_some n e = omega arith
 
 -- the statements after those that were found
