@@ -60,3 +60,7 @@ pub record Spells (text : Text) (f : Filter) : Type 0 where
   -- what a queue, a `post` and the calls want is there
   pub served : IsServed f.queue f.callbacks
   pub whole : AreWhole f.callbacks f.callbacks
+
+-- no text spells two filters
+abbrev pub SpellsAtMostOne : Type 0
+SpellsAtMostOne = (text : Text) (f g : Filter) → Spells text f → Spells text g → f ≡ g
