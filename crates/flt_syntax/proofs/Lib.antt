@@ -1,2 +1,11 @@
+pub mod Complete
+pub mod CompleteCalls
+pub mod CompleteFiles
+pub mod CompleteStatements
+pub mod Laws
 pub mod Limits
+pub mod Sound
+pub mod SoundCalls
+pub mod SoundFiles
+pub mod SoundStatements
 pub mod Turns

@@ -5,8 +5,9 @@ ghost use Rattle.flt_syntax.specs.Lex.{tokens};
 ghost use Rattle.flt_syntax.specs.Measures.{is_small, are_small};
 ghost use Rattle.flt_syntax.specs.File as spec;
 ghost use Rattle.flt_syntax.specs.Scope.{scope_of};
+ghost use Rattle.flt_syntax.specs.Spelling.{Spells, SpellsAtMostOne};
 ghost use Rattle.std.specs.List.{list_all};
-ghost use Rattle.std.specs.Prelude.{◌≡◌, ◌≤◌, length, IsTrue, IfOk, IfErr, Ok};
+ghost use Rattle.std.specs.Prelude.{◌≡◌, ◌≤◌, length, IsTrue, IfOk, IfErr, MatchResult, Ok};
 
 use crate::cursor::{Tokens, fault};
 use crate::fault::{FaultKind, ParseError};
@@ -194,9 +195,9 @@ fn file(alloc: Global, text: &[u8], tokens: &mut Tokens<'_>) -> Result<Filter, P
     })
 }
 
-/// The tree that a text spells, or its first fault.
+/// The tree that is read, or the first fault.
 #[tactic(auto, unfolding(crate::specs::File::filter_of))]
-pub fn parse(alloc: Global, text: &[u8]) -> Result<Tree, ParseError>
+fn read_text(alloc: Global, text: &[u8]) -> Result<Tree, ParseError>
     ensures value { IfOk result (λ t. spec.filter_of text.now ≡ Ok t.filter) }
     ensures fault { IfErr result (spec.IsFaultOf (spec.filter_of text.now)) }
 {
@@ -213,4 +214,22 @@ pub fn parse(alloc: Global, text: &[u8]) -> Result<Tree, ParseError>
         None => Ok(Tree { filter }),
         Some(fault) => Err(ParseError::Syntax(fault)),
     }
+}
+
+/// The tree that a text spells, or its first fault.
+#[tactic(auto, using(crate::proofs::Laws::spelled_result))]
+pub fn parse(alloc: Global, text: &[u8]) -> Result<Tree, ParseError>
+    ensures spelled { IfOk result (λ t. Spells text.now t.filter) }
+    ensures read { (f : Filter) → Spells text.now f → MatchResult result (λ t. t.filter ≡ f) (λ e. e ≡ ParseError.OutOfMemory) }
+    ensures value { IfOk result (λ t. spec.filter_of text.now ≡ Ok t.filter) }
+    ensures fault { IfErr result (spec.IsFaultOf (spec.filter_of text.now)) }
+{
+    read_text(alloc, text)
+}
+
+/// No text spells two trees.
+#[tactic(auto, using(crate::proofs::Laws::only_one))]
+pub fn spells_at_most_one()
+    ensures { SpellsAtMostOne }
+{
 }

@@ -23,7 +23,7 @@ mod variable;
 mod whole;
 
 pub use fault::{FaultKind, ParseError, SyntaxFault};
-pub use file::parse;
+pub use file::{parse, spells_at_most_one};
 pub use filter::{
     Action, Callback, Condition, FallibleCall, Filter, Head, Lock, PlainCall, Position, Routine,
     Statement, Status, Test,

@@ -1,0 +1,251 @@
+-- What is spelled is read: statuses and calls.
+use Rattle.std.proofs.Common.{◌≡◌, ◌≢◌, ℕ, zero, suc, ◌-◌, ◌≤◌, ◌<◌, Bool, true, false, cond, List, [], ◌∷◌, ◌++◌, length, Result, Ok, Err, refl, sym, ap, subst, ◌∙◌, append_assoc, rules, arith}
+use Rattle.std.specs.Prelude.{Option, Some, None, is_some, if◌then◌else◌, ◌&&◌, ◌||◌}
+use denote.Enum.Bare.{false_same}
+use Rattle.flt_rules.specs.declared.call.Existing.{Existing}
+use Rattle.flt_rules.specs.declared.call.LockKind.{LockKind}
+use Rattle.flt_rules.specs.declared.call.LockKind.TheVariants.{Spin, Fast, Push}
+use Rattle.flt_rules.specs.declared.call.LockNumber.{LockNumber}
+use Rattle.flt_rules.specs.declared.status.FinalStatus.{FinalStatus}
+use Rattle.flt_syntax.specs.contracts.variable.ContextVariable.{the_type}
+use Rattle.flt_syntax.specs.declared.token.Kind.{Kind}
+use Rattle.flt_syntax.specs.declared.token.Kind.TheVariants as k
+use Rattle.flt_syntax.specs.declared.token.Token.{Token}
+use Rattle.flt_syntax.specs.declared.fault.FaultKind.TheVariants.{E04, E08}
+use Rattle.flt_syntax.specs.declared.filter.Routine.{Routine}
+use Rattle.flt_syntax.specs.declared.filter.Status.{Status}
+use Rattle.flt_syntax.specs.declared.filter.FallibleCall.{FallibleCall}
+use Rattle.flt_syntax.specs.declared.filter.PlainCall.{PlainCall}
+use Rattle.flt_syntax.specs.declared.variable.ContextVariable.{ContextVariable}
+use Rattle.flt_syntax.specs.declared.variable.OperationVariable.{OperationVariable}
+use Rattle.flt_syntax.specs.declared.variable.RemovedVariable.{RemovedVariable}
+use Rattle.flt_syntax.specs.Lex.{Text, same_kind}
+use Rattle.flt_syntax.specs.Words as words
+use Rattle.flt_syntax.specs.CallGrammar as g
+use Rattle.flt_syntax.specs.CallGrammar.{StatusAt, OptionalStatusAt, RoutineAt, LockAt, FallibleAt, PlainAt}
+use Rattle.flt_syntax.specs.Words.{Next, Meant, NameAt, ContextAt, OptionalAt}
+use Rattle.flt_syntax.specs.Operand.{context_variable, removed_variable, removed_variable_of, operation_variable, operation_variable_of, same_context, other_context, with_context}
+use Rattle.flt_syntax.specs.Scope.{Scope, lock_number, lock_named, spelled, routine, in_queue}
+use Rattle.flt_syntax.specs.Status.{final_status_of, final_status, bare_status_of, bare_status, status_by, status, has_more, begins_status, optional_status}
+use Rattle.flt_syntax.specs.Call.{existing_of, existing, old, other_old, get_context, set_context, delete_context_of, insert_io, remove_next_io, queue_call, queue_deferred, queue_generic, fallible_by, fallible_call, reference_context, acquire_lock, release_lock, complete_pre, complete_post, plain_by, plain_call}
+use Rattle.flt_syntax.specs.Cursor.{Input, Outcome, Parser, and_then, ◌>>=◌, ◌>>◌, ◌<$>◌, pure, peek, front, kind, next, position, bytes_of, refusal, refuse, unknown, fault_at, fail, sees, eat, expect, name, known_or, found_or}
+use Rattle.flt_syntax.proofs.Sound.{differ, none_some}
+use Rattle.flt_syntax.proofs.Complete.{then_again, kind_is, rest_is, means, sees_it, expect_again, eat_again, eat_none, known_again, context_again, spelled_again, apart, is_tail, goes_on, Follows, no_tail, no_status, is_plain, is_fallible, next_less, meant_less, name_less, optional_less}
+
+-- ---- variables
+
+pub removed_again : {i o : Input} {x : RemovedVariable} → Meant removed_variable_of i x o → removed_variable i ≡ Ok (x, o)
+unfolding removed_variable
+removed_again {i = i} p = known_again (unknown i) p
+
+pub operation_again : {i o : Input} {x : OperationVariable} → Meant operation_variable_of i x o → operation_variable i ≡ Ok (x, o)
+unfolding operation_variable
+operation_again {i = i} p = known_again (unknown i) p
+
+not_same : (a b : ContextVariable) → a ≢ b → same_context a b ≡ false
+unfolding same_context
+not_same a b h = false_same the_type (search rules) a b h
+
+other_again : {i o : Input} {c : ContextVariable} (first : ContextVariable) → ContextAt i c o → c ≢ first → other_context first i ≡ Ok (c, o)
+unfolding other_context
+other_again {c = c} first p h = then_again _ (context_again p) (rw (not_same c first h) refl)
+
+with_context_again : {i o : Input} {c : Option ContextVariable} → OptionalAt k.Context i c o → Follows o → with_context i ≡ Ok (c, o)
+unfolding with_context
+with_context_again (words.without {i = i}) f = then_again _ (eat_none k.Context i (no_tail k.Context i f refl)) refl
+with_context_again (words.behind n p) f = then_again _ (eat_again n) (then_again _ (context_again p) refl)
+
+old_again : {i o : Input} {c : Option ContextVariable} → OptionalAt k.Old i c o → Follows o → old i ≡ Ok (c, o)
+unfolding old
+old_again (words.without {i = i}) f = then_again _ (eat_none k.Old i (no_tail k.Old i f refl)) refl
+old_again (words.behind n p) f = then_again _ (eat_again n) (then_again _ (context_again p) refl)
+
+other_old_again : {i o : Input} {d : Option ContextVariable} (first : ContextVariable) → OptionalAt k.Old i d o → d ≢ Some first → Follows o → other_old first i ≡ Ok (d, o)
+unfolding other_old
+other_old_again first (words.without {i = i}) h f = then_again _ (eat_none k.Old i (no_tail k.Old i f refl)) refl
+other_old_again first (words.behind n p) h f = then_again _ (eat_again n) (then_again _ (other_again first p (λ e. h (ap Some e))) refl)
+
+-- ---- statuses
+
+final_again : {i o : Input} {s : FinalStatus} → Meant final_status_of i s o → final_status i ≡ Ok (s, o)
+unfolding final_status
+final_again {i = i} p = known_again (refusal i) p
+
+bare_again : {i o : Input} {s : Status} → Meant bare_status_of i s o → bare_status i ≡ Ok (s, o)
+unfolding bare_status
+bare_again {i = i} p = known_again (refusal i) p
+
+by_bare : (i : Input) (s : Status) (a : Kind) → bare_status_of a ≡ Some s → status_by a i ≡ bare_status i
+by_bare i s k.WithCallback e = elim (none_some s e) [ ]
+by_bare i s k.Synchronize e = elim (none_some s e) [ ]
+by_bare i s k.Complete e = elim (none_some s e) [ ]
+by_bare i s _ e = refl
+
+status_at : {kd : Kind} {i j : Input} → Next kd i j → status i ≡ status_by kd i
+unfolding status
+status_at {i = i} n = ap (λ x. status_by x i) (kind_is n)
+
+bare_at : {i o : Input} {s : Status} → Meant bare_status_of i s o → status i ≡ bare_status i
+unfolding status
+bare_at {i = i} {s = s} p = by_bare i s (kind i) (means p)
+
+pub status_again : {i o : Input} {s : Status} → StatusAt i s o → Follows o → status i ≡ Ok (s, o)
+status_again (g.with_callback n p) f = status_at n ∙ then_again _ (ap with_context (rest_is n) ∙ with_context_again p f) refl
+status_again (g.synchronize n p) f = status_at n ∙ then_again _ (ap with_context (rest_is n) ∙ with_context_again p f) refl
+status_again (g.complete n p) f = status_at n ∙ then_again _ (ap final_status (rest_is n) ∙ final_again p) refl
+status_again (g.bare p) f = bare_at p ∙ bare_again p
+
+or_true : (b : Bool) → (b || true) ≡ true
+or_true true = refl
+or_true false = refl
+
+status_begins : {i o : Input} {s : Status} → StatusAt i s o → begins_status (kind i) ≡ true
+status_begins (g.with_callback n p) = ap begins_status (kind_is n)
+status_begins (g.synchronize n p) = ap begins_status (kind_is n)
+status_begins (g.complete n p) = ap begins_status (kind_is n)
+status_begins {i = i} (g.bare p) = ap (λ m. has_more (kind i) || is_some m) (means p) ∙ or_true (has_more (kind i))
+
+pub optional_status_again : {i o : Input} {s : Option Status} → OptionalStatusAt i s o → Follows o → optional_status i ≡ Ok (s, o)
+unfolding optional_status
+optional_status_again (g.no_status {i = i}) f = rw (no_status i f) refl
+optional_status_again (g.some_status p) f = rw (status_begins p) (then_again _ (status_again p f) refl)
+
+-- ---- names
+
+routine_again : {i o : Input} {x : Routine} (scope : Scope) → RoutineAt scope.text i x o → routine scope i ≡ Ok (x, o)
+unfolding routine
+routine_again scope (g.routine p) = then_again _ (spelled_again p) refl
+
+lock_again : {scope : Scope} {lk : LockKind} {i o : Input} {l : LockNumber} → LockAt scope lk i l o → lock_named scope lk i ≡ Ok (l, o)
+unfolding lock_named name
+lock_again (g.lock (words.name e) h) = rw e (rw h refl)
+
+-- ---- calls
+
+existing_again : {i o : Input} {x : Existing} → Meant existing_of i x o → existing i ≡ Ok (x, o)
+unfolding existing
+existing_again {i = i} p = known_again (refusal i) p
+
+fallible_at : {kd : Kind} {i j : Input} (scope : Scope) → Next kd i j → fallible_call scope i ≡ fallible_by scope kd i
+unfolding fallible_call
+fallible_at {i = i} scope n = ap (λ x. fallible_by scope x i) (kind_is n)
+
+insert_at : {i j : Input} (scope : Scope) → scope.queue ≡ true → Next k.InsertIo i j → fallible_call scope i ≡ insert_io i
+unfolding queue_call
+insert_at scope q n = fallible_at scope n ∙ rw (q, sees_it n) refl
+
+remove_at : {i j : Input} (scope : Scope) → scope.queue ≡ true → Next k.RemoveNextIo i j → fallible_call scope i ≡ remove_next_io i
+unfolding queue_call same_kind
+remove_at scope q n = fallible_at scope n ∙ rw (q, kind_is n) refl
+
+pub fallible_again : {scope : Scope} {i o : Input} {c : FallibleCall} → FallibleAt scope i c o → Follows o → fallible_call scope i ≡ Ok (c, o)
+unfolding get_context set_context delete_context_of insert_io remove_next_io queue_deferred queue_generic
+fallible_again {scope = scope} (g.allocate n p) f = fallible_at scope n ∙ then_again _ (ap context_variable (rest_is n) ∙ context_again p) refl
+fallible_again {scope = scope} (g.get_stream n p) f = fallible_at scope n ∙ then_again _ (ap context_variable (rest_is n) ∙ context_again p) refl
+fallible_again {scope = scope} (g.get_instance n p) f = fallible_at scope n ∙ then_again _ (ap context_variable (rest_is n) ∙ context_again p) refl
+fallible_again {scope = scope} (g.set_stream n p q x h) f =
+    fallible_at scope n ∙ then_again _ (ap existing (rest_is n) ∙ existing_again p) (then_again _ (context_again q) (then_again _ (other_old_again _ x h f) refl))
+fallible_again {scope = scope} (g.set_instance n p q x h) f =
+    fallible_at scope n ∙ then_again _ (ap existing (rest_is n) ∙ existing_again p) (then_again _ (context_again q) (then_again _ (other_old_again _ x h f) refl))
+fallible_again {scope = scope} (g.delete_stream n p) f = fallible_at scope n ∙ then_again _ (ap old (rest_is n) ∙ old_again p f) refl
+fallible_again {scope = scope} (g.delete_instance n p) f = fallible_at scope n ∙ then_again _ (ap old (rest_is n) ∙ old_again p f) refl
+fallible_again {scope = scope} (g.insert_io q n m p) f =
+    insert_at scope q n ∙ then_again _ (ap (expect k.Data) (rest_is n) ∙ expect_again m) (then_again _ (with_context_again p f) refl)
+fallible_again {scope = scope} (g.remove_next_io q n p m x) f =
+    remove_at scope q n ∙ then_again _ (ap removed_variable (rest_is n) ∙ removed_again p) (then_again _ (expect_again m) (then_again _ (context_again x) refl))
+fallible_again {scope = scope} (g.queue_deferred n m p q) f =
+    fallible_at scope n ∙ then_again _ (ap (expect k.Data) (rest_is n) ∙ expect_again m) (then_again _ (routine_again scope p) (then_again _ (with_context_again q f) refl))
+fallible_again {scope = scope} (g.queue_generic n p q) f =
+    fallible_at scope n ∙ then_again _ (ap (routine scope) (rest_is n) ∙ routine_again scope p) (then_again _ (with_context_again q f) refl)
+
+plain_at : {kd : Kind} {i j : Input} (scope : Scope) → Next kd i j → plain_call scope i ≡ plain_by scope kd i
+unfolding plain_call
+plain_at {i = i} scope n = ap (λ x. plain_by scope x i) (kind_is n)
+
+pub plain_again : {scope : Scope} {i o : Input} {c : PlainCall} → PlainAt scope i c o → Follows o → plain_call scope i ≡ Ok (c, o)
+unfolding reference_context acquire_lock release_lock complete_pre complete_post
+plain_again {scope = scope} (g.delete n p) f = plain_at scope n ∙ then_again _ (ap context_variable (rest_is n) ∙ context_again p) refl
+plain_again {scope = scope} (g.reference n p m q h) f =
+    plain_at scope n ∙ then_again _ (ap context_variable (rest_is n) ∙ context_again p) (then_again _ (expect_again m) (then_again _ (other_again _ q h) refl))
+plain_again {scope = scope} (g.release n p) f = plain_at scope n ∙ then_again _ (ap context_variable (rest_is n) ∙ context_again p) refl
+plain_again {scope = scope} (g.acquire_spin n p) f = plain_at scope n ∙ then_again _ (ap (lock_named scope Spin) (rest_is n) ∙ lock_again p) refl
+plain_again {scope = scope} (g.release_spin n p) f = plain_at scope n ∙ then_again _ (ap (lock_named scope Spin) (rest_is n) ∙ lock_again p) refl
+plain_again {scope = scope} (g.acquire_fast n p) f = plain_at scope n ∙ then_again _ (ap (lock_named scope Fast) (rest_is n) ∙ lock_again p) refl
+plain_again {scope = scope} (g.release_fast n p) f = plain_at scope n ∙ then_again _ (ap (lock_named scope Fast) (rest_is n) ∙ lock_again p) refl
+plain_again {scope = scope} (g.acquire_push n p) f = plain_at scope n ∙ then_again _ (ap (lock_named scope Push) (rest_is n) ∙ lock_again p) refl
+plain_again {scope = scope} (g.release_push n p) f = plain_at scope n ∙ then_again _ (ap (lock_named scope Push) (rest_is n) ∙ lock_again p) refl
+plain_again {scope = scope} (g.complete_pre n p q) f =
+    plain_at scope n ∙ then_again _ (ap operation_variable (rest_is n) ∙ operation_again p) (then_again _ (status_again q f) refl)
+plain_again {scope = scope} (g.complete_post n m) f = plain_at scope n ∙ then_again _ (ap (expect k.Data) (rest_is n) ∙ expect_again m) refl
+
+-- ---- with what calls begin
+
+pub fallible_begins : {scope : Scope} {i o : Input} {c : FallibleCall} → FallibleAt scope i c o → is_fallible (kind i) ≡ true
+fallible_begins (g.allocate n _) = ap is_fallible (kind_is n)
+fallible_begins (g.get_stream n _) = ap is_fallible (kind_is n)
+fallible_begins (g.get_instance n _) = ap is_fallible (kind_is n)
+fallible_begins (g.set_stream n _ _ _ _) = ap is_fallible (kind_is n)
+fallible_begins (g.set_instance n _ _ _ _) = ap is_fallible (kind_is n)
+fallible_begins (g.delete_stream n _) = ap is_fallible (kind_is n)
+fallible_begins (g.delete_instance n _) = ap is_fallible (kind_is n)
+fallible_begins (g.insert_io _ n _ _) = ap is_fallible (kind_is n)
+fallible_begins (g.remove_next_io _ n _ _ _) = ap is_fallible (kind_is n)
+fallible_begins (g.queue_deferred n _ _ _) = ap is_fallible (kind_is n)
+fallible_begins (g.queue_generic n _ _) = ap is_fallible (kind_is n)
+
+pub plain_begins : {scope : Scope} {i o : Input} {c : PlainCall} → PlainAt scope i c o → is_plain (kind i) ≡ true
+plain_begins (g.delete n _) = ap is_plain (kind_is n)
+plain_begins (g.reference n _ _ _ _) = ap is_plain (kind_is n)
+plain_begins (g.release n _) = ap is_plain (kind_is n)
+plain_begins (g.acquire_spin n _) = ap is_plain (kind_is n)
+plain_begins (g.release_spin n _) = ap is_plain (kind_is n)
+plain_begins (g.acquire_fast n _) = ap is_plain (kind_is n)
+plain_begins (g.release_fast n _) = ap is_plain (kind_is n)
+plain_begins (g.acquire_push n _) = ap is_plain (kind_is n)
+plain_begins (g.release_push n _) = ap is_plain (kind_is n)
+plain_begins (g.complete_pre n _ _) = ap is_plain (kind_is n)
+plain_begins (g.complete_post n _) = ap is_plain (kind_is n)
+
+-- ---- calls take tokens
+
+status_less : {i o : Input} {s : Status} → StatusAt i s o → length o < length i
+status_less (g.with_callback n p) = omega (arith, next_less n, optional_less p)
+status_less (g.synchronize n p) = omega (arith, next_less n, optional_less p)
+status_less (g.complete n p) = omega (arith, next_less n, meant_less p)
+status_less (g.bare p) = meant_less p
+
+pub optional_status_less : {i o : Input} {s : Option Status} → OptionalStatusAt i s o → length o ≤ length i
+optional_status_less g.no_status = omega arith
+optional_status_less (g.some_status p) = omega (arith, status_less p)
+
+routine_less : {text : Text} {i o : Input} {x : Routine} → RoutineAt text i x o → length o < length i
+routine_less (g.routine p) = name_less p
+
+lock_less : {scope : Scope} {lk : LockKind} {i o : Input} {l : LockNumber} → LockAt scope lk i l o → length o < length i
+lock_less (g.lock p e) = name_less p
+
+pub fallible_less : {scope : Scope} {i o : Input} {c : FallibleCall} → FallibleAt scope i c o → length o < length i
+fallible_less (g.allocate n p) = omega (arith, next_less n, meant_less p)
+fallible_less (g.get_stream n p) = omega (arith, next_less n, meant_less p)
+fallible_less (g.get_instance n p) = omega (arith, next_less n, meant_less p)
+fallible_less (g.set_stream n p q x h) = omega (arith, next_less n, meant_less p, meant_less q, optional_less x)
+fallible_less (g.set_instance n p q x h) = omega (arith, next_less n, meant_less p, meant_less q, optional_less x)
+fallible_less (g.delete_stream n p) = omega (arith, next_less n, optional_less p)
+fallible_less (g.delete_instance n p) = omega (arith, next_less n, optional_less p)
+fallible_less (g.insert_io q n m p) = omega (arith, next_less n, next_less m, optional_less p)
+fallible_less (g.remove_next_io q n p m x) = omega (arith, next_less n, meant_less p, next_less m, meant_less x)
+fallible_less (g.queue_deferred n m p q) = omega (arith, next_less n, next_less m, routine_less p, optional_less q)
+fallible_less (g.queue_generic n p q) = omega (arith, next_less n, routine_less p, optional_less q)
+
+pub plain_less : {scope : Scope} {i o : Input} {c : PlainCall} → PlainAt scope i c o → length o < length i
+plain_less (g.delete n p) = omega (arith, next_less n, meant_less p)
+plain_less (g.reference n p m q h) = omega (arith, next_less n, meant_less p, next_less m, meant_less q)
+plain_less (g.release n p) = omega (arith, next_less n, meant_less p)
+plain_less (g.acquire_spin n p) = omega (arith, next_less n, lock_less p)
+plain_less (g.release_spin n p) = omega (arith, next_less n, lock_less p)
+plain_less (g.acquire_fast n p) = omega (arith, next_less n, lock_less p)
+plain_less (g.release_fast n p) = omega (arith, next_less n, lock_less p)
+plain_less (g.acquire_push n p) = omega (arith, next_less n, lock_less p)
+plain_less (g.release_push n p) = omega (arith, next_less n, lock_less p)
+plain_less (g.complete_pre n p q) = omega (arith, next_less n, meant_less p, status_less q)
+plain_less (g.complete_post n m) = omega (arith, next_less n, next_less m)

@@ -1,0 +1,66 @@
+-- Which filter a text spells: what the grammar says, and beside it the limits, and what must be declared.
+use Rattle.std.specs.Prelude.{◌≡◌, ◌≤◌, Bool, true, false, List, [], ◌∷◌, ◌++◌, length, IsTrue, Option, Some, None}
+use Rattle.flt_syntax.specs.File.{max_text, max_altitude, max_locks, has_lock}
+use Rattle.flt_syntax.specs.Grammar.{FileAt}
+use Rattle.flt_syntax.specs.Head.{max_callbacks, has_event, has_routine}
+use Rattle.flt_syntax.specs.Lex.{Text, tokens}
+use Rattle.flt_syntax.specs.Measures.{are_small}
+use Rattle.flt_syntax.specs.Whole.{lacks_pre, missing}
+use Rattle.flt_syntax.specs.declared.filter.Callback.{Callback}
+use Rattle.flt_syntax.specs.declared.filter.Filter.{Filter}
+use Rattle.flt_syntax.specs.declared.filter.Head.{Head}
+use Rattle.flt_syntax.specs.declared.filter.Head.TheVariants.{Pre, Post, Canceled, DeferredPre, DeferredPost, Generic}
+use Rattle.flt_syntax.specs.declared.filter.Lock.{Lock}
+use Rattle.flt_syntax.specs.declared.filter.Position.{Position}
+
+-- none of the locks has the name of one before it
+abbrev pub AreNewLocks : List Lock → List Lock → Type 0
+AreNewLocks before [] = Unit {0}
+AreNewLocks before (l ∷ ls) = (has_lock l.name before ≡ false) × AreNewLocks (before ++ l ∷ []) ls
+
+-- whether a head is declared among the callbacks: a routine by its name, whatever its kind, and an event as such
+abbrev pub is_declared : Head → List Callback → Bool
+is_declared (DeferredPre name) = has_routine name
+is_declared (DeferredPost name) = has_routine name
+is_declared (Generic name) = has_routine name
+is_declared event = has_event event
+
+-- none of the callbacks is declared among those before it
+abbrev pub AreNewCallbacks : List Callback → List Callback → Type 0
+AreNewCallbacks before [] = Unit {0}
+AreNewCallbacks before (c ∷ cs) = (is_declared c.head before ≡ false) × AreNewCallbacks (before ++ c ∷ []) cs
+
+-- each `post` has its `pre`, and each routine that a call names is among all callbacks and of the kind asked
+abbrev pub AreWhole : List Callback → List Callback → Type 0
+AreWhole all [] = Unit {0}
+AreWhole all (c ∷ cs) = (lacks_pre all c.head ≡ false) × (missing all c.head c.body ≡ None) × AreWhole all cs
+
+-- where there is a queue, there is a `canceled`
+abbrev pub IsServed : Option Position → List Callback → Type 0
+IsServed None cs = Unit {0}
+IsServed (Some at) cs = has_event Canceled cs ≡ true
+
+-- the text spells the filter
+pub record Spells (text : Text) (f : Filter) : Type 0 where
+  -- the text has at most 65,536 bytes
+  pub short : length text ≤ max_text
+  -- the grammar reads its tokens as the filter
+  pub grammar : FileAt text (tokens text) f
+  -- the altitude is from 1 to 4294967295
+  pub low : 1 ≤ f.altitude
+  pub high : f.altitude ≤ max_altitude
+  -- there are at most 8 locks, each with a name of its own
+  pub few_locks : length f.locks ≤ max_locks
+  pub new_locks : AreNewLocks [] f.locks
+  -- there are at most 16 callbacks, each of them declared once
+  pub few_callbacks : length f.callbacks ≤ max_callbacks
+  pub new_callbacks : AreNewCallbacks [] f.callbacks
+  -- each is within the limits on points and cost
+  pub small : IsTrue (are_small f)
+  -- what a queue, a `post` and the calls want is there
+  pub served : IsServed f.queue f.callbacks
+  pub whole : AreWhole f.callbacks f.callbacks
+
+-- no text spells two filters
+abbrev pub SpellsAtMostOne : Type 0
+SpellsAtMostOne = (text : Text) (f g : Filter) → Spells text f → Spells text g → f ≡ g
