@@ -1,6 +1,6 @@
 //! Goes over the points of a text with its certificate.
 
-ghost use Rattle.std.specs.Prelude.{◌≡◌, ◌<◌, length, OnOk, IfErr, IfSome, IfNone};
+ghost use Rattle.std.specs.Prelude.{◌≡◌, ◌<◌, ◌↔◌, length, IsOk, OnOk, IfErr, IfSome, IfNone};
 ghost use Rattle.std.specs.Option.{option_copied};
 ghost use Rattle.flt_check.specs.Checker as spec;
 ghost use Rattle.flt_graph.specs.Graph.{points_at, line_at};
@@ -173,10 +173,9 @@ fn line_of(graph: &Graph, callback: usize, point: usize) -> usize
     }
 }
 
-/// Whether a certificate covers a text's points; if not, the least fault: a number of callbacks or points that isn't the
-/// text's comes first, then the least callback, point and rule. It takes no memory.
+/// The least fault, if there is one.
 #[tactic(auto, using(crate::proofs::Points::none_in_more))]
-pub fn check(graph: &Graph, cert: &Cert) -> Result<(), Refusal>
+fn first_fault(graph: &Graph, cert: &Cert) -> Result<(), Refusal>
     ensures accepted { OnOk result (spec.IsFaultless graph.now cert.now) }
     ensures refused { IfErr result (spec.IsLeastFault graph.now cert.now) }
 {
@@ -199,4 +198,14 @@ pub fn check(graph: &Graph, cert: &Cert) -> Result<(), Refusal>
         }
     }
     Ok(())
+}
+
+/// Whether a certificate covers a text's points; if not, the least fault: a number of callbacks or points that isn't the
+/// text's comes first, then the least callback, point and rule. It takes no memory.
+pub fn check(graph: &Graph, cert: &Cert) -> Result<(), Refusal>
+    ensures accepted { IsOk result ↔ spec.Covers graph.now cert.now }
+    ensures refused { IfErr result (spec.IsLeastFault graph.now cert.now) }
+{
+    let _callbacks = cert.callbacks();
+    first_fault(graph, cert)
 }

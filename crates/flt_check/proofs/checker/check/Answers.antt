@@ -1,5 +1,5 @@
-use Rattle.flt_check.proofs.Points.{none_in_more}
+use Rattle.flt_check.proofs.Covering.{accepted_iff}
 use Rattle.flt_check.proofs.checker.check.Goals as goal
 
-pub loop-callback-preserved : goal.loop-callback-preserved
-loop-callback-preserved c = (c.loop-callback.invariant.0, none_in_more _ _ _ c.loop-callback.invariant.1 (c.in_default-callback_fault.ensures.none))
+pub returns-clause-accepted : goal.returns-clause-accepted
+returns-clause-accepted c = accepted_iff _ _ _ c.callbacks-callbacks.ensures.certificate c.first_fault.ensures.accepted c.first_fault.ensures.refused
