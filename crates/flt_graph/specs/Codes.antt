@@ -28,6 +28,7 @@ codes_in (Statement-F.If line asked granted refused) at after =
     codes granted (at + 1) after ++ codes refused (at + 1 + points (map (λ (x : Statement × Code). x.0) granted)) after
 codes_in (Statement-F.Repeat line turns block) at after = codes block (at + 1) at
 
+-- a statement's own point, and those of its blocks
 abbrev pub code_step : List Callback → Statement-F (Statement × Code) → Code
 code_step all s at after =
     point_of all (map-Statement (Statement × Code) Statement (λ x. x.0) s) at after ∷ codes_in s at after

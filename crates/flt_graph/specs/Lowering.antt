@@ -37,6 +37,7 @@ pub record IsGraphOf (all : List Callback) (c : Callback) (g : CallbackGraph) : 
       point_in g n ≡ point_of all (out-Statement s) n (entry rest (n + points_of s) q)
   pub end : point_in g (points c.body) ≡ end_of c
 
+-- callbacks of a filter with these ones in all, and their graphs in the same order
 abbrev pub AreGraphsOf : List Callback → List Callback → List CallbackGraph → Type 0
 AreGraphsOf all [] [] = Unit {0}
 AreGraphsOf all (c ∷ cs) (g ∷ gs) = IsGraphOf all c g × AreGraphsOf all cs gs

@@ -42,6 +42,7 @@ instruction_of cs (Statement-F.If line asked granted refused) at after =
     choice cs asked (entry granted (at + 1) after) (entry refused (at + 1 + points granted) after)
 instruction_of cs (Statement-F.Repeat line turns body) at after = instruction.Repeat turns (entry body (at + 1) at) after
 
+-- the point of a statement, where it stands at a point and what follows it at another
 abbrev pub point_of : List Callback → Statement-F Statement → ℕ → ℕ → Point
 point_of cs s at after = record { line = line_of s; instruction = instruction_of cs s at after }
 
@@ -50,25 +51,31 @@ point_of cs s at after = record { line = line_of s; instruction = instruction_of
 -- in the text of a body a block begins at a point, and what follows the block is this list, at another point: behind the
 -- body of a `repeat` that is the `repeat` with the turns that are left of it, never more than the text has
 pub data In (body : List Statement) : List Statement → ℕ → ℕ → List Statement → Type 0 where
+  -- the body itself, which nothing follows but the end
   top : In body body 0 (points body) []
+  -- what is left of a block behind its first statement
   later : {s : Statement} {rest : List Statement} {n q : ℕ} {follows : List Statement} →
       In body (s ∷ rest) n q follows → In body rest (n + points_of s) q follows
+  -- the blocks of an `if`, each followed by what stands behind the `if`
   granted_block : {s : Statement} {rest yes_block no_block : List Statement} {asked : Condition} {line n q : ℕ} {follows : List Statement} →
       In body (s ∷ rest) n q follows → out-Statement s ≡ Statement-F.If line asked yes_block no_block →
       In body yes_block (n + 1) (entry rest (n + points_of s) q) (rest ++ follows)
   refused_block : {s : Statement} {rest yes_block no_block : List Statement} {asked : Condition} {line n q : ℕ} {follows : List Statement} →
       In body (s ∷ rest) n q follows → out-Statement s ≡ Statement-F.If line asked yes_block no_block →
       In body no_block (n + 1 + points yes_block) (entry rest (n + points_of s) q) (rest ++ follows)
+  -- the body of a `repeat`, followed by the `repeat`
   turn : {s : Statement} {rest block : List Statement} {line turns left n q : ℕ} {follows : List Statement} →
       In body (s ∷ rest) n q follows → out-Statement s ≡ Statement-F.Repeat line turns block → left ≤ turns →
       In body block (n + 1) n (tree.Repeat line left block ∷ (rest ++ follows))
 
--- in a run of a body a remaining list stands at a point: a `repeat` with the turns that are left of it stands where the
--- text has it
+-- a remaining list of a body stands at a point: that of its first statement in the text, or the end's
 pub data Stands (body : List Statement) : ℕ → List Statement → Type 0 where
+  -- nothing remains
   end : Stands body (points body) []
+  -- a statement of the text, and all that follows it
   before : {s : Statement} {rest : List Statement} {n q : ℕ} {follows : List Statement} →
       In body (s ∷ rest) n q follows → Stands body n (s ∷ (rest ++ follows))
+  -- a `repeat` of the text with the turns that are left of it, and all that follows it
   again : {s : Statement} {rest block : List Statement} {line turns left n q : ℕ} {follows : List Statement} →
       In body (s ∷ rest) n q follows → out-Statement s ≡ Statement-F.Repeat line turns block → left ≤ turns →
       Stands body n (tree.Repeat line left block ∷ (rest ++ follows))
@@ -102,7 +109,7 @@ successor (instruction.Repeat turns block next) outcome = Some (if outcome then 
 successor (instruction.Return status) outcome = None
 successor instruction.End outcome = None
 
--- a list that remains stands at the successor
+-- a list that remains, if one does, stands at the successor, and there is one
 abbrev pub StandsAt : List Statement → Option ℕ → Option (List Statement) → Type 0
 StandsAt body (Some p) (Some list) = Stands body p list
 StandsAt body None (Some list) = ⊥
