@@ -29,6 +29,7 @@ use Rattle.flt_syntax.specs.Head.{max_callbacks, operation_of, operation, has_ev
 use Rattle.flt_syntax.specs.Whole.{first_of, first_some, missing, lacks_pre, callback_fault, first_fault, queue_fault, whole_fault}
 use Rattle.flt_syntax.specs.File.{max_text, max_altitude, max_locks, max_depth, max_repeats, lock_kind_of, lock_kind, has_lock, new_lock, lock, locks_from, locks, queue, measured, callback, callbacks_from, callbacks, file, unless_fault, whole, filter_of}
 use Rattle.flt_syntax.specs.Cursor.{Input, Outcome, Parser, and_then, ◌>>=◌, ◌>>◌, ◌<$>◌, pure, peek, front, kind, next, position, refusal, refuse, fault, fault_at, fail, sees, eat, expect, number_within}
+use Rattle.flt_syntax.proofs.Routines.{none_missing}
 use Rattle.flt_syntax.proofs.Sound.{differ}
 use Rattle.flt_syntax.proofs.Complete.{then_again, kind_is, rest_is, sees_it, expect_again, eat_again, eat_none, known_again, spelled_again, within_again, apart, next_less, meant_less, name_less, number_less}
 use Rattle.flt_syntax.proofs.CompleteStatements.{statements_again, statements_less}
@@ -226,7 +227,7 @@ no_callback_fault cs c e h = rw (e, h) refl
 
 no_first_fault : (all cs : List Callback) → AreWhole all cs → first_fault all cs ≡ None
 no_first_fault all [] h = refl
-no_first_fault all (c ∷ cs) h = rw (no_callback_fault all c h.0 h.1) (no_first_fault all cs h.2)
+no_first_fault all (c ∷ cs) h = rw (no_callback_fault all c h.0 (none_missing all c.head c.body h.1)) (no_first_fault all cs h.2)
 
 no_whole_fault : (f : Filter) → IsServed f.queue f.callbacks → AreWhole f.callbacks f.callbacks → whole_fault f ≡ None
 no_whole_fault f e h = rw (no_queue_fault f.queue f.callbacks e) (no_first_fault f.callbacks f.callbacks h)

@@ -29,6 +29,7 @@ use Rattle.flt_syntax.specs.Head.{max_callbacks, operation_of, operation, has_ev
 use Rattle.flt_syntax.specs.Whole.{first_of, first_some, missing, lacks_pre, callback_fault, first_fault, queue_fault, whole_fault}
 use Rattle.flt_syntax.specs.File.{max_text, max_altitude, max_locks, max_depth, max_repeats, lock_kind_of, lock_kind, has_lock, new_lock, lock, locks_from, locks, queue, measured, callback, callbacks_from, callbacks, file, unless_fault, whole, filter_of}
 use Rattle.flt_syntax.specs.Cursor.{Input, Outcome, Parser, and_then, ◌>>=◌, ◌>>◌, ◌<$>◌, pure, front, kind, next, position, refusal, refuse, fault, fault_at, fail, sees, eat, expect}
+use Rattle.flt_syntax.proofs.Routines.{finds_all}
 use Rattle.flt_syntax.proofs.Sound.{Gives, gives, fails, then_gives, gives_by, kind_same, took, expect_gives, Eaten, eaten, left, eat_gives, known_gives}
 use Rattle.flt_syntax.proofs.SoundCalls.{within_gives, spelled_gives}
 use Rattle.flt_syntax.proofs.SoundStatements.{statements_gives, block_gives}
@@ -318,7 +319,7 @@ are_whole all [] e = tt
 are_whole all (c ∷ cs) e =
     let both = first_none (callback_fault all c) (first_fault all cs) e in
     let here = callback_none all c both.0 in
-    (here.0, here.1, are_whole all cs both.1)
+    (here.0, finds_all all c.head c.body here.1, are_whole all cs both.1)
 
 pub err_ok : (e : SyntaxFault) (f : Filter) → Err e ≡ Ok f → ⊥
 err_ok e f h = cc
