@@ -13,8 +13,7 @@ use Rattle.flt_syntax.specs.declared.filter.Head.{Head}
 use Rattle.flt_syntax.specs.declared.filter.Position.{Position}
 use Rattle.flt_syntax.specs.declared.filter.Statement.{Statement}
 use Rattle.flt_syntax.specs.declared.filter.Statement.TheOpen.{Statement-F}
-use Rattle.flt_syntax.specs.declared.filter.Statement.TheFolds.{map-Statement, fold-Statement, fold-roll-Statement, ind-Statement}
-use Rattle.flt_syntax.specs.declared.filter.Statement.TheViews.{roll-Statement}
+use Rattle.flt_syntax.specs.declared.filter.Statement.TheFolds.{map-Statement, fold-roll-Statement, ind-Statement}
 use Rattle.flt_syntax.proofs.Sound.{differ}
 
 first_is_none : {A : Type 0} (a b : Option A) → is_none (first_of a b) ≡ (is_none a && is_none b)

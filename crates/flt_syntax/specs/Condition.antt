@@ -1,7 +1,6 @@
 -- How the tests of an `if` are read.
-use Rattle.std.specs.Prelude.{Option, Some, None, Ok, Err}
 use Rattle.flt_syntax.specs.Call.{fallible_call}
-use Rattle.flt_syntax.specs.Cursor.{Parser, and_then, ◌>>=◌, ◌>>◌, pure, ◌<$>◌, kind, refuse, peek, take_token, given, expect}
+use Rattle.flt_syntax.specs.Cursor.{Parser, ◌>>=◌, ◌>>◌, pure, ◌<$>◌, kind, refuse, peek, take_token, given, expect}
 use Rattle.flt_syntax.specs.Operand.{atom, context_variable_of, number_variable_of, removed_variable_of}
 use Rattle.flt_syntax.specs.Scope.{Scope}
 use Rattle.flt_syntax.specs.declared.filter.Condition.{Condition}

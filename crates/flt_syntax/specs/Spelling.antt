@@ -1,10 +1,11 @@
 -- Which filter a text spells: what the grammar says, and beside it the limits, and what must be declared.
 use Rattle.std.specs.Prelude.{◌≡◌, ◌≤◌, Bool, true, false, ◌&&◌, List, [], ◌∷◌, ◌++◌, length, map, IsTrue, Option, Some, None}
 use Rattle.std.specs.List.{list_all}
-use Rattle.flt_syntax.specs.File.{max_text, max_altitude, max_locks, has_lock}
+use Rattle.flt_syntax.specs.File.{has_lock}
 use Rattle.flt_syntax.specs.Grammar.{FileAt}
-use Rattle.flt_syntax.specs.Head.{max_callbacks, has_event, has_routine}
+use Rattle.flt_syntax.specs.Head.{has_event, has_routine}
 use Rattle.flt_syntax.specs.Lex.{Text, tokens}
+use Rattle.flt_syntax.specs.Limits.{max_text, max_altitude, max_locks, max_callbacks}
 use Rattle.flt_syntax.specs.Measures.{are_small}
 use Rattle.flt_syntax.specs.Whole.{lacks_pre, has_deferred, has_generic}
 use Rattle.flt_syntax.specs.declared.filter.Callback.{Callback}
@@ -14,7 +15,7 @@ use Rattle.flt_syntax.specs.declared.filter.FallibleCall.{FallibleCall}
 use Rattle.flt_syntax.specs.declared.filter.FallibleCall.TheVariants.{QueueDeferredIoWorkItem, QueueGenericWorkItem}
 use Rattle.flt_syntax.specs.declared.filter.Filter.{Filter}
 use Rattle.flt_syntax.specs.declared.filter.Head.{Head}
-use Rattle.flt_syntax.specs.declared.filter.Head.TheVariants.{Pre, Post, Canceled, DeferredPre, DeferredPost, Generic}
+use Rattle.flt_syntax.specs.declared.filter.Head.TheVariants.{Canceled, DeferredPre, DeferredPost, Generic}
 use Rattle.flt_syntax.specs.declared.filter.Lock.{Lock}
 use Rattle.flt_syntax.specs.declared.filter.Position.{Position}
 use Rattle.flt_syntax.specs.declared.filter.Statement.{Statement}

@@ -1,6 +1,6 @@
 -- The faults that are told once a text is read to its end. They are looked for in the order of the text: the queue stands
 -- before the callbacks, and a head before its body; so the first one has the least position.
-use Rattle.std.specs.Prelude.{◌≡◌, Bool, true, false, not, ◌&&◌, if◌then◌else◌, List, [], ◌∷◌, map, Option, Some, None, option_map}
+use Rattle.std.specs.Prelude.{Bool, true, false, not, ◌&&◌, if◌then◌else◌, List, [], ◌∷◌, map, Option, Some, None, option_map}
 use Rattle.std.specs.List.{list_any}
 use Rattle.std.specs.Str.{bytes_eq}
 use Rattle.flt_syntax.specs.Cursor.{fault}
