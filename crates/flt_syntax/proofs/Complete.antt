@@ -1,6 +1,6 @@
 -- What is spelled is read: tokens, and what may follow what.
-use Rattle.std.proofs.Common.{◌≡◌, ◌≢◌, ℕ, zero, suc, ◌-◌, ◌≤◌, ◌<◌, Bool, true, false, cond, nat_le, List, [], ◌∷◌, ◌++◌, length, Result, Ok, Err, refl, sym, ap, subst, ◌∙◌, append_assoc, rules, arith}
-use Rattle.std.specs.Prelude.{Option, Some, None, is_some, if◌then◌else◌, ◌&&◌, ◌||◌}
+use Rattle.std.proofs.Common.{◌≡◌, ℕ, ◌≤◌, ◌<◌, Bool, true, false, ◌∷◌, length, Ok, refl, sym, ap, ◌∙◌, rules, arith}
+use Rattle.std.specs.Prelude.{Option, Some, None, is_some, ◌&&◌, ◌||◌}
 use Rattle.std.proofs.lemmas.Bool.{le-leb}
 use denote.Enum.Bare.{true_same, false_same}
 use Rattle.flt_syntax.specs.contracts.token.Kind.{the_type}
@@ -12,11 +12,11 @@ use Rattle.flt_syntax.specs.declared.variable.ContextVariable.{ContextVariable}
 use Rattle.flt_syntax.specs.Lex.{Text, same_kind}
 use Rattle.flt_syntax.specs.Words as words
 use Rattle.flt_syntax.specs.Words.{Next, Meant, NameAt, NumberAt, ContextAt, OptionalAt}
-use Rattle.flt_syntax.specs.Operand.{context_variable, context_variable_of, number_variable_of, removed_variable_of, removed_variable, operation_variable_of, operation_variable}
+use Rattle.flt_syntax.specs.Operand.{context_variable, context_variable_of, number_variable_of, removed_variable_of}
 use Rattle.flt_syntax.specs.Scope.{spelled}
 use Rattle.flt_syntax.specs.Status.{begins_status}
-use Rattle.flt_syntax.specs.Cursor.{Input, Outcome, Parser, and_then, ◌>>=◌, ◌>>◌, ◌<$>◌, pure, front, kind, next, is_word, bytes_of, refusal, refuse, unknown, fail, sees, eat, expect, name, number_within, known_or}
-use Rattle.flt_syntax.proofs.Sound.{differ, none_some}
+use Rattle.flt_syntax.specs.Cursor.{Input, Outcome, and_then, kind, next, unknown, sees, eat, expect, name, number_within, known_or}
+use Rattle.flt_syntax.proofs.Sound.{differ}
 
 pub then_again : {A B : Type 0} {o : Outcome A} {x : A × Input} {r : Outcome B} (f : A × Input → Outcome B) → o ≡ Ok x → f x ≡ r → and_then o f ≡ r
 then_again f e h = ap (λ o. and_then o f) e ∙ h

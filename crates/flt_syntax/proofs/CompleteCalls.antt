@@ -1,6 +1,6 @@
 -- What is spelled is read: statuses and calls.
-use Rattle.std.proofs.Common.{◌≡◌, ◌≢◌, ℕ, zero, suc, ◌-◌, ◌≤◌, ◌<◌, Bool, true, false, cond, List, [], ◌∷◌, ◌++◌, length, Result, Ok, Err, refl, sym, ap, subst, ◌∙◌, append_assoc, rules, arith}
-use Rattle.std.specs.Prelude.{Option, Some, None, is_some, if◌then◌else◌, ◌&&◌, ◌||◌}
+use Rattle.std.proofs.Common.{◌≡◌, ◌≢◌, ◌≤◌, ◌<◌, Bool, true, false, length, Ok, refl, ap, ◌∙◌, rules, arith}
+use Rattle.std.specs.Prelude.{Option, Some, is_some, ◌||◌}
 use denote.Enum.Bare.{false_same}
 use Rattle.flt_rules.specs.declared.call.Existing.{Existing}
 use Rattle.flt_rules.specs.declared.call.LockKind.{LockKind}
@@ -10,8 +10,6 @@ use Rattle.flt_rules.specs.declared.status.FinalStatus.{FinalStatus}
 use Rattle.flt_syntax.specs.contracts.variable.ContextVariable.{the_type}
 use Rattle.flt_syntax.specs.declared.token.Kind.{Kind}
 use Rattle.flt_syntax.specs.declared.token.Kind.TheVariants as k
-use Rattle.flt_syntax.specs.declared.token.Token.{Token}
-use Rattle.flt_syntax.specs.declared.fault.FaultKind.TheVariants.{E04, E08}
 use Rattle.flt_syntax.specs.declared.filter.Routine.{Routine}
 use Rattle.flt_syntax.specs.declared.filter.Status.{Status}
 use Rattle.flt_syntax.specs.declared.filter.FallibleCall.{FallibleCall}
@@ -25,12 +23,12 @@ use Rattle.flt_syntax.specs.CallGrammar as g
 use Rattle.flt_syntax.specs.CallGrammar.{StatusAt, OptionalStatusAt, RoutineAt, LockAt, FallibleAt, PlainAt}
 use Rattle.flt_syntax.specs.Words.{Next, Meant, NameAt, ContextAt, OptionalAt}
 use Rattle.flt_syntax.specs.Operand.{context_variable, removed_variable, removed_variable_of, operation_variable, operation_variable_of, same_context, other_context, with_context}
-use Rattle.flt_syntax.specs.Scope.{Scope, lock_number, lock_named, spelled, routine, in_queue}
+use Rattle.flt_syntax.specs.Scope.{Scope, lock_named, routine}
 use Rattle.flt_syntax.specs.Status.{final_status_of, final_status, bare_status_of, bare_status, status_by, status, has_more, begins_status, optional_status}
 use Rattle.flt_syntax.specs.Call.{existing_of, existing, old, other_old, get_context, set_context, delete_context_of, insert_io, remove_next_io, queue_call, queue_deferred, queue_generic, fallible_by, fallible_call, reference_context, acquire_lock, release_lock, complete_pre, complete_post, plain_by, plain_call}
-use Rattle.flt_syntax.specs.Cursor.{Input, Outcome, Parser, and_then, ◌>>=◌, ◌>>◌, ◌<$>◌, pure, peek, front, kind, next, position, bytes_of, refusal, refuse, unknown, fault_at, fail, sees, eat, expect, name, known_or, found_or}
-use Rattle.flt_syntax.proofs.Sound.{differ, none_some}
-use Rattle.flt_syntax.proofs.Complete.{then_again, kind_is, rest_is, means, sees_it, expect_again, eat_again, eat_none, known_again, context_again, spelled_again, apart, is_tail, goes_on, Follows, no_tail, no_status, is_plain, is_fallible, next_less, meant_less, name_less, optional_less}
+use Rattle.flt_syntax.specs.Cursor.{Input, kind, refusal, unknown, expect, name}
+use Rattle.flt_syntax.proofs.Sound.{none_some}
+use Rattle.flt_syntax.proofs.Complete.{then_again, kind_is, rest_is, means, sees_it, expect_again, eat_again, eat_none, known_again, context_again, spelled_again, Follows, no_tail, no_status, is_plain, is_fallible, next_less, meant_less, name_less, optional_less}
 
 -- ---- variables
 

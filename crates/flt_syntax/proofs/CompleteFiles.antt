@@ -1,6 +1,6 @@
 -- What is spelled is read: heads, callbacks and whole texts.
-use Rattle.std.proofs.Common.{◌≡◌, ◌≢◌, ℕ, zero, suc, ◌+◌, ◌-◌, ◌≤◌, ◌<◌, Bool, true, false, not, cond, nat_lt, List, [], ◌∷◌, ◌++◌, map, length, length-append, Result, Ok, Err, refl, sym, ap, subst, ◌∙◌, append_assoc, rules, arith}
-use Rattle.std.specs.Prelude.{Option, Some, None, option_map, is_some, if◌then◌else◌, IsTrue, ◌&&◌}
+use Rattle.std.proofs.Common.{◌≡◌, ℕ, zero, suc, ◌+◌, ◌≤◌, ◌<◌, Bool, true, false, not, List, [], ◌∷◌, ◌++◌, length, length-append, Ok, refl, ap, ◌∙◌, append_assoc, arith}
+use Rattle.std.specs.Prelude.{Option, Some, None, IsTrue, ◌&&◌}
 use Rattle.std.specs.List.{list_all}
 use Rattle.std.proofs.lemmas.Bool.{lt-ltb, le-ltb}
 use Rattle.std.proofs.lemmas.List.{append-nil}
@@ -8,29 +8,26 @@ use Rattle.flt_rules.specs.declared.call.LockKind.{LockKind}
 use Rattle.flt_rules.specs.declared.place.Operation.{Operation}
 use Rattle.flt_syntax.specs.declared.token.Kind.{Kind}
 use Rattle.flt_syntax.specs.declared.token.Kind.TheVariants as k
-use Rattle.flt_syntax.specs.declared.fault.FaultKind.TheVariants.{E04, E05, E06, E07}
-use Rattle.flt_syntax.specs.declared.fault.SyntaxFault.{SyntaxFault}
 use Rattle.flt_syntax.specs.declared.filter.Callback.{Callback}
 use Rattle.flt_syntax.specs.declared.filter.Filter.{Filter}
 use Rattle.flt_syntax.specs.declared.filter.Head.{Head}
-use Rattle.flt_syntax.specs.declared.filter.Head.TheVariants.{Pre, Post, Canceled, DeferredPre, DeferredPost, Generic}
+use Rattle.flt_syntax.specs.declared.filter.Head.TheVariants.{Canceled}
 use Rattle.flt_syntax.specs.declared.filter.Lock.{Lock}
 use Rattle.flt_syntax.specs.declared.filter.Position.{Position}
-use Rattle.flt_syntax.specs.declared.filter.Statement.{Statement}
 use Rattle.flt_syntax.specs.Lex.{Text, same_kind, tokens}
 use Rattle.flt_syntax.specs.Grammar as g
 use Rattle.flt_syntax.specs.Grammar.{line, HeadAt, CallbackAt, CallbacksAt, LocksAt, QueueAt, FileAt}
 use Rattle.flt_syntax.specs.Spelling.{AreNewLocks, is_declared, AreNewCallbacks, AreWhole, IsServed, Spells}
-use Rattle.flt_syntax.specs.Words.{Next, Meant, NameAt, NumberAt}
-use Rattle.flt_syntax.specs.Scope.{Scope, spelled}
-use Rattle.flt_syntax.specs.Statement.{statements, block}
+use Rattle.flt_syntax.specs.Words.{Next, Meant, NameAt}
+use Rattle.flt_syntax.specs.Scope.{Scope}
 use Rattle.flt_syntax.specs.Measures.{is_small, are_small}
-use Rattle.flt_syntax.specs.Head.{max_callbacks, operation_of, operation, has_event, has_routine, event_by, event, new_event, new_name, new_routine, new_head_by, new_head, begins_head, crowded, head}
-use Rattle.flt_syntax.specs.Whole.{first_of, first_some, missing, lacks_pre, callback_fault, first_fault, queue_fault, whole_fault}
-use Rattle.flt_syntax.specs.File.{max_text, max_altitude, max_locks, max_depth, max_repeats, lock_kind_of, lock_kind, has_lock, new_lock, lock, locks_from, locks, queue, measured, callback, callbacks_from, callbacks, file, unless_fault, whole, filter_of}
-use Rattle.flt_syntax.specs.Cursor.{Input, Outcome, Parser, and_then, ◌>>=◌, ◌>>◌, ◌<$>◌, pure, peek, front, kind, next, position, refusal, refuse, fault, fault_at, fail, sees, eat, expect, number_within}
+use Rattle.flt_syntax.specs.Head.{max_callbacks, operation_of, operation, has_event, has_routine, event_by, event, new_event, new_name, new_routine, new_head_by, new_head, begins_head, head}
+use Rattle.flt_syntax.specs.Whole.{missing, lacks_pre, callback_fault, first_fault, queue_fault, whole_fault}
+use Rattle.flt_syntax.specs.File.{max_altitude, max_locks, lock_kind_of, lock_kind, has_lock, lock, locks_from, locks, queue, callback, callbacks_from, callbacks, file, unless_fault, whole, filter_of}
+use Rattle.flt_syntax.specs.Cursor.{Input, Outcome, kind, refusal, sees}
+use Rattle.flt_syntax.proofs.Routines.{none_missing}
 use Rattle.flt_syntax.proofs.Sound.{differ}
-use Rattle.flt_syntax.proofs.Complete.{then_again, kind_is, rest_is, sees_it, expect_again, eat_again, eat_none, known_again, spelled_again, within_again, apart, next_less, meant_less, name_less, number_less}
+use Rattle.flt_syntax.proofs.Complete.{then_again, kind_is, rest_is, expect_again, eat_again, eat_none, known_again, spelled_again, within_again, apart, next_less, meant_less, name_less}
 use Rattle.flt_syntax.proofs.CompleteStatements.{statements_again, statements_less}
 
 -- ---- heads
@@ -226,7 +223,7 @@ no_callback_fault cs c e h = rw (e, h) refl
 
 no_first_fault : (all cs : List Callback) → AreWhole all cs → first_fault all cs ≡ None
 no_first_fault all [] h = refl
-no_first_fault all (c ∷ cs) h = rw (no_callback_fault all c h.0 h.1) (no_first_fault all cs h.2)
+no_first_fault all (c ∷ cs) h = rw (no_callback_fault all c h.0 (none_missing all c.head c.body h.1)) (no_first_fault all cs h.2)
 
 no_whole_fault : (f : Filter) → IsServed f.queue f.callbacks → AreWhole f.callbacks f.callbacks → whole_fault f ≡ None
 no_whole_fault f e h = rw (no_queue_fault f.queue f.callbacks e) (no_first_fault f.callbacks f.callbacks h)

@@ -1,18 +1,15 @@
 -- What is spelled is read: tests, statements and blocks.
-use Rattle.std.proofs.Common.{◌≡◌, ◌≢◌, ℕ, zero, suc, ◌-◌, ◌≤◌, ◌<◌, Bool, true, false, cond, List, [], ◌∷◌, ◌++◌, length, Result, Ok, Err, refl, sym, ap, subst, ◌∙◌, append_assoc, rules, arith}
-use Rattle.std.specs.Prelude.{Option, Some, None, is_some, if◌then◌else◌, ◌==◌, ◌&&◌, ◌||◌}
+use Rattle.std.proofs.Common.{◌≡◌, ℕ, zero, suc, ◌-◌, ◌≤◌, ◌<◌, Bool, true, false, List, [], ◌∷◌, ◌++◌, length, Ok, refl, sym, ap, ◌∙◌, append_assoc, arith}
+use Rattle.std.specs.Prelude.{◌&&◌}
 use Rattle.std.proofs.lemmas.Bool.{ne_eqb}
 use Rattle.std.proofs.lemmas.List.{append-nil}
 use Rattle.flt_syntax.specs.declared.token.Kind.{Kind}
 use Rattle.flt_syntax.specs.declared.token.Kind.TheVariants as k
-use Rattle.flt_syntax.specs.declared.token.Token.{Token}
-use Rattle.flt_syntax.specs.declared.fault.FaultKind.TheVariants.{E06}
 use Rattle.flt_syntax.specs.declared.fault.SyntaxFault.{SyntaxFault}
 use Rattle.flt_syntax.specs.declared.filter.Action.{Action}
-use Rattle.flt_syntax.specs.declared.filter.Action.TheVariants.{SetNumber, ReadValue, ReadFile, WriteValue, ClearContext, ClearOperation}
+use Rattle.flt_syntax.specs.declared.filter.Action.TheVariants.{SetNumber}
 use Rattle.flt_syntax.specs.declared.filter.Condition.{Condition}
 use Rattle.flt_syntax.specs.declared.filter.Condition.TheVariants as made
-use Rattle.flt_syntax.specs.declared.filter.FallibleCall.{FallibleCall}
 use Rattle.flt_syntax.specs.declared.filter.PlainCall.{PlainCall}
 use Rattle.flt_syntax.specs.declared.filter.Statement.{Statement}
 use Rattle.flt_syntax.specs.declared.filter.Statement.TheVariants as statements_made
@@ -28,22 +25,22 @@ use Rattle.flt_syntax.specs.declared.variable.RemovedVariable.{RemovedVariable}
 use Rattle.flt_syntax.specs.Lex.{same_kind}
 use Rattle.flt_syntax.specs.ActionGrammar as g
 use Rattle.flt_syntax.specs.ActionGrammar.{AtomAt, ExpressionAt, ActionAt, TestAt, ConditionAt}
-use Rattle.flt_syntax.specs.CallGrammar.{PlainAt, FallibleAt}
+use Rattle.flt_syntax.specs.CallGrammar.{PlainAt}
 use Rattle.flt_syntax.specs.Grammar as s
 use Rattle.flt_syntax.specs.Grammar.{line, StatementAt, ElseAt, BlockAt, StatementsAt}
 use Rattle.flt_syntax.specs.Words as words
 use Rattle.flt_syntax.specs.Words.{Next, Meant, NumberAt, ContextAt}
-use Rattle.flt_syntax.specs.Operand.{context_variable, context_variable_of, removed_variable_of, operation_variable, number_variable_of, atom_by, atom, leading_atom}
+use Rattle.flt_syntax.specs.Operand.{context_variable, removed_variable_of, operation_variable, number_variable_of, atom_by, atom, leading_atom}
 use Rattle.flt_syntax.specs.Scope.{Scope}
-use Rattle.flt_syntax.specs.Status.{begins_status, optional_status}
+use Rattle.flt_syntax.specs.Status.{optional_status}
 use Rattle.flt_syntax.specs.Action.{expression_by, expression, number_by, set_number, clear_context, clear_operation, write_value, word_statement_by, word_statement, simple_statement}
 use Rattle.flt_syntax.specs.Call.{fallible_call, plain_call}
 use Rattle.flt_syntax.specs.Condition.{context_test, operation_test, comparison_by, number_test, word_test_by, word_test, condition}
-use Rattle.flt_syntax.specs.Statement.{max_turns, otherwise, choice, repetition, statement_by, statement, statements_from, statements, braced, block}
-use Rattle.flt_syntax.specs.Cursor.{Input, Outcome, Parser, and_then, ◌>>=◌, ◌>>◌, ◌<$>◌, pure, peek, front, kind, next, position, refusal, refuse, unknown, fail, sees, eat, expect, number_within, given}
-use Rattle.flt_syntax.proofs.Sound.{differ, none_some}
+use Rattle.flt_syntax.specs.Statement.{max_turns, otherwise, choice, repetition, statement_by, statement, statements_from, statements, block}
+use Rattle.flt_syntax.specs.Cursor.{Input, Parser, and_then, ◌<$>◌, kind, next, refusal, unknown, sees, expect, number_within}
+use Rattle.flt_syntax.proofs.Sound.{differ}
 use Rattle.flt_syntax.proofs.SoundStatements.{suc_some}
-use Rattle.flt_syntax.proofs.Complete.{then_again, kind_is, rest_is, left_is, means, sees_it, expect_again, eat_again, eat_none, context_again, number_seen, within_again, apart, other, left_false, right_false, none_of, some_of, is_number, is_context, is_removed, is_tail, goes_on, is_close, has_blocks, unstarted, not_simple, is_plain, is_fallible, number_simple, context_simple, removed_simple, plain_simple, context_number, number_context, removed_number, number_removed, removed_context, is_variable, plain_variable, fallible_variable, Follows, no_tail, follows_open, follows_close, next_less, meant_less, number_less}
+use Rattle.flt_syntax.proofs.Complete.{then_again, kind_is, rest_is, left_is, means, sees_it, expect_again, eat_again, eat_none, context_again, within_again, apart, other, left_false, right_false, none_of, some_of, is_number, is_context, is_removed, goes_on, is_close, has_blocks, unstarted, not_simple, is_plain, is_fallible, number_simple, context_simple, removed_simple, plain_simple, context_number, number_context, removed_number, number_removed, removed_context, is_variable, plain_variable, fallible_variable, Follows, no_tail, follows_open, follows_close, next_less, meant_less, number_less}
 use Rattle.flt_syntax.proofs.CompleteCalls.{operation_again, fallible_again, plain_again, optional_status_again, fallible_begins, plain_begins, fallible_less, plain_less, optional_status_less}
 
 -- ---- atoms

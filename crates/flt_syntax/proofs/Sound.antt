@@ -1,21 +1,17 @@
 -- What is read is spelled so.
-use Rattle.std.proofs.Common.{◌≡◌, ◌≢◌, ℕ, zero, suc, ◌-◌, ◌≤◌, Bool, true, false, cond, List, [], ◌∷◌, ◌++◌, length, Result, Ok, Err, refl, sym, ap, subst, ◌∙◌, append_assoc, rules, arith}
+use Rattle.std.proofs.Common.{◌≡◌, Bool, true, false, cond, [], ◌∷◌, Ok, Err, refl, sym, ap, ◌∙◌, rules}
 use Rattle.std.specs.Prelude.{Option, Some, None, if◌then◌else◌}
-use Rattle.std.proofs.lemmas.List.{append-nil}
 use denote.Enum.Bare.{same_true, true_same}
 use Rattle.flt_syntax.specs.contracts.token.Kind.{the_type}
 use Rattle.flt_syntax.specs.declared.token.Kind.{Kind}
 use Rattle.flt_syntax.specs.declared.token.Kind.TheVariants as k
 use Rattle.flt_syntax.specs.declared.token.Token.{Token}
 use Rattle.flt_syntax.specs.declared.fault.SyntaxFault.{SyntaxFault}
-use Rattle.flt_syntax.specs.declared.filter.Status.{Status}
-use Rattle.flt_syntax.specs.declared.variable.ContextVariable.{ContextVariable}
 use Rattle.flt_syntax.specs.Lex.{Text, same_kind}
 use Rattle.flt_syntax.specs.Words as words
 use Rattle.flt_syntax.specs.Words.{Next, Meant, NameAt, NumberAt, ContextAt, OptionalAt}
-use Rattle.flt_syntax.specs.Spelling.{Spells}
-use Rattle.flt_syntax.specs.Operand.{context_variable, context_variable_of, with_context}
-use Rattle.flt_syntax.specs.Cursor.{Input, Outcome, Parser, and_then, ◌>>=◌, ◌>>◌, ◌<$>◌, pure, front, kind, next, is_word, bytes_of, refusal, refuse, unknown, fail, sees, eat, expect, name, number_within, known_or}
+use Rattle.flt_syntax.specs.Operand.{context_variable, context_variable_of}
+use Rattle.flt_syntax.specs.Cursor.{Input, Outcome, and_then, front, kind, next, is_word, bytes_of, refusal, unknown, sees, eat, expect, name, known_or}
 
 -- what holds of the value and of what is left, where there is no fault
 pub data Gives {A : Type 0} (R : A → Input → Type 0) : Outcome A → Type 0 where
@@ -45,7 +41,7 @@ pub differ : false ≡ true → ⊥
 differ e = cc
 
 pub took : (i : Input) (kd : Kind) → same_kind k.End kd ≡ false → kind i ≡ kd → Next kd i (next i)
-took [] kd other e = elim (differ (cc (ap (λ x. same_kind x kd) e, kind_self kd, other))) [ ]
+took [] kd other e = elim (differ (sym other ∙ ap (λ x. same_kind x kd) e ∙ kind_self kd)) [ ]
 took (t ∷ i) kd other e = words.next e
 
 expect_by : (i : Input) (kd : Kind) (b : Bool) → same_kind k.End kd ≡ false → sees kd i ≡ b → Gives (λ (_ : Unit {0}) o. Next kd i o) (if b then Ok (tt {0}, next i) else Err (refusal i))

@@ -1,11 +1,10 @@
 -- What is read is spelled so: heads, callbacks and whole texts.
-use Rattle.std.proofs.Common.{◌≡◌, ◌≢◌, ℕ, zero, suc, ◌+◌, ◌-◌, ◌≤◌, ◌<◌, Bool, true, false, not, cond, nat_lt, List, [], ◌∷◌, ◌++◌, map, length, length-append, Result, Ok, Err, refl, sym, ap, subst, ◌∙◌, append_assoc, rules, arith}
-use Rattle.std.specs.Prelude.{Option, Some, None, option_map, is_some, if◌then◌else◌, IsTrue, ◌&&◌}
+use Rattle.std.proofs.Common.{◌≡◌, ℕ, zero, suc, ◌+◌, ◌-◌, ◌≤◌, ◌<◌, Bool, true, false, nat_lt, List, [], ◌∷◌, ◌++◌, length, length-append, Result, Ok, Err, refl, sym, ap, subst, ◌∙◌, append_assoc, arith}
+use Rattle.std.specs.Prelude.{Option, Some, None, option_map, is_some, if◌then◌else◌, IsTrue}
 use Rattle.std.specs.List.{list_all}
 use Rattle.std.proofs.lemmas.Bool.{ltb-true, ltb-false}
 use Rattle.std.proofs.lemmas.List.{append-nil}
 use Rattle.flt_rules.specs.declared.call.LockKind.{LockKind}
-use Rattle.flt_rules.specs.declared.place.Operation.{Operation}
 use Rattle.flt_syntax.specs.declared.token.Kind.{Kind}
 use Rattle.flt_syntax.specs.declared.token.Kind.TheVariants as k
 use Rattle.flt_syntax.specs.declared.fault.FaultKind.TheVariants.{E04, E05, E06, E07}
@@ -13,22 +12,21 @@ use Rattle.flt_syntax.specs.declared.fault.SyntaxFault.{SyntaxFault}
 use Rattle.flt_syntax.specs.declared.filter.Callback.{Callback}
 use Rattle.flt_syntax.specs.declared.filter.Filter.{Filter}
 use Rattle.flt_syntax.specs.declared.filter.Head.{Head}
-use Rattle.flt_syntax.specs.declared.filter.Head.TheVariants.{Pre, Post, Canceled, DeferredPre, DeferredPost, Generic}
+use Rattle.flt_syntax.specs.declared.filter.Head.TheVariants.{Canceled}
 use Rattle.flt_syntax.specs.declared.filter.Lock.{Lock}
 use Rattle.flt_syntax.specs.declared.filter.Position.{Position}
-use Rattle.flt_syntax.specs.declared.filter.Statement.{Statement}
 use Rattle.flt_syntax.specs.Lex.{Text, same_kind, tokens}
 use Rattle.flt_syntax.specs.Grammar as g
 use Rattle.flt_syntax.specs.Grammar.{line, HeadAt, CallbackAt, CallbacksAt, LocksAt, QueueAt, FileAt}
 use Rattle.flt_syntax.specs.Spelling.{AreNewLocks, is_declared, AreNewCallbacks, AreWhole, IsServed, Spells}
-use Rattle.flt_syntax.specs.Words.{Next, Meant, NameAt, NumberAt}
-use Rattle.flt_syntax.specs.Scope.{Scope, spelled}
-use Rattle.flt_syntax.specs.Statement.{statements, block}
+use Rattle.flt_syntax.specs.Words.{Next, Meant, NameAt}
+use Rattle.flt_syntax.specs.Scope.{Scope}
 use Rattle.flt_syntax.specs.Measures.{is_small, are_small}
-use Rattle.flt_syntax.specs.Head.{max_callbacks, operation_of, operation, has_event, has_routine, event_by, event, new_event, new_name, new_routine, new_head_by, new_head, crowded, head}
-use Rattle.flt_syntax.specs.Whole.{first_of, first_some, missing, lacks_pre, callback_fault, first_fault, queue_fault, whole_fault}
-use Rattle.flt_syntax.specs.File.{max_text, max_altitude, max_locks, max_depth, max_repeats, lock_kind_of, lock_kind, has_lock, new_lock, lock, locks_from, locks, queue, measured, callback, callbacks_from, callbacks, file, unless_fault, whole, filter_of}
-use Rattle.flt_syntax.specs.Cursor.{Input, Outcome, Parser, and_then, ◌>>=◌, ◌>>◌, ◌<$>◌, pure, front, kind, next, position, refusal, refuse, fault, fault_at, fail, sees, eat, expect}
+use Rattle.flt_syntax.specs.Head.{max_callbacks, operation_of, operation, has_event, has_routine, event_by, event, new_event, new_routine, new_head_by, new_head, crowded, head}
+use Rattle.flt_syntax.specs.Whole.{first_of, missing, lacks_pre, callback_fault, first_fault, queue_fault, whole_fault}
+use Rattle.flt_syntax.specs.File.{max_text, max_altitude, max_locks, max_depth, max_repeats, lock_kind_of, lock_kind, has_lock, lock, locks_from, locks, queue, callback, callbacks_from, callbacks, file, unless_fault, whole, filter_of}
+use Rattle.flt_syntax.specs.Cursor.{Input, Outcome, ◌>>=◌, pure, kind, next, position, refusal, fault, fail, sees}
+use Rattle.flt_syntax.proofs.Routines.{finds_all}
 use Rattle.flt_syntax.proofs.Sound.{Gives, gives, fails, then_gives, gives_by, kind_same, took, expect_gives, Eaten, eaten, left, eat_gives, known_gives}
 use Rattle.flt_syntax.proofs.SoundCalls.{within_gives, spelled_gives}
 use Rattle.flt_syntax.proofs.SoundStatements.{statements_gives, block_gives}
@@ -318,7 +316,7 @@ are_whole all [] e = tt
 are_whole all (c ∷ cs) e =
     let both = first_none (callback_fault all c) (first_fault all cs) e in
     let here = callback_none all c both.0 in
-    (here.0, here.1, are_whole all cs both.1)
+    (here.0, finds_all all c.head c.body here.1, are_whole all cs both.1)
 
 pub err_ok : (e : SyntaxFault) (f : Filter) → Err e ≡ Ok f → ⊥
 err_ok e f h = cc

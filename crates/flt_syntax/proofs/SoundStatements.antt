@@ -1,22 +1,17 @@
 -- What is read is spelled so: tests, statements and blocks.
-use Rattle.std.proofs.Common.{◌≡◌, ◌≢◌, ℕ, zero, suc, ◌-◌, ◌≤◌, Bool, true, false, cond, List, [], ◌∷◌, ◌++◌, length, Result, Ok, Err, refl, sym, ap, subst, ◌∙◌, append_assoc, rules, arith}
-use Rattle.std.specs.Prelude.{Option, Some, None, if◌then◌else◌, ◌==◌}
+use Rattle.std.proofs.Common.{◌≡◌, ℕ, zero, suc, ◌-◌, Bool, true, false, List, [], ◌∷◌, ◌++◌, length, Ok, Err, refl, sym, subst, ◌∙◌, append_assoc, arith}
+use Rattle.std.specs.Prelude.{Option, Some, None, if◌then◌else◌}
 use Rattle.std.proofs.lemmas.Bool.{ne_eqb}
 use Rattle.std.proofs.lemmas.List.{append-nil}
 use Rattle.flt_syntax.specs.declared.token.Kind.{Kind}
 use Rattle.flt_syntax.specs.declared.token.Kind.TheVariants as k
-use Rattle.flt_syntax.specs.declared.fault.FaultKind.TheVariants.{E06}
 use Rattle.flt_syntax.specs.declared.fault.SyntaxFault.{SyntaxFault}
-use Rattle.flt_syntax.specs.declared.filter.Action.{Action}
-use Rattle.flt_syntax.specs.declared.filter.Condition.{Condition}
 use Rattle.flt_syntax.specs.declared.filter.Condition.TheVariants as made
 use Rattle.flt_syntax.specs.declared.filter.Statement.{Statement}
 use Rattle.flt_syntax.specs.declared.filter.Statement.TheVariants as statements_made
-use Rattle.flt_syntax.specs.declared.filter.Test.{Test}
 use Rattle.flt_syntax.specs.declared.variable.Atom.{Atom}
 use Rattle.flt_syntax.specs.declared.variable.Atom.TheVariants as atoms
 use Rattle.flt_syntax.specs.declared.variable.ContextVariable.{ContextVariable}
-use Rattle.flt_syntax.specs.declared.variable.Expression.{Expression}
 use Rattle.flt_syntax.specs.declared.variable.NumberVariable.{NumberVariable}
 use Rattle.flt_syntax.specs.declared.variable.RemovedVariable.{RemovedVariable}
 use Rattle.flt_syntax.specs.Lex.{same_kind}
@@ -24,13 +19,13 @@ use Rattle.flt_syntax.specs.ActionGrammar as g
 use Rattle.flt_syntax.specs.ActionGrammar.{AtomAt, ExpressionAt, ActionAt, TestAt, ConditionAt}
 use Rattle.flt_syntax.specs.Grammar as s
 use Rattle.flt_syntax.specs.Grammar.{line, StatementAt, ElseAt, BlockAt, StatementsAt}
-use Rattle.flt_syntax.specs.Words.{Next, Meant, NumberAt, ContextAt}
-use Rattle.flt_syntax.specs.Operand.{context_variable, context_variable_of, removed_variable_of, operation_variable, number_variable_of, atom_by, atom, leading_atom}
+use Rattle.flt_syntax.specs.Words.{Next, Meant, ContextAt}
+use Rattle.flt_syntax.specs.Operand.{context_variable_of, removed_variable_of, number_variable_of, atom_by, atom, leading_atom}
 use Rattle.flt_syntax.specs.Scope.{Scope}
 use Rattle.flt_syntax.specs.Action.{expression_by, expression, number_by, set_number, clear_context, clear_operation, write_value, word_statement_by, word_statement, simple_statement}
 use Rattle.flt_syntax.specs.Condition.{context_test, operation_test, comparison_by, number_test, word_test_by, word_test, condition}
 use Rattle.flt_syntax.specs.Statement.{max_turns, otherwise, choice, repetition, statement_by, statement, statements_from, statements, braced, block}
-use Rattle.flt_syntax.specs.Cursor.{Input, Outcome, Parser, and_then, ◌>>=◌, ◌>>◌, ◌<$>◌, pure, front, kind, next, position, refusal, refuse, unknown, fail, sees, eat, expect, given}
+use Rattle.flt_syntax.specs.Cursor.{Input, and_then, ◌>>=◌, ◌<$>◌, pure, front, kind, next, refusal, unknown, sees, expect, given}
 use Rattle.flt_syntax.proofs.Sound.{Gives, gives, fails, then_gives, gives_by, kind_same, took, expect_gives, Eaten, eaten, left, eat_gives, meant_at, context_gives}
 use Rattle.flt_syntax.proofs.SoundCalls.{number_at, within_gives, operation_gives, fallible_gives, plain_gives, optional_status_gives}
 

@@ -1,7 +1,7 @@
 -- How statements without blocks are read.
-use Rattle.std.specs.Prelude.{ℕ, Option, Some, None, Ok, Err}
+use Rattle.std.specs.Prelude.{ℕ}
 use Rattle.flt_syntax.specs.Call.{plain_call}
-use Rattle.flt_syntax.specs.Cursor.{Parser, and_then, ◌>>=◌, ◌>>◌, pure, ◌<$>◌, kind, peek, take_token, given, expect}
+use Rattle.flt_syntax.specs.Cursor.{Parser, ◌>>=◌, ◌>>◌, pure, ◌<$>◌, kind, peek, take_token, given, expect}
 use Rattle.flt_syntax.specs.Operand.{atom, leading_atom, context_variable, operation_variable, context_variable_of, number_variable_of, removed_variable_of}
 use Rattle.flt_syntax.specs.Scope.{Scope}
 use Rattle.flt_syntax.specs.Status.{optional_status}

@@ -1,8 +1,8 @@
 -- The grammar of tests, and of statements that neither call nor branch. Each constructor is a production.
-use Rattle.std.specs.Prelude.{ℕ, List, [], ◌∷◌, Option, Some, None}
+use Rattle.std.specs.Prelude.{ℕ}
 use Rattle.flt_syntax.specs.CallGrammar.{FallibleAt}
 use Rattle.flt_syntax.specs.Cursor.{Input}
-use Rattle.flt_syntax.specs.Operand.{number_variable_of, removed_variable_of, operation_variable_of}
+use Rattle.flt_syntax.specs.Tables.{number_variable_of, removed_variable_of, operation_variable_of}
 use Rattle.flt_syntax.specs.Scope.{Scope}
 use Rattle.flt_syntax.specs.Words.{Next, Meant, NumberAt, ContextAt}
 use Rattle.flt_syntax.specs.declared.filter.Action.{Action}
@@ -12,7 +12,6 @@ use Rattle.flt_syntax.specs.declared.filter.Condition.TheVariants as made
 use Rattle.flt_syntax.specs.declared.filter.FallibleCall.{FallibleCall}
 use Rattle.flt_syntax.specs.declared.filter.Test.{Test}
 use Rattle.flt_syntax.specs.declared.filter.Test.TheVariants.{ContextIsSome, OperationIsSome, Equal, Less, IsIrp, IsDraining}
-use Rattle.flt_syntax.specs.declared.token.Kind.{Kind}
 use Rattle.flt_syntax.specs.declared.token.Kind.TheVariants as k
 use Rattle.flt_syntax.specs.declared.variable.Atom.{Atom}
 use Rattle.flt_syntax.specs.declared.variable.Atom.TheVariants as atoms

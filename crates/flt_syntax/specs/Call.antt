@@ -3,7 +3,6 @@ use Rattle.std.specs.Prelude.{if◌then◌else◌, Option, Some, None}
 use Rattle.flt_rules.specs.declared.call.Anchor.{Anchor}
 use Rattle.flt_rules.specs.declared.call.Anchor.TheVariants.{Stream, Instance}
 use Rattle.flt_rules.specs.declared.call.Existing.{Existing}
-use Rattle.flt_rules.specs.declared.call.Existing.TheVariants as kept
 use Rattle.flt_rules.specs.declared.call.LockKind.{LockKind}
 use Rattle.flt_rules.specs.declared.call.LockKind.TheVariants.{Spin, Fast, Push}
 use Rattle.flt_syntax.specs.Cursor.{Parser, ◌>>=◌, ◌>>◌, pure, ◌<$>◌, kind, refusal, refuse, peek, take_token, known_or, sees, eat, expect}
@@ -17,14 +16,9 @@ use Rattle.flt_syntax.specs.declared.filter.PlainCall.TheVariants as plain
 use Rattle.flt_syntax.specs.declared.token.Kind.{Kind}
 use Rattle.flt_syntax.specs.declared.token.Kind.TheVariants as k
 use Rattle.flt_syntax.specs.declared.variable.ContextVariable.{ContextVariable}
+pub use Rattle.flt_syntax.specs.Tables.{existing_of}
 
 -- ---- parts of calls
-
--- what a set does where a context is there already, by its word
-abbrev pub existing_of : Kind → Option Existing
-existing_of k.KeepIfExists = Some kept.Keep
-existing_of k.ReplaceIfExists = Some kept.Replace
-existing_of _ = None
 
 -- "KEEP_IF_EXISTS" | "REPLACE_IF_EXISTS"
 unfoldable pub existing : Parser Existing

@@ -1,17 +1,15 @@
 -- The grammar of statuses and of calls. Each constructor is a production.
-use Rattle.std.specs.Prelude.{◌≡◌, ◌≢◌, ℕ, Bool, true, List, [], ◌∷◌, Option, Some, None}
+use Rattle.std.specs.Prelude.{◌≡◌, ◌≢◌, true, Option, Some, None}
 use Rattle.flt_rules.specs.declared.call.Anchor.TheVariants.{Stream, Instance}
 use Rattle.flt_rules.specs.declared.call.Existing.{Existing}
 use Rattle.flt_rules.specs.declared.call.LockKind.{LockKind}
 use Rattle.flt_rules.specs.declared.call.LockKind.TheVariants.{Spin, Fast, Push}
 use Rattle.flt_rules.specs.declared.call.LockNumber.{LockNumber}
 use Rattle.flt_rules.specs.declared.status.FinalStatus.{FinalStatus}
-use Rattle.flt_syntax.specs.Call.{existing_of}
 use Rattle.flt_syntax.specs.Cursor.{Input, position}
 use Rattle.flt_syntax.specs.Lex.{Text}
-use Rattle.flt_syntax.specs.Operand.{removed_variable_of, operation_variable_of}
 use Rattle.flt_syntax.specs.Scope.{Scope, lock_number}
-use Rattle.flt_syntax.specs.Status.{final_status_of, bare_status_of}
+use Rattle.flt_syntax.specs.Tables.{existing_of, final_status_of, bare_status_of, removed_variable_of, operation_variable_of}
 use Rattle.flt_syntax.specs.Words.{Next, Meant, NameAt, ContextAt, OptionalAt}
 use Rattle.flt_syntax.specs.declared.filter.FallibleCall.{FallibleCall}
 use Rattle.flt_syntax.specs.declared.filter.FallibleCall.TheVariants as fallible
@@ -20,7 +18,6 @@ use Rattle.flt_syntax.specs.declared.filter.PlainCall.TheVariants as plain
 use Rattle.flt_syntax.specs.declared.filter.Routine.{Routine}
 use Rattle.flt_syntax.specs.declared.filter.Status.{Status}
 use Rattle.flt_syntax.specs.declared.filter.Status.TheVariants as statuses
-use Rattle.flt_syntax.specs.declared.token.Kind.{Kind}
 use Rattle.flt_syntax.specs.declared.token.Kind.TheVariants as k
 use Rattle.flt_syntax.specs.declared.variable.ContextVariable.{ContextVariable}
 use Rattle.flt_syntax.specs.declared.variable.OperationVariable.{OperationVariable}

@@ -3,7 +3,10 @@ use Rattle.std.specs.Prelude.{◌≡◌, ℕ, zero, suc, ◌-◌, Bool, if◌the
 use Rattle.std.specs.List.{list_any}
 use Rattle.std.specs.Str.{bytes_eq}
 use Rattle.flt_rules.specs.declared.call.LockKind.{LockKind}
+<<<<<<< HEAD
 use Rattle.flt_rules.specs.declared.call.LockKind.TheVariants as locked
+=======
+>>>>>>> a28a777aef8d7cc9061f9db1d446c168e62d4b11
 use Rattle.flt_syntax.specs.Cursor.{Outcome, Parser, ◌>>=◌, ◌>>◌, pure, kind, place, refusal, refuse, fault, known_or, sees, eat, expect, number_within}
 use Rattle.flt_syntax.specs.Head.{head}
 use Rattle.flt_syntax.specs.Lex.{Text, tokens}
@@ -21,37 +24,10 @@ use Rattle.flt_syntax.specs.declared.filter.Lock.{Lock}
 use Rattle.flt_syntax.specs.declared.filter.Position.{Position}
 use Rattle.flt_syntax.specs.declared.token.Kind.{Kind}
 use Rattle.flt_syntax.specs.declared.token.Kind.TheVariants as k
-
--- ---- limits
-
--- how many bytes a text may have
-abbrev pub max_text : ℕ
-max_text = 65536
-
--- the highest altitude; the lowest is 1
-abbrev pub max_altitude : ℕ
-max_altitude = 4294967295
-
--- how many locks a filter may have
-abbrev pub max_locks : ℕ
-max_locks = 8
-
--- how deep blocks nest, the callback's own counted
-abbrev pub max_depth : ℕ
-max_depth = 32
-
--- how deep repeats nest
-abbrev pub max_repeats : ℕ
-max_repeats = 4
+pub use Rattle.flt_syntax.specs.Limits.{max_text, max_altitude, max_locks, max_depth, max_repeats}
+pub use Rattle.flt_syntax.specs.Tables.{lock_kind_of}
 
 -- ---- locks
-
--- the kind of lock that a word is
-abbrev pub lock_kind_of : Kind → Option LockKind
-lock_kind_of k.Spin = Some locked.Spin
-lock_kind_of k.Fast = Some locked.Fast
-lock_kind_of k.Push = Some locked.Push
-lock_kind_of _ = None
 
 -- "spin" | "fast" | "push"
 unfoldable pub lock_kind : Parser LockKind

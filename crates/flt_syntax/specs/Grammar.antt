@@ -5,11 +5,10 @@ use Rattle.flt_rules.specs.declared.place.Operation.{Operation}
 use Rattle.flt_syntax.specs.ActionGrammar.{ActionAt, ConditionAt}
 use Rattle.flt_syntax.specs.CallGrammar.{PlainAt, OptionalStatusAt}
 use Rattle.flt_syntax.specs.Cursor.{Input, kind, position}
-use Rattle.flt_syntax.specs.File.{max_depth, max_repeats, lock_kind_of}
-use Rattle.flt_syntax.specs.Head.{operation_of}
 use Rattle.flt_syntax.specs.Lex.{Text}
 use Rattle.flt_syntax.specs.Scope.{Scope}
-use Rattle.flt_syntax.specs.Statement.{max_turns}
+use Rattle.flt_syntax.specs.Limits.{max_depth, max_repeats, max_turns}
+use Rattle.flt_syntax.specs.Tables.{lock_kind_of, operation_of}
 use Rattle.flt_syntax.specs.Words.{Next, Meant, NameAt, NumberAt}
 use Rattle.flt_syntax.specs.declared.filter.Action.{Action}
 use Rattle.flt_syntax.specs.declared.filter.Callback.{Callback}
@@ -23,7 +22,6 @@ use Rattle.flt_syntax.specs.declared.filter.Position.{Position}
 use Rattle.flt_syntax.specs.declared.filter.Statement.{Statement}
 use Rattle.flt_syntax.specs.declared.filter.Statement.TheVariants.{Act, Call, Return, If, Repeat}
 use Rattle.flt_syntax.specs.declared.filter.Status.{Status}
-use Rattle.flt_syntax.specs.declared.token.Kind.{Kind}
 use Rattle.flt_syntax.specs.declared.token.Kind.TheVariants as k
 
 -- the line of the first token

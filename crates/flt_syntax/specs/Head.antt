@@ -5,7 +5,6 @@ use Rattle.std.specs.Str.{bytes_eq}
 use denote.Enum.Bare.{sameb}
 use Rattle.flt_rules.specs.contracts.place.Operation.{the_type}
 use Rattle.flt_rules.specs.declared.place.Operation.{Operation}
-use Rattle.flt_rules.specs.declared.place.Operation.TheVariants as operations
 use Rattle.flt_syntax.specs.Cursor.{Input, Parser, and_then, ◌>>=◌, ◌>>◌, pure, ◌<$>◌, kind, next, refusal, refuse, fault_at, fail, peek, take_token, known_or}
 use Rattle.flt_syntax.specs.Lex.{Text}
 use Rattle.flt_syntax.specs.Scope.{spelled}
@@ -16,18 +15,8 @@ use Rattle.flt_syntax.specs.declared.filter.Head.{Head}
 use Rattle.flt_syntax.specs.declared.filter.Head.TheVariants.{Pre, Post, Canceled, DeferredPre, DeferredPost, Generic}
 use Rattle.flt_syntax.specs.declared.token.Kind.{Kind}
 use Rattle.flt_syntax.specs.declared.token.Kind.TheVariants as k
-
--- how many callbacks there may be
-abbrev pub max_callbacks : ℕ
-max_callbacks = 16
-
--- OP: the operation that a word is
-abbrev pub operation_of : Kind → Option Operation
-operation_of k.Create = Some operations.Create
-operation_of k.Read = Some operations.Read
-operation_of k.Write = Some operations.Write
-operation_of k.Cleanup = Some operations.Cleanup
-operation_of _ = None
+pub use Rattle.flt_syntax.specs.Limits.{max_callbacks}
+pub use Rattle.flt_syntax.specs.Tables.{operation_of}
 
 -- OP
 unfoldable pub operation : Parser Operation

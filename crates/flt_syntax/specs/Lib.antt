@@ -8,11 +8,13 @@ pub mod File
 pub mod Grammar
 pub mod Head
 pub mod Lex
+pub mod Limits
 pub mod Measures
 pub mod Operand
 pub mod Scope
 pub mod Spelling
 pub mod Statement
 pub mod Status
+pub mod Tables
 pub mod Whole
 pub mod Words

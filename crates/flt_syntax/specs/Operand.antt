@@ -10,55 +10,10 @@ use Rattle.flt_syntax.specs.declared.token.Kind.TheVariants as k
 use Rattle.flt_syntax.specs.declared.variable.Atom.{Atom}
 use Rattle.flt_syntax.specs.declared.variable.Atom.TheVariants as atoms
 use Rattle.flt_syntax.specs.declared.variable.ContextVariable.{ContextVariable}
-use Rattle.flt_syntax.specs.declared.variable.ContextVariable.TheVariants as contexts
 use Rattle.flt_syntax.specs.declared.variable.NumberVariable.{NumberVariable}
-use Rattle.flt_syntax.specs.declared.variable.NumberVariable.TheVariants as numbers
 use Rattle.flt_syntax.specs.declared.variable.OperationVariable.{OperationVariable}
-use Rattle.flt_syntax.specs.declared.variable.OperationVariable.TheVariants as operations
 use Rattle.flt_syntax.specs.declared.variable.RemovedVariable.{RemovedVariable}
-use Rattle.flt_syntax.specs.declared.variable.RemovedVariable.TheVariants as removed
-
--- N: the variable that a word is
-abbrev pub number_variable_of : Kind → Option NumberVariable
-number_variable_of k.N0 = Some numbers.N0
-number_variable_of k.N1 = Some numbers.N1
-number_variable_of k.N2 = Some numbers.N2
-number_variable_of k.N3 = Some numbers.N3
-number_variable_of k.N4 = Some numbers.N4
-number_variable_of k.N5 = Some numbers.N5
-number_variable_of k.N6 = Some numbers.N6
-number_variable_of k.N7 = Some numbers.N7
-number_variable_of _ = None
-
--- C
-abbrev pub context_variable_of : Kind → Option ContextVariable
-context_variable_of k.C0 = Some contexts.C0
-context_variable_of k.C1 = Some contexts.C1
-context_variable_of k.C2 = Some contexts.C2
-context_variable_of k.C3 = Some contexts.C3
-context_variable_of k.C4 = Some contexts.C4
-context_variable_of k.C5 = Some contexts.C5
-context_variable_of k.C6 = Some contexts.C6
-context_variable_of k.C7 = Some contexts.C7
-context_variable_of k.Arg = Some contexts.Arg
-context_variable_of _ = None
-
--- O
-abbrev pub removed_variable_of : Kind → Option RemovedVariable
-removed_variable_of k.O0 = Some removed.O0
-removed_variable_of k.O1 = Some removed.O1
-removed_variable_of k.O2 = Some removed.O2
-removed_variable_of k.O3 = Some removed.O3
-removed_variable_of _ = None
-
--- D
-abbrev pub operation_variable_of : Kind → Option OperationVariable
-operation_variable_of k.O0 = Some (operations.Removed removed.O0)
-operation_variable_of k.O1 = Some (operations.Removed removed.O1)
-operation_variable_of k.O2 = Some (operations.Removed removed.O2)
-operation_variable_of k.O3 = Some (operations.Removed removed.O3)
-operation_variable_of k.Data = Some operations.Data
-operation_variable_of _ = None
+pub use Rattle.flt_syntax.specs.Tables.{number_variable_of, context_variable_of, removed_variable_of, operation_variable_of}
 
 -- a variable of contexts where nothing else may stand
 unfoldable pub context_variable : Parser ContextVariable

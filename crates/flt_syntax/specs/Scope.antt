@@ -1,12 +1,12 @@
 -- What a text declares before its callbacks, and how the names are read that its calls use.
-use Rattle.std.specs.Prelude.{ℕ, Bool, ◌&&◌, if◌then◌else◌, List, Option, Some, None, Ok, Err, position}
+use Rattle.std.specs.Prelude.{ℕ, Bool, ◌&&◌, if◌then◌else◌, List, Option, Some, None, position}
 use Rattle.std.specs.Str.{bytes_eq}
 use denote.Enum.Bare.{sameb}
 use Rattle.flt_rules.specs.contracts.call.LockKind.{the_type}
 use Rattle.flt_rules.specs.Call.{lock_at}
 use Rattle.flt_rules.specs.declared.call.LockKind.{LockKind}
 use Rattle.flt_rules.specs.declared.call.LockNumber.{LockNumber}
-use Rattle.flt_syntax.specs.Cursor.{Parser, and_then, ◌>>=◌, ◌>>◌, pure, ◌<$>◌, place, bytes_of, fault_at, found_or, name, fail}
+use Rattle.flt_syntax.specs.Cursor.{Parser, and_then, ◌>>=◌, pure, place, bytes_of, fault_at, found_or, name, fail}
 use Rattle.flt_syntax.specs.Lex.{Text}
 use Rattle.flt_syntax.specs.declared.fault.FaultKind.TheVariants.{E04}
 use Rattle.flt_syntax.specs.declared.filter.Lock.{Lock}

@@ -1,18 +1,15 @@
 -- How statements and blocks are read.
-use Rattle.std.specs.Prelude.{ℕ, zero, suc, ◌-◌, Bool, if◌then◌else◌, ◌==◌, List, [], ◌∷◌, ◌++◌, length, Ok, Err}
+use Rattle.std.specs.Prelude.{ℕ, zero, suc, ◌-◌, if◌then◌else◌, ◌==◌, List, [], ◌∷◌, ◌++◌, length, Ok, Err}
 use Rattle.flt_syntax.specs.Action.{simple_statement}
 use Rattle.flt_syntax.specs.Condition.{condition}
-use Rattle.flt_syntax.specs.Cursor.{Parser, and_then, ◌>>=◌, ◌>>◌, pure, ◌<$>◌, place, refuse, fail, peek, take_token, sees, eat, expect, number_within, too_deep}
+use Rattle.flt_syntax.specs.Cursor.{Parser, ◌>>=◌, ◌>>◌, pure, place, refuse, fail, peek, take_token, sees, eat, expect, number_within, too_deep}
 use Rattle.flt_syntax.specs.Scope.{Scope}
 use Rattle.flt_syntax.specs.declared.fault.FaultKind.TheVariants.{E06}
 use Rattle.flt_syntax.specs.declared.filter.Statement.{Statement}
 use Rattle.flt_syntax.specs.declared.filter.Statement.TheVariants.{If, Repeat}
 use Rattle.flt_syntax.specs.declared.token.Kind.{Kind}
 use Rattle.flt_syntax.specs.declared.token.Kind.TheVariants as k
-
--- the greatest number of turns
-abbrev pub max_turns : ℕ
-max_turns = 1000
+pub use Rattle.flt_syntax.specs.Limits.{max_turns}
 
 -- `inner` reads the blocks inside, given how many repeats may stand in one another there.
 module _ (scope : Scope) (inner : ℕ → Parser (List Statement)) where

@@ -1,36 +1,17 @@
 -- How callback statuses are read.
 use Rattle.std.specs.Prelude.{Bool, true, false, ◌||◌, is_some, if◌then◌else◌, Option, Some, None, Ok}
 use Rattle.flt_rules.specs.declared.status.FinalStatus.{FinalStatus}
-use Rattle.flt_rules.specs.declared.status.FinalStatus.TheVariants as finals
 use Rattle.flt_syntax.specs.Cursor.{Parser, ◌>>=◌, ◌>>◌, ◌<$>◌, kind, refusal, peek, take_token, known_or}
 use Rattle.flt_syntax.specs.Operand.{with_context}
 use Rattle.flt_syntax.specs.declared.filter.Status.{Status}
 use Rattle.flt_syntax.specs.declared.filter.Status.TheVariants as statuses
 use Rattle.flt_syntax.specs.declared.token.Kind.{Kind}
 use Rattle.flt_syntax.specs.declared.token.Kind.TheVariants as k
-
--- S: the final status that a word is
-abbrev pub final_status_of : Kind → Option FinalStatus
-final_status_of k.StatusSuccess = Some finals.Success
-final_status_of k.StatusAccessDenied = Some finals.AccessDenied
-final_status_of k.StatusCancelled = Some finals.Cancelled
-final_status_of k.StatusInsufficientResources = Some finals.InsufficientResources
-final_status_of k.StatusInvalidParameter = Some finals.InvalidParameter
-final_status_of k.StatusPending = Some finals.Pending
-final_status_of _ = None
+pub use Rattle.flt_syntax.specs.Tables.{final_status_of, bare_status_of}
 
 -- S
 unfoldable pub final_status : Parser FinalStatus
 final_status = λ i. known_or (refusal i) (final_status_of (kind i)) i
-
--- the status that is one word
-abbrev pub bare_status_of : Kind → Option Status
-bare_status_of k.NoCallback = Some statuses.NoCallback
-bare_status_of k.Pending = Some statuses.Pending
-bare_status_of k.DisallowFastIo = Some statuses.DisallowFastIo
-bare_status_of k.FinishedProcessing = Some statuses.FinishedProcessing
-bare_status_of k.MoreProcessingRequired = Some statuses.MoreProcessingRequired
-bare_status_of _ = None
 
 -- a status of one word
 unfoldable pub bare_status : Parser Status

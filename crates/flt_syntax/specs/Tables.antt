@@ -1,0 +1,104 @@
+-- What the words of the grammar stand for.
+use Rattle.std.specs.Prelude.{Option, Some, None}
+use Rattle.flt_rules.specs.declared.call.Existing.{Existing}
+use Rattle.flt_rules.specs.declared.call.Existing.TheVariants as kept
+use Rattle.flt_rules.specs.declared.call.LockKind.{LockKind}
+use Rattle.flt_rules.specs.declared.call.LockKind.TheVariants as locked
+use Rattle.flt_rules.specs.declared.place.Operation.{Operation}
+use Rattle.flt_rules.specs.declared.place.Operation.TheVariants as operating
+use Rattle.flt_rules.specs.declared.status.FinalStatus.{FinalStatus}
+use Rattle.flt_rules.specs.declared.status.FinalStatus.TheVariants as finals
+use Rattle.flt_syntax.specs.declared.filter.Status.{Status}
+use Rattle.flt_syntax.specs.declared.filter.Status.TheVariants as statuses
+use Rattle.flt_syntax.specs.declared.token.Kind.{Kind}
+use Rattle.flt_syntax.specs.declared.token.Kind.TheVariants as k
+use Rattle.flt_syntax.specs.declared.variable.ContextVariable.{ContextVariable}
+use Rattle.flt_syntax.specs.declared.variable.ContextVariable.TheVariants as contexts
+use Rattle.flt_syntax.specs.declared.variable.NumberVariable.{NumberVariable}
+use Rattle.flt_syntax.specs.declared.variable.NumberVariable.TheVariants as numbers
+use Rattle.flt_syntax.specs.declared.variable.OperationVariable.{OperationVariable}
+use Rattle.flt_syntax.specs.declared.variable.OperationVariable.TheVariants as operations
+use Rattle.flt_syntax.specs.declared.variable.RemovedVariable.{RemovedVariable}
+use Rattle.flt_syntax.specs.declared.variable.RemovedVariable.TheVariants as removed
+
+-- N: the variable that a word is
+abbrev pub number_variable_of : Kind → Option NumberVariable
+number_variable_of k.N0 = Some numbers.N0
+number_variable_of k.N1 = Some numbers.N1
+number_variable_of k.N2 = Some numbers.N2
+number_variable_of k.N3 = Some numbers.N3
+number_variable_of k.N4 = Some numbers.N4
+number_variable_of k.N5 = Some numbers.N5
+number_variable_of k.N6 = Some numbers.N6
+number_variable_of k.N7 = Some numbers.N7
+number_variable_of _ = None
+
+-- C
+abbrev pub context_variable_of : Kind → Option ContextVariable
+context_variable_of k.C0 = Some contexts.C0
+context_variable_of k.C1 = Some contexts.C1
+context_variable_of k.C2 = Some contexts.C2
+context_variable_of k.C3 = Some contexts.C3
+context_variable_of k.C4 = Some contexts.C4
+context_variable_of k.C5 = Some contexts.C5
+context_variable_of k.C6 = Some contexts.C6
+context_variable_of k.C7 = Some contexts.C7
+context_variable_of k.Arg = Some contexts.Arg
+context_variable_of _ = None
+
+-- O
+abbrev pub removed_variable_of : Kind → Option RemovedVariable
+removed_variable_of k.O0 = Some removed.O0
+removed_variable_of k.O1 = Some removed.O1
+removed_variable_of k.O2 = Some removed.O2
+removed_variable_of k.O3 = Some removed.O3
+removed_variable_of _ = None
+
+-- D
+abbrev pub operation_variable_of : Kind → Option OperationVariable
+operation_variable_of k.O0 = Some (operations.Removed removed.O0)
+operation_variable_of k.O1 = Some (operations.Removed removed.O1)
+operation_variable_of k.O2 = Some (operations.Removed removed.O2)
+operation_variable_of k.O3 = Some (operations.Removed removed.O3)
+operation_variable_of k.Data = Some operations.Data
+operation_variable_of _ = None
+
+-- S: the final status that a word is
+abbrev pub final_status_of : Kind → Option FinalStatus
+final_status_of k.StatusSuccess = Some finals.Success
+final_status_of k.StatusAccessDenied = Some finals.AccessDenied
+final_status_of k.StatusCancelled = Some finals.Cancelled
+final_status_of k.StatusInsufficientResources = Some finals.InsufficientResources
+final_status_of k.StatusInvalidParameter = Some finals.InvalidParameter
+final_status_of k.StatusPending = Some finals.Pending
+final_status_of _ = None
+
+-- the status that is one word
+abbrev pub bare_status_of : Kind → Option Status
+bare_status_of k.NoCallback = Some statuses.NoCallback
+bare_status_of k.Pending = Some statuses.Pending
+bare_status_of k.DisallowFastIo = Some statuses.DisallowFastIo
+bare_status_of k.FinishedProcessing = Some statuses.FinishedProcessing
+bare_status_of k.MoreProcessingRequired = Some statuses.MoreProcessingRequired
+bare_status_of _ = None
+
+-- what a set does where a context is there already, by its word
+abbrev pub existing_of : Kind → Option Existing
+existing_of k.KeepIfExists = Some kept.Keep
+existing_of k.ReplaceIfExists = Some kept.Replace
+existing_of _ = None
+
+-- OP: the operation that a word is
+abbrev pub operation_of : Kind → Option Operation
+operation_of k.Create = Some operating.Create
+operation_of k.Read = Some operating.Read
+operation_of k.Write = Some operating.Write
+operation_of k.Cleanup = Some operating.Cleanup
+operation_of _ = None
+
+-- the kind of lock that a word is
+abbrev pub lock_kind_of : Kind → Option LockKind
+lock_kind_of k.Spin = Some locked.Spin
+lock_kind_of k.Fast = Some locked.Fast
+lock_kind_of k.Push = Some locked.Push
+lock_kind_of _ = None
