@@ -3,10 +3,6 @@ use Rattle.std.specs.Prelude.{◌≡◌, ℕ, zero, suc, ◌-◌, Bool, if◌the
 use Rattle.std.specs.List.{list_any}
 use Rattle.std.specs.Str.{bytes_eq}
 use Rattle.flt_rules.specs.declared.call.LockKind.{LockKind}
-<<<<<<< HEAD
-use Rattle.flt_rules.specs.declared.call.LockKind.TheVariants as locked
-=======
->>>>>>> a28a777aef8d7cc9061f9db1d446c168e62d4b11
 use Rattle.flt_syntax.specs.Cursor.{Outcome, Parser, ◌>>=◌, ◌>>◌, pure, kind, place, refusal, refuse, fault, known_or, sees, eat, expect, number_within}
 use Rattle.flt_syntax.specs.Head.{head}
 use Rattle.flt_syntax.specs.Lex.{Text, tokens}
