@@ -204,12 +204,13 @@ file_at : {text : Text} {i : Input} {f : Filter} → FileAt text i f → 1 ≤ f
     AreNewCallbacks [] f.callbacks → length f.callbacks ≤ max_callbacks → IsTrue (are_small f) → (o : Input) × (file text i ≡ Ok (f, o))
 unfolding file
 file_at (g.file {e = e} {l = l} {o = o} n m x p y q w end) low high new_locks few_locks new_callbacks few_callbacks small =
-    let begins = callbacks_begin w in
-    (o,
-    then_again _ (expect_again n) (then_again _ (spelled_again m) (then_again _ (expect_again x) (then_again _ (within_again 1 max_altitude p low high)
-    (then_again _ (locks_again y (queue_no_lock q begins) (omega (arith, queue_less q, callbacks_less w)) new_locks few_locks)
-    (then_again _ (queue_again q begins)
-    (then_again _ (callbacks_again w end new_callbacks few_callbacks small) refl)))))))
+    let begins = callbacks_begin w in (
+      o,
+      then_again _ (expect_again n) (then_again _ (spelled_again m) (then_again _ (expect_again x) (then_again _ (within_again 1 max_altitude p low high)
+          (then_again _ (locks_again y (queue_no_lock q begins) (omega (arith, queue_less q, callbacks_less w)) new_locks few_locks)
+          (then_again _ (queue_again q begins)
+          (then_again _ (callbacks_again w end new_callbacks few_callbacks small) refl)))))),
+    )
 
 -- ---- the text
 

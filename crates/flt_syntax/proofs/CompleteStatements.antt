@@ -125,8 +125,11 @@ module _ (scope : Scope) (l : ℕ) where
   at_removed : {i a : Input} {x : RemovedVariable} → Meant removed_variable_of i x a → simple_statement scope l i ≡ (statements_made.Act l <$> clear_operation x) i
   unfolding simple_statement
   at_removed {i = i} p =
-      rw (none_of _ (other is_removed is_number (kind i) (removed_number (kind i)) (some_of (means p))),
-      none_of _ (other is_removed is_context (kind i) (removed_context (kind i)) (some_of (means p))), means p) refl
+      rw (
+        none_of _ (other is_removed is_number (kind i) (removed_number (kind i)) (some_of (means p))),
+        none_of _ (other is_removed is_context (kind i) (removed_context (kind i)) (some_of (means p))),
+        means p,
+      ) refl
 
   at_word : (i : Input) → is_variable (kind i) ≡ false → simple_statement scope l i ≡ word_statement scope l i
   unfolding simple_statement
@@ -198,8 +201,11 @@ module _ (scope : Scope) where
   if_number : {i a : Input} {n : NumberVariable} → Meant number_variable_of i n a → condition scope i ≡ (made.Test <$> number_test n) i
   unfolding condition
   if_number {i = i} p =
-      rw (none_of _ (other is_number is_context (kind i) (number_context (kind i)) (some_of (means p))),
-      none_of _ (other is_number is_removed (kind i) (number_removed (kind i)) (some_of (means p))), means p) refl
+      rw (
+        none_of _ (other is_number is_context (kind i) (number_context (kind i)) (some_of (means p))),
+        none_of _ (other is_number is_removed (kind i) (number_removed (kind i)) (some_of (means p))),
+        means p,
+      ) refl
 
   if_word : (i : Input) → is_variable (kind i) ≡ false → condition scope i ≡ word_test scope i
   unfolding condition

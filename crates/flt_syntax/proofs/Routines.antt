@@ -58,7 +58,7 @@ module _ (cs : List Callback) (from : Head) where
   statement_same = ind-Statement Same (λ x y is.
       ap is_none (fold-roll-Statement (Option Position) (missing_step cs from) x)
       ∙ subst (λ z. is_none (missing_step cs from (map-Statement Statement (Option Position) (missing_of cs from) z))
-          ≡ finds_step cs from (map-Statement Statement Bool (statement_finds cs from) z)) is (step_same y)
+      ≡ finds_step cs from (map-Statement Statement Bool (statement_finds cs from) z)) is (step_same y)
       ∙ sym (fold-roll-Statement Bool (finds_step cs from) x))
 
   body_same : (body : List Statement) → is_none (missing cs from body) ≡ finds_routines cs from body

@@ -109,10 +109,10 @@ module _ (scope : Scope) (d r : ℕ) where
   simple_by_gives : (i : Input) (n : Option NumberVariable) (c : Option ContextVariable) (x : Option RemovedVariable) →
       number_variable_of (kind i) ≡ n → context_variable_of (kind i) ≡ c → removed_variable_of (kind i) ≡ x →
       Gives (StatementAt scope d r i)
-          (given n (λ n. statements_made.Act (line i) <$> set_number n)
-          (given c (λ c. statements_made.Act (line i) <$> clear_context c)
-          (given x (λ o. statements_made.Act (line i) <$> clear_operation o)
-          (word_statement scope (line i)))) i)
+      (given n (λ n. statements_made.Act (line i) <$> set_number n)
+      (given c (λ c. statements_made.Act (line i) <$> clear_context c)
+      (given x (λ o. statements_made.Act (line i) <$> clear_operation o)
+      (word_statement scope (line i)))) i)
   simple_by_gives i (Some n) c x e f h = then_gives _ (set_number_gives i n (meant_at number_variable_of i n refl e)) (λ a o p. gives (s.act p))
   simple_by_gives i None (Some c) x e f h = then_gives _ (clear_context_gives i c (meant_at context_variable_of i c refl f)) (λ a o p. gives (s.act p))
   simple_by_gives i None None (Some x) e f h = then_gives _ (clear_operation_gives i x (meant_at removed_variable_of i x refl h)) (λ a o p. gives (s.act p))
@@ -155,10 +155,10 @@ word_test_gives scope i = word_test_by_gives scope i (kind i) refl
 condition_by_gives : (scope : Scope) (i : Input) (c : Option ContextVariable) (x : Option RemovedVariable) (n : Option NumberVariable) →
     context_variable_of (kind i) ≡ c → removed_variable_of (kind i) ≡ x → number_variable_of (kind i) ≡ n →
     Gives (ConditionAt scope i)
-        (given c (λ c. made.Test <$> context_test c)
-        (given x (λ o. made.Test <$> operation_test o)
-        (given n (λ n. made.Test <$> number_test n)
-        (word_test scope))) i)
+    (given c (λ c. made.Test <$> context_test c)
+    (given x (λ o. made.Test <$> operation_test o)
+    (given n (λ n. made.Test <$> number_test n)
+    (word_test scope))) i)
 condition_by_gives scope i (Some c) x n e f h = then_gives _ (context_test_gives i c (meant_at context_variable_of i c refl e)) (λ t o p. gives (g.test p))
 condition_by_gives scope i None (Some x) n e f h = then_gives _ (operation_test_gives i x (meant_at removed_variable_of i x refl f)) (λ t o p. gives (g.test p))
 condition_by_gives scope i None None (Some n) e f h = then_gives _ (number_test_gives i n (meant_at number_variable_of i n refl h)) (λ t o p. gives (g.test p))

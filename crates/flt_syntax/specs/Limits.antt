@@ -1,4 +1,4 @@
--- The limits of this project's own on a text.
+-- The limits on a text, which are this project's own.
 use Rattle.std.specs.Prelude.{ℕ}
 
 -- how many bytes a text may have

@@ -79,7 +79,7 @@ IsServed (Some at) cs = has_event Canceled cs ≡ true
 pub record Spells (text : Text) (f : Filter) : Type 0 where
   -- the text has at most 65,536 bytes
   pub short : length text ≤ max_text
-  -- the grammar reads its tokens as the filter
+  -- by the grammar its tokens spell the filter
   pub grammar : FileAt text (tokens text) f
   -- the altitude is from 1 to 4294967295
   pub low : 1 ≤ f.altitude

@@ -231,5 +231,4 @@ pub fn parse(alloc: Global, text: &[u8]) -> Result<Tree, ParseError>
 #[tactic(auto, using(crate::proofs::Laws::only_one))]
 pub fn spells_at_most_one()
     ensures { SpellsAtMostOne }
-{
-}
+{}
