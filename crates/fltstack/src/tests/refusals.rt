@@ -13,14 +13,19 @@ type Example = (
     &'static str,
 );
 
-fn tells_each(rt: &impl Abort, alloc: Global, examples: &[Example]) -> Result<(), Fail> {
-    for (text, states, line) in examples {
-        let cert = certificate(alloc, states)?;
-        let files = [("text", text.as_bytes()), ("cert", cert.as_bytes())];
-        let ran = run(alloc, &["check", "text", "cert"], &files)?;
-        assert_eq!(rt; ran.out.as_slice(), line.as_bytes(), "of {text}");
-        assert_eq!(rt; ran.status, u8::from(*line != "accepted\n"));
-    }
+/// The line is what is printed, with its exit status.
+fn tells(
+    rt: &impl Abort,
+    alloc: Global,
+    text: &str,
+    states: &[&[&str]],
+    line: &str,
+) -> Result<(), Fail> {
+    let cert = certificate(alloc, states)?;
+    let files = [("text", text.as_bytes()), ("cert", cert.as_bytes())];
+    let ran = run(alloc, &["check", "text", "cert"], &files)?;
+    assert_eq!(rt; ran.out.as_slice(), line.as_bytes(), "of {text}");
+    assert_eq!(rt; ran.status, u8::from(line != "accepted\n"));
     Ok(())
 }
 
@@ -102,7 +107,10 @@ const CONTEXTS: [Example; 11] = [
 
 #[test]
 fn tells_what_becomes_of_contexts(rt: HostRuntime) -> Result<(), Fail> {
-    tells_each(&rt, rt.alloc(), &CONTEXTS)
+    for (text, states, line) in CONTEXTS {
+        tells(&rt, rt.alloc(), text, states, line)?;
+    }
+    Ok(())
 }
 
 const OPERATIONS: [Example; 7] = [
@@ -176,7 +184,10 @@ const OPERATIONS: [Example; 7] = [
 
 #[test]
 fn tells_what_becomes_of_operations(rt: HostRuntime) -> Result<(), Fail> {
-    tells_each(&rt, rt.alloc(), &OPERATIONS)
+    for (text, states, line) in OPERATIONS {
+        tells(&rt, rt.alloc(), text, states, line)?;
+    }
+    Ok(())
 }
 
 const LEVELS: [Example; 4] = [
@@ -232,7 +243,10 @@ const LEVELS: [Example; 4] = [
 
 #[test]
 fn tells_levels_and_places(rt: HostRuntime) -> Result<(), Fail> {
-    tells_each(&rt, rt.alloc(), &LEVELS)
+    for (text, states, line) in LEVELS {
+        tells(&rt, rt.alloc(), text, states, line)?;
+    }
+    Ok(())
 }
 
 const LOCKS: [Example; 6] = [
@@ -294,7 +308,10 @@ const LOCKS: [Example; 6] = [
 
 #[test]
 fn tells_what_becomes_of_locks(rt: HostRuntime) -> Result<(), Fail> {
-    tells_each(&rt, rt.alloc(), &LOCKS)
+    for (text, states, line) in LOCKS {
+        tells(&rt, rt.alloc(), text, states, line)?;
+    }
+    Ok(())
 }
 
 const CERTIFICATES: [Example; 5] = [
@@ -337,5 +354,8 @@ const CERTIFICATES: [Example; 5] = [
 
 #[test]
 fn tells_what_a_certificate_lacks(rt: HostRuntime) -> Result<(), Fail> {
-    tells_each(&rt, rt.alloc(), &CERTIFICATES)
+    for (text, states, line) in CERTIFICATES {
+        tells(&rt, rt.alloc(), text, states, line)?;
+    }
+    Ok(())
 }
