@@ -7,7 +7,7 @@ const WORKED: &str =
     "fltcert 1\ncallback 0 5\n0 111111111 11112 3 1 -\n1 111111111 11112 1 1 -\n2 111111111 11114 1 1 -\n3 111111111 11112 3 1 -\n4 !\ncallback 1 4\n0 111111113 11112 1 1 -\n1 111111112 11112 1 1 -\n2 111111115 11112 1 1 -\n3 111111115 11114 1 1 -\nend\n";
 
 /// Texts that are no certificate, and the first line that isn't as asked.
-const REFUSED: [(&str, usize); 30] = [
+const REFUSED: [(&str, usize); 31] = [
     ("", 1),
     ("fltcert 1", 1),
     ("fltcert 2\ncallback 0 1\n0 !\nend\n", 1),
@@ -20,6 +20,10 @@ const REFUSED: [(&str, usize); 30] = [
     ("fltcert 1\ncallback 0 01\n0 !\nend\n", 2),
     ("fltcert 1\ncallback 0 513\n0 !\nend\n", 2),
     ("fltcert 1\ncallback 0 1 \n0 !\nend\n", 2),
+    (
+        "fltcert 1\ncallback 0 1\n0 !\ncallback 1 1\n0 !\ncallback 2 1\n0 !\ncallback 3 1\n0 !\ncallback 4 1\n0 !\ncallback 5 1\n0 !\ncallback 6 1\n0 !\ncallback 7 1\n0 !\ncallback 8 1\n0 !\ncallback 9 1\n0 !\ncallback 10 1\n0 !\ncallback 11 1\n0 !\ncallback 12 1\n0 !\ncallback 13 1\n0 !\ncallback 14 1\n0 !\ncallback 15 1\n0 !\ncallback 16 1\n0 !\nend\n",
+        34,
+    ),
     ("fltcert 1\ncallback 0 1\n1 !\nend\n", 3),
     ("fltcert 1\ncallback 0 1\n00 !\nend\n", 3),
     ("fltcert 1\ncallback 0 1\n0 ! \nend\n", 3),
