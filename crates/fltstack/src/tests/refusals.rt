@@ -1,7 +1,7 @@
 //! Texts with their certificates and what `check` says of them. Each certificate is what a walk over the points has found
 //! when it stops, or the least one where the text is accepted.
 
-use super::{certificate, run};
+use super::{Outcome, certificate, run};
 use std::alloc::Global;
 use std::process::Abort;
 use std::test::Fail;
@@ -13,6 +13,11 @@ type Example = (
     &'static str,
 );
 
+fn check(alloc: Global, text: &str, cert: &str) -> Result<Outcome, Fail> {
+    let files = [("text", text.as_bytes()), ("cert", cert.as_bytes())];
+    Ok(run(alloc, &["check", "text", "cert"], &files)?)
+}
+
 /// The line is what is printed, with its exit status.
 fn tells(
     rt: &impl Abort,
@@ -22,8 +27,7 @@ fn tells(
     line: &str,
 ) -> Result<(), Fail> {
     let cert = certificate(alloc, states)?;
-    let files = [("text", text.as_bytes()), ("cert", cert.as_bytes())];
-    let ran = run(alloc, &["check", "text", "cert"], &files)?;
+    let ran = check(alloc, text, cert.as_str())?;
     assert_eq!(rt; ran.out.as_slice(), line.as_bytes(), "of {text}");
     assert_eq!(rt; ran.status, u8::from(line != "accepted\n"));
     Ok(())
