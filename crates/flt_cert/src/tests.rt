@@ -74,6 +74,15 @@ fn worked_certificate(rt: HostRuntime) -> Result<(), Fail> {
     Ok(())
 }
 
+/// `tools/refuse-allocations.sh tests flt_cert memory` refuses each request for memory in turn.
+#[test]
+fn reads_and_writes_within_memory(rt: HostRuntime) -> Result<(), Fail> {
+    let cert = read(rt.alloc(), WORKED.as_bytes())?;
+    let text = write(rt.alloc(), &cert)?;
+    assert_eq!(rt; text.as_slice(), WORKED.as_bytes());
+    Ok(())
+}
+
 #[test]
 fn refused_texts(rt: HostRuntime) {
     for (text, line) in REFUSED {

@@ -8,6 +8,7 @@ use std::test::Fail;
 
 mod changes;
 mod examples;
+mod memory;
 mod refusals;
 
 /// Inputs by their names.
