@@ -1,4 +1,5 @@
 pub mod LockLaws
 pub mod Order
+pub mod Outcomes
 pub mod SetLemmas
 pub mod Stays

@@ -1,6 +1,7 @@
 pub mod Breaks
 pub mod Entry
 pub mod Locks
+pub mod Outcome
 pub mod SetLaws
 pub mod Sets
 pub mod Setting

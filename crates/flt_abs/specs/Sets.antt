@@ -73,13 +73,14 @@ modes n = record { irp = bit_and n 1 == 1; fast = bit_and n 2 == 2 }
 abbrev pub mode_bits : ModeSet → ℕ
 mode_bits s = bit_of s.irp 1 + bit_of s.fast 2
 
--- the union of two sets
+-- the sets of one mode
 abbrev pub irp_alone : ModeSet
 irp_alone = record { irp = true; fast = false }
 
 abbrev pub fast_alone : ModeSet
 fast_alone = record { irp = false; fast = true }
 
+-- the union of two sets
 abbrev pub either_mode : ModeSet → ModeSet → ModeSet
 either_mode a b = record { irp = a.irp || b.irp; fast = a.fast || b.fast }
 
@@ -106,13 +107,14 @@ draining n = record { no = bit_and n 1 == 1; yes = bit_and n 2 == 2 }
 abbrev pub draining_bits : DrainingSet → ℕ
 draining_bits s = bit_of s.no 1 + bit_of s.yes 2
 
--- the union of two sets
+-- the sets of one answer
 abbrev pub no_alone : DrainingSet
 no_alone = record { no = true; yes = false }
 
 abbrev pub yes_alone : DrainingSet
 yes_alone = record { no = false; yes = true }
 
+-- the union of two sets
 abbrev pub either_draining : DrainingSet → DrainingSet → DrainingSet
 either_draining a b = record { no = a.no || b.no; yes = a.yes || b.yes }
 
