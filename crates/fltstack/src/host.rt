@@ -74,5 +74,9 @@ impl<W: Write + Drop> Sink for Stream<W> {
 
 /// The words of the command line, the program's own name left out.
 pub fn arguments(rt: &HostRuntime) -> io::Result<Vec<String>> {
-    Ok(env::args(rt)?.skip(1).collect(rt.alloc())?)
+    let mut words = Vec::new(rt.alloc());
+    for word in env::args(rt)?.skip(1) {
+        words.push(word)?;
+    }
+    Ok(words)
 }
