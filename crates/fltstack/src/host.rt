@@ -74,6 +74,7 @@ impl<W: Write + Drop> Sink for Stream<W> {
 
 /// The words of the command line, the program's own name left out.
 pub fn arguments(rt: &HostRuntime) -> io::Result<Vec<String>> {
+    // `collect` asks for room for all of them first, and goes on where that is refused.
     let mut words = Vec::new(rt.alloc());
     for word in env::args(rt)?.skip(1) {
         words.push(word)?;
