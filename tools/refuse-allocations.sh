@@ -1,0 +1,105 @@
+#!/usr/bin/env bash
+# Refuses each request for memory in turn, one a run, and looks for an answer that takes the place of want of memory.
+#
+#   tools/refuse-allocations.sh program [WORD..] < INPUT
+#       runs the program on these words. Where a request was refused it must end with status 2, with the line
+#       `out of memory` and nothing else; where none was, as it ends with all memory that it asks for.
+#   tools/refuse-allocations.sh tests CRATE [WORD]
+#       runs each test of a crate that has WORD in its name. Where a request was refused it must end with the error that
+#       says so, which it carries out by `?`; where none was, it must pass. A failed assertion is a wrong answer.
+#
+# It runs what `rt run` and `rt test` built, with a C compiler's help ($CC, else cc): malloc and realloc of
+# tools/refuse_allocation.c stand before those of the C library. The same without a C compiler, but with a build for each
+# request: `rt try --fail-alloc N` and `rt try --test --fail-alloc N`.
+set -euo pipefail
+
+top=$(cd "$(dirname "$0")/.." && pwd)
+work=$(mktemp -d)
+trap 'rm -rf "$work"' EXIT
+"${CC:-cc}" -O2 -Wall -shared -fPIC -o "$work/refuse.so" "$top/tools/refuse_allocation.c"
+
+# The most requests that one run may make before this gives up.
+most=100000
+
+fail() {
+    echo "$1" >&2
+    sed 's/^/    /' "$work/out" "$work/err" >&2
+    exit 1
+}
+
+# run N PROGRAM WORD..: with the N-th request refused, or none if N is 0. Leaves status, out, err and, if one was refused, mark.
+run() {
+    local number=$1
+    shift
+    rm -f "$work/mark"
+    status=0
+    REFUSE_ALLOCATION=$number REFUSE_MARK="$work/mark" LD_PRELOAD="$work/refuse.so" \
+        "$@" <"$work/in" >"$work/out" 2>"$work/err" || status=$?
+}
+
+try_program() {
+    local program=$top/crates/fltstack/out/fltstack
+    [ -x "$program" ] || fail "there is no $program: \`rt run\` in crates/fltstack makes it"
+    run 0 "$program" "$@"
+    local wanted=$status
+    cp "$work/out" "$work/wanted-out"
+    cp "$work/err" "$work/wanted-err"
+    for ((number = 1; number <= most; number++)); do
+        run "$number" "$program" "$@"
+        if [ -e "$work/mark" ]; then
+            [ "$status" = 2 ] && [ ! -s "$work/out" ] && [ "$(cat "$work/err")" = "out of memory" ] ||
+                fail "request $number refused: status $status, and not \`out of memory\` alone"
+        else
+            [ "$status" = "$wanted" ] && cmp -s "$work/out" "$work/wanted-out" && cmp -s "$work/err" "$work/wanted-err" ||
+                fail "no request refused: status $status in place of $wanted, or another output"
+            echo "$((number - 1)) requests refused in turn: out of memory each time, else status $wanted"
+            return
+        fi
+    done
+    fail "$most requests were refused, and there are more"
+}
+
+try_test() {
+    local program=$1 name=$2
+    for ((number = 1; number <= most; number++)); do
+        run "$number" "$program" "$name"
+        if [ -e "$work/mark" ]; then
+            [ "$status" = 101 ] && grep -qE '^error: (OutOfMemory|AllocError|AllocFailed)' "$work/err" ||
+                fail "$name, request $number refused: status $status, and not want of memory"
+        else
+            [ "$status" = 0 ] || fail "$name, no request refused: status $status"
+            echo "$name: $((number - 1)) requests refused in turn"
+            return
+        fi
+    done
+    fail "$name: $most requests were refused, and there are more"
+}
+
+try_tests() {
+    local crate=$1 word=${2:-} names name
+    local program=$top/crates/$crate/out/${crate}_tests
+    [ -x "$program" ] || fail "there is no $program: \`rt test\` in crates/$crate makes it"
+    names=$("$program" --list | sed -n 's/: test$//p' | grep -F -- "$word") || fail "no test has $word in its name"
+    for name in $names; do
+        try_test "$program" "$name"
+    done
+}
+
+: >"$work/in"
+: >"$work/out"
+: >"$work/err"
+case ${1:-} in
+program)
+    shift
+    cat >"$work/in"
+    try_program "$@"
+    ;;
+tests)
+    [ $# -ge 2 ] || fail "usage: tools/refuse-allocations.sh tests CRATE [WORD]"
+    shift
+    try_tests "$@"
+    ;;
+*)
+    fail "usage: tools/refuse-allocations.sh program [WORD..] | tests CRATE [WORD]"
+    ;;
+esac
