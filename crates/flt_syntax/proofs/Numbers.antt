@@ -23,6 +23,7 @@ any_of : {X Y : Type 0} (f : X → Y) (p : Y → Bool) (xs : List X) → list_an
 any_of f p [] = refl
 any_of f p (x ∷ xs) = ap (λ b. p (f x) || b) (any_of f p xs)
 
+-- where a test first passes, by the first element
 place_step : {X : Type 0} (p : X → Bool) (x : X) (xs : List X) → position p (x ∷ xs) ≡ (if p x then Some 0 else option_map (λ n. 1 + n) (position p xs))
 place_step p x xs = by (p x) refl
   where
@@ -45,6 +46,7 @@ number_of name names = sym (place_of (λ k. k.now) (bytes_eq name) names)
 pub is_there : (name : List ℕ) (names : List (Bor (List ℕ))) → list_any (λ k. bytes_eq name k.now) names ≡ list_any (bytes_eq name) (map (λ k. k.now) names)
 is_there name names = sym (any_of (λ k. k.now) (bytes_eq name) names)
 
+-- names that differ where they lie differ as texts
 others : {X Y : Type 0} (f : X → Y) (eq : Y → Y → Bool) (x : Y) (xs : List X) → AllByRecursion (λ y. eq x (f y) ≡ false) xs → AllByRecursion (λ y. eq x y ≡ false) (map f xs)
 others f eq x [] h = h
 others f eq x (y ∷ xs) h = (h.0, others f eq x xs h.1)
@@ -76,10 +78,6 @@ never : (b : Bool) → (b && false) ≡ false
 never true = refl
 never false = refl
 
-always : (b : Bool) → (b && true) ≡ b
-always true = refl
-always false = refl
-
 kept_behind : (kind : LockKind) (i : ℕ) (l : Option Lock) → kept kind (1 + i) l ≡ option_map (λ n. 1 + n) (kept kind i l)
 kept_behind kind i None = refl
 kept_behind kind i (Some l) = by (same_lock_kind l.kind kind)
@@ -96,6 +94,7 @@ of_kind_behind kind l ls None = refl
 of_kind_behind kind l ls (Some i) = ap (kept kind (1 + i)) (behind l ls i) ∙ kept_behind kind i (slice_get ls i)
 
 module _ (kind : LockKind) (name : Text) where
+  -- a lock of the kind and the name
   Fits : Lock → Bool
   Fits l = same_lock_kind l.kind kind && bytes_eq l.name name
 
