@@ -4,6 +4,7 @@ pub mod CompleteFiles
 pub mod CompleteStatements
 pub mod Laws
 pub mod Limits
+pub mod Numbers
 pub mod Routines
 pub mod Sound
 pub mod SoundCalls

@@ -18,7 +18,6 @@ use Rattle.flt_syntax.specs.declared.filter.Callback.{Callback}
 use Rattle.flt_syntax.specs.declared.filter.Filter.{Filter}
 use Rattle.flt_syntax.specs.declared.filter.Lock.{Lock}
 use Rattle.flt_syntax.specs.declared.filter.Position.{Position}
-use Rattle.flt_syntax.specs.declared.token.Kind.{Kind}
 use Rattle.flt_syntax.specs.declared.token.Kind.TheVariants as k
 pub use Rattle.flt_syntax.specs.Limits.{max_text, max_altitude, max_locks, max_depth, max_repeats}
 pub use Rattle.flt_syntax.specs.Tables.{lock_kind_of}

@@ -10,6 +10,7 @@ pub mod Head
 pub mod Lex
 pub mod Limits
 pub mod Measures
+pub mod Names
 pub mod Operand
 pub mod Scope
 pub mod Spelling

@@ -5,7 +5,6 @@ use Rattle.flt_syntax.specs.Cursor.{Parser, and_then, ◌>>=◌, pure, ◌<$>◌
 use Rattle.flt_syntax.specs.contracts.variable.ContextVariable.{the_type}
 use Rattle.flt_syntax.specs.declared.fault.FaultKind.TheVariants.{E08}
 use Rattle.flt_syntax.specs.declared.fault.SyntaxFault.{SyntaxFault}
-use Rattle.flt_syntax.specs.declared.token.Kind.{Kind}
 use Rattle.flt_syntax.specs.declared.token.Kind.TheVariants as k
 use Rattle.flt_syntax.specs.declared.variable.Atom.{Atom}
 use Rattle.flt_syntax.specs.declared.variable.Atom.TheVariants as atoms

@@ -8,10 +8,11 @@ ghost use Rattle.std.specs.Prelude.{◌≡◌};
 use crate::cursor::Tokens;
 use crate::fault::{FaultKind, ParseError};
 use crate::filter::{FallibleCall, PlainCall};
+use crate::naming::{lock_named, routine};
 use crate::operand::{
     context_variable, operation_variable, other_context, removed_variable, with_context,
 };
-use crate::scope::{Scope, lock_named, routine};
+use crate::scope::Scope;
 use crate::status::status;
 use crate::token::Kind;
 use crate::variable::ContextVariable;

@@ -4,18 +4,21 @@ ghost use Rattle.flt_syntax.specs.Cursor.{Reads};
 ghost use Rattle.flt_syntax.specs.Lex.{tokens};
 ghost use Rattle.flt_syntax.specs.Measures.{is_small, are_small};
 ghost use Rattle.flt_syntax.specs.File as spec;
+ghost use Rattle.flt_syntax.specs.Names.{lock_names, names_of, routine_names};
 ghost use Rattle.flt_syntax.specs.Scope.{scope_of};
 ghost use Rattle.flt_syntax.specs.Spelling.{Spells, SpellsAtMostOne};
 ghost use Rattle.std.specs.List.{list_all};
-ghost use Rattle.std.specs.Prelude.{◌≡◌, ◌≤◌, length, IsTrue, IfOk, IfErr, MatchResult, Ok};
+ghost use Rattle.std.specs.Prelude.{◌≡◌, ◌≤◌, [], ◌∷◌, ◌++◌, length, IsTrue, IfOk, IfErr, MatchResult, Ok};
 
-use crate::cursor::{Tokens, fault};
+use crate::cursor::{Tokens, bytes_of, fault};
 use crate::fault::{FaultKind, ParseError};
 use crate::filter::{Callback, Filter, Lock, Position};
 use crate::head::head;
 use crate::lex;
 use crate::measure::is_small;
-use crate::scope::{Scope, spelled};
+use crate::names::Names;
+use crate::naming::spelled;
+use crate::scope::Scope;
 use crate::statement::statements;
 use crate::token::Kind;
 use crate::tree::Tree;
@@ -60,46 +63,51 @@ fn lock_kind(tokens: &mut Tokens<'_>) -> Result<LockKind, ParseError>
     }
 }
 
-fn has_lock(name: &[u8], locks: &[Lock]) -> bool
-    ensures { result ≡ spec.has_lock name.now locks.now }
-{
-    locks.iter().any(|l| l.name.as_slice() == name)
-}
-
 /// A lock, behind its first word and the locks that were found.
-#[tactic(auto, unfolding(crate::specs::File::lock))]
-fn lock(
+#[tactic(auto, using(crate::proofs::Numbers::lock_is_there), unfolding(crate::specs::File::lock, crate::specs::Scope::spelled))]
+fn lock<'a>(
     alloc: Global,
-    text: &[u8],
+    text: &'a [u8],
     tokens: &mut Tokens<'_>,
     found: &[Lock],
+    names: &mut Names<'a>,
 ) -> Result<Lock, ParseError>
-    ensures { Reads (spec.lock text.now found.now tokens.old.rest.now) result tokens.new.rest.now }
+    requires { names.old ≡ lock_names found.now }
+    ensures reads { Reads (spec.lock text.now found.now tokens.old.rest.now) result tokens.new.rest.now }
+    ensures names { IfOk result (λ l. names.new ≡ names.old ++ l.name ∷ []) }
 {
     let kind = lock_kind(tokens)?;
     let twice = tokens.fault(FaultKind::E05);
     let limit = tokens.fault(FaultKind::E06);
-    let name = spelled(alloc, text, tokens)?;
-    if has_lock(name.as_slice(), found) {
+    let name = bytes_of(text, tokens.name()?);
+    if !names.add(name)? {
         return Err(twice);
     }
     if found.len() < MAX_LOCKS {
+        let name = Items::from_slice(alloc, name)?;
         Ok(Lock { kind, name })
     } else {
         Err(limit)
     }
 }
 
-#[tactic(auto, using(crate::proofs::Turns::turn_left, crate::proofs::Turns::none_left), unfolding(crate::specs::File::locks, crate::specs::File::locks_from))]
-fn locks(alloc: Global, text: &[u8], tokens: &mut Tokens<'_>) -> Result<Items<Lock>, ParseError>
-    ensures { Reads (spec.locks text.now tokens.old.rest.now) result tokens.new.rest.now }
+#[tactic(auto, using(crate::proofs::Turns::turn_left, crate::proofs::Turns::none_left, crate::proofs::Numbers::one_lock_more), unfolding(crate::specs::File::locks, crate::specs::File::locks_from))]
+fn locks<'a>(
+    alloc: Global,
+    text: &'a [u8],
+    tokens: &mut Tokens<'_>,
+    names: &mut Names<'a>,
+) -> Result<Items<Lock>, ParseError>
+    requires { names.old ≡ [] }
+    ensures reads { Reads (spec.locks text.now tokens.old.rest.now) result tokens.new.rest.now }
+    ensures names { IfOk result (λ ls. names.new ≡ lock_names ls) }
 {
     let mut found = Items::new(alloc);
     for _turn in 0..tokens.left() {
         if !tokens.eat(Kind::Lock) {
             return Ok(found);
         }
-        let next = lock(alloc, text, tokens, found.as_slice())?;
+        let next = lock(alloc, text, tokens, found.as_slice(), names)?;
         found.push(next)?;
     }
     Err(tokens.refuse())
@@ -120,18 +128,21 @@ fn queue(tokens: &mut Tokens<'_>) -> Option<Position>
 
 /// A callback behind those that were found.
 #[tactic(auto, unfolding(crate::specs::File::callback))]
-fn callback(
+fn callback<'a>(
     alloc: Global,
-    scope: &Scope<'_>,
+    scope: &Scope<'a>,
     tokens: &mut Tokens<'_>,
     found: &[Callback],
+    routines: &mut Names<'a>,
 ) -> Result<Callback, ParseError>
+    requires { routines.old ≡ routine_names found.now }
     ensures reads { Reads (spec.callback (scope_of scope.now) found.now tokens.old.rest.now) result tokens.new.rest.now }
     ensures small { IfOk result (λ c. IsTrue (is_small c)) }
+    ensures names { IfOk result (λ c. routines.new ≡ routines.old ++ names_of c.head) }
 {
     let position = tokens.position();
     let limit = tokens.fault(FaultKind::E06);
-    let head = head(alloc, scope.text, tokens, found)?;
+    let head = head(alloc, scope.text, tokens, found, routines)?;
     tokens.expect(Kind::OpenBrace)?;
     let body = statements(alloc, scope, tokens, MAX_DEPTH - 1, MAX_REPEATS)?;
     let end_line = tokens.position().line;
@@ -149,7 +160,7 @@ fn callback(
     }
 }
 
-#[tactic(auto, using(crate::proofs::Turns::turn_left, crate::proofs::Turns::none_left, crate::proofs::Limits::all_small), unfolding(crate::specs::File::callbacks, crate::specs::File::callbacks_from))]
+#[tactic(auto, using(crate::proofs::Turns::turn_left, crate::proofs::Turns::none_left, crate::proofs::Limits::all_small, crate::proofs::Numbers::one_callback_more), unfolding(crate::specs::File::callbacks, crate::specs::File::callbacks_from))]
 fn callbacks(
     alloc: Global,
     scope: &Scope<'_>,
@@ -159,8 +170,9 @@ fn callbacks(
     ensures small { IfOk result (λ cs. IsTrue (list_all is_small cs)) }
 {
     let mut found = Items::new(alloc);
+    let mut routines = Names::new(alloc);
     for _turn in 0..tokens.left() {
-        let next = callback(alloc, scope, tokens, found.as_slice())?;
+        let next = callback(alloc, scope, tokens, found.as_slice(), &mut routines)?;
         found.push(next)?;
         if tokens.sees(Kind::End) {
             return Ok(found);
@@ -170,7 +182,7 @@ fn callbacks(
 }
 
 #[tactic(auto, unfolding(crate::specs::File::file))]
-fn file(alloc: Global, text: &[u8], tokens: &mut Tokens<'_>) -> Result<Filter, ParseError>
+fn file<'a>(alloc: Global, text: &'a [u8], tokens: &mut Tokens<'_>) -> Result<Filter, ParseError>
     ensures reads { Reads (spec.file text.now tokens.old.rest.now) result tokens.new.rest.now }
     ensures small { IfOk result (λ f. IsTrue (are_small f)) }
 {
@@ -178,11 +190,13 @@ fn file(alloc: Global, text: &[u8], tokens: &mut Tokens<'_>) -> Result<Filter, P
     let name = spelled(alloc, text, tokens)?;
     tokens.expect(Kind::Altitude)?;
     let altitude = tokens.number_within(1, MAX_ALTITUDE)?;
-    let locks = locks(alloc, text, tokens)?;
+    let mut names: Names<'a> = Names::new(alloc);
+    let locks = locks(alloc, text, tokens, &mut names)?;
     let queue = queue(tokens);
     let scope = Scope {
         text,
         locks: locks.as_slice(),
+        names: &names,
         has_queue: queue.is_some(),
     };
     let callbacks = callbacks(alloc, &scope, tokens)?;

@@ -2,12 +2,13 @@
 
 ghost use Rattle.flt_syntax.specs.Cursor.{Reads};
 ghost use Rattle.flt_syntax.specs.Head as spec;
-ghost use Rattle.std.specs.Prelude.{◌≡◌};
+ghost use Rattle.flt_syntax.specs.Names.{names_of, routine_names};
+ghost use Rattle.std.specs.Prelude.{◌≡◌, [], ◌∷◌, ◌++◌, IfOk};
 
-use crate::cursor::Tokens;
+use crate::cursor::{Tokens, bytes_of};
 use crate::fault::{FaultKind, ParseError};
 use crate::filter::{Callback, Head};
-use crate::scope::spelled;
+use crate::names::Names;
 use crate::token::Kind;
 use flt_rules::Operation;
 use sqlite_items::Items;
@@ -64,27 +65,10 @@ pub fn has_event(head: &Head, callbacks: &[Callback]) -> bool
     callbacks.iter().any(|c| same_event(&c.head, head))
 }
 
-/// Whether it is a routine of the name.
-fn is_named(name: &[u8], head: &Head) -> bool
-    ensures { result ≡ spec.is_named name.now head.now }
-{
-    match head {
-        Head::DeferredPre(routine) | Head::DeferredPost(routine) | Head::Generic(routine) => {
-            routine.as_slice() == name
-        }
-        _ => false,
-    }
-}
-
-fn has_routine(name: &[u8], callbacks: &[Callback]) -> bool
-    ensures { result ≡ spec.has_routine name.now callbacks.now }
-{
-    callbacks.iter().any(|c| is_named(name, &c.head))
-}
-
 #[tactic(auto, unfolding(crate::specs::Head::event))]
 fn event(tokens: &mut Tokens<'_>) -> Result<Head, ParseError>
-    ensures { Reads (spec.event tokens.old.rest.now) result tokens.new.rest.now }
+    ensures reads { Reads (spec.event tokens.old.rest.now) result tokens.new.rest.now }
+    ensures names { IfOk result (λ h. names_of h ≡ []) }
 {
     match tokens.peek() {
         Kind::Pre => {
@@ -106,7 +90,8 @@ fn event(tokens: &mut Tokens<'_>) -> Result<Head, ParseError>
 /// A head for an event that none of the callbacks before is for.
 #[tactic(auto, unfolding(crate::specs::Head::new_event))]
 fn new_event(tokens: &mut Tokens<'_>, found: &[Callback]) -> Result<Head, ParseError>
-    ensures { Reads (spec.new_event found.now tokens.old.rest.now) result tokens.new.rest.now }
+    ensures reads { Reads (spec.new_event found.now tokens.old.rest.now) result tokens.new.rest.now }
+    ensures names { IfOk result (λ h. names_of h ≡ []) }
 {
     let twice = tokens.fault(FaultKind::E05);
     let head = event(tokens)?;
@@ -117,37 +102,52 @@ fn new_event(tokens: &mut Tokens<'_>, found: &[Callback]) -> Result<Head, ParseE
 }
 
 /// The name of a routine, behind its head word.
-#[tactic(auto, unfolding(crate::specs::Head::new_routine))]
-fn new_routine(
+#[tactic(auto, using(crate::proofs::Numbers::routine_is_there), unfolding(crate::specs::Head::new_routine, crate::specs::Scope::spelled))]
+fn new_routine<'a>(
     alloc: Global,
-    text: &[u8],
+    text: &'a [u8],
     tokens: &mut Tokens<'_>,
     found: &[Callback],
+    routines: &mut Names<'a>,
 ) -> Result<Items<u8>, ParseError>
-    ensures { Reads (spec.new_routine text.now found.now tokens.old.rest.now) result tokens.new.rest.now }
+    requires { routines.old ≡ routine_names found.now }
+    ensures reads { Reads (spec.new_routine text.now found.now tokens.old.rest.now) result tokens.new.rest.now }
+    ensures names { IfOk result (λ name. routines.new ≡ routines.old ++ name ∷ []) }
 {
     tokens.take();
     let twice = tokens.fault(FaultKind::E05);
-    let name = spelled(alloc, text, tokens)?;
-    if has_routine(name.as_slice(), found) {
+    let name = bytes_of(text, tokens.name()?);
+    if !routines.add(name)? {
         return Err(twice);
     }
-    Ok(name)
+    Ok(Items::from_slice(alloc, name)?)
 }
 
-#[tactic(auto, unfolding(crate::specs::Head::new_head))]
-fn new_head(
+#[tactic(auto, using(crate::proofs::Numbers::and_no_name), unfolding(crate::specs::Head::new_head))]
+fn new_head<'a>(
     alloc: Global,
-    text: &[u8],
+    text: &'a [u8],
     tokens: &mut Tokens<'_>,
     found: &[Callback],
+    routines: &mut Names<'a>,
 ) -> Result<Head, ParseError>
-    ensures { Reads (spec.new_head text.now found.now tokens.old.rest.now) result tokens.new.rest.now }
+    requires { routines.old ≡ routine_names found.now }
+    ensures reads { Reads (spec.new_head text.now found.now tokens.old.rest.now) result tokens.new.rest.now }
+    ensures names { IfOk result (λ h. routines.new ≡ routines.old ++ names_of h) }
 {
     match tokens.peek() {
-        Kind::DeferredPre => Ok(Head::DeferredPre(new_routine(alloc, text, tokens, found)?)),
-        Kind::DeferredPost => Ok(Head::DeferredPost(new_routine(alloc, text, tokens, found)?)),
-        Kind::Generic => Ok(Head::Generic(new_routine(alloc, text, tokens, found)?)),
+        Kind::DeferredPre => {
+            let name = new_routine(alloc, text, tokens, found, routines)?;
+            Ok(Head::DeferredPre(name))
+        }
+        Kind::DeferredPost => {
+            let name = new_routine(alloc, text, tokens, found, routines)?;
+            Ok(Head::DeferredPost(name))
+        }
+        Kind::Generic => {
+            let name = new_routine(alloc, text, tokens, found, routines)?;
+            Ok(Head::Generic(name))
+        }
         _ => new_event(tokens, found),
     }
 }
@@ -208,16 +208,19 @@ fn crowded(tokens: &mut Tokens<'_>, found: &[Callback]) -> ParseError
 
 /// A head behind the callbacks that were found.
 #[tactic(auto, unfolding(crate::specs::Head::head))]
-pub fn head(
+pub fn head<'a>(
     alloc: Global,
-    text: &[u8],
+    text: &'a [u8],
     tokens: &mut Tokens<'_>,
     found: &[Callback],
+    routines: &mut Names<'a>,
 ) -> Result<Head, ParseError>
-    ensures { Reads (spec.head text.now found.now tokens.old.rest.now) result tokens.new.rest.now }
+    requires { routines.old ≡ routine_names found.now }
+    ensures reads { Reads (spec.head text.now found.now tokens.old.rest.now) result tokens.new.rest.now }
+    ensures names { IfOk result (λ h. routines.new ≡ routines.old ++ names_of h) }
 {
     if found.len() < MAX_CALLBACKS {
-        new_head(alloc, text, tokens, found)
+        new_head(alloc, text, tokens, found, routines)
     } else {
         Err(crowded(tokens, found))
     }

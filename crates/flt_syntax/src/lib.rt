@@ -11,6 +11,8 @@ mod filter;
 mod head;
 mod lex;
 mod measure;
+mod names;
+mod naming;
 mod operand;
 mod scope;
 mod statement;

@@ -1,84 +1,18 @@
-//! What a text declares before its callbacks, and the names that its calls use.
+//! What a text declares before its callbacks.
 
-ghost use Rattle.flt_syntax.specs.Cursor.{Reads};
-ghost use Rattle.flt_syntax.specs.Scope as spec;
-ghost use Rattle.flt_syntax.specs.Scope.{scope_of};
+ghost use Rattle.flt_syntax.specs.Names.{lock_names};
 ghost use Rattle.std.specs.Prelude.{◌≡◌};
 
-use crate::cursor::{Tokens, bytes_of};
-use crate::fault::{FaultKind, ParseError};
-use crate::filter::{Lock, Routine};
-use flt_rules::{LockKind, LockNumber};
-use sqlite_items::Items;
-use std::alloc::Global;
+use crate::filter::Lock;
+use crate::names::Names;
 
 /// What the calls of a text may name.
-#[derive(Clone, Copy)]
+#[derive(Drop)]
 pub struct Scope<'a> {
     pub text: &'a [u8],
     pub locks: &'a [Lock],
+    /// The locks' names.
+    pub names: &'a Names<'a>,
     pub has_queue: bool,
-}
-
-#[tactic(auto, unfolding(crate::specs::Scope::same_lock_kind))]
-fn same_lock_kind(a: LockKind, b: LockKind) -> bool
-    ensures { result ≡ spec.same_lock_kind a b }
-{
-    a == b
-}
-
-/// The place of a lock among the locks of a filter.
-fn lock_place(kind: LockKind, name: &[u8], locks: &[Lock]) -> Option<usize>
-    ensures { result ≡ spec.lock_place kind name.now locks.now }
-{
-    locks.iter().position(|l| same_lock_kind(l.kind, kind) && l.name.as_slice() == name)
-}
-
-fn lock_number(kind: LockKind, name: &[u8], locks: &[Lock]) -> Option<LockNumber>
-    ensures { result ≡ spec.lock_number kind name.now locks.now }
-{
-    match lock_place(kind, name, locks) {
-        Some(place) => LockNumber::at(place),
-        None => None,
-    }
-}
-
-/// A declared lock of the kind.
-#[tactic(auto, unfolding(crate::specs::Scope::lock_named))]
-pub fn lock_named(
-    scope: &Scope<'_>,
-    tokens: &mut Tokens<'_>,
-    kind: LockKind,
-) -> Result<LockNumber, ParseError>
-    ensures { Reads (spec.lock_named (scope_of scope.now) kind tokens.old.rest.now) result tokens.new.rest.now }
-{
-    let unknown = tokens.fault(FaultKind::E04);
-    let name = tokens.name()?;
-    match lock_number(kind, bytes_of(scope.text, name), scope.locks) {
-        None => Err(unknown),
-        Some(number) => Ok(number),
-    }
-}
-
-/// The bytes of a word.
-#[tactic(auto, unfolding(crate::specs::Scope::spelled))]
-pub fn spelled(alloc: Global, text: &[u8], tokens: &mut Tokens<'_>) -> Result<Items<u8>, ParseError>
-    ensures { Reads (spec.spelled text.now tokens.old.rest.now) result tokens.new.rest.now }
-{
-    let name = tokens.name()?;
-    Ok(Items::from_slice(alloc, bytes_of(text, name))?)
-}
-
-/// The name of a routine, which may be declared later.
-#[tactic(auto, unfolding(crate::specs::Scope::routine))]
-pub fn routine(
-    alloc: Global,
-    scope: &Scope<'_>,
-    tokens: &mut Tokens<'_>,
-) -> Result<Routine, ParseError>
-    ensures { Reads (spec.routine (scope_of scope.now) tokens.old.rest.now) result tokens.new.rest.now }
-{
-    let position = tokens.position();
-    let name = spelled(alloc, scope.text, tokens)?;
-    Ok(Routine { name, position })
+    pub ghost named: { names.now ≡ lock_names locks.now },
 }

@@ -36,6 +36,10 @@ fn nested(
 const PENDING_READS: &[u8] =
     b"filter q altitude 100\nqueue\npre read {\n  if irp data {\n    if FltCbdqInsertIo data {\n      return PENDING\n    }\n  }\n  return NO_CALLBACK\n}\ncanceled {\n  if arg != NULL {\n    FltReleaseContext arg\n  }\n  FltCompletePendedPreOperation data COMPLETE STATUS_CANCELLED\n}\n";
 
+/// A filter with locks, a queue, routines and nested blocks.
+const NAMES_AND_BLOCKS: &[u8] =
+    b"filter a altitude 100\nlock spin s\nlock fast f\nqueue\npre read {\nif FltQueueDeferredIoWorkItem data w context c0 {\nKeAcquireSpinLock s\nExReleaseFastMutex f\n} else {\nrepeat 2 {\nn0 = n1 + 3\n}\n}\nreturn PENDING\n}\ncanceled {\n}\ndeferred_pre w {\nif FltQueueGenericWorkItem g {\n}\n}\ngeneric g {\n}\n";
+
 const BYTES_AND_WORDS: [(&[u8], &str); 10] = [
     (
         b"filter a altitude 100\npre read {\nreturn $\n}\n",
@@ -350,7 +354,7 @@ const LIMITS: [(&[u8], &str); 18] = [
     ),
 ];
 
-const NESTED: [([&[u8]; 5], usize, &str); 11] = [
+const NESTED: [([&[u8]; 5], usize, &str); 13] = [
     (
         [
             b"filter a altitude 100\npre read {\n",
@@ -437,6 +441,16 @@ const NESTED: [([&[u8]; 5], usize, &str); 11] = [
         [b"filter ", b"a", b" altitude 1\npre read {\n}\n", b"", b""],
         65,
         "1:8 E02",
+    ),
+    (
+        [b"filter a altitude 100\n", b"a", b"", b"", b""],
+        64,
+        "2:1 E03",
+    ),
+    (
+        [b"filter a altitude 100\n", b"a", b"", b"", b""],
+        65,
+        "2:1 E02",
     ),
     (
         [
@@ -527,14 +541,24 @@ fn a_limit_on_many_is_told_where_it_is_passed(rt: HostRuntime) -> Result<(), Fai
 }
 
 #[test]
-fn a_prefix_of_a_text_is_a_fault(rt: HostRuntime) {
+fn a_prefix_of_a_text_is_a_fault(rt: HostRuntime) -> Result<(), Fail> {
     for (end, _) in PENDING_READS.iter().enumerate() {
-        let told = parse(rt.alloc(), &PENDING_READS[..end]);
-        if end + 1 == PENDING_READS.len() {
-            assert!(rt; told.is_ok());
-        } else {
-            assert!(rt; matches!(told, Err(ParseError::Syntax(_))), "{end} bytes");
-        }
+        let told = answer(rt.alloc(), &PENDING_READS[..end])?;
+        let lacks_its_last_line_feed = end + 1 == PENDING_READS.len();
+        assert_eq!(rt;
+            told.as_str() == "ok",
+            lacks_its_last_line_feed,
+            "{end} bytes"
+        );
     }
-    assert!(rt; parse(rt.alloc(), PENDING_READS).is_ok());
+    let told = answer(rt.alloc(), PENDING_READS)?;
+    assert_eq!(rt; told.as_str(), "ok");
+    Ok(())
+}
+
+#[test]
+fn names_and_blocks_are_read_within_memory(rt: HostRuntime) -> Result<(), Fail> {
+    let told = answer(rt.alloc(), NAMES_AND_BLOCKS)?;
+    assert_eq!(rt; told.as_str(), "ok");
+    Ok(())
 }
