@@ -10,4 +10,4 @@ view seat = seat.token.me.0
 
 -- the seat is one that these pads gave
 abbrev pub IsSeatOf : Pads → Seat → Type 0
-IsSeatOf pads seat = seat.token.table_id ≡ pads.table.shared.table_id
+IsSeatOf pads seat = seat.token.table_id ≡ pads.words.table.shared.table_id

@@ -63,7 +63,7 @@ IsBy by (Collect seat word found) = seat ≡ by
 
 -- a seat that had seen some steps then did this one, after others' steps and none of its own, and has seen these
 abbrev pub IsNext : ℕ → Step → List Step → List Step → Type 0
-IsNext by step before after = IsHistory after × ((between : List Step) × (after ≡ step ∷ between ++ before) × All (λ other. IsBy by other → ⊥) between)
+IsNext by step before after = IsHistory after × (between : List Step) × (after ≡ step ∷ between ++ before) × All (λ other. IsBy by other → ⊥) between
 
 -- some seat asked for the serial in one of these steps
 abbrev pub WasAsked : ℕ → List Step → Type 0

@@ -11,6 +11,7 @@ mod seat;
 mod step;
 #[cfg(test)]
 mod tests;
+mod words;
 
 pub use laws::{none_invented, none_lost};
 pub use pads::Pads;

@@ -5,7 +5,8 @@ ghost use Rattle.flt_cancel.specs.Serials.{serials, IsPresent};
 ghost use Rattle.flt_cancel.specs.Steps.{newcomer, words_after, IsNext, WasAsked};
 ghost use Rattle.flt_cancel.specs.declared.step.Step.TheVariants.{Ask, Collect};
 
-use crate::rule::{Asks, Collects, SplitsOff, Words};
+use crate::rule::{Asks, Collects, SplitsOff};
+use crate::words::{RuledTable, Words};
 use crate::{OutOfMemory, Seat};
 use std::alloc::Global;
 
@@ -15,8 +16,7 @@ const WORDS: usize = 1024;
 /// Requests to cancel, one bit each: serial `s` is bit `s % 64` of word `s / 64`.
 #[derive(Drop)]
 pub struct Pads {
-    table: Words,
-    ghost size: { table.shared.table_id.words ≡ 1024 },
+    words: Words,
 }
 
 impl Pads {
@@ -27,13 +27,18 @@ impl Pads {
         ensures seats { IfOk result (λ opened. All (λ seat. IsSeatOf opened.0 seat × (view seat ≡ newcomer)) opened.1.items) }
     {
         let mut made = Vec::with_capacity(alloc, seats)?;
-        let (table, mut first) = Words::of_words(alloc, &[0; WORDS], &())?;
+        let (table, mut first) = RuledTable::of_words(alloc, &[0; WORDS], &())?;
         for _ in 1..seats {
             let token = table.shared.split_seat::<SplitsOff>(&mut first);
             made.push_reserved(Seat { token });
         }
         made.push_reserved(Seat { token: first });
-        Ok((Pads { table }, made))
+        Ok((
+            Pads {
+                words: Words { table },
+            },
+            made,
+        ))
     }
 
     /// Asks for a serial, in one step. It stays asked until some seat collects it, however often it is asked before that.
@@ -48,7 +53,8 @@ impl Pads {
     {
         let word = (serial / 64) as usize;
         let bit = 1u64 << (serial % 64);
-        self.table
+        self.words
+            .table
             .shared
             .fetch_or::<Asks>(&mut seat.token, word, bit);
     }
@@ -63,6 +69,9 @@ impl Pads {
         ensures step { (by : ℕ) × IsNext by (Collect by word result) (view seat.old).seen (view seat.new).seen }
         ensures were_asked { All (λ serial. WasAsked serial (view seat.new).seen) (serials word result) }
     {
-        self.table.shared.swap::<Collects>(&mut seat.token, word, 0)
+        self.words
+            .table
+            .shared
+            .swap::<Collects>(&mut seat.token, word, 0)
     }
 }

@@ -1,11 +1,7 @@
 //! The rule that the words and the views keep between any two steps, and what each kind of step tells its seat.
 
 use crate::View;
-use atomic_table::{Play, Split, Table, TableRule};
-use std::alloc::Global;
-
-/// The words with their rule. They have no slot.
-pub(crate) type Words = Table<u8, View, (), Recorded, Global>;
+use atomic_table::{Play, Split, TableRule};
 
 /// The words and the views are those that the steps so far leave, and each step is one of the three kinds.
 pub(crate) struct Recorded;
