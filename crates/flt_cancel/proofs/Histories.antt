@@ -1,8 +1,7 @@
 -- What histories leave: how long the lists are, what a seat has seen, and that what was collected was asked.
-use Rattle.std.proofs.Common.{◌≡◌, ◌≢◌, ◌⊎◌, ℕ, zero, suc, ◌+◌, ◌*◌, ◌/◌, ◌%◌, ◌<◌, ◌≤◌, ◌==◌, eqb, eq-eqb, ne_eqb, Bool, List, [], ◌∷◌, ◌++◌, length, All, refl, sym, ap, ◌∙◌, subst, inl, inr, ⊎_elim, arith}
-use Rattle.std.specs.Prelude.{slice_index, if◌then◌else◌}
+use Rattle.std.proofs.Common.{◌≡◌, ◌⊎◌, ℕ, zero, suc, ◌+◌, ◌*◌, ◌%◌, ◌<◌, ◌≤◌, ◌==◌, eq-eqb, ne_eqb, Bool, List, [], ◌∷◌, ◌++◌, length, All, refl, sym, ap, ◌∙◌, subst, inl, inr, ⊎_elim, arith}
+use Rattle.std.specs.Prelude.{if◌then◌else◌}
 use Rattle.std.specs.Int.{bit_at}
-use Rattle.std.specs.List.{Contains}
 use Rattle.std.proofs.lemmas.List.{length-set, length-replicate, length-append}
 use Rattle.std.proofs.lemmas.List.Elements.{All-nil, All-cons, All-append}
 use mathlib.Core.Option.{some, some-ne-none}
@@ -13,7 +12,7 @@ use Rattle.atomic_table.proofs.Lists.{at_set}
 use Rattle.flt_cancel.proofs.Lists.{at_snoc_place}
 use Rattle.flt_cancel.proofs.Present.{at_start, after_ask, after_another_ask, after_collection, elsewhere, in_word}
 use Rattle.flt_cancel.specs.Laws.{IsCollected}
-use Rattle.flt_cancel.specs.Serials.{word_of, present, IsPresent, serials_below, serials}
+use Rattle.flt_cancel.specs.Serials.{word_of, IsPresent, serials_below, serials}
 use Rattle.flt_cancel.specs.Steps.{newcomer, words_after, views_after, IsHistory, IsBy, WasAsked}
 use Rattle.flt_cancel.specs.declared.seat.View.{View}
 use Rattle.flt_cancel.specs.declared.step.Step.{Step}

@@ -1,14 +1,14 @@
 -- The three kinds of step keep the rule, and tell their seat what they do.
-use Rattle.std.proofs.Common.{◌≡◌, ℕ, zero, ◌+◌, ◌*◌, ◌/◌, ◌%◌, ◌^◌, ◌<◌, ◌≤◌, List, [], ◌∷◌, ◌++◌, length, replicate, set, refl, sym, ap, ◌∙◌, subst, arith}
+use Rattle.std.proofs.Common.{◌≡◌, ℕ, ◌<◌, List, [], ◌∷◌, ◌++◌, replicate, set, refl, sym, ap, ◌∙◌, subst, arith}
 use Rattle.std.specs.Prelude.{slice_index, bit_or}
 use mathlib.Core.Option.{some, none}
 use lib.ListN.{get_elem?}
-use Rattle.atomic_table.specs.Table.{State, Me, step, keeps, Allows, Splits}
+use Rattle.atomic_table.specs.Table.{Me, step, keeps, Allows, Splits}
 use Rattle.atomic_table.proofs.Lists.{set_again}
 use Rattle.flt_cancel.proofs.Histories.{IsSeen, seen, word_count, collected_was_asked}
 use Rattle.flt_cancel.proofs.Lists.{there, read}
 use Rattle.flt_cancel.proofs.Present.{same_serial, after_ask}
-use Rattle.flt_cancel.specs.Rule.{Kept, HasAsked, HasCollected, Asked, Collected}
+use Rattle.flt_cancel.specs.Rule.{Kept, HasAsked, Asked, Collected}
 use Rattle.flt_cancel.specs.Serials.{word_of, mask_of, serials, IsPresent}
 use Rattle.flt_cancel.specs.Steps.{newcomer, having_asked, having_collected, view_at, words_after, views_after, IsHistory, IsNext, WasAsked}
 use Rattle.flt_cancel.specs.declared.seat.View.{View}

@@ -53,10 +53,8 @@ impl Pads {
     {
         let word = (serial / 64) as usize;
         let bit = 1u64 << (serial % 64);
-        self.words
-            .table
-            .shared
-            .fetch_or::<Asks>(&mut seat.token, word, bit);
+        let words = &self.words.table.shared;
+        words.fetch_or::<Asks>(&mut seat.token, word, bit);
     }
 
     /// Takes all the requests of a word, in one step. Bit `b` of the result is serial `64 * word + b`.
@@ -69,9 +67,7 @@ impl Pads {
         ensures step { (by : ℕ) × IsNext by (Collect by word result) (view seat.old).seen (view seat.new).seen }
         ensures were_asked { All (λ serial. WasAsked serial (view seat.new).seen) (serials word result) }
     {
-        self.words
-            .table
-            .shared
-            .swap::<Collects>(&mut seat.token, word, 0)
+        let words = &self.words.table.shared;
+        words.swap::<Collects>(&mut seat.token, word, 0)
     }
 }

@@ -1,4 +1,4 @@
-use Rattle.std.proofs.Common.{◌≡◌, ◌^◌, ◌*◌, ℕ, arith, ◌%◌, ◌/◌, subst, sym, refl}
+use Rattle.std.proofs.Common.{ℕ, arith, ◌%◌, ◌/◌, subst, sym, refl}
 use Rattle.std.proofs.lemmas.Nat.{one_shl}
 use mathlib.Core.Option.{none}
 use Rattle.std.specs.Prelude.{bit_or}

@@ -1,4 +1,4 @@
-use Rattle.std.proofs.Common.{◌≡◌, ◌<◌, ◌≤◌, ◌+◌, [], length, All}
+use Rattle.std.proofs.Common.{◌≡◌, ◌≤◌, ◌+◌, length, All}
 use Rattle.std.specs.Vec.{vec_len, vec_capacity}
 use Rattle.flt_cancel.specs.Steps.{newcomer}
 use Rattle.flt_cancel.specs.Seats.{view}
