@@ -11,7 +11,7 @@ use lib.ListN.{get_elem?}
 use Rattle.atomic_table.proofs.Lists.{at_set}
 use Rattle.flt_cancel.proofs.Lists.{at_snoc_place}
 use Rattle.flt_cancel.proofs.Present.{at_start, after_ask, after_another_ask, after_collection, elsewhere, in_word}
-use Rattle.flt_cancel.specs.Laws.{IsCollected}
+use Rattle.flt_cancel.specs.Laws.{IsCollected, HasSeen, OneHistory}
 use Rattle.flt_cancel.specs.Serials.{word_of, IsPresent, serials_below, serials}
 use Rattle.flt_cancel.specs.Steps.{newcomer, words_after, views_after, IsHistory, IsBy, WasAsked}
 use Rattle.flt_cancel.specs.declared.seat.View.{View}
@@ -39,24 +39,20 @@ not_yet (Collect seat word found ∷ earlier) by h far =
     let long : length (views_after (Collect seat word found ∷ earlier)) ≡ length (views_after earlier) = length-set (views_after earlier) seat _ in let lt = h.0.0 in
     All-cons (λ step. IsBy by step → ⊥) (Collect seat word found) earlier (λ (e : seat ≡ by). omega (arith, long, far, lt, e)) (not_yet earlier by h.1 (omega (arith, long, far)))
 
--- since what a seat has seen, only others have made steps
-abbrev pub IsSeen : List Step → ℕ → View → Type 0
-IsSeen steps by v = (between : List Step) × (steps ≡ between ++ v.seen) × All (λ step. IsBy by step → ⊥) between
-
-one_more : (step : Step) (steps : List Step) (by : ℕ) (v : View) → (IsBy by step → ⊥) → IsSeen steps by v → IsSeen (step ∷ steps) by v
+one_more : (step : Step) (steps : List Step) (by : ℕ) (v : View) → (IsBy by step → ⊥) → HasSeen steps by v → HasSeen (step ∷ steps) by v
 one_more step steps by v other s = (step ∷ s.0, ap (λ (l : List Step). step ∷ l) s.1, All-cons (λ one. IsBy by one → ⊥) step s.0 other s.2)
 
-just_now : (steps : List Step) (by : ℕ) (v w : View) → w.seen ≡ steps → w ≡ v → IsSeen steps by v
+just_now : (steps : List Step) (by : ℕ) (v w : View) → w.seen ≡ steps → w ≡ v → HasSeen steps by v
 just_now steps by v w e same = ([], sym e ∙ ap (λ (u : View). u.seen) same, All-nil (λ step. IsBy by step → ⊥))
 
 nothing_after : (steps : List Step) → steps ++ [] ≡ steps
 nothing_after [] = refl
 nothing_after (step ∷ steps) = ap (λ (l : List Step). step ∷ l) (nothing_after steps)
 
-fresh : (steps : List Step) (by : ℕ) (v : View) → newcomer ≡ v → All (λ step. IsBy by step → ⊥) steps → IsSeen steps by v
+fresh : (steps : List Step) (by : ℕ) (v : View) → newcomer ≡ v → All (λ step. IsBy by step → ⊥) steps → HasSeen steps by v
 fresh steps by v e none = (steps, sym (ap (λ (l : List Step). steps ++ l) (sym (ap (λ (u : View). u.seen) e)) ∙ nothing_after steps), none)
 
-pub seen : (steps : List Step) (by : ℕ) (v : View) → IsHistory steps → get_elem? (views_after steps) by ≡ some v → IsSeen steps by v
+pub seen : (steps : List Step) (by : ℕ) (v : View) → IsHistory steps → get_elem? (views_after steps) by ≡ some v → HasSeen steps by v
 seen [] by v h at = ⊎_elim
     (λ (was : get_elem? [] by ≡ some v). absurd (some-ne-none v (sym was)))
     (λ (t : (newcomer ≡ v) × (0 ≤ by)). fresh [] by v t.0 (All-nil (λ step. IsBy by step → ⊥)))
@@ -73,6 +69,9 @@ seen (Collect seat word found ∷ earlier) by v h at = ⊎_elim
     (λ t. just_now (Collect seat word found ∷ earlier) by v _ refl t.1)
     (λ t. let ne = t.0 in one_more (Collect seat word found) earlier by v (λ (e : seat ≡ by). ne (sym e)) (seen earlier by v h.1 t.1))
     (at_set (views_after earlier) seat by _ v at)
+
+pub one_history : OneHistory
+one_history pads kept = (kept.0, kept.1, kept.2, λ by v at. seen kept.0 by v kept.1 (ap (λ (views : List View). get_elem? views by) (sym kept.3) ∙ at))
 
 -- ---- what is present was asked
 

@@ -1,20 +1,20 @@
 -- The three kinds of step keep the rule, and tell their seat what they do.
-use Rattle.std.proofs.Common.{◌≡◌, ℕ, ◌<◌, List, [], ◌∷◌, ◌++◌, replicate, set, refl, sym, ap, ◌∙◌, subst, arith}
+use Rattle.std.proofs.Common.{◌≡◌, ℕ, ◌<◌, List, [], ◌∷◌, ◌++◌, replicate, set, All, refl, sym, ap, ◌∙◌, subst, arith}
 use Rattle.std.specs.Prelude.{slice_index, bit_or}
 use mathlib.Core.Option.{some, none}
 use lib.ListN.{get_elem?}
 use Rattle.atomic_table.specs.Table.{Me, step, keeps, Allows, Splits}
 use Rattle.atomic_table.proofs.Lists.{set_again}
-use Rattle.flt_cancel.proofs.Histories.{IsSeen, seen, word_count, collected_was_asked}
+use Rattle.flt_cancel.proofs.Histories.{seen, word_count, collected_was_asked}
 use Rattle.flt_cancel.proofs.Lists.{there, read}
 use Rattle.flt_cancel.proofs.Present.{same_serial, after_ask}
+use Rattle.flt_cancel.specs.Laws.{HasSeen}
 use Rattle.flt_cancel.specs.Rule.{Kept, HasAsked, Asked, Collected}
 use Rattle.flt_cancel.specs.Serials.{word_of, mask_of, serials, IsPresent}
 use Rattle.flt_cancel.specs.Steps.{newcomer, having_asked, having_collected, view_at, words_after, views_after, IsHistory, IsNext, WasAsked}
 use Rattle.flt_cancel.specs.declared.seat.View.{View}
 use Rattle.flt_cancel.specs.declared.step.Step.{Step}
 use Rattle.flt_cancel.specs.declared.step.Step.TheVariants.{Split, Ask, Collect}
-use Rattle.std.proofs.Common.{All}
 
 -- the rule at the start
 pub begins : (words : List ℕ) → words ≡ replicate 1024 0 → Kept (record { words = words; homes = []; views = newcomer ∷ [] })
@@ -25,7 +25,7 @@ asks slots id x me lt s kept size at fits =
     let steps : List Step = kept.0 in
     let h : IsHistory steps = kept.1 in
     let at_now : get_elem? (views_after steps) id ≡ some me.0 = ap (λ (vs : List View). get_elem? vs id) (sym kept.3) ∙ at in
-    let past : IsSeen steps id me.0 = seen steps id me.0 h at_now in
+    let past : HasSeen steps id me.0 = seen steps id me.0 h at_now in
     let now : List Step = Ask id x ∷ steps in
     let history : IsHistory now = ((there (views_after steps) id me.0 at_now, lt), h) in
     let w : View = having_asked now x me.0 in
@@ -49,7 +49,7 @@ collects slots id i me lt s kept size at fits =
     let h : IsHistory steps = kept.1 in
     let found : ℕ = slice_index s.words i in
     let at_now : get_elem? (views_after steps) id ≡ some me.0 = ap (λ (vs : List View). get_elem? vs id) (sym kept.3) ∙ at in
-    let past : IsSeen steps id me.0 = seen steps id me.0 h at_now in
+    let past : HasSeen steps id me.0 = seen steps id me.0 h at_now in
     let now : List Step = Collect id i found ∷ steps in
     let history : IsHistory now = ((there (views_after steps) id me.0 at_now, lt, ap (λ (ws : List ℕ). slice_index ws i) kept.2), h) in
     let w : View = having_collected now i found me.0 in

@@ -1,11 +1,13 @@
 -- What holds of the pads between any two steps. All of it is this project's own rule.
-use Rattle.std.specs.Prelude.{◌≡◌, ◌⊎◌, ℕ, ◌+◌, ◌<◌, ◌≤◌, ◌==◌, List, [], ◌∷◌, ◌++◌, if◌then◌else◌}
+use Rattle.std.specs.Prelude.{◌≡◌, ◌⊎◌, ℕ, ◌+◌, ◌<◌, ◌≤◌, ◌==◌, List, [], ◌∷◌, ◌++◌, if◌then◌else◌, All}
 use Rattle.std.specs.Int.{bit_at}
 use Rattle.std.specs.List.{Contains}
+use mathlib.Core.Option.{some}
+use lib.ListN.{get_elem?}
 use Rattle.atomic_table.specs.Table as table
 use Rattle.flt_cancel.specs.Rule.{Kept}
 use Rattle.flt_cancel.specs.Serials.{word_of, place_of, present, IsPresent}
-use Rattle.flt_cancel.specs.Steps.{words_after, IsHistory}
+use Rattle.flt_cancel.specs.Steps.{words_after, IsHistory, IsBy}
 use Rattle.flt_cancel.specs.declared.seat.View.{View}
 use Rattle.flt_cancel.specs.declared.step.Step.{Step}
 use Rattle.flt_cancel.specs.declared.step.Step.TheVariants.{Ask, Collect}
@@ -43,3 +45,12 @@ IsCollected serial steps = (by found : ℕ) × Contains steps (Collect by (word_
 abbrev pub NoneIsLost : Type 0
 NoneIsLost = (later earlier : List Step) (by serial : ℕ) → IsHistory (later ++ Ask by serial ∷ earlier)
     → IsCollected serial later ⊎ IsPresent (words_after (later ++ Ask by serial ∷ earlier)) serial
+
+-- the seat of this number has seen these steps but for the last ones, of which none is its own
+abbrev pub HasSeen : List Step → ℕ → View → Type 0
+HasSeen steps by v = (since : List Step) × (steps ≡ since ++ v.seen) × All (λ step. IsBy by step → ⊥) since
+
+-- between any two steps there is one list of steps that leaves the words as they are, and what each seat has seen is where it begins
+abbrev pub OneHistory : Type 0
+OneHistory = (pads : table.State ℕ View) → Kept pads
+    → (steps : List Step) × IsHistory steps × (pads.words ≡ words_after steps) × ((by : ℕ) (v : View) → get_elem? pads.views by ≡ some v → HasSeen steps by v)

@@ -13,7 +13,7 @@ mod step;
 mod tests;
 mod words;
 
-pub use laws::{none_invented, none_lost};
+pub use laws::{none_invented, none_lost, one_history};
 pub use pads::Pads;
 pub use seat::{Seat, View};
 /// What opening the pads answers where there is no memory.
