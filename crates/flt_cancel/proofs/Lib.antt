@@ -1,0 +1,6 @@
+mod Balance
+mod Histories
+mod Lists
+mod Present
+mod Serials
+mod Steps

@@ -1,0 +1,15 @@
+use Rattle.std.proofs.Common.{◌≡◌, ◌≤◌, ◌+◌, length, All}
+use Rattle.std.specs.Vec.{vec_len, vec_capacity}
+use Rattle.flt_cancel.specs.Steps.{newcomer}
+use Rattle.flt_cancel.specs.Seats.{view}
+use Rattle.flt_cancel.proofs.pads.Pads.open.Given as goal
+
+abbrev pub invariant-loop : goal.invariant-loop
+invariant-loop l =
+    (length l.made.items + 1 ≡ l.counter)
+    × (vec_len l.made ≡ length l.made.items)
+    × (l.counter ≤ l.seats)
+    × (l.seats ≤ vec_capacity l.made)
+    × (l.first.table_id ≡ l.table.shared.table_id)
+    × (l.first.me.0 ≡ newcomer)
+    × All (λ seat. (seat.token.table_id ≡ l.table.shared.table_id) × (view seat ≡ newcomer)) l.made.items

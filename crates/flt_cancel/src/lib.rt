@@ -1,0 +1,21 @@
+//! Cancel pads: requests to cancel an operation, named by its serial number, in 1,024 words that threads share.
+//!
+//! Any thread asks for a serial in one atomic step, which waits for nobody, takes no memory and is never refused. Any thread collects a
+//! word of requests in one atomic step. Whatever the threads do, no request is lost and none is invented.
+#![tactic(auto)]
+
+mod laws;
+mod pads;
+mod rule;
+mod seat;
+mod step;
+#[cfg(test)]
+mod tests;
+mod words;
+
+pub use laws::{none_invented, none_lost, one_history};
+pub use pads::Pads;
+pub use seat::{Seat, View};
+/// What opening the pads answers where there is no memory.
+pub use std::alloc::AllocError as OutOfMemory;
+pub use step::Step;
