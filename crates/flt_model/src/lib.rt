@@ -1,6 +1,11 @@
-//! The machine that filters run on: its moves, and the text of journals, which are lists of them.
+//! The machine that filters run on: its moves, and the text of journals, which are lists of them. `specs/` defines what the
+//! machine does, which is what everything else of this project is held against.
 #![tactic(auto)]
 
+mod event;
 mod moves;
+mod verdict;
 
+pub use event::{Answer, Event, Object};
 pub use moves::{JournalEntry, Key, Move};
+pub use verdict::{Verdict, Violation};

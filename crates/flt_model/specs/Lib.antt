@@ -1,0 +1,9 @@
+pub mod Program
+pub mod World
+pub mod Variables
+pub mod LocalSteps
+pub mod Trace
+pub mod Settling
+pub mod Effects
+pub mod Locks
+pub mod Calls
