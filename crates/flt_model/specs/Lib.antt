@@ -7,3 +7,7 @@ pub mod Settling
 pub mod Effects
 pub mod Locks
 pub mod Calls
+pub mod Reads
+pub mod Returns
+pub mod Moves
+pub mod Steps
