@@ -11,3 +11,10 @@ pub mod Reads
 pub mod Returns
 pub mod Moves
 pub mod Steps
+pub mod Levels
+pub mod Statuses
+pub mod Violations
+pub mod Runs
+pub mod Expansion
+pub mod WorkedParts
+pub mod WorkedQueue
