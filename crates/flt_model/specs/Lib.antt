@@ -18,3 +18,6 @@ pub mod Runs
 pub mod Expansion
 pub mod WorkedParts
 pub mod WorkedQueue
+pub mod WorkedStack
+pub mod WorkedContexts
+pub mod WorkedBreaks

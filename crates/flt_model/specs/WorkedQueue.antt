@@ -1,6 +1,5 @@
 -- Worked runs of a filter with a cancel-safe queue.
-use Rattle.std.specs.Prelude.{◌≡◌, refl, ℕ, Bool, true, List, [], ◌∷◌, ◌++◌, Option, Some, None}
-use Rattle.flt_rules.specs.declared.place.Mode.TheVariants.{Irp}
+use Rattle.std.specs.Prelude.{◌≡◌, refl, ℕ, List, [], ◌∷◌, ◌++◌, Some, None}
 use Rattle.flt_rules.specs.declared.place.Operation.TheVariants.{Read, Write}
 use Rattle.flt_rules.specs.declared.status.FinalStatus.TheVariants as final
 use Rattle.flt_syntax.specs.declared.filter.Callback.{Callback}
@@ -8,21 +7,16 @@ use Rattle.flt_syntax.specs.declared.filter.FallibleCall.TheVariants as fallible
 use Rattle.flt_syntax.specs.declared.filter.Filter.{Filter}
 use Rattle.flt_syntax.specs.declared.filter.Head.TheVariants as head
 use Rattle.flt_syntax.specs.declared.filter.PlainCall.TheVariants as plain
-use Rattle.flt_syntax.specs.declared.filter.Statement.{Statement, out-Statement}
 use Rattle.flt_syntax.specs.declared.filter.Status.TheVariants as status
 use Rattle.flt_syntax.specs.declared.filter.Test.TheVariants as test
 use Rattle.flt_syntax.specs.declared.variable.ContextVariable.TheVariants.{C0, Arg}
 use Rattle.flt_syntax.specs.declared.variable.OperationVariable.TheVariants.{Removed, Data}
 use Rattle.flt_syntax.specs.declared.variable.RemovedVariable.TheVariants.{O0}
 use Rattle.flt_model.specs.declared.moves.JournalEntry.{JournalEntry}
-use Rattle.flt_model.specs.declared.moves.JournalEntry.TheVariants.{Move}
-use Rattle.flt_model.specs.declared.moves.Move.TheVariants.{Arrive, Pre, Skip, Lower, Post, Cancel, Canceled}
 use Rattle.flt_model.specs.declared.verdict.Verdict.TheVariants.{Legal, NotARun, Breaks}
 use Rattle.flt_model.specs.declared.verdict.Violation.TheVariants.{V4}
 use Rattle.flt_model.specs.Expansion.{verdict}
-use Rattle.flt_model.specs.Trace.{one_if, of_actor, gains, loses, frees, settles, is_held}
-use Rattle.flt_model.specs.Violations.{is_live, holding, in_queue, owners}
-use Rattle.flt_model.specs.WorkedParts.{call, return, if_call, if_test, on, filter, go}
+use Rattle.flt_model.specs.WorkedParts.{computed, broken_by, call, return, if_call, if_test, release_if, on, filter, arrive, pre, lower, cancel, canceled, go}
 
 -- pre read: an I/O request packet is pended in the queue
 abbrev pub pends : Callback
@@ -32,17 +26,56 @@ pends = on (head.Pre Read)
 -- canceled: the operation is completed as cancelled
 abbrev pub cancels : Callback
 cancels = on head.Canceled
-  (if_test (test.ContextIsSome Arg) (call (plain.ReleaseContext Arg) ∷ []) []
-  ∷ call (plain.CompletePendedPreOperation Data (status.Complete final.Cancelled)) ∷ [])
+  (release_if Arg ∷ call (plain.CompletePendedPreOperation Data (status.Complete final.Cancelled)) ∷ [])
 
-abbrev pub queueing : Filter
-queueing = filter 100 [] (pends ∷ cancels ∷ [])
+-- pre write: the front entry is taken out of the queue, and its operation goes on
+abbrev pub resumes : Callback
+resumes = on (head.Pre Write)
+  (if_call (fallible.RemoveNextIo O0 C0)
+    (release_if C0 ∷ call (plain.CompletePendedPreOperation (Removed O0) status.NoCallback) ∷ []) []
+  ∷ return status.NoCallback ∷ [])
 
--- an operation is pended, cancelled, and completed by the canceled callback before the pre callback has returned
-abbrev pub cancel_while_pended : List JournalEntry
-cancel_while_pended =
-  Move (Arrive Read Irp 0) ∷ Move (Pre 0) ∷ go 0 1 ∷ go 0 1 ∷ Move (Cancel 0) ∷ Move (Canceled 100 0) ∷ go 1 2 ∷ go 1 1 ∷ go 0 1 ∷ []
+-- an operation is pended and cancelled, and completed before the pre callback that pended it has returned
+abbrev pub cancelled_early : List JournalEntry
+cancelled_early =
+  arrive Read ∷ pre 0 ∷ go 0 1 ∷ go 0 1 ∷ cancel 0 ∷ canceled 0 ∷ go 1 2 ∷ go 1 1 ∷ go 0 1 ∷ []
 
-pub cancel_while_pended_is_legal : verdict (queueing ∷ []) cancel_while_pended ≡ Legal
-unfolding out-Statement one_if of_actor gains loses frees settles is_held is_live holding in_queue owners denote.Hole.Carrier.out Rattle.flt_syntax.specs.declared.filter.Statement.TheBlock.shown-the_row-Statement-0 denote.Hole.Carrier.shown denote.Hole.Carrier.hidden
-cancel_while_pended_is_legal = refl
+pub cancelled_early-legal : verdict (filter 100 (pends ∷ cancels ∷ []) ∷ []) cancelled_early ≡ Legal
+unfolding computed
+cancelled_early-legal = refl
+
+-- ---- a removal and a cancellation race for one entry
+
+abbrev pub racing : List Filter
+racing = filter 100 (pends ∷ cancels ∷ resumes ∷ []) ∷ []
+
+abbrev pub pended_and_cancelled : List JournalEntry
+pended_and_cancelled = arrive Read ∷ pre 0 ∷ go 0 1 ∷ go 0 1 ∷ go 0 1 ∷ arrive Write ∷ pre 1 ∷ cancel 0 ∷ []
+
+-- the removal takes the entry: no canceled callback can start
+pub removed_first : verdict racing (pended_and_cancelled ++ go 1 1 ∷ canceled 0 ∷ []) ≡ NotARun 9
+unfolding computed
+removed_first = refl
+
+-- the cancellation takes it: the removal finds none
+pub cancelled_first : verdict racing (pended_and_cancelled ++ canceled 0 ∷ go 1 1 ∷ go 1 1 ∷ go 2 2 ∷ go 2 1 ∷ lower 1 ∷ []) ≡ Legal
+unfolding computed
+cancelled_first = refl
+
+-- ---- a queued operation is passed on by the callback that queued it
+
+abbrev pub forgets : List Filter
+forgets = filter 100 (on (head.Pre Read) (if_call (fallible.InsertIo None) [] [] ∷ return status.NoCallback ∷ []) ∷ cancels ∷ []) ∷ []
+
+abbrev pub passed_on_queued : List JournalEntry
+passed_on_queued = arrive Read ∷ pre 0 ∷ go 0 1 ∷ go 0 1 ∷ []
+
+-- it is settled, and its entry still owns it
+pub passed_on_queued-breaks : verdict forgets passed_on_queued ≡ Breaks V4 3
+unfolding computed
+passed_on_queued-breaks = refl
+
+-- after four transitions
+pub passed_on_queued-moment : broken_by forgets passed_on_queued ≡ Some (record { moment = 4; violation = V4 })
+unfolding computed
+passed_on_queued-moment = refl
