@@ -2,7 +2,7 @@
 -- needed leaves all as it is, and a call that can fail then fails; what isn't held is handed over all the same.
 -- A call that can fail goes on by the first list where it succeeds, by the second otherwise; outputs that it doesn't give
 -- become NULL.
-use Rattle.std.specs.Prelude.{ℕ, Bool, true, false, not, ◌||◌, if◌then◌else◌, List, [], ◌∷◌, ◌++◌, length, Option, Some, None, is_some}
+use Rattle.std.specs.Prelude.{ℕ, Bool, not, ◌||◌, if◌then◌else◌, List, [], ◌∷◌, ◌++◌, length, Option, Some, None, is_some}
 use Rattle.flt_rules.specs.declared.call.Anchor.{Anchor}
 use Rattle.flt_rules.specs.declared.call.Anchor.TheVariants as anchor
 use Rattle.flt_rules.specs.declared.call.Call.TheVariants as call
@@ -13,7 +13,6 @@ use Rattle.flt_rules.specs.declared.call.LockNumber.{LockNumber}
 use Rattle.flt_rules.specs.declared.call.Possessed.{Possessed}
 use Rattle.flt_rules.specs.declared.call.Possessed.TheVariants.{Given, Removed as TakenOut}
 use Rattle.flt_syntax.specs.declared.filter.Filter.{Filter}
-use Rattle.flt_syntax.specs.declared.filter.Routine.{Routine}
 use Rattle.flt_syntax.specs.declared.filter.Statement.{Statement}
 use Rattle.flt_syntax.specs.declared.filter.Status.{Status}
 use Rattle.flt_syntax.specs.declared.variable.ContextVariable.{ContextVariable}
@@ -29,7 +28,6 @@ use Rattle.flt_model.specs.declared.event.Object.TheVariants.{Context, Visit}
 use Rattle.flt_model.specs.declared.moves.Key.TheVariants.{Stream, Instance}
 use Rattle.flt_model.specs.Effects.{Step, context, operation, optional, gains_context, loses_context, freed_by_drop, after_unlink, events_of_unlink, onward, goes_on, unchanged, gives_nothing, calling}
 use Rattle.flt_model.specs.Locks.{holds_lock, without_last, with_holder}
-use Rattle.flt_model.specs.Program.{callbacks_at, routine_of}
 use Rattle.flt_model.specs.Settling.{context_of, way_of, makes_frame, settled_by}
 use Rattle.flt_model.specs.Variables.{context_in, operation_in, named_in, with_context_in, with_operation_in, with_old}
 use Rattle.flt_model.specs.World.{World, Store, Activation, Entry, Item, Link, is_attached, presence_at, queue_at, context_at, activation_at, actor_at, arrival_of, is_freed, linked_at, with_queue, add_reference, drop_reference, with_link}

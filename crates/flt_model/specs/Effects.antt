@@ -1,6 +1,6 @@
 -- What steps are made of: the world after them, and their events in order: the call, its status or lock, the variables it uses,
 -- and then what is gained, lost, freed and settled, and the end.
-use Rattle.std.specs.Prelude.{ℕ, ◌==◌, Bool, true, false, if◌then◌else◌, List, [], ◌∷◌, ◌++◌, Option, Some, None, set, option_map}
+use Rattle.std.specs.Prelude.{ℕ, ◌==◌, if◌then◌else◌, List, [], ◌∷◌, ◌++◌, Option, Some, None, set, option_map}
 use Rattle.flt_rules.specs.declared.call.Call.{Call}
 use Rattle.flt_syntax.specs.declared.filter.Statement.{Statement}
 use Rattle.flt_syntax.specs.declared.variable.ContextVariable.{ContextVariable}
@@ -8,7 +8,7 @@ use Rattle.flt_model.specs.declared.event.Event.{Event}
 use Rattle.flt_model.specs.declared.event.Event.TheVariants as event
 use Rattle.flt_model.specs.declared.event.Object.{Object}
 use Rattle.flt_model.specs.declared.event.Object.TheVariants.{Context, Visit}
-use Rattle.flt_model.specs.World.{World, Store, Activation, Context as TheContext, context_at, activation_at, drop_reference, with_link}
+use Rattle.flt_model.specs.World.{World, Store, Activation, context_at, activation_at, drop_reference, with_link}
 use Rattle.flt_model.specs.Variables.{with_old}
 
 -- the world after a step, and what happened

@@ -1,14 +1,12 @@
 -- The moves of the filter manager and of worker threads: when each is enabled, and what it does.
 -- Source: the driver kit's pages on pre- and postoperation callbacks, cancel-safe queues, work items and teardown.
-use Rattle.std.specs.Prelude.{ℕ, ◌+◌, Bool, true, false, not, ◌&&◌, ◌||◌, ◌==◌, nat_lt, if◌then◌else◌, List, [], ◌∷◌, ◌++◌, length, Option, Some, None, is_some, get_or, set, find}
-use Rattle.std.specs.List.{list_any, list_all, before_first, after_first}
+use Rattle.std.specs.Prelude.{ℕ, ◌+◌, Bool, true, false, not, ◌&&◌, ◌||◌, ◌==◌, nat_lt, if◌then◌else◌, List, [], ◌∷◌, ◌++◌, length, Option, Some, None, set, find}
+use Rattle.std.specs.List.{list_any, before_first, after_first}
 use Rattle.flt_rules.specs.declared.place.Mode.{Mode}
-use Rattle.flt_rules.specs.declared.place.Mode.TheVariants.{Irp, Fast}
+use Rattle.flt_rules.specs.declared.place.Mode.TheVariants.{Fast}
 use Rattle.flt_rules.specs.declared.place.Operation.{Operation}
 use Rattle.flt_rules.specs.declared.place.Operation.TheVariants.{Create, Cleanup}
-use Rattle.flt_rules.specs.declared.place.Place.{Place}
 use Rattle.flt_rules.specs.declared.place.Place.TheVariants as place
-use Rattle.flt_rules.specs.declared.place.Stage.{Stage}
 use Rattle.flt_rules.specs.declared.place.Stage.TheVariants as stage
 use Rattle.flt_rules.specs.declared.status.FinalStatus.TheVariants.{Success}
 use Rattle.flt_syntax.specs.declared.filter.Filter.{Filter}

@@ -11,7 +11,6 @@ use Rattle.flt_syntax.specs.declared.variable.NumberVariable.{NumberVariable}
 use Rattle.flt_syntax.specs.declared.variable.NumberVariable.TheVariants.{N0, N1, N2, N3, N4, N5, N6, N7}
 use Rattle.flt_syntax.specs.declared.variable.OperationVariable.{OperationVariable}
 use Rattle.flt_syntax.specs.declared.variable.OperationVariable.TheVariants.{Removed, Data}
-use Rattle.flt_syntax.specs.declared.variable.RemovedVariable.{RemovedVariable}
 use Rattle.flt_syntax.specs.declared.variable.RemovedVariable.TheVariants.{O0, O1, O2, O3}
 use Rattle.flt_model.specs.World.{Activation}
 

@@ -8,7 +8,7 @@ use Rattle.flt_rules.specs.Place.{is_above}
 use Rattle.flt_rules.specs.Table.{row}
 use Rattle.flt_syntax.specs.declared.filter.Filter.{Filter}
 use Rattle.flt_model.specs.declared.event.Event.{Event}
-use Rattle.flt_model.specs.declared.event.Event.TheVariants.{Call, Status, Lock, Unlock, Use, Empty, Gain, Lose, Free, Settle, End}
+use Rattle.flt_model.specs.declared.event.Event.TheVariants.{Call, Status, Lock, Unlock, Use, Empty, Gain, Lose, Settle, End}
 use Rattle.flt_model.specs.declared.event.Object.{Object}
 use Rattle.flt_model.specs.declared.event.Object.TheVariants.{Context, Visit}
 use Rattle.flt_model.specs.Levels.{level_at}

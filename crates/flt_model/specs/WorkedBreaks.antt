@@ -1,11 +1,10 @@
 -- The shortest runs that break each rule, and some that aren't runs.
-use Rattle.std.specs.Prelude.{◌≡◌, refl, ℕ, true, false, List, [], ◌∷◌, ◌++◌, Some, None}
+use Rattle.std.specs.Prelude.{◌≡◌, refl, ℕ, false, List, [], ◌∷◌, None}
 use Rattle.flt_rules.specs.declared.call.Anchor.TheVariants.{Stream, Instance}
-use Rattle.flt_rules.specs.declared.call.LockKind.TheVariants.{Spin, Fast}
+use Rattle.flt_rules.specs.declared.call.LockKind.TheVariants.{Spin}
 use Rattle.flt_rules.specs.declared.call.LockNumber.TheVariants.{L0, L1}
 use Rattle.flt_rules.specs.declared.place.Mode.TheVariants.{Fast as FastIo}
 use Rattle.flt_rules.specs.declared.place.Operation.TheVariants.{Create, Read}
-use Rattle.flt_syntax.specs.declared.filter.Callback.{Callback}
 use Rattle.flt_syntax.specs.declared.filter.FallibleCall.TheVariants as fallible
 use Rattle.flt_syntax.specs.declared.filter.Filter.{Filter}
 use Rattle.flt_syntax.specs.declared.filter.Head.TheVariants as head
@@ -20,7 +19,7 @@ use Rattle.flt_model.specs.declared.moves.Move.TheVariants as move
 use Rattle.flt_model.specs.declared.verdict.Verdict.TheVariants.{Legal, NotARun, Breaks}
 use Rattle.flt_model.specs.declared.verdict.Violation.TheVariants.{V1, V2, V3, V4, V5, V6, V7, V8}
 use Rattle.flt_model.specs.Expansion.{verdict}
-use Rattle.flt_model.specs.WorkedParts.{computed, call, return, if_call, release_if, on, filter, locking, lock, routine, passes, arrive, pre, lower, post, go}
+use Rattle.flt_model.specs.WorkedParts.{computed, call, return, if_call, on, filter, locking, lock, routine, passes, arrive, pre, lower, post, go}
 
 -- a filter of one pre callback
 abbrev pub reading : List Statement → List Filter

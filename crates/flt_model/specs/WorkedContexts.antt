@@ -1,7 +1,7 @@
 -- Worked runs over contexts of streams and of the instance.
-use Rattle.std.specs.Prelude.{◌≡◌, refl, ℕ, List, [], ◌∷◌, ◌++◌, Some, None, option_map, map}
+use Rattle.std.specs.Prelude.{◌≡◌, refl, List, [], ◌∷◌, ◌++◌, Some, None, option_map, map}
 use Rattle.flt_rules.specs.declared.call.Anchor.TheVariants.{Stream, Instance}
-use Rattle.flt_rules.specs.declared.call.Existing.TheVariants.{Keep, Replace}
+use Rattle.flt_rules.specs.declared.call.Existing.TheVariants.{Keep}
 use Rattle.flt_rules.specs.declared.place.Operation.TheVariants.{Read, Write, Cleanup}
 use Rattle.flt_syntax.specs.declared.filter.Action.TheVariants as action
 use Rattle.flt_syntax.specs.declared.filter.Callback.{Callback}

@@ -1,12 +1,11 @@
 -- Short names for the trees and the journals of worked runs. Everything stands on line 1, and names are a byte or none.
-use Rattle.std.specs.Prelude.{ℕ, Bool, true, List, [], ◌∷◌, Option, Some, None, option_and_then, option_map}
+use Rattle.std.specs.Prelude.{ℕ, true, List, [], ◌∷◌, Option, Some, None, option_and_then}
 use Rattle.flt_rules.specs.declared.call.LockKind.{LockKind}
 use Rattle.flt_rules.specs.declared.place.Mode.TheVariants.{Irp}
 use Rattle.flt_rules.specs.declared.place.Operation.{Operation}
 use Rattle.flt_syntax.specs.declared.filter.Callback.{Callback}
 use Rattle.flt_syntax.specs.declared.filter.Condition.TheVariants as condition
 use Rattle.flt_syntax.specs.declared.filter.FallibleCall.{FallibleCall}
-use Rattle.flt_syntax.specs.declared.filter.FallibleCall.TheVariants as fallible
 use Rattle.flt_syntax.specs.declared.filter.Filter.{Filter}
 use Rattle.flt_syntax.specs.declared.filter.Head.{Head}
 use Rattle.flt_syntax.specs.declared.filter.Head.TheVariants as head
@@ -32,7 +31,6 @@ use Rattle.flt_model.specs.Program.{by_altitude}
 use Rattle.flt_model.specs.Runs.{Break, Moment, run, breaks}
 use Rattle.flt_model.specs.Trace.{one_if, of_actor, gains, loses, frees, settles, is_held}
 use Rattle.flt_model.specs.Violations.{is_live, holding, in_queue, owners}
-use Rattle.flt_model.specs.World.{Context}
 
 -- ---- statements
 

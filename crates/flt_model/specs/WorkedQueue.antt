@@ -1,5 +1,5 @@
 -- Worked runs of a filter with a cancel-safe queue.
-use Rattle.std.specs.Prelude.{◌≡◌, refl, ℕ, List, [], ◌∷◌, ◌++◌, Some, None}
+use Rattle.std.specs.Prelude.{◌≡◌, refl, List, [], ◌∷◌, ◌++◌, Some, None}
 use Rattle.flt_rules.specs.declared.place.Operation.TheVariants.{Read, Write}
 use Rattle.flt_rules.specs.declared.status.FinalStatus.TheVariants as final
 use Rattle.flt_syntax.specs.declared.filter.Callback.{Callback}

@@ -1,8 +1,7 @@
 -- Worked runs of two filters, one above the other.
-use Rattle.std.specs.Prelude.{◌≡◌, refl, ℕ, List, [], ◌∷◌, Some, None, option_map, map}
+use Rattle.std.specs.Prelude.{◌≡◌, refl, ℕ, List, [], ◌∷◌, Some, option_map, map}
 use Rattle.flt_rules.specs.declared.place.Operation.TheVariants.{Read}
 use Rattle.flt_rules.specs.declared.status.FinalStatus.TheVariants as final
-use Rattle.flt_syntax.specs.declared.filter.Callback.{Callback}
 use Rattle.flt_syntax.specs.declared.filter.Filter.{Filter}
 use Rattle.flt_syntax.specs.declared.filter.Head.TheVariants as head
 use Rattle.flt_syntax.specs.declared.filter.Status.TheVariants as status
