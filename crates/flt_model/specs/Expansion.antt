@@ -1,5 +1,5 @@
 -- What a journal says: the transitions of each entry, and which entry is the first that isn't a run or that breaks something.
-use Rattle.std.specs.Prelude.{ℕ, zero, suc, ◌+◌, Bool, List, [], ◌∷◌, ◌++◌, replicate, Option, Some, None, option_map, option_and_then}
+use Rattle.std.specs.Prelude.{◌≡◌, ℕ, zero, suc, ◌+◌, Bool, List, [], ◌∷◌, ◌++◌, replicate, Option, Some, None, option_map, option_and_then}
 use Rattle.flt_syntax.specs.declared.filter.Filter.{Filter}
 use Rattle.flt_model.specs.declared.moves.JournalEntry.{JournalEntry}
 use Rattle.flt_model.specs.declared.moves.JournalEntry.TheVariants.{Move, Go}
@@ -8,7 +8,7 @@ use Rattle.flt_model.specs.declared.verdict.Verdict.TheVariants.{Legal, NotARun,
 use Rattle.flt_model.specs.declared.verdict.Violation.{Violation}
 use Rattle.flt_model.specs.Effects.{Step}
 use Rattle.flt_model.specs.Program.{by_altitude}
-use Rattle.flt_model.specs.Runs.{Moment, start, after, next, broken}
+use Rattle.flt_model.specs.Runs.{Moment, start, after, next, run, broken, breaks}
 use Rattle.flt_model.specs.Steps.{Transition, Make, Local, Board}
 
 -- ---- entries
@@ -27,6 +27,14 @@ expansion (Go a n grant) = go_on a n grant
 abbrev pub expand : List JournalEntry → Option (List Transition)
 expand [] = Some []
 expand (e ∷ es) = option_and_then (λ xs. option_map (λ ys. xs ++ ys) (expand es)) (expansion e)
+
+-- the transitions of a journal are a run on these filters that breaks nothing
+pub record IsCleanRun (filters : List Filter) (entries : List JournalEntry) : Type 0 where
+  pub transitions : List Transition
+  pub last : Moment
+  pub expanded : expand entries ≡ Some transitions
+  pub runs : run (by_altitude filters) transitions ≡ Some last
+  pub clean : breaks (by_altitude filters) transitions ≡ None
 
 -- ---- the verdict
 

@@ -3,9 +3,11 @@
 #![tactic(auto)]
 
 mod event;
+mod laws;
 mod moves;
 mod verdict;
 
 pub use event::{Answer, Event, Object};
+pub use laws::legal_journals_are_clean_runs;
 pub use moves::{JournalEntry, Key, Move};
 pub use verdict::{Verdict, Violation};
