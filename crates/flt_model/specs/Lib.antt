@@ -21,3 +21,4 @@ pub mod WorkedQueue
 pub mod WorkedStack
 pub mod WorkedContexts
 pub mod WorkedBreaks
+pub mod WorkedCalls
