@@ -97,10 +97,16 @@ record Arrives (p : List Filter) (m : Moment) (es : List JournalEntry) : Type 0 
 module _ (p : List Filter) (m : Moment) (n : ℕ) (es : List JournalEntry) where
   arrives_after : (xs : List Transition) (mid : Moment) → course p m xs ≡ Reaches mid → Arrives p mid es →
       (ys : List Transition) × ((last : Moment) × ((option_map (λ zs. xs ++ zs) (expand es) ≡ Some ys) × (course p m ys ≡ Reaches last)))
-  arrives_after xs mid h r =
-      (xs ++ r.transitions, (r.last,
-        (ap (λ o. option_map (λ zs. xs ++ zs) o) r.expanded,
-         course_append p m xs r.transitions ∙ (ap (λ c. then_course c (λ q. course p q r.transitions)) h ∙ r.reaches))))
+  arrives_after xs mid h r = (
+    xs ++ r.transitions,
+    (
+      r.last,
+      (
+        ap (λ o. option_map (λ zs. xs ++ zs) o) r.expanded,
+        course_append p m xs r.transitions ∙ (ap (λ c. then_course c (λ q. course p q r.transitions)) h ∙ r.reaches),
+      ),
+    ),
+  )
 
   arrives_by : (xs : List Transition) (c : Course) → course p m xs ≡ c →
       ((mid : Moment) → verdict_from p mid (n + 1) es ≡ Legal → Arrives p mid es) →

@@ -1,1 +1,2 @@
 pub mod CleanRuns
+pub mod LocalLaws

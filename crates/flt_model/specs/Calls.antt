@@ -163,28 +163,34 @@ module _ (w : World) (a : ℕ) where
 
   -- ---- locks: what is held already isn't taken again, and what isn't held isn't released
 
+  abbrev pub taken : LockNumber → List Statement → Step
+  taken l rest =
+      if holds_lock l act.locks
+      then unchanged w a rest
+      else goes_on w a (record (onward w a rest) { locks = act.locks ++ l ∷ [] }) (with_holder w.store filter l (Some a)) []
+
   abbrev pub acquire : LockKind → LockNumber → List Statement → Step
-  acquire k l rest =
-      calling w a (call.AcquireLock k) (event.Lock a l ∷ []) []
-      (if holds_lock l act.locks then unchanged w a rest
-       else goes_on w a (record (onward w a rest) { locks = act.locks ++ l ∷ [] }) (with_holder w.store filter l (Some a)) [])
+  acquire k l rest = calling w a (call.AcquireLock k) (event.Lock a l ∷ []) [] (taken l rest)
+
+  abbrev pub given_up : LockNumber → List Statement → Step
+  given_up l rest =
+      if holds_lock l act.locks
+      then goes_on w a (record (onward w a rest) { locks = without_last l act.locks }) (with_holder w.store filter l None) []
+      else unchanged w a rest
 
   abbrev pub release_lock : LockKind → LockNumber → List Statement → Step
-  release_lock k l rest =
-      calling w a (call.ReleaseLock k) (event.Unlock a l ∷ []) []
-      (if holds_lock l act.locks
-       then goes_on w a (record (onward w a rest) { locks = without_last l act.locks }) (with_holder w.store filter l None) []
-       else unchanged w a rest)
+  release_lock k l rest = calling w a (call.ReleaseLock k) (event.Unlock a l ∷ []) [] (given_up l rest)
 
   -- ---- the cancel-safe queue. Source: FltCbdqInsertIo, FltCbdqRemoveNextIo
 
   -- the entry takes the visit and the context over; a queue of a filter that is being detached is disabled
+  abbrev pub with_entry : Entry → Store
+  with_entry e = with_queue w.store filter (queue_at w.store filter ++ e ∷ [])
+
   abbrev pub enqueued : List Statement → List Statement → ℕ → Option ℕ → Step
   enqueued granted refused v x =
       if is_attached (presence_at w.store filter)
-      then goes_on w a (onward w a granted)
-        (with_queue w.store filter (queue_at w.store filter ++ record { visit = v; context = x } ∷ []))
-        (event.Lose a (Visit v) ∷ loses_context a x)
+      then goes_on w a (onward w a granted) (with_entry (record { visit = v; context = x })) (event.Lose a (Visit v) ∷ loses_context a x)
       else unchanged w a refused
 
   abbrev pub insert_by : List Statement → List Statement → Option ℕ → Option (Option ℕ) → Step

@@ -56,31 +56,36 @@ fits_mode Create Fast = false
 fits_mode Cleanup Fast = false
 fits_mode kind mode = true
 
+abbrev pub with_arrival : Store → Arrival → Store
+with_arrival s arrival = record s {
+  arrivals = s.arrivals ++ arrival ∷ [];
+  routes = s.routes ++ record { position = Down 0; frames = []; cancelled = false; outcome = None } ∷ [];
+}
+
 abbrev pub arrive : World → Operation → Mode → ℕ → Option Step
 arrive w kind mode file =
     if fits_mode kind mode && nat_lt file 1024
-    then Some (stores w (record w.store {
-      arrivals = w.store.arrivals ++ record { kind = kind; mode = mode; file = file } ∷ [];
-      routes = w.store.routes ++ record { position = Down 0; frames = []; cancelled = false; outcome = None } ∷ [];
-    }) [])
+    then Some (stores w (with_arrival w.store (record { kind = kind; mode = mode; file = file })) [])
     else None
 
 -- the filter is there, with a pre callback of the operation
 abbrev pub calls_pre : List Filter → Store → ℕ → Operation → Bool
 calls_pre p s f kind = is_attached (presence_at s f) && has_pre (callbacks_at p f) kind
 
+-- its visit, and the callback
+abbrev pub pre_of : List Filter → World → ℕ → Operation → ℕ → Step
+pre_of p w o kind f =
+    let visiting = with_route w.store o (record (route_at w.store o) { position = Visiting }) in
+    let visit : Visit = record { operation = o; filter = f; stage = stage.Pre; draining = false } in
+    starts w (with_visit visiting visit) (record { filter = f; place = place.Pre kind; draining = false })
+    (body_for (is_pre_of kind) (callbacks_at p f)) (Some (length w.store.visits)) None
+
 abbrev pub pre_at : List Filter → World → ℕ → Operation → Position → Option Step
 pre_at p w o kind (Down f) =
-    if nat_lt f (length p) && calls_pre p w.store f kind
-    then Some (starts w
-      (with_visit (with_route w.store o (record (route_at w.store o) { position = Visiting }))
-        (record { operation = o; filter = f; stage = stage.Pre; draining = false }))
-      (record { filter = f; place = place.Pre kind; draining = false })
-      (body_for (is_pre_of kind) (callbacks_at p f)) (Some (length w.store.visits)) None)
-    else None
+    if nat_lt f (length p) && calls_pre p w.store f kind then Some (pre_of p w o kind f) else None
 pre_at p w o kind _ = None
 
--- a filter that doesn't is passed
+-- a filter that isn't, or has none, is passed
 abbrev pub skip_at : List Filter → World → ℕ → Operation → Position → Option Step
 skip_at p w o kind (Down f) =
     if nat_lt f (length p) && not (calls_pre p w.store f kind)
@@ -89,11 +94,12 @@ skip_at p w o kind (Down f) =
 skip_at p w o kind _ = None
 
 -- below the last filter the operation is carried out
+abbrev pub carried_out : Route → Route
+carried_out route = record route { position = Up; outcome = Some (Completed Success) }
+
 abbrev pub lower_at : List Filter → World → ℕ → Position → Option Step
 lower_at p w o (Down f) =
-    if nat_lt f (length p)
-    then None
-    else Some (stores w (with_route w.store o (record (route_at w.store o) { position = Up; outcome = Some (Completed Success) })) [])
+    if nat_lt f (length p) then None else Some (stores w (with_route w.store o (carried_out (route_at w.store o))) [])
 lower_at p w o _ = None
 
 -- all frames but the last, and the last
@@ -111,9 +117,8 @@ last_frame (f ∷ g ∷ frames) = last_frame (g ∷ frames)
 abbrev pub post_of : List Filter → World → ℕ → Frame → Bool → Route → Step
 post_of p w o frame draining route =
     let kind = (arrival_at w.store o).kind in
-    starts w
-    (with_visit (with_route w.store o route)
-      (record { operation = o; filter = frame.filter; stage = stage.Post; draining = draining }))
+    let visit : Visit = record { operation = o; filter = frame.filter; stage = stage.Post; draining = draining } in
+    starts w (with_visit (with_route w.store o route) visit)
     (record { filter = frame.filter; place = place.Post kind; draining = draining })
     (body_for (is_post_of kind) (callbacks_at p frame.filter)) (Some (length w.store.visits)) frame.context
 
@@ -155,13 +160,16 @@ cancel w o =
 abbrev pub is_entry_of : Store → ℕ → Entry → Bool
 is_entry_of s o e = (visit_at s e.visit).operation == o
 
+-- the queue without its first entry of an operation
+abbrev pub other_entries : Store → ℕ → List Entry → List Entry
+other_entries s o queue = before_first (is_entry_of s o) queue ++ after_first (is_entry_of s o) queue
+
 abbrev pub canceled_by : List Filter → World → ℕ → ℕ → Option Entry → Option Step
 canceled_by p w f o None = None
 canceled_by p w f o (Some e) =
-    let queue = queue_at w.store f in
-    let others = before_first (is_entry_of w.store o) queue ++ after_first (is_entry_of w.store o) queue in
-    Some (starts w (with_queue w.store f others) (record { filter = f; place = place.Canceled; draining = false })
-      (body_for is_canceled (callbacks_at p f)) (Some e.visit) e.context)
+    let removed = with_queue w.store f (other_entries w.store o (queue_at w.store f)) in
+    Some (starts w removed (record { filter = f; place = place.Canceled; draining = false })
+    (body_for is_canceled (callbacks_at p f)) (Some e.visit) e.context)
 
 -- the first entry of an operation that is cancelled, or of a filter that is being detached
 abbrev pub canceled : List Filter → World → ℕ → ℕ → Option Step
@@ -170,12 +178,16 @@ canceled p w f o =
     then canceled_by p w f o (find (is_entry_of w.store o) (queue_at w.store f))
     else None
 
+abbrev pub work_of : List Filter → World → ℕ → Item → Step
+work_of p w i item =
+    let cs = callbacks_at p item.filter in
+    starts w (record w.store { items = set w.store.items i None })
+    (record { filter = item.filter; place = place_at cs item.routine; draining = false })
+    (body_at cs item.routine) item.visit item.context
+
 abbrev pub work_by : List Filter → World → ℕ → Option Item → Option Step
 work_by p w i None = None
-work_by p w i (Some item) =
-    Some (starts w (record w.store { items = set w.store.items i None })
-      (record { filter = item.filter; place = place_at (callbacks_at p item.filter) item.routine; draining = false })
-      (body_at (callbacks_at p item.filter) item.routine) item.visit item.context)
+work_by p w i (Some item) = Some (work_of p w i item)
 
 -- ---- teardown of a filter's instance
 
@@ -186,14 +198,17 @@ detach w f =
 abbrev pub is_frame_of : ℕ → Frame → Bool
 is_frame_of f frame = frame.filter == f
 
+-- the frames without the first of a filter
+abbrev pub other_frames : ℕ → List Frame → List Frame
+other_frames f frames = before_first (is_frame_of f) frames ++ after_first (is_frame_of f) frames
+
 abbrev pub drain_by : List Filter → World → ℕ → ℕ → Option Frame → Option Step
 drain_by p w f o None = None
 drain_by p w f o (Some frame) =
     let route = route_at w.store o in
-    let others = before_first (is_frame_of f) route.frames ++ after_first (is_frame_of f) route.frames in
-    Some (post_of p w o frame true (record route { frames = others }))
+    Some (post_of p w o frame true (record route { frames = other_frames f route.frames }))
 
--- the lowest frame of the filter; the operation stays where it is
+-- the first frame of the filter; the operation stays where it is
 abbrev pub drain : List Filter → World → ℕ → ℕ → Option Step
 drain p w f o =
     if is_detaching (presence_at w.store f)

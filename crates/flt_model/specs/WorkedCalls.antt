@@ -1,6 +1,6 @@
 -- Worked runs of the calls that the others don't make: replaced, deleted and referenced contexts, values, work items, deferred
 -- post processing, fast I/O, and a disabled queue.
-use Rattle.std.specs.Prelude.{◌≡◌, refl, false, List, [], ◌∷◌, ◌++◌, Some, None, option_map, map}
+use Rattle.std.specs.Prelude.{◌≡◌, refl, false, List, [], ◌∷◌, ◌++◌, Some, None}
 use Rattle.flt_rules.specs.declared.call.Anchor.TheVariants.{Instance}
 use Rattle.flt_rules.specs.declared.call.Existing.TheVariants.{Replace}
 use Rattle.flt_rules.specs.declared.place.Mode.TheVariants.{Fast}
@@ -26,8 +26,8 @@ use Rattle.flt_model.specs.declared.moves.JournalEntry.TheVariants.{Move, Go}
 use Rattle.flt_model.specs.declared.moves.Move.TheVariants as move
 use Rattle.flt_model.specs.declared.verdict.Verdict.TheVariants.{Legal, NotARun}
 use Rattle.flt_model.specs.Expansion.{verdict}
-use Rattle.flt_model.specs.World.{Context, Disallowed, Route}
-use Rattle.flt_model.specs.WorkedParts.{computed, played, call, return, if_call, if_test, release_if, on, filter, routine, passes, arrive, pre, lower, post, cancel, canceled, go}
+use Rattle.flt_model.specs.World.{Disallowed}
+use Rattle.flt_model.specs.WorkedParts.{computed, references_after, outcomes_after, call, return, if_call, if_test, release_if, on, filter, routine, passes, arrive, pre, lower, post, cancel, canceled, go}
 use Rattle.flt_model.specs.WorkedQueue.{cancels}
 
 abbrev pub no_callback : Statement
@@ -38,28 +38,28 @@ no_callback = return status.NoCallback
 -- the instance's context is replaced, and the one that was there released
 abbrev pub replaces : Callback
 replaces = on (head.Pre Read)
-  (if_call (fallible.AllocateContext C0)
+    (if_call (fallible.AllocateContext C0)
     (if_call (fallible.SetContext Instance Replace C0 (Some C1)) [] [] ∷ release_if C1 ∷ call (plain.ReleaseContext C0) ∷ []) []
-  ∷ no_callback ∷ [])
+    ∷ no_callback ∷ [])
 
 -- it is looked up, referenced again, and unlinked
 abbrev pub unlinks : Callback
 unlinks = on (head.Pre Write)
-  (if_call (fallible.GetContext Instance C0)
+    (if_call (fallible.GetContext Instance C0)
     (call (plain.ReferenceContext C0 C1) ∷ call (plain.DeleteContext C0) ∷ call (plain.ReleaseContext C0) ∷ call (plain.ReleaseContext C1) ∷ []) []
-  ∷ no_callback ∷ [])
+    ∷ no_callback ∷ [])
 
 -- it is taken from its place, with the reference of the link
 abbrev pub takes_away : Callback
 takes_away = on (head.Pre Cleanup)
-  (if_call (fallible.DeleteContextOf Instance (Some C0)) (call (plain.ReleaseContext C0) ∷ []) [] ∷ no_callback ∷ [])
+    (if_call (fallible.DeleteContextOf Instance (Some C0)) (call (plain.ReleaseContext C0) ∷ []) [] ∷ no_callback ∷ [])
 
 abbrev pub contexts : List Filter
 contexts = filter 100 (replaces ∷ unlinks ∷ takes_away ∷ []) ∷ []
 
 abbrev pub replaced : List JournalEntry
 replaced =
-  arrive Read ∷ pre 0 ∷ go 0 1 ∷ go 0 1 ∷ go 0 2 ∷ go 0 1 ∷ arrive Read ∷ pre 1 ∷ go 1 1 ∷ go 1 1 ∷ go 1 2 ∷ go 1 1 ∷ go 1 1 ∷ []
+    arrive Read ∷ pre 0 ∷ go 0 1 ∷ go 0 1 ∷ go 0 2 ∷ go 0 1 ∷ arrive Read ∷ pre 1 ∷ go 1 1 ∷ go 1 1 ∷ go 1 2 ∷ go 1 1 ∷ go 1 1 ∷ []
 
 abbrev pub deleted : List JournalEntry
 deleted = arrive Write ∷ pre 2 ∷ go 2 1 ∷ go 2 1 ∷ go 2 1 ∷ go 2 1 ∷ go 2 1 ∷ go 2 1 ∷ []
@@ -71,7 +71,7 @@ pub replaced-legal : verdict contexts replaced ≡ Legal
 unfolding computed
 replaced-legal = refl
 
-pub replaced-references : option_map (λ m. map (λ (c : Context). c.references) m.world.store.contexts) (played contexts replaced) ≡ Some (0 ∷ 1 ∷ [])
+pub replaced-references : references_after contexts replaced ≡ Some (0 ∷ 1 ∷ [])
 unfolding computed
 replaced-references = refl
 
@@ -79,7 +79,7 @@ pub deleted-legal : verdict contexts (replaced ++ deleted) ≡ Legal
 unfolding computed
 deleted-legal = refl
 
-pub deleted-references : option_map (λ m. map (λ (c : Context). c.references) m.world.store.contexts) (played contexts (replaced ++ deleted)) ≡ Some (0 ∷ 0 ∷ [])
+pub deleted-references : references_after contexts (replaced ++ deleted) ≡ Some (0 ∷ 0 ∷ [])
 unfolding computed
 deleted-references = refl
 
@@ -87,7 +87,7 @@ pub taken_away-legal : verdict contexts (replaced ++ taken_away) ≡ Legal
 unfolding computed
 taken_away-legal = refl
 
-pub taken_away-references : option_map (λ m. map (λ (c : Context). c.references) m.world.store.contexts) (played contexts (replaced ++ taken_away)) ≡ Some (0 ∷ 0 ∷ [])
+pub taken_away-references : references_after contexts (replaced ++ taken_away) ≡ Some (0 ∷ 0 ∷ [])
 unfolding computed
 taken_away-references = refl
 
@@ -101,14 +101,14 @@ nothing_linked = refl
 -- a value is written, read, and counted down in turns; 0 - 1 + 1 is 0
 abbrev pub counts : List Filter
 counts = filter 100 (on (head.Pre Read)
-  (if_call (fallible.AllocateContext C0)
+    (if_call (fallible.AllocateContext C0)
     (tree.Act 1 (action.SetNumber N0 (expression.Difference (atom.Number 0) (atom.Number 1)))
     ∷ tree.Act 1 (action.SetNumber N0 (expression.Sum (atom.Variable N0) (atom.Number 1)))
     ∷ if_test (test.Equal N0 (atom.Number 0)) (tree.Act 1 (action.WriteValue C0 (atom.Number 3)) ∷ []) []
     ∷ tree.Act 1 (action.ReadValue N1 C0)
     ∷ tree.Repeat 1 2 (tree.Act 1 (action.SetNumber N1 (expression.Difference (atom.Variable N1) (atom.Number 1))) ∷ [])
     ∷ if_test (test.Less N1 (atom.Number 2)) (call (plain.ReleaseContext C0) ∷ []) [] ∷ []) []
-  ∷ no_callback ∷ []) ∷ []) ∷ []
+    ∷ no_callback ∷ []) ∷ []) ∷ []
 
 pub counts-legal : verdict counts (arrive Read ∷ pre 0 ∷ go 0 1 ∷ go 0 4 ∷ go 0 1 ∷ go 0 7 ∷ go 0 1 ∷ lower 0 ∷ []) ≡ Legal
 unfolding computed
@@ -119,11 +119,11 @@ counts-legal = refl
 -- a generic work item takes a context over, and releases it
 abbrev pub works : List Filter
 works = filter 100
-  (on (head.Pre Read)
+    (on (head.Pre Read)
     (if_call (fallible.AllocateContext C0)
-      (if_call (fallible.QueueGenericWorkItem (routine 103) (Some C0)) [] (call (plain.ReleaseContext C0) ∷ []) ∷ []) []
+    (if_call (fallible.QueueGenericWorkItem (routine 103) (Some C0)) [] (call (plain.ReleaseContext C0) ∷ []) ∷ []) []
     ∷ no_callback ∷ [])
-  ∷ on (head.Generic (103 ∷ [])) (release_if Arg ∷ []) ∷ []) ∷ []
+    ∷ on (head.Generic (103 ∷ [])) (release_if Arg ∷ []) ∷ []) ∷ []
 
 pub works-granted : verdict works (arrive Read ∷ pre 0 ∷ go 0 1 ∷ go 0 1 ∷ go 0 1 ∷ lower 0 ∷ Move (move.Work 0) ∷ go 1 2 ∷ go 1 1 ∷ []) ≡ Legal
 unfolding computed
@@ -141,11 +141,11 @@ works-once = refl
 -- a post callback leaves the completion to a work item
 abbrev pub finishes_later : List Filter
 finishes_later = filter 100
-  (passes Read
-  ∷ on (head.Post Read)
+    (passes Read
+    ∷ on (head.Post Read)
     (if_call (fallible.QueueDeferredIoWorkItem (routine 114) None) (return status.MoreProcessingRequired ∷ []) []
     ∷ return status.FinishedProcessing ∷ [])
-  ∷ on (head.DeferredPost (114 ∷ [])) (call plain.CompletePendedPostOperation ∷ []) ∷ []) ∷ []
+    ∷ on (head.DeferredPost (114 ∷ [])) (call plain.CompletePendedPostOperation ∷ []) ∷ []) ∷ []
 
 abbrev pub finished_later : List JournalEntry
 finished_later = arrive Read ∷ pre 0 ∷ go 0 1 ∷ lower 0 ∷ post 0 ∷ go 1 1 ∷ go 1 1 ∷ Move (move.Work 0) ∷ []
@@ -167,7 +167,7 @@ finished_later-done = refl
 
 abbrev pub disallows : List Filter
 disallows = filter 100
-  (on (head.Pre Read) (if_test test.IsIrp (no_callback ∷ []) [] ∷ return status.DisallowFastIo ∷ []) ∷ []) ∷ []
+    (on (head.Pre Read) (if_test test.IsIrp (no_callback ∷ []) [] ∷ return status.DisallowFastIo ∷ []) ∷ []) ∷ []
 
 abbrev pub disallowed : List JournalEntry
 disallowed = Move (move.Arrive Read Fast 0) ∷ pre 0 ∷ go 0 1 ∷ go 0 1 ∷ []
@@ -176,7 +176,7 @@ pub disallowed-legal : verdict disallows disallowed ≡ Legal
 unfolding computed
 disallowed-legal = refl
 
-pub disallowed-outcome : option_map (λ m. map (λ (r : Route). r.outcome) m.world.store.routes) (played disallows disallowed) ≡ Some (Some Disallowed ∷ [])
+pub disallowed-outcome : outcomes_after disallows disallowed ≡ Some (Some Disallowed ∷ [])
 unfolding computed
 disallowed-outcome = refl
 
@@ -194,15 +194,15 @@ no_such_file = refl
 -- pre read: the operation is pended with a context; pre write: the front one is resumed
 abbrev pub keeps_order : List Filter
 keeps_order = filter 100
-  (on (head.Pre Read)
+    (on (head.Pre Read)
     (if_call (fallible.AllocateContext C0)
-      (if_call (fallible.InsertIo (Some C0)) (return status.Pending ∷ []) (call (plain.ReleaseContext C0) ∷ []) ∷ []) []
+    (if_call (fallible.InsertIo (Some C0)) (return status.Pending ∷ []) (call (plain.ReleaseContext C0) ∷ []) ∷ []) []
     ∷ no_callback ∷ [])
-  ∷ on (head.Pre Write)
+    ∷ on (head.Pre Write)
     (if_call (fallible.RemoveNextIo O0 C0)
-      (release_if C0 ∷ call (plain.CompletePendedPreOperation (Removed O0) status.NoCallback) ∷ []) []
+    (release_if C0 ∷ call (plain.CompletePendedPreOperation (Removed O0) status.NoCallback) ∷ []) []
     ∷ no_callback ∷ [])
-  ∷ cancels ∷ []) ∷ []
+    ∷ cancels ∷ []) ∷ []
 
 abbrev pub two_pended : List JournalEntry
 two_pended = arrive Read ∷ pre 0 ∷ go 0 1 ∷ go 0 1 ∷ go 0 1 ∷ arrive Read ∷ pre 1 ∷ go 1 1 ∷ go 1 1 ∷ go 1 1 ∷ arrive Write ∷ pre 2 ∷ []
@@ -218,7 +218,7 @@ second_stays = refl
 
 -- the second one is cancelled out of turn
 pub second_cancelled :
-  verdict keeps_order (two_pended ++ cancel 1 ∷ canceled 1 ∷ go 3 2 ∷ go 3 1 ∷ go 3 1 ∷ go 2 1 ∷ go 2 2 ∷ go 2 1 ∷ go 2 1 ∷ lower 0 ∷ []) ≡ Legal
+    verdict keeps_order (two_pended ++ cancel 1 ∷ canceled 1 ∷ go 3 2 ∷ go 3 1 ∷ go 3 1 ∷ go 2 1 ∷ go 2 2 ∷ go 2 1 ∷ go 2 1 ∷ lower 0 ∷ []) ≡ Legal
 unfolding computed
 second_cancelled = refl
 
@@ -242,8 +242,8 @@ passed_by = refl
 -- a frame is drained: the post callback sees the flag
 abbrev pub drains : List Filter
 drains = filter 100
-  (on (head.Pre Read) (if_call (fallible.AllocateContext C0) (return (status.Synchronize (Some C0)) ∷ []) [] ∷ no_callback ∷ [])
-  ∷ on (head.Post Read)
+    (on (head.Pre Read) (if_call (fallible.AllocateContext C0) (return (status.Synchronize (Some C0)) ∷ []) [] ∷ no_callback ∷ [])
+    ∷ on (head.Post Read)
     (if_test test.IsDraining (release_if Arg ∷ return status.FinishedProcessing ∷ []) (return status.MoreProcessingRequired ∷ [])
     ∷ []) ∷ []) ∷ []
 

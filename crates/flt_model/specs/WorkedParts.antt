@@ -1,5 +1,5 @@
 -- Short names for the trees and the journals of worked runs. Everything stands on line 1, and names are a byte or none.
-use Rattle.std.specs.Prelude.{ℕ, true, List, [], ◌∷◌, Option, Some, None, option_and_then}
+use Rattle.std.specs.Prelude.{ℕ, true, List, [], ◌∷◌, Option, Some, None, option_and_then, option_map, map}
 use Rattle.flt_rules.specs.declared.call.LockKind.{LockKind}
 use Rattle.flt_rules.specs.declared.place.Mode.TheVariants.{Irp}
 use Rattle.flt_rules.specs.declared.place.Operation.{Operation}
@@ -30,6 +30,7 @@ use Rattle.flt_model.specs.Expansion.{expand, verdict}
 use Rattle.flt_model.specs.Program.{by_altitude}
 use Rattle.flt_model.specs.Runs.{Break, Moment, run, breaks}
 use Rattle.flt_model.specs.Trace.{one_if, of_actor, gains, loses, frees, settles, is_held}
+use Rattle.flt_model.specs.World.{Context, Outcome, Route}
 use Rattle.flt_model.specs.Violations.{is_live, holding, in_queue, owners}
 
 -- ---- statements
@@ -105,6 +106,14 @@ go a n = Go a n true
 -- the run of a journal
 abbrev pub played : List Filter → List JournalEntry → Option Moment
 played filters entries = option_and_then (run (by_altitude filters)) (expand entries)
+
+-- the references of its contexts at its end, and the outcomes of its operations
+abbrev pub references_after : List Filter → List JournalEntry → Option (List ℕ)
+references_after filters entries =
+    option_map (λ m. map (λ (c : Context). c.references) m.world.store.contexts) (played filters entries)
+
+abbrev pub outcomes_after : List Filter → List JournalEntry → Option (List (Option Outcome))
+outcomes_after filters entries = option_map (λ m. map (λ (r : Route). r.outcome) m.world.store.routes) (played filters entries)
 
 -- its first break
 abbrev pub broken_by : List Filter → List JournalEntry → Option Break

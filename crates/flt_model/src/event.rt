@@ -25,7 +25,9 @@ pub enum Answer {
         status: Status,
     },
     /// FINISHED_PROCESSING, by FltCompletePendedPostOperation, for the visit.
-    CompletesPost { visit: u32 },
+    CompletesPost {
+        visit: u32,
+    },
 }
 
 /// One thing that happens in a step. The first number is the activation's.

@@ -8,6 +8,6 @@ mod moves;
 mod verdict;
 
 pub use event::{Answer, Event, Object};
-pub use laws::legal_journals_are_clean_runs;
+pub use laws::{legal_journals_are_clean_runs, local_steps_are_quiet};
 pub use moves::{JournalEntry, Key, Move};
 pub use verdict::{Verdict, Violation};
