@@ -22,3 +22,4 @@ pub mod WorkedStack
 pub mod WorkedContexts
 pub mod WorkedBreaks
 pub mod WorkedCalls
+pub mod WorkedMisuse
