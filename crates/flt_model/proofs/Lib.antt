@@ -1,0 +1,2 @@
+mod ReadingSteps
+mod WritingSteps

@@ -1,0 +1,3 @@
+pub mod JournalText
+pub mod JournalTextReading
+pub mod Streams
