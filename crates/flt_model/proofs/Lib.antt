@@ -1,2 +1,7 @@
+mod LineEnds
+mod LinesOnline
+mod Numbers
+mod Online
 mod ReadingSteps
+mod SpelledRead
 mod WritingSteps

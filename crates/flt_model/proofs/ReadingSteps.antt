@@ -1,5 +1,5 @@
 -- The steps of reading, as loops and recursions make them.
-use Rattle.std.proofs.Common.{◌≡◌, ◌<◌, ◌+◌, ◌-◌, ℕ, zero, suc, true, false, List, [], ◌∷◌, ◌++◌, length, refl, arith}
+use Rattle.std.proofs.Common.{◌≡◌, ◌<◌, ◌+◌, ◌-◌, ℕ, zero, suc, true, false, List, [], ◌∷◌, ◌++◌, length, refl, sym, ap, arith, ◌∙◌}
 use Rattle.std.specs.Prelude.{◌==◌, Ok, Err, Some, None, if◌then◌else◌}
 use Rattle.flt_model.specs.Streams.{Text}
 use Rattle.flt_model.specs.JournalText.{Entries, most_entries}
@@ -32,10 +32,14 @@ pub digits_wrong : (left end n b : ℕ) (text new : Text) → 0 < left → byte 
 unfolding digits
 digits_wrong left end n b text new z h e d = rw (one_less left z, h, e, d) refl
 
+more_behind : (less end n b m : ℕ) (text new : Text) → byte text ≡ Ok (b, new) → (b == end) ≡ false → with_digit n b ≡ Some m →
+    digits (suc less) end n text ≡ digits less end m new
+unfolding digits
+more_behind less end n b m text new h e d = rw (h, e, d) refl
+
 pub digits_more : (left end n b m : ℕ) (text new : Text) → 0 < left → byte text ≡ Ok (b, new) → (b == end) ≡ false → with_digit n b ≡ Some m →
     digits left end n text ≡ digits (left - 1) end m new
-unfolding digits
-digits_more left end n b m text new z h e d = rw (one_less left z, h, e, d) refl
+digits_more left end n b m text new z h e d = ap (λ k. digits k end n text) (one_less left z) ∙ more_behind (left - 1) end n b m text new h e d
 
 -- ---- entries
 

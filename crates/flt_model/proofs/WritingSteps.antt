@@ -1,11 +1,12 @@
 -- What a writer has taken, after one part and another.
-use Rattle.std.proofs.Common.{◌≡◌, ◌<◌, ◌≤◌, ◌+◌, ◌/◌, ◌%◌, ◌^◌, ℕ, zero, suc, List, [], ◌∷◌, ◌++◌, length, take, drop, map, refl, sym, ap, arith, ◌∙◌, append_assoc, append-nil, map-append}
+use Rattle.std.proofs.Common.{◌≡◌, ◌<◌, ◌≤◌, ◌+◌, ◌-◌, ℕ, zero, suc, List, [], ◌∷◌, ◌++◌, length, take, drop, get_or, refl, sym, ap, arith, ◌∙◌, append_assoc, append-nil}
 use Rattle.std.specs.Prelude.{Option, Some, None}
-use Rattle.std.specs.Fmt.{decimal}
-use Rattle.std.specs.Int.Digits.{digits_of}
-use Rattle.std.proofs.lemmas.Fmt.{decimal-digits_of}
-use Rattle.std.proofs.lemmas.Int.Digits.{digits_of_step}
+use Rattle.std.specs.List.{flat_map}
+use Rattle.std.proofs.lemmas.List.{take_rest}
+use Rattle.std.proofs.Math.Seq.{take-add, drop-cons}
 use Rattle.flt_model.specs.Streams.{Text, with_bytes}
+use Rattle.flt_model.specs.JournalText.{Entries, entry_line}
+use Rattle.flt_model.specs.declared.moves.JournalEntry.{JournalEntry}
 
 pub with_none : (taken : Option Text) → with_bytes taken [] ≡ taken
 with_none None = refl
@@ -26,24 +27,38 @@ pub four_parts : (one two three four five : Option Text) (a b c d : Text) → tw
     five ≡ with_bytes four d → five ≡ with_bytes one (a ++ (b ++ (c ++ d)))
 four_parts one two three four five a b c d h k l m = two_parts one two five a (b ++ (c ++ d)) h (three_parts two three four five b c d k l m)
 
--- ---- digits
+-- so many bytes more
+pub put_step : (one two three : Option Text) (bytes : Text) (at n : ℕ) → two ≡ with_bytes one (take at bytes) →
+    three ≡ with_bytes two (take n (take (length bytes - at) (drop at bytes))) → three ≡ with_bytes one (take (at + n) bytes)
+put_step one two three bytes at n h k =
+    let k = rw (take_rest bytes at) at k in
+    two_parts one two three (take at bytes) (take n (drop at bytes)) h k ∙ ap (λ z. with_bytes one z) (sym (take-add at n bytes))
 
-pub one_digit : (n : ℕ) → n < 10 → decimal n ≡ (48 + n) ∷ []
-one_digit zero h = by_refl
+-- the entries behind the first line
+pub entries_begin : (one two : Option Text) (front rest : Text) → two ≡ with_bytes one front → with_bytes two rest ≡ with_bytes one (front ++ rest)
+entries_begin one two front rest h = ap (λ o. with_bytes o rest) h ∙ with_both one front rest
+
+-- one entry more
+pub entry_step : (whole two three : Option Text) (entries : Entries) (at : ℕ) (d : JournalEntry) → at < length entries →
+    three ≡ with_bytes two (entry_line (get_or entries at d)) → with_bytes two (flat_map entry_line (drop at entries)) ≡ whole →
+    with_bytes three (flat_map entry_line (drop (at + 1) entries)) ≡ whole
+entry_step whole two three entries at d low h k =
+    let rest : drop at entries ≡ get_or entries at d ∷ drop (suc at) entries = drop-cons entries at d low in
+    let next : at + 1 ≡ suc at = omega arith in
+    rw next (ap (λ o. with_bytes o (flat_map entry_line (drop (suc at) entries))) h ∙ with_both two (entry_line (get_or entries at d)) (flat_map entry_line (drop (suc at) entries))
+    ∙ ap (λ z. with_bytes two (flat_map entry_line z)) (sym rest) ∙ k)
+
+-- the last line behind the entries
+pub entries_end : (one two three : Option Text) (front last : Text) (entries : Entries) (at : ℕ) → length entries ≤ at →
+    with_bytes two (flat_map entry_line (drop at entries)) ≡ with_bytes one (front ++ flat_map entry_line entries) → three ≡ with_bytes two last →
+    three ≡ with_bytes one (front ++ (flat_map entry_line entries ++ last))
+entries_end one two three front last entries at all h k =
+    let none : drop at entries ≡ [] = drop-nil at entries all in
+    let done : two ≡ with_bytes one (front ++ flat_map entry_line entries) = sym (with_none two) ∙ ap (λ z. with_bytes two (flat_map entry_line z)) (sym none) ∙ h in
+    two_parts one two three (front ++ flat_map entry_line entries) last done k ∙ ap (λ z. with_bytes one z) (append_assoc front (flat_map entry_line entries) last)
   where
-    by_refl : decimal 0 ≡ 48 ∷ []
-    by_refl = refl
-one_digit (suc n) h =
-    let low : 0 < suc n = omega arith in
-    let none : suc n / 10 ≡ 0 = omega arith in
-    let self : suc n % 10 ≡ suc n = omega arith in
-    let small : suc n < 2 ^ 64 = omega arith in
-    decimal-digits_of (suc n) low small ∙ ap (λ z. map (λ d. 48 + d) z) (digits_of_step 10 (suc n) (omega arith) low ∙ rw (none, self) refl)
-
-pub more_digits : (n : ℕ) → 10 ≤ n → n < 2 ^ 64 → decimal n ≡ decimal (n / 10) ++ (48 + n % 10) ∷ []
-more_digits n h small =
-    let low : 0 < n = omega arith in
-    let some : 0 < n / 10 = omega arith in
-    let less : n / 10 < 2 ^ 64 = omega arith in
-    decimal-digits_of n low small ∙ ap (λ z. map (λ d. 48 + d) z) (digits_of_step 10 n (omega arith) low)
-    ∙ simp map-append refl ∙ ap (λ z. z ++ (48 + n % 10) ∷ []) (sym (decimal-digits_of (n / 10) some less))
+    drop-nil : (at : ℕ) (entries : Entries) → length entries ≤ at → drop at entries ≡ []
+    drop-nil zero [] h = refl
+    drop-nil (suc at) [] h = refl
+    drop-nil zero (e ∷ entries) h = absurd (omega arith)
+    drop-nil (suc at) (e ∷ entries) h = drop-nil at entries (omega arith)

@@ -1,6 +1,6 @@
 -- Journals and their spelling. This project's own format.
-use Rattle.std.specs.Prelude.{◌≡◌, ℕ, suc, ◌+◌, ◌<◌, ◌≤◌, ◌^◌, Bool, true, false, List, [], ◌∷◌, ◌++◌, length, codes}
-use Rattle.std.specs.List.{flat_map}
+use Rattle.std.specs.Prelude.{◌≡◌, ℕ, suc, ◌+◌, ◌<◌, ◌≤◌, ◌^◌, ◌≢◌, ◌⊎◌, ◌==◌, if◌then◌else◌, Bool, true, false, List, [], ◌∷◌, ◌++◌, length, codes}
+use Rattle.std.specs.List.{flat_map, AllByRecursion}
 use Rattle.std.specs.Fmt.{decimal}
 use Rattle.flt_rules.specs.declared.place.Operation.{Operation}
 use Rattle.flt_rules.specs.declared.place.Operation.TheVariants.{Create, Read, Write, Cleanup}
@@ -22,6 +22,37 @@ Entries = List JournalEntry
 -- how many entries a journal that is read has at most
 unfoldable pub most_entries : ℕ
 most_entries = 1000000
+
+-- a number has 32 bits
+abbrev pub IsNumber : ℕ → Type 0
+IsNumber n = n < 2 ^ 32
+
+abbrev pub IsKey : Key → Type 0
+IsKey (Stream file) = IsNumber file
+IsKey Instance = Unit {0}
+
+abbrev pub IsMove : Move → Type 0
+IsMove (moves.Arrive operation mode file) = IsNumber file
+IsMove (moves.Pre serial) = IsNumber serial
+IsMove (moves.Skip serial) = IsNumber serial
+IsMove (moves.Lower serial) = IsNumber serial
+IsMove (moves.Post serial) = IsNumber serial
+IsMove (moves.Cancel serial) = IsNumber serial
+IsMove (moves.Canceled altitude serial) = IsNumber altitude × IsNumber serial
+IsMove (moves.Work item) = IsNumber item
+IsMove (moves.Detach altitude) = IsNumber altitude
+IsMove (moves.Drain altitude serial) = IsNumber altitude × IsNumber serial
+IsMove (moves.Unlink altitude key) = IsNumber altitude × IsKey key
+IsMove (moves.Detached altitude) = IsNumber altitude
+
+-- the numbers of an entry have 32 bits
+abbrev pub IsEntry : JournalEntry → Type 0
+IsEntry (entries.Move move) = IsMove move
+IsEntry (Go activation steps grant) = IsNumber activation × IsNumber steps
+
+-- each is an entry, and there are 1,000,000 at most
+abbrev pub IsJournal : Entries → Type 0
+IsJournal entries = AllByRecursion IsEntry entries × (length entries ≤ most_entries)
 
 -- ---- what stands in a line
 
@@ -80,3 +111,23 @@ last_line = codes "end" ++ 10 ∷ []
 -- the one spelling of a journal
 abbrev pub spelling : Entries → Text
 spelling entries = first_line ++ (flat_map entry_line entries ++ last_line)
+
+-- ---- texts that are no journal
+
+-- how many lines end in a text
+abbrev pub line_ends : Text → ℕ
+line_ends [] = 0
+line_ends (b ∷ text) = if b == 10 then suc (line_ends text) else line_ends text
+
+-- the first byte that isn't as asked: the bytes before it begin a journal, and with it they begin none; or the bytes
+-- begin a journal and are none, as one is missing. The line that it stands in is counted from 1, and what is left
+-- behind it isn't looked at
+pub record IsFirstFault (text : Text) (line : ℕ) (left : Text) : Type 0 where
+  pub given : Text
+  pub number : line ≡ suc (line_ends given)
+  pub whose : Entries
+  pub journal : IsJournal whose
+  pub rest : Text
+  pub begun : spelling whose ≡ given ++ rest
+  pub stopped : ((b : ℕ) × (text ≡ given ++ b ∷ left) × ((entries : Entries) → IsJournal entries → (others : Text) → spelling entries ≢ given ++ b ∷ others))
+    ⊎ ((text ≡ given) × (left ≡ []) × ((entries : Entries) → IsJournal entries → spelling entries ≢ given))

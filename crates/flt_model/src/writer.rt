@@ -23,7 +23,7 @@ pub fn put_all<W: Sink>(writer: &mut W, bytes: &[u8]) -> Result<(), WriteFault>
     Ok(())
 }
 
-#[tactic(auto, using(crate::proofs::WritingSteps::one_digit, crate::proofs::WritingSteps::more_digits, crate::proofs::WritingSteps::two_parts))]
+#[tactic(auto, using(std::proofs::lemmas::Fmt::decimal_digit, std::proofs::lemmas::Fmt::decimal_step, crate::proofs::WritingSteps::two_parts))]
 fn put_decimal<W: Sink>(writer: &mut W, number: u32) -> Result<(), WriteFault>
     ensures ok { OnOk result (W.taken writer.new ≡ with_bytes (W.taken writer.old) (decimal number)) }
     ensures fine { OnOk result (W.failures writer.new ≡ W.failures writer.old) }
@@ -155,6 +155,7 @@ fn put_move<W: Sink>(writer: &mut W, made: Move) -> Result<(), WriteFault>
     }
 }
 
+#[tactic(auto, using(crate::proofs::WritingSteps::three_parts))]
 fn put_go<W: Sink>(writer: &mut W, activation: u32, steps: u32, grant: bool) -> Result<(), WriteFault>
     ensures ok { OnOk result (W.taken writer.new ≡ with_bytes (W.taken writer.old) (spec.entry_line (JournalEntry.Go activation steps grant))) }
     ensures fine { OnOk result (W.failures writer.new ≡ W.failures writer.old) }
@@ -181,6 +182,7 @@ fn put_entry<W: Sink>(writer: &mut W, entry: JournalEntry) -> Result<(), WriteFa
 }
 
 /// Writes the one spelling of a journal.
+#[tactic(auto, using(crate::proofs::WritingSteps::entries_begin, crate::proofs::WritingSteps::entries_end))]
 pub fn write<W: Sink>(journal: &Journal, writer: &mut W) -> Result<(), WriteFault>
     ensures ok { OnOk result (W.taken writer.new ≡ with_bytes (W.taken writer.old) (spec.spelling journal.now)) }
     ensures fine { OnOk result (W.failures writer.new ≡ W.failures writer.old) }
