@@ -1,3 +1,4 @@
+mod JournalLaws
 mod LineEnds
 mod LinesOnline
 mod Numbers

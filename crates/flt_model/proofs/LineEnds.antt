@@ -38,7 +38,7 @@ pub record Ended (text : Text) : Type 0 where
   pub whole : text ≡ body ++ 10 ∷ []
   pub plain : line_ends body ≡ 0
 
-bare : (front : Text) → line_ends front ≡ 0 → Ended (front ++ 10 ∷ [])
+pub bare : (front : Text) → line_ends front ≡ 0 → Ended (front ++ 10 ∷ [])
 bare front h = record { body = front; whole = refl; plain = h }
 
 behind : (front text : Text) → line_ends front ≡ 0 → Ended text → Ended (front ++ text)

@@ -5,7 +5,7 @@ use Rattle.flt_rules.specs.declared.place.Operation.TheVariants.{Create, Read, W
 use Rattle.flt_rules.specs.declared.place.Mode.{Mode}
 use Rattle.flt_rules.specs.declared.place.Mode.TheVariants.{Irp, Fast}
 use Rattle.flt_model.specs.Streams.{Text}
-use Rattle.flt_model.specs.JournalText.{Entries, first_line, last_line, most_entries}
+use Rattle.flt_model.specs.JournalText.{Entries, first_line, last_line, most_entries, IsFirstFault}
 use Rattle.flt_model.specs.declared.moves.JournalEntry.{JournalEntry}
 use Rattle.flt_model.specs.declared.moves.JournalEntry.TheVariants as entries
 use Rattle.flt_model.specs.declared.moves.Key.{Key}
@@ -292,3 +292,15 @@ CountsAll (Ok x) old new = new ≡ old
 CountsAll (Err faults.Read) old new = new ≢ old
 CountsAll (Err (faults.Line n)) old new = new ≡ old
 CountsAll (Err faults.OutOfMemory) old new = new ≡ old
+
+-- the reader failed, or memory ran out
+abbrev pub IsHindrance : JournalFault → Type 0
+IsHindrance (faults.Line n) = ⊥
+IsHindrance faults.Read = Unit {0}
+IsHindrance faults.OutOfMemory = Unit {0}
+
+-- a fault of the text names the line of the first byte that isn't as asked, and the rest is left
+abbrev pub IsFaultOf : Text → JournalFault → Text → Type 0
+IsFaultOf text (faults.Line n) left = IsFirstFault text n left
+IsFaultOf text faults.Read left = Unit {0}
+IsFaultOf text faults.OutOfMemory left = Unit {0}

@@ -13,6 +13,9 @@ mod writer;
 pub use fault::JournalFault;
 pub use journal::Journal;
 pub use moves::{JournalEntry, Key, Move};
-pub use reader::MAX_ENTRIES;
+pub use reader::{MAX_ENTRIES, read};
 pub use streams::{ReadFault, Sink, Source, WriteFault};
 pub use writer::{put_all, write};
+
+#[cfg(test)]
+mod tests;
