@@ -208,8 +208,12 @@ first_fault text n left h = go (journal text) h (read_as text)
     stops : (given : Text) (m : ℕ) (rest : Text) → m ≡ n → rest ≡ left → Halts journal given text m rest →
         ((b : ℕ) × (text ≡ given ++ b ∷ left) × ((entries : Entries) → IsJournal entries → (others : Text) → spelling entries ≡ given ++ b ∷ others → ⊥))
         ⊎ ((text ≡ given) × (left ≡ []) × ((entries : Entries) → IsJournal entries → spelling entries ≡ given → ⊥))
-    stops given m rest e f (inl x) = inl (x.0, x.1 ∙ ap (λ z. given ++ x.0 ∷ z) f, λ entries good others same.
-        is_no_journal (given ++ x.0 ∷ others) m others entries (x.2 others) good (sym same))
+    stops given m rest e f (inl x) = inl (
+      x.0,
+      x.1 ∙ ap (λ z. given ++ x.0 ∷ z) f,
+      λ entries good others same.
+          is_no_journal (given ++ x.0 ∷ others) m others entries (x.2 others) good (sym same),
+    )
     stops given m rest e f (inr x) = inr (x.0, sym f ∙ x.1, λ entries good same. is_no_journal text n left entries h good (x.0 ∙ sym same))
 
     go : (o : Reading) → o ≡ Err (record { line = n; left = left }) → Read_as text o → IsFirstFault text n left

@@ -73,11 +73,13 @@ reads_on end n e = decimal_by_steps (Reads_on end) one more n
         let len : length (ds ++ (48 + n % 10) ∷ []) ≡ length ds + 1 = length-append ds ((48 + n % 10) ∷ []) in
         let front = h (omega arith) (omega arith) (omega (arith, len)) in
         let left : 10 - length ds ≡ suc (10 - length (ds ++ (48 + n % 10) ∷ [])) = omega (arith, len) in
-        let whole : 10 * (n / 10) + n % 10 ≡ n = omega arith in
-        (omega (arith, len), λ text. ap (number end) (append_assoc ds ((48 + n % 10) ∷ []) text) ∙ front.1 ((48 + n % 10) ∷ text)
-            ∙ ap (λ k. digits k end (n / 10) ((48 + n % 10) ∷ text)) left
-            ∙ one_more (10 - length (ds ++ (48 + n % 10) ∷ [])) end (n / 10) (n % 10) text e (omega arith) (omega (arith, whole))
-            ∙ ap (λ k. digits (10 - length (ds ++ (48 + n % 10) ∷ [])) end k text) whole)
+        let whole : 10 * (n / 10) + n % 10 ≡ n = omega arith in (
+          omega (arith, len),
+          λ text. ap (number end) (append_assoc ds ((48 + n % 10) ∷ []) text) ∙ front.1 ((48 + n % 10) ∷ text)
+              ∙ ap (λ k. digits k end (n / 10) ((48 + n % 10) ∷ text)) left
+              ∙ one_more (10 - length (ds ++ (48 + n % 10) ∷ [])) end (n / 10) (n % 10) text e (omega arith) (omega (arith, whole))
+              ∙ ap (λ k. digits (10 - length (ds ++ (48 + n % 10) ∷ [])) end k text) whole,
+        )
 
 pub number_again : (end n : ℕ) (text : Text) → end < 48 → n < 2 ^ 32 → number end (number_text n end ++ text) ≡ Ok (n, text)
 unfolding number Reads_on
@@ -121,7 +123,7 @@ further end m b p (Some k) some e f =
     let value = more.value in
     let text = digit_behind m b k some more in
     live (said (Tail end k) (λ w n. Tail end m (b ∷ w) n) (p k) (λ c n h. (sym (append_assoc (decimal m) (b ∷ []) c) ∙ ap (λ z. z ++ c) (sym text) ∙ h.0, h.1))
-        (f k (omega arith) more.small))
+    (f k (omega arith) more.small))
 
 digits_online : (left end m : ℕ) → 0 < m → m < 2 ^ 32 → Online (Tail end m) (digits left end m)
 unfolding digits

@@ -46,8 +46,13 @@ line_again (entries.Move (moves.Unlink altitude Instance)) text h =
     rw (append_assoc (number_text altitude 32) (key_text Instance) text, number_again 32 altitude (key_text Instance ++ text) (omega arith) h.0) refl
 line_again (entries.Move (moves.Detached altitude)) text h = rw (number_again 10 altitude text (omega arith) h) refl
 line_again (entries.Go activation steps granted) text h =
-    rw (append_assoc (number_text activation 32) (number_text steps 32 ++ grant_text granted) text, number_again 32 activation ((number_text steps 32 ++ grant_text granted) ++ text) (omega arith) h.0,
-    append_assoc (number_text steps 32) (grant_text granted) text, number_again 32 steps (grant_text granted ++ text) (omega arith) h.1, grant_again granted text) refl
+    rw (
+      append_assoc (number_text activation 32) (number_text steps 32 ++ grant_text granted) text,
+      number_again 32 activation ((number_text steps 32 ++ grant_text granted) ++ text) (omega arith) h.0,
+      append_assoc (number_text steps 32) (grant_text granted) text,
+      number_again 32 steps (grant_text granted ++ text) (omega arith) h.1,
+      grant_again granted text,
+    ) refl
 
 -- a line, whichever it is
 pub any_line_again : (x : Option JournalEntry) (text : Text) → IsLine x → line (line_text x ++ text) ≡ Ok (x, text)

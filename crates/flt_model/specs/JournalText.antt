@@ -130,4 +130,4 @@ pub record IsFirstFault (text : Text) (line : ℕ) (left : Text) : Type 0 where
   pub rest : Text
   pub begun : spelling whose ≡ given ++ rest
   pub stopped : ((b : ℕ) × (text ≡ given ++ b ∷ left) × ((entries : Entries) → IsJournal entries → (others : Text) → spelling entries ≢ given ++ b ∷ others))
-    ⊎ ((text ≡ given) × (left ≡ []) × ((entries : Entries) → IsJournal entries → spelling entries ≢ given))
+      ⊎ ((text ≡ given) × (left ≡ []) × ((entries : Entries) → IsJournal entries → spelling entries ≢ given))

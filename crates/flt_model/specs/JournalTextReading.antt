@@ -84,8 +84,8 @@ operation = byte >>= λ b.
     if b == 114 then exactly (codes "ead ") >> pure Read
     else (if b == 119 then exactly (codes "rite ") >> pure Write
     else (if b == 99 then (byte >>= λ b.
-        if b == 114 then exactly (codes "eate ") >> pure Create
-        else (if b == 108 then exactly (codes "eanup ") >> pure Cleanup else wrong))
+    if b == 114 then exactly (codes "eate ") >> pure Create
+    else (if b == 108 then exactly (codes "eanup ") >> pure Cleanup else wrong))
     else wrong))
 
 -- a mode, and the blank behind it

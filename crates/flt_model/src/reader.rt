@@ -19,7 +19,6 @@ const FIRST_LINE: &[u8] = b"fltjournal 1\n";
 
 const LAST_LINE: &[u8] = b"end\n";
 
-
 /// The entries, if nothing follows the last line.
 fn closed<R: Source>(reader: &mut R, found: Journal) -> Result<Journal, JournalFault>
     requires { length found ≤ 1000000 }

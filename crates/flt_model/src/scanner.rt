@@ -17,6 +17,7 @@ pub(crate) enum Stop {
 impl From<ReadFault> for Stop {
     ghost use Rattle.flt_model.specs.declared.scanner.Stop.TheVariants.{Failed};
     ghost use Rattle.std.specs.Prelude.{◌≡◌};
+
     ghost from_gives = { λ _ e. e ≡ Failed };
 
     fn from(_e: ReadFault) -> Stop {

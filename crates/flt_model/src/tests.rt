@@ -1,7 +1,8 @@
 //! Journals from their text and back, texts that are no journals, and streams that fail at each of their calls.
 
 use crate::{
-    Journal, JournalEntry, JournalFault, Key, Move, ReadFault, Sink, Source, WriteFault, read, write,
+    Journal, JournalEntry, JournalFault, Key, Move, ReadFault, Sink, Source, WriteFault, read,
+    write,
 };
 use flt_rules::{Mode, Operation};
 use std::alloc::{AllocError, Global};
@@ -247,7 +248,12 @@ fn line_of(alloc: Global, text: &[u8]) -> usize {
 }
 
 /// The text reads as these entries, and they are written so.
-fn both_ways(rt: &impl Abort, alloc: Global, text: &str, entries: &[JournalEntry]) -> Result<(), Fail> {
+fn both_ways(
+    rt: &impl Abort,
+    alloc: Global,
+    text: &str,
+    entries: &[JournalEntry],
+) -> Result<(), Fail> {
     let journal = read_text(alloc, text.as_bytes())
         .ok()
         .ok_or("it is a journal")?;
@@ -331,9 +337,7 @@ fn reader_that_fails_at_each_call(rt: HostRuntime) {
 #[test]
 fn writer_that_fails_at_each_call(rt: HostRuntime) -> Result<(), Fail> {
     let text = EACH_KIND.as_bytes();
-    let journal = read_text(rt.alloc(), text)
-        .ok()
-        .ok_or("it is a journal")?;
+    let journal = read_text(rt.alloc(), text).ok().ok_or("it is a journal")?;
     let last = text.len() as u64;
     for call in 0..last + 1 {
         let mut out = Kept::new(rt.alloc(), Some(call));

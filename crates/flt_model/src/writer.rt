@@ -86,7 +86,12 @@ fn grant_text(grant: bool) -> &'static [u8]
 }
 
 #[tactic(auto, using(crate::proofs::WritingSteps::three_parts))]
-fn put_arrive<W: Sink>(writer: &mut W, operation: Operation, mode: Mode, file: u32) -> Result<(), WriteFault>
+fn put_arrive<W: Sink>(
+    writer: &mut W,
+    operation: Operation,
+    mode: Mode,
+    file: u32,
+) -> Result<(), WriteFault>
     ensures ok { OnOk result (W.taken writer.new ≡ with_bytes (W.taken writer.old) (spec.move_line (Move.Arrive operation mode file))) }
     ensures fine { OnOk result (W.failures writer.new ≡ W.failures writer.old) }
     ensures err { OnErr result (W.failures writer.new ≢ W.failures writer.old) }
@@ -98,7 +103,12 @@ fn put_arrive<W: Sink>(writer: &mut W, operation: Operation, mode: Mode, file: u
 
 /// A word and two numbers.
 #[tactic(auto, using(crate::proofs::WritingSteps::three_parts))]
-fn put_two<W: Sink>(writer: &mut W, word: &[u8], altitude: u32, serial: u32) -> Result<(), WriteFault>
+fn put_two<W: Sink>(
+    writer: &mut W,
+    word: &[u8],
+    altitude: u32,
+    serial: u32,
+) -> Result<(), WriteFault>
     ensures ok { OnOk result (W.taken writer.new ≡ with_bytes (W.taken writer.old) (word.now ++ (spec.number_text altitude 32 ++ spec.number_text serial 10))) }
     ensures fine { OnOk result (W.failures writer.new ≡ W.failures writer.old) }
     ensures err { OnErr result (W.failures writer.new ≢ W.failures writer.old) }
@@ -156,7 +166,12 @@ fn put_move<W: Sink>(writer: &mut W, made: Move) -> Result<(), WriteFault>
 }
 
 #[tactic(auto, using(crate::proofs::WritingSteps::three_parts))]
-fn put_go<W: Sink>(writer: &mut W, activation: u32, steps: u32, grant: bool) -> Result<(), WriteFault>
+fn put_go<W: Sink>(
+    writer: &mut W,
+    activation: u32,
+    steps: u32,
+    grant: bool,
+) -> Result<(), WriteFault>
     ensures ok { OnOk result (W.taken writer.new ≡ with_bytes (W.taken writer.old) (spec.entry_line (JournalEntry.Go activation steps grant))) }
     ensures fine { OnOk result (W.failures writer.new ≡ W.failures writer.old) }
     ensures err { OnErr result (W.failures writer.new ≢ W.failures writer.old) }
