@@ -23,3 +23,6 @@ pub mod WorkedContexts
 pub mod WorkedBreaks
 pub mod WorkedCalls
 pub mod WorkedMisuse
+pub mod JournalText
+pub mod JournalTextReading
+pub mod Streams
