@@ -145,13 +145,13 @@ goes (suc left) found text = goes_by left found text (line text) refl (line_onli
 -- ---- the whole of a journal
 
 -- how a text is read
-data Read_as (text : Text) : Reading → Type 0 where
-  spelled : (entries : Entries) → text ≡ spelling entries → IsJournal entries → Read_as text (Ok entries)
+data ReadAs (text : Text) : Reading → Type 0 where
+  spelled : (entries : Entries) → text ≡ spelling entries → IsJournal entries → ReadAs text (Ok entries)
   refused : (given w : Text) (whose : Entries) (n : ℕ) (rest : Text) → IsJournal whose → spelling whose ≡ given ++ w → n ≡ suc (line_ends given) →
-      Halts journal given text n rest → Read_as text (Err (record { line = n; left = rest }))
+      Halts journal given text n rest → ReadAs text (Err (record { line = n; left = rest }))
 
 behind_first : (c text rest : Text) (out : Reading) → c ≡ first_line → text ≡ c ++ rest → ((s : Text) → journal (c ++ s) ≡ entries_from most_entries [] s) →
-    Goes most_entries [] rest out → Read_as text out
+    Goes most_entries [] rest out → ReadAs text out
 behind_first c text rest _ e t l (all more r few) = spelled more (t ∙ ap (λ z. c ++ z) r ∙ ap (λ z. z ++ rest_of more) e) few
 behind_first c text rest _ e t l (fault given w more n r few begun number halts) =
     refused (c ++ given) w more n r few (ap (λ z. z ++ rest_of more) (sym e) ∙ ap (λ z. c ++ z) begun ∙ sym (append_assoc c given w)) counted (moved halts)
@@ -170,7 +170,7 @@ begun_first : (c w : Text) → c ++ w ≡ first_line → spelling [] ≡ c ++ (w
 begun_first c w e = ap (λ z. z ++ last_line) (sym e) ∙ append_assoc c w last_line
 
 first_by : (text : Text) (o : Outcome (Unit {0})) → exactly first_line text ≡ o → Seen (λ c x. c ≡ first_line) (exactly first_line) text o →
-    Read_as text (at_line 1 o (λ q. entries_from most_entries [] q.1))
+    ReadAs text (at_line 1 o (λ q. entries_from most_entries [] q.1))
 unfolding journal
 first_by text _ is (took c x rest e h l) = behind_first c text rest (entries_from most_entries [] rest) h e (λ s. rw (l s) refl) (goes most_entries [] rest)
 first_by text _ is (stopped c b rest w x e l h) =
@@ -180,7 +180,7 @@ first_by text _ is (missing c w x e h) =
     let plain = within_line c w first_line h (not_all_words first_line text c w h e is) (bare (codes "fltjournal 1") refl) in
     refused c (w ++ last_line) [] 1 [] (no_entry most_entries) (begun_first c w h) (omega arith) (inr (e, refl))
 
-read_as : (text : Text) → Read_as text (journal text)
+read_as : (text : Text) → ReadAs text (journal text)
 unfolding journal
 read_as text = first_by text (exactly first_line text) refl ((exactly_online first_line).seen text)
 
@@ -189,7 +189,7 @@ read_as text = first_by text (exactly first_line text) refl ((exactly_online fir
 pub is_spelled : (text : Text) (found : Entries) → journal text ≡ Ok found → (text ≡ spelling found) × IsJournal found
 is_spelled text found h = go (journal text) h (read_as text)
   where
-    go : (o : Reading) → o ≡ Ok found → Read_as text o → (text ≡ spelling found) × IsJournal found
+    go : (o : Reading) → o ≡ Ok found → ReadAs text o → (text ≡ spelling found) × IsJournal found
     go _ h (spelled entries e good) = let same : entries ≡ found = cc in subst (λ z. (text ≡ spelling z) × IsJournal z) same (e, good)
     go _ h (refused given w whose n rest good begun number halts) = cc
 
@@ -216,7 +216,7 @@ first_fault text n left h = go (journal text) h (read_as text)
     )
     stops given m rest e f (inr x) = inr (x.0, sym f ∙ x.1, λ entries good same. is_no_journal text n left entries h good (x.0 ∙ sym same))
 
-    go : (o : Reading) → o ≡ Err (record { line = n; left = left }) → Read_as text o → IsFirstFault text n left
+    go : (o : Reading) → o ≡ Err (record { line = n; left = left }) → ReadAs text o → IsFirstFault text n left
     go _ h (spelled entries e good) = cc
     go _ h (refused given w whose m rest good begun number halts) =
         let fault = same_fault (record { line = m; left = rest }) (record { line = n; left = left }) (Err (record { line = m; left = rest })) refl h in

@@ -58,17 +58,17 @@ first_digit end n text some low =
     rw (ne_eqb (48 + n) 48 (λ h. omega arith), read) refl
 
 -- the digits of a number, as they are read
-Reads_on : ℕ → ℕ → List ℕ → Type 0
-Reads_on end n ds = 0 < n → n < 2 ^ 32 → length ds ≤ 10 → (0 < length ds) × ((text : Text) → number end (ds ++ text) ≡ digits (10 - length ds) end n text)
+ReadsOn : ℕ → ℕ → List ℕ → Type 0
+ReadsOn end n ds = 0 < n → n < 2 ^ 32 → length ds ≤ 10 → (0 < length ds) × ((text : Text) → number end (ds ++ text) ≡ digits (10 - length ds) end n text)
 
-reads_on : (end n : ℕ) → end < 48 → n < 2 ^ 64 → Reads_on end n (decimal n)
-unfolding Reads_on
-reads_on end n e = decimal_by_steps (Reads_on end) one more n
+reads_on : (end n : ℕ) → end < 48 → n < 2 ^ 64 → ReadsOn end n (decimal n)
+unfolding ReadsOn
+reads_on end n e = decimal_by_steps (ReadsOn end) one more n
   where
-    one : (n : ℕ) → n < 10 → Reads_on end n ((48 + n) ∷ [])
+    one : (n : ℕ) → n < 10 → ReadsOn end n ((48 + n) ∷ [])
     one n low some small few = (omega arith, λ text. first_digit end n text some low)
 
-    more : (n : ℕ) (ds : List ℕ) → 10 ≤ n → Reads_on end (n / 10) ds → Reads_on end n (ds ++ (48 + n % 10) ∷ [])
+    more : (n : ℕ) (ds : List ℕ) → 10 ≤ n → ReadsOn end (n / 10) ds → ReadsOn end n (ds ++ (48 + n % 10) ∷ [])
     more n ds big h some small few =
         let len : length (ds ++ (48 + n % 10) ∷ []) ≡ length ds + 1 = length-append ds ((48 + n % 10) ∷ []) in
         let front = h (omega arith) (omega arith) (omega (arith, len)) in
@@ -82,7 +82,7 @@ reads_on end n e = decimal_by_steps (Reads_on end) one more n
         )
 
 pub number_again : (end n : ℕ) (text : Text) → end < 48 → n < 2 ^ 32 → number end (number_text n end ++ text) ≡ Ok (n, text)
-unfolding number Reads_on
+unfolding number ReadsOn
 number_again end zero text e small = rw (decimal_digit 0 (omega arith)) (rw (eq-eqb end end refl) refl)
 number_again end (suc n) text e small =
     let few : length (decimal (suc n)) ≤ 10 = length-decimal-le 10 (suc n) (omega arith) (omega arith) (omega arith) in

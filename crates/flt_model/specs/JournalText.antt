@@ -23,14 +23,18 @@ Entries = List JournalEntry
 unfoldable pub most_entries : ℕ
 most_entries = 1000000
 
+-- ---- entries that have a spelling
+
 -- a number has 32 bits
 abbrev pub IsNumber : ℕ → Type 0
 IsNumber n = n < 2 ^ 32
 
+-- the number of a key's file
 abbrev pub IsKey : Key → Type 0
 IsKey (Stream file) = IsNumber file
 IsKey Instance = Unit {0}
 
+-- the numbers of a move
 abbrev pub IsMove : Move → Type 0
 IsMove (moves.Arrive operation mode file) = IsNumber file
 IsMove (moves.Pre serial) = IsNumber serial
@@ -45,7 +49,7 @@ IsMove (moves.Drain altitude serial) = IsNumber altitude × IsNumber serial
 IsMove (moves.Unlink altitude key) = IsNumber altitude × IsKey key
 IsMove (moves.Detached altitude) = IsNumber altitude
 
--- the numbers of an entry have 32 bits
+-- the numbers of an entry
 abbrev pub IsEntry : JournalEntry → Type 0
 IsEntry (entries.Move move) = IsMove move
 IsEntry (Go activation steps grant) = IsNumber activation × IsNumber steps
@@ -102,9 +106,11 @@ abbrev pub entry_line : JournalEntry → Text
 entry_line (entries.Move move) = move_line move
 entry_line (Go activation steps grant) = codes "go " ++ (number_text activation 32 ++ (number_text steps 32 ++ grant_text grant))
 
+-- the line that every journal begins with
 abbrev pub first_line : Text
 first_line = codes "fltjournal 1" ++ 10 ∷ []
 
+-- the line that every journal ends with
 abbrev pub last_line : Text
 last_line = codes "end" ++ 10 ∷ []
 

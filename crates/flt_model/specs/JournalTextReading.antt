@@ -21,9 +21,11 @@ use Rattle.flt_model.specs.declared.fault.JournalFault.TheVariants as faults
 abbrev pub Outcome : Type 0 → Type 0
 Outcome A = Result (A × Text) Text
 
+-- what reads the front of a text
 abbrev pub Parser : Type 0 → Type 0
 Parser A = Text → Outcome A
 
+-- what follows where nothing was wrong
 abbrev pub and_then : {A B : Type 0} → Outcome A → (A × Text → Outcome B) → Outcome B
 and_then (Ok x) f = f x
 and_then (Err rest) f = Err rest
@@ -111,6 +113,7 @@ grant = byte >>= λ b.
 
 -- ---- lines, each from its second byte on
 
+-- "arrive"
 unfoldable pub arrive : Parser Move
 arrive = do
   exactly (codes "rrive ")
@@ -132,12 +135,14 @@ pre_or_post = byte >>= λ b.
       pure (moves.Post serial))
     else wrong)
 
+-- "skip"
 unfoldable pub skip : Parser Move
 skip = do
   exactly (codes "kip ")
   serial ← number 10
   pure (moves.Skip serial)
 
+-- "lower"
 unfoldable pub lower : Parser Move
 lower = do
   exactly (codes "ower ")
@@ -159,6 +164,7 @@ cancel_or_canceled = exactly (codes "ancel") >> (byte >>= λ b.
       pure (moves.Cancel serial))
     else (if b == 101 then exactly (codes "d ") >> canceled else wrong))
 
+-- "work"
 unfoldable pub work : Parser Move
 work = do
   exactly (codes "ork ")
@@ -189,6 +195,7 @@ drain = do
 unfoldable pub detach_or_drain : Parser Move
 detach_or_drain = byte >>= λ b. if b == 101 then detach_or_detached else (if b == 114 then drain else wrong)
 
+-- "unlink"
 unfoldable pub unlink : Parser Move
 unlink = do
   exactly (codes "nlink ")
@@ -196,6 +203,7 @@ unlink = do
   k ← key
   pure (moves.Unlink altitude k)
 
+-- "go"
 unfoldable pub go : Parser JournalEntry
 go = do
   exactly (codes "o ")
@@ -268,6 +276,7 @@ journal text = at_line 1 (exactly first_line text) (λ q. entries_from most_entr
 
 -- ---- what a function that reads ensures: what is read, unless the reader fails or memory runs out
 
+-- what was read, or that a byte isn't as asked, and what is left
 abbrev pub Reads : {A : Type 0} → Outcome A → Result A Stop → Text → Type 0
 Reads outcome (Ok x) left = outcome ≡ Ok (x, left)
 Reads outcome (Err Wrong) left = outcome ≡ Err left

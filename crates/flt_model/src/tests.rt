@@ -92,14 +92,6 @@ impl Sink for Kept {
     }
 }
 
-const fn go(activation: u32, steps: u32) -> JournalEntry {
-    JournalEntry::Go {
-        activation,
-        steps,
-        grant: true,
-    }
-}
-
 const READ: Move = Move::Arrive {
     operation: Operation::Read,
     mode: Mode::Irp,
@@ -113,16 +105,36 @@ const CANCELLED: &str =
 const CANCELLED_ENTRIES: [JournalEntry; 9] = [
     JournalEntry::Move(READ),
     JournalEntry::Move(Move::Pre { serial: 0 }),
-    go(0, 1),
-    go(0, 1),
+    JournalEntry::Go {
+        activation: 0,
+        steps: 1,
+        grant: true,
+    },
+    JournalEntry::Go {
+        activation: 0,
+        steps: 1,
+        grant: true,
+    },
     JournalEntry::Move(Move::Cancel { serial: 0 }),
     JournalEntry::Move(Move::Canceled {
         altitude: 100,
         serial: 0,
     }),
-    go(1, 2),
-    go(1, 1),
-    go(0, 1),
+    JournalEntry::Go {
+        activation: 1,
+        steps: 2,
+        grant: true,
+    },
+    JournalEntry::Go {
+        activation: 1,
+        steps: 1,
+        grant: true,
+    },
+    JournalEntry::Go {
+        activation: 0,
+        steps: 1,
+        grant: true,
+    },
 ];
 
 /// A line of each kind, with the least and the greatest number.
@@ -174,7 +186,11 @@ const EACH_KIND_ENTRIES: [JournalEntry; 17] = [
         steps: 16,
         grant: false,
     },
-    go(4294967295, 4294967295),
+    JournalEntry::Go {
+        activation: 4294967295,
+        steps: 4294967295,
+        grant: true,
+    },
 ];
 
 /// Journals of whole runs: without an entry; a removal that finds no entry, and one that isn't cancelled in time; two
@@ -345,6 +361,6 @@ fn writer_that_fails_at_each_call(rt: HostRuntime) -> Result<(), Fail> {
         assert_eq!(rt; written, call == last);
         assert_eq!(rt; out.failures, if call < last { 1 } else { 0 });
     }
-    assert_eq!(rt; journal.entries(), &EACH_KIND_ENTRIES);
+    assert_eq!(rt; journal.entries(), EACH_KIND_ENTRIES.as_slice());
     Ok(())
 }
