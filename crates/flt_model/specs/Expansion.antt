@@ -44,18 +44,22 @@ pub data Course : Type 0 where
   Stops : Course
   Fails : (violation : Violation) → Course
 
+-- a violation ends the course
 abbrev pub unless_broken : Option Violation → Course → Course
 unless_broken None rest = rest
 unless_broken (Some v) rest = Fails v
 
+-- a step that isn't enabled ends the course
 abbrev pub course_by : Option Step → (Step → Course) → Course
 course_by None f = Stops
 course_by (Some s) f = f s
 
+-- the course of some transitions from a moment on
 abbrev pub course : List Filter → Moment → List Transition → Course
 course p m [] = Reaches m
 course p m (x ∷ xs) = course_by (next p m x) (λ s. unless_broken (broken p m s) (course p (after m s) xs))
 
+-- the course of an entry; one without transitions is never enabled
 abbrev pub entry_course : List Filter → Moment → Option (List Transition) → Course
 entry_course p m None = Stops
 entry_course p m (Some xs) = course p m xs
@@ -66,6 +70,7 @@ judged (Reaches m) n rest = rest m
 judged Stops n rest = NotARun n
 judged (Fails v) n rest = Breaks v n
 
+-- the verdict about entries from a moment on, where n stand before them
 abbrev pub verdict_from : List Filter → Moment → ℕ → List JournalEntry → Verdict
 verdict_from p m n [] = Legal
 verdict_from p m n (e ∷ es) = judged (entry_course p m (expansion e)) n (λ r. verdict_from p r (n + 1) es)
