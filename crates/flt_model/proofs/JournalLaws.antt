@@ -1,15 +1,15 @@
 -- Journals: what is read is spelled so, and a fault stands at the first byte that isn't as asked.
-use Rattle.std.proofs.Common.{◌≡◌, ◌<◌, ◌≤◌, ◌+◌, ℕ, zero, suc, Bool, true, false, List, [], ◌∷◌, ◌++◌, length, refl, sym, ap, subst, arith, ◌∙◌, append_assoc, append-nil, length-append, inl, inr}
+use Rattle.std.proofs.Common.{◌≡◌, ◌≤◌, ◌+◌, ℕ, zero, suc, [], ◌∷◌, ◌++◌, length, refl, sym, ap, subst, arith, ◌∙◌, append_assoc, append-nil, length-append, inl, inr}
 use Rattle.std.specs.Prelude.{◌⊎◌, Option, Some, None, Result, Ok, Err, IfOk, OnOk, MatchResult, codes}
 use Rattle.std.specs.List.{flat_map, AllByRecursion}
 use Rattle.std.proofs.lemmas.Bool.{eq-eqb}
 use Rattle.flt_model.specs.Streams.{Text}
 use Rattle.flt_model.specs.JournalText.{Entries, IsEntry, IsJournal, most_entries, entry_line, first_line, last_line, spelling, line_ends, IsFirstFault}
-use Rattle.flt_model.specs.JournalTextReading.{Reading, Fault, Outcome, exactly, line, at_line, closed, ending, behind, entries_from, journal, ReadsAll, IsHindrance, IsFaultOf}
+use Rattle.flt_model.specs.JournalTextReading.{Reading, Fault, Outcome, exactly, line, at_line, closed, behind, entries_from, journal, ReadsAll, IsHindrance, IsFaultOf}
 use Rattle.flt_model.specs.declared.fault.JournalFault.{JournalFault}
 use Rattle.flt_model.specs.declared.fault.JournalFault.TheVariants as faults
 use Rattle.flt_model.specs.declared.moves.JournalEntry.{JournalEntry}
-use Rattle.flt_model.proofs.LineEnds.{Ended, bare, line_ended, one_end, within_line, ends_both}
+use Rattle.flt_model.proofs.LineEnds.{bare, line_ended, one_end, within_line, ends_both}
 use Rattle.flt_model.proofs.LinesOnline.{Line, IsLine, line_text, line_online}
 use Rattle.flt_model.proofs.Online.{Seen, took, stopped, missing, exactly_online}
 use Rattle.flt_model.proofs.SpelledRead.{any_line_again, spelled_read}

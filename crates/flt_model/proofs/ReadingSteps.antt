@@ -1,9 +1,9 @@
 -- The steps of reading, as loops and recursions make them.
-use Rattle.std.proofs.Common.{◌≡◌, ◌<◌, ◌+◌, ◌-◌, ℕ, zero, suc, true, false, List, [], ◌∷◌, ◌++◌, length, refl, sym, ap, arith, ◌∙◌}
-use Rattle.std.specs.Prelude.{◌==◌, Ok, Err, Some, None, if◌then◌else◌}
+use Rattle.std.proofs.Common.{◌≡◌, ◌<◌, ◌+◌, ◌-◌, ℕ, zero, suc, true, false, [], ◌∷◌, ◌++◌, length, refl, ap, arith, ◌∙◌}
+use Rattle.std.specs.Prelude.{◌==◌, Ok, Err, Some, None}
 use Rattle.flt_model.specs.Streams.{Text}
 use Rattle.flt_model.specs.JournalText.{Entries, most_entries}
-use Rattle.flt_model.specs.JournalTextReading.{Reads, byte, digits, with_digit, line, ending, closed, entries_from, Fault}
+use Rattle.flt_model.specs.JournalTextReading.{Reads, byte, digits, with_digit, line, ending, closed, entries_from}
 use Rattle.flt_model.specs.declared.scanner.Stop.{Stop}
 use Rattle.flt_model.specs.declared.scanner.Stop.TheVariants.{Wrong, Failed}
 use Rattle.flt_model.specs.declared.moves.JournalEntry.{JournalEntry}

@@ -1,4 +1,4 @@
-use Rattle.std.proofs.Common.{◌≡◌, ◌<◌, ◌+◌, ◌-◌, [], ◌∷◌, ◌++◌, length, sym, subst, ap, ◌∙◌, length-append, refl, arith, Ok, Err, Some, None}
+use Rattle.std.proofs.Common.{◌≡◌, ◌<◌, [], ◌∷◌, ◌++◌, length, sym, subst, ◌∙◌, length-append, refl, arith, Ok, Err, Some, None}
 use Rattle.flt_model.specs.JournalText.{most_entries}
 use Rattle.flt_model.specs.JournalTextReading as spec
 use Rattle.flt_model.proofs.ReadingSteps.{most_entries_is, next_entry, last_entry, bad_entry, full}

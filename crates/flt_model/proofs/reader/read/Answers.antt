@@ -1,5 +1,3 @@
-use Rattle.std.proofs.Common.{◌≡◌, [], Ok, Err}
-use Rattle.std.specs.Prelude.{OnOk}
 use Rattle.flt_model.proofs.JournalLaws.{reads_spelled, reads_journal, reads_all, reads_again, reads_fault}
 use Rattle.flt_model.proofs.reader.read.Goals as goal
 
