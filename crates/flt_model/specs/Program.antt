@@ -1,0 +1,143 @@
+-- The filters of a run, as their texts declare them. They are numbered from the highest altitude, from 0.
+-- Source: the driver kit's pages on altitudes and on registering pre- and postoperation callbacks.
+use Rattle.std.specs.Prelude.{ℕ, ◌≢◌, Bool, true, false, not, ◌||◌, ◌==◌, nat_lt, if◌then◌else◌, List, [], ◌∷◌, Option, Some, None, AllPairs, find, get_or, option_map, slice_get}
+use Rattle.std.specs.List.{list_any, list_all, position_or_len}
+use Rattle.std.specs.Str.{bytes_eq}
+use Rattle.flt_rules.specs.Call.{place_of}
+use Rattle.flt_rules.specs.declared.call.LockKind.{LockKind}
+use Rattle.flt_rules.specs.declared.call.LockNumber.{LockNumber}
+use Rattle.flt_rules.specs.declared.place.Operation.{Operation}
+use Rattle.flt_rules.specs.declared.place.Operation.TheVariants.{Create, Read, Write, Cleanup}
+use Rattle.flt_rules.specs.declared.place.Place.{Place}
+use Rattle.flt_rules.specs.declared.place.Place.TheVariants as place
+use Rattle.flt_syntax.specs.declared.filter.Callback.{Callback}
+use Rattle.flt_syntax.specs.declared.filter.Filter.{Filter}
+use Rattle.flt_syntax.specs.declared.filter.Head.{Head}
+use Rattle.flt_syntax.specs.declared.filter.Head.TheVariants as head
+use Rattle.flt_syntax.specs.declared.filter.Routine.{Routine}
+use Rattle.flt_syntax.specs.declared.filter.Statement.{Statement}
+
+-- ---- filters by number
+
+-- no two filters have one altitude
+abbrev pub HasDistinctAltitudes : List Filter → Type 0
+HasDistinctAltitudes filters = AllPairs (λ (f g : Filter). f.altitude ≢ g.altitude) filters
+
+-- a filter goes before the first one that is lower
+abbrev pub put_by_altitude : Filter → List Filter → List Filter
+put_by_altitude f [] = f ∷ []
+put_by_altitude f (g ∷ rest) = if nat_lt g.altitude f.altitude then f ∷ g ∷ rest else g ∷ put_by_altitude f rest
+
+-- the filters from the highest altitude to the lowest
+abbrev pub by_altitude : List Filter → List Filter
+by_altitude [] = []
+by_altitude (f ∷ rest) = put_by_altitude f (by_altitude rest)
+
+-- a filter that isn't there has nothing
+abbrev pub no_filter : Filter
+no_filter = record { name = []; altitude = 0; locks = []; queue = None; callbacks = [] }
+
+-- the filter of a number
+abbrev pub filter_at : List Filter → ℕ → Filter
+filter_at p f = get_or p f no_filter
+
+-- its callbacks
+abbrev pub callbacks_at : List Filter → ℕ → List Callback
+callbacks_at p f = (filter_at p f).callbacks
+
+-- the number of the filter at an altitude; past all filters where there is none
+abbrev pub filter_of : List Filter → ℕ → ℕ
+filter_of p altitude = position_or_len (λ (f : Filter). f.altitude == altitude) p
+
+-- ---- callbacks by what they are registered for
+
+-- whether two operations are of one kind
+abbrev pub same_operation : Operation → Operation → Bool
+same_operation Create Create = true
+same_operation Read Read = true
+same_operation Write Write = true
+same_operation Cleanup Cleanup = true
+same_operation _ _ = false
+
+-- a pre callback of the operation
+abbrev pub is_pre_of : Operation → Head → Bool
+is_pre_of kind (head.Pre own) = same_operation own kind
+is_pre_of kind _ = false
+
+-- a post callback of the operation
+abbrev pub is_post_of : Operation → Head → Bool
+is_post_of kind (head.Post own) = same_operation own kind
+is_post_of kind _ = false
+
+-- the CompleteCanceledIo callback
+abbrev pub is_canceled : Head → Bool
+is_canceled head.Canceled = true
+is_canceled _ = false
+
+-- the routine of a name
+abbrev pub is_routine : List ℕ → Head → Bool
+is_routine name (head.DeferredPre own) = bytes_eq own name
+is_routine name (head.DeferredPost own) = bytes_eq own name
+is_routine name (head.Generic own) = bytes_eq own name
+is_routine name _ = false
+
+-- whether one of the callbacks has such a head
+abbrev pub has_head : (Head → Bool) → List Callback → Bool
+has_head test cs = list_any (λ (c : Callback). test c.head) cs
+
+-- the statements of a callback; none where it isn't there
+abbrev pub body_of : Option Callback → List Statement
+body_of None = []
+body_of (Some c) = c.body
+
+-- the statements of the first callback whose head passes
+abbrev pub body_for : (Head → Bool) → List Callback → List Statement
+body_for test cs = body_of (find (λ (c : Callback). test c.head) cs)
+
+-- the number of the routine that a call names; past all callbacks where there is none
+abbrev pub routine_of : List Callback → Routine → ℕ
+routine_of cs r = position_or_len (λ (c : Callback). is_routine r.name c.head) cs
+
+-- the statements of the callback of a number
+abbrev pub body_at : List Callback → ℕ → List Statement
+body_at cs routine = body_of (slice_get cs routine)
+
+-- where a callback runs, by its head
+abbrev pub place_by : Head → Place
+place_by (head.Pre kind) = place.Pre kind
+place_by (head.Post kind) = place.Post kind
+place_by head.Canceled = place.Canceled
+place_by (head.DeferredPre name) = place.DeferredPre
+place_by (head.DeferredPost name) = place.DeferredPost
+place_by (head.Generic name) = place.Generic
+
+-- the place of a callback that may not be there
+abbrev pub place_for : Option Callback → Place
+place_for None = place.Generic
+place_for (Some c) = place_by c.head
+
+-- the place of the callback of a number
+abbrev pub place_at : List Callback → ℕ → Place
+place_at cs routine = place_for (slice_get cs routine)
+
+-- ---- what a filter is registered for
+
+-- whether the operation has a pre callback
+abbrev pub has_pre : List Callback → Operation → Bool
+has_pre cs kind = has_head (is_pre_of kind) cs
+
+-- whether the operation has a post callback
+abbrev pub has_post : List Callback → Operation → Bool
+has_post cs kind = has_head (is_post_of kind) cs
+
+-- the operation has a post callback, or no pre callback
+abbrev pub is_paired : List Callback → Operation → Bool
+is_paired cs kind = not (has_pre cs kind) || has_post cs kind
+
+-- each operation with a pre callback has a post callback
+abbrev pub are_paired : List Callback → Bool
+are_paired cs = list_all (is_paired cs) (Create ∷ Read ∷ Write ∷ Cleanup ∷ [])
+
+-- the kind of a declared lock
+abbrev pub kind_of_lock : Filter → LockNumber → Option LockKind
+kind_of_lock f l = option_map (λ lock. lock.kind) (slice_get f.locks (place_of l))
