@@ -1,1 +1,3 @@
-pub mod Sink
+pub mod Output
+pub mod Split
+pub mod Words

@@ -1,14 +1,17 @@
 //! The commands, over inputs and writers.
 
-use crate::answer::Answer;
+ghost use Rattle.std.specs.Io.KnownBytes.{Appends};
+ghost use Rattle.std.specs.Prelude.{◌≡◌, ◌≢◌, ◌⊎◌, ℕ, List, IfOk, IfErr, map, option_map, string_bytes};
+ghost use Rattle.fltstack.specs.Output as spec;
+
+use crate::answer::{Answer, Failure};
 use crate::inputs::Inputs;
 use crate::sink::{Sink, WriteFailed, put_all};
 use crate::split::certificate_start;
 use crate::words::{Request, read_words};
-use flt_cert::CertFault;
 use flt_check::check;
 use flt_graph::lower;
-use flt_syntax::{ParseError, parse};
+use flt_syntax::parse;
 use std::alloc::{AllocError, AllocFailed, Global};
 use thiserror::Error;
 
@@ -55,17 +58,11 @@ impl From<WriteFailed> for CommandFault {
 }
 
 /// Whether a certificate covers a text.
-fn verdict<'a>(alloc: Global, text: &[u8], certificate: &[u8]) -> Result<Answer<'a>, AllocError> {
-    let tree = match parse(alloc, text) {
-        Ok(tree) => tree,
-        Err(ParseError::Syntax(fault)) => return Ok(Answer::Syntax(fault)),
-        Err(ParseError::OutOfMemory) => return Err(AllocError),
-    };
-    let cert = match flt_cert::read(alloc, certificate) {
-        Ok(cert) => cert,
-        Err(CertFault::Line(line)) => return Ok(Answer::Certificate(line)),
-        Err(CertFault::OutOfMemory) => return Err(AllocError),
-    };
+fn judge<'a>(alloc: Global, text: &[u8], certificate: &[u8]) -> Result<Answer, Failure<'a>>
+    ensures { spec.Judges text.now certificate.now result }
+{
+    let tree = parse(alloc, text)?;
+    let cert = flt_cert::read(alloc, certificate)?;
     let graph = lower(alloc, &tree)?;
     match check(&graph, &cert) {
         Ok(()) => Ok(Answer::Accepted),
@@ -73,40 +70,43 @@ fn verdict<'a>(alloc: Global, text: &[u8], certificate: &[u8]) -> Result<Answer<
     }
 }
 
-/// The bytes of a second name. The standard input can be read once.
-fn read_second<I: Inputs>(
-    alloc: Global,
-    inputs: &I,
-    first: &str,
-    second: &str,
-) -> Result<Option<Vec<u8>>, AllocError> {
-    if first == "-" && second == "-" {
-        return Ok(None);
-    }
-    inputs.read(alloc, second)
+/// What `check` says of a file that holds a text and its certificate.
+fn check_together<'a>(alloc: Global, input: &[u8]) -> Result<Answer, Failure<'a>>
+    ensures { spec.JudgesTogether input.now result }
+{
+    let (text, certificate) = input.split_at(certificate_start(input));
+    judge(alloc, text, certificate)
 }
 
+/// The standard input is there once.
+fn is_second_use(first: &str, second: &str) -> bool
+    ensures { result ≡ spec.is_second_use first.now second.now }
+{
+    first == "-" && second == "-"
+}
+
+/// What `check` says of the names that it is given.
 fn check_files<'a, I: Inputs>(
     alloc: Global,
     inputs: &I,
     file: &'a str,
     cert: Option<&'a str>,
-) -> Result<Answer<'a>, AllocError> {
+) -> Result<Answer, Failure<'a>>
+    ensures { spec.Says (I.gives inputs.now) file.entry.now (option_map (λ name. name.now) cert.entry) result }
+{
     let Some(input) = inputs.read(alloc, file)? else {
-        return Ok(Answer::CannotRead(file));
+        return Err(Failure::CannotRead(file));
     };
-    match cert {
-        None => {
-            let (text, certificate) = input
-                .as_slice()
-                .split_at(certificate_start(input.as_slice()));
-            verdict(alloc, text, certificate)
-        }
-        Some(name) => match read_second(alloc, inputs, file, name)? {
-            None => Ok(Answer::CannotRead(name)),
-            Some(certificate) => verdict(alloc, input.as_slice(), certificate.as_slice()),
-        },
+    let Some(name) = cert else {
+        return check_together(alloc, input.as_slice());
+    };
+    if is_second_use(file, name) {
+        return Err(Failure::CannotRead(name));
     }
+    let Some(certificate) = inputs.read(alloc, name)? else {
+        return Err(Failure::CannotRead(name));
+    };
+    judge(alloc, input.as_slice(), certificate.as_slice())
 }
 
 /// Runs the command of a program's words, its own name left out, and answers the exit status: 0 for yes, 1 for no, and 2
@@ -117,22 +117,27 @@ pub fn command<I: Inputs, O: Sink, E: Sink>(
     inputs: &I,
     out: &mut O,
     err: &mut E,
-) -> Result<u8, CommandFault> {
+) -> Result<u8, CommandFault>
+    ensures prints { IfOk result (λ status. (bytes : List ℕ) × spec.Prints (I.gives inputs.now) (map string_bytes words.now) bytes status × Appends (O.taken out.old) (O.taken out.new) bytes) }
+    ensures write { IfErr result (λ e. e ≡ CommandFault.Write → (O.failures out.new ≢ O.failures out.old) ⊎ (E.failures err.new ≢ E.failures err.old)) }
+{
     match read_words(alloc, words)? {
         Request::Usage(text) => {
             put_all(err, text.as_bytes())?;
             Ok(2)
         }
-        Request::Check { file, cert } => {
-            let answer = check_files(alloc, inputs, file, cert)?;
-            let line = format!(in alloc; "{answer}\n")?;
-            let status = answer.status();
-            if status == 2 {
-                put_all(err, line.as_bytes())?;
-            } else {
+        Request::Check { file, cert } => match check_files(alloc, inputs, file, cert) {
+            Ok(answer) => {
+                let line = format!(in alloc; "{answer}\n")?;
                 put_all(out, line.as_bytes())?;
+                Ok(answer.status())
             }
-            Ok(status)
-        }
+            Err(Failure::OutOfMemory) => Err(CommandFault::OutOfMemory),
+            Err(failure) => {
+                let line = format!(in alloc; "{failure}\n")?;
+                put_all(err, line.as_bytes())?;
+                Ok(2)
+            }
+        },
     }
 }

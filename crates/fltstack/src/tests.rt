@@ -17,6 +17,10 @@ struct Given<'a> {
 }
 
 impl Inputs for Given<'_> {
+    ghost use Rattle.std.specs.Prelude.{⊤};
+
+    ghost gives = { λ _ _ _. ⊤ };
+
     fn read(&self, alloc: Global, name: &str) -> Result<Option<Vec<u8>>, AllocError> {
         for (own, bytes) in self.files {
             if *own == name {

@@ -1,5 +1,8 @@
 //! The words of the command line.
 
+ghost use Rattle.std.specs.Prelude.{◌≡◌, IfOk, map, string_bytes};
+ghost use Rattle.fltstack.specs.Words as spec;
+
 use clap::error::ErrorKind;
 use clap::{Arg, Command};
 use std::alloc::{AllocError, Global};
@@ -41,7 +44,9 @@ fn program<'a>(alloc: Global) -> Result<Command<'a>, AllocError> {
 }
 
 /// What a program's words ask for, its own name left out.
-pub fn read_words<'a>(alloc: Global, words: &'a [String]) -> Result<Request<'a>, AllocError> {
+pub fn read_words<'a>(alloc: Global, words: &'a [String]) -> Result<Request<'a>, AllocError>
+    ensures { IfOk result (λ r. spec.asked_of r ≡ spec.asked (map string_bytes words.entry.now)) }
+{
     if words.is_empty() {
         return Ok(Request::Check {
             file: "-",
