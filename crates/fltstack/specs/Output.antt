@@ -87,7 +87,7 @@ abbrev pub of_parse : ParseError → Failure
 of_parse (parse.Syntax f) = Syntax f
 of_parse parse.OutOfMemory = OutOfMemory
 
--- ---- where the text and the certificate come from
+-- ---- what `check` says of its names
 
 -- what may be given for a name: its bytes, or none
 abbrev pub Giving : Type 1
@@ -97,32 +97,23 @@ Giving = List ℕ → Option (List ℕ) → Type 0
 abbrev pub is_second_use : List ℕ → List ℕ → Bool
 is_second_use first second = bytes_eq first (codes "-") && bytes_eq second (codes "-")
 
--- the text and the certificate of the names that `check` is given
-pub data Sources (gives : Giving) (file : List ℕ) : Option (List ℕ) → List ℕ → List ℕ → Type 0 where
-  together : (bytes : List ℕ) (start : ℕ) → gives file (Some bytes) → IsCertificateStart bytes start → Sources gives file None (take start bytes) (drop start bytes)
-  apart : (name text certificate : List ℕ) → gives file (Some text) → is_second_use file name ≡ false → gives name (Some certificate) → Sources gives file (Some name) text certificate
+-- the name can't be read
+abbrev pub IsUnread : List ℕ → Result Answer Failure → Type 0
+IsUnread name (Err (CannotRead unread)) = unread.now ≡ name
+IsUnread name result = ⊥
 
--- a name can't be read
-pub data IsUnread (gives : Giving) (file : List ℕ) : Option (List ℕ) → List ℕ → Type 0 where
-  unread : (cert : Option (List ℕ)) → gives file None → IsUnread gives file cert file
-  twice : (name bytes : List ℕ) → gives file (Some bytes) → is_second_use file name ≡ true → IsUnread gives file (Some name) name
-  missing : (name bytes : List ℕ) → gives file (Some bytes) → is_second_use file name ≡ false → gives name None → IsUnread gives file (Some name) name
-
--- ---- what `check` says of its names
-
-abbrev pub SaysOfSources : Giving → List ℕ → Option (List ℕ) → Result Answer Failure → Type 0
-SaysOfSources gives file cert result =
-    (text certificate : List ℕ) × Sources gives file cert text certificate × Judges text certificate result
-
-abbrev pub FailsOn : Giving → List ℕ → Option (List ℕ) → Failure → Type 0
-FailsOn gives file cert OutOfMemory = Unit {0}
-FailsOn gives file cert (CannotRead name) = IsUnread gives file cert name.now
-FailsOn gives file cert (Syntax f) = SaysOfSources gives file cert (Err (Syntax f))
-FailsOn gives file cert (CertificateLine n) = SaysOfSources gives file cert (Err (CertificateLine n))
-
-abbrev pub Says : Giving → List ℕ → Option (List ℕ) → Result Answer Failure → Type 0
-Says gives file cert (Ok a) = SaysOfSources gives file cert (Ok a)
-Says gives file cert (Err f) = FailsOn gives file cert f
+-- what is said of a file, and of the certificate in one of its own if there is one
+pub data Says (gives : Giving) (file : List ℕ) : Option (List ℕ) → Result Answer Failure → Type 0 where
+  -- memory may run out
+  memory : (cert : Option (List ℕ)) → Says gives file cert (Err OutOfMemory)
+  unread : (cert : Option (List ℕ)) (result : Result Answer Failure) → gives file None → IsUnread file result → Says gives file cert result
+  together : (bytes : List ℕ) (result : Result Answer Failure) → gives file (Some bytes) → JudgesTogether bytes result → Says gives file None result
+  twice : (name bytes : List ℕ) (result : Result Answer Failure) → gives file (Some bytes) → is_second_use file name ≡ true → IsUnread name result →
+      Says gives file (Some name) result
+  missing : (name bytes : List ℕ) (result : Result Answer Failure) → gives file (Some bytes) → is_second_use file name ≡ false → gives name None →
+      IsUnread name result → Says gives file (Some name) result
+  apart : (name text certificate : List ℕ) (result : Result Answer Failure) → gives file (Some text) → is_second_use file name ≡ false →
+      gives name (Some certificate) → Judges text certificate result → Says gives file (Some name) result
 
 -- ---- the output of a command
 

@@ -1,7 +1,7 @@
 //! The commands, over inputs and writers.
 
 ghost use Rattle.std.specs.Io.KnownBytes.{Appends};
-ghost use Rattle.std.specs.Prelude.{◌≡◌, ◌≢◌, ◌⊎◌, ℕ, List, IfOk, IfErr, map, option_map, string_bytes};
+ghost use Rattle.std.specs.Prelude.{◌≡◌, ◌≢◌, ◌⊎◌, ℕ, List, Some, None, IfOk, IfErr, map, option_map, string_bytes};
 ghost use Rattle.fltstack.specs.Output as spec;
 
 use crate::answer::{Answer, Failure};
@@ -70,8 +70,8 @@ fn judge<'a>(alloc: Global, text: &[u8], certificate: &[u8]) -> Result<Answer, F
     }
 }
 
-/// What `check` says of a file that holds a text and its certificate.
-fn check_together<'a>(alloc: Global, input: &[u8]) -> Result<Answer, Failure<'a>>
+/// What `check` says of a text and its certificate in one input.
+fn judge_together<'a>(alloc: Global, input: &[u8]) -> Result<Answer, Failure<'a>>
     ensures { spec.JudgesTogether input.now result }
 {
     let (text, certificate) = input.split_at(certificate_start(input));
@@ -85,6 +85,41 @@ fn is_second_use(first: &str, second: &str) -> bool
     first == "-" && second == "-"
 }
 
+/// What `check` says of a file that holds a text and its certificate.
+fn check_together<'a, I: Inputs>(
+    alloc: Global,
+    inputs: &I,
+    file: &'a str,
+) -> Result<Answer, Failure<'a>>
+    ensures { spec.Says (I.gives inputs.now) file.entry.now None result }
+{
+    match inputs.read(alloc, file)? {
+        None => Err(Failure::CannotRead(file)),
+        Some(input) => judge_together(alloc, input.as_slice()),
+    }
+}
+
+/// What `check` says of a text and a certificate in two files.
+fn check_apart<'a, I: Inputs>(
+    alloc: Global,
+    inputs: &I,
+    file: &'a str,
+    name: &'a str,
+) -> Result<Answer, Failure<'a>>
+    ensures { spec.Says (I.gives inputs.now) file.entry.now (Some name.entry.now) result }
+{
+    let Some(text) = inputs.read(alloc, file)? else {
+        return Err(Failure::CannotRead(file));
+    };
+    if is_second_use(file, name) {
+        return Err(Failure::CannotRead(name));
+    }
+    match inputs.read(alloc, name)? {
+        None => Err(Failure::CannotRead(name)),
+        Some(certificate) => judge(alloc, text.as_slice(), certificate.as_slice()),
+    }
+}
+
 /// What `check` says of the names that it is given.
 fn check_files<'a, I: Inputs>(
     alloc: Global,
@@ -94,19 +129,10 @@ fn check_files<'a, I: Inputs>(
 ) -> Result<Answer, Failure<'a>>
     ensures { spec.Says (I.gives inputs.now) file.entry.now (option_map (λ name. name.now) cert.entry) result }
 {
-    let Some(input) = inputs.read(alloc, file)? else {
-        return Err(Failure::CannotRead(file));
-    };
-    let Some(name) = cert else {
-        return check_together(alloc, input.as_slice());
-    };
-    if is_second_use(file, name) {
-        return Err(Failure::CannotRead(name));
+    match cert {
+        None => check_together(alloc, inputs, file),
+        Some(name) => check_apart(alloc, inputs, file, name),
     }
-    let Some(certificate) = inputs.read(alloc, name)? else {
-        return Err(Failure::CannotRead(name));
-    };
-    judge(alloc, input.as_slice(), certificate.as_slice())
 }
 
 /// Runs the command of a program's words, its own name left out, and answers the exit status: 0 for yes, 1 for no, and 2

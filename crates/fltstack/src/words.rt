@@ -1,10 +1,11 @@
 //! The words of the command line.
 
-ghost use Rattle.std.specs.Prelude.{◌≡◌, IfOk, map, string_bytes};
+ghost use Rattle.std.specs.Prelude.{◌≡◌, IfOk, map, option_and_then, string_bytes};
+ghost use Rattle.clap.specs.Simple.{subcommand_rows_of};
 ghost use Rattle.fltstack.specs.Words as spec;
 
 use clap::error::ErrorKind;
-use clap::{Arg, Command};
+use clap::{Arg, ArgMatches, Command};
 use std::alloc::{AllocError, Global};
 
 /// What the words ask for.
@@ -19,7 +20,9 @@ pub enum Request<'a> {
     Usage(String),
 }
 
-fn check_command<'a>(alloc: Global) -> Result<Command<'a>, AllocError> {
+fn check_command<'a>(alloc: Global) -> Result<Command<'a>, AllocError>
+    ensures { IfOk result (λ c. spec.IsCommand c spec.check_app) }
+{
     let file = Arg::new(alloc, "FILE")
         .required(true)
         .help("The filter's text; `-` is the standard input");
@@ -35,36 +38,60 @@ fn check_command<'a>(alloc: Global) -> Result<Command<'a>, AllocError> {
         .arg(cert)
 }
 
-fn program<'a>(alloc: Global) -> Result<Command<'a>, AllocError> {
+fn program<'a>(alloc: Global) -> Result<Command<'a>, AllocError>
+    ensures { IfOk result (λ c. spec.IsCommand c spec.program_app) }
+{
     Command::new(alloc, "fltstack")
         .about("A static verifier for Windows file-system minifilters")
         .after_help("With no words it acts as `check -`.")
         .subcommand_required(true)
+        .no_binary_name(true)
         .subcommand(check_command(alloc)?)
+}
+
+/// What the matches of a command line ask for.
+fn matched<'a>(alloc: Global, matches: &ArgMatches<'a>) -> Request<'a>
+    ensures { spec.asked_of result ≡ option_and_then spec.asked_by (subcommand_rows_of matches.now) }
+{
+    match matches.subcommand_matches("check") {
+        None => Request::Usage(String::new(alloc)),
+        Some(check) => Request::Check {
+            file: check.get_str("FILE").unwrap_or("-"),
+            cert: check.get_str("CERT"),
+        },
+    }
+}
+
+fn is_memory(kind: ErrorKind) -> bool
+    ensures { result ≡ spec.is_memory kind }
+{
+    matches!(kind, ErrorKind::OutOfMemory)
+}
+
+/// What words ask for, where there are some.
+fn take_words<'a>(alloc: Global, words: &'a [String]) -> Result<Request<'a>, AllocError>
+    ensures { IfOk result (λ r. spec.asked_of r ≡ spec.asked_words (map string_bytes words.entry.now)) }
+{
+    match program(alloc)?.try_get_matches_from(words) {
+        Ok(matches) => Ok(matched(alloc, &matches)),
+        Err(error) => {
+            if is_memory(error.kind()) {
+                return Err(AllocError);
+            }
+            Ok(Request::Usage(format!(in alloc; "{error}")?))
+        }
+    }
 }
 
 /// What a program's words ask for, its own name left out.
 pub fn read_words<'a>(alloc: Global, words: &'a [String]) -> Result<Request<'a>, AllocError>
     ensures { IfOk result (λ r. spec.asked_of r ≡ spec.asked (map string_bytes words.entry.now)) }
 {
-    if words.is_empty() {
-        return Ok(Request::Check {
+    match words {
+        [] => Ok(Request::Check {
             file: "-",
             cert: None,
-        });
-    }
-    match program(alloc)?
-        .no_binary_name(true)
-        .try_get_matches_from(words)
-    {
-        Err(error) if matches!(error.kind(), ErrorKind::OutOfMemory) => Err(AllocError),
-        Err(error) => Ok(Request::Usage(format!(in alloc; "{error}")?)),
-        Ok(matches) => match matches.subcommand_matches("check") {
-            None => Ok(Request::Usage(String::new(alloc))),
-            Some(check) => Ok(Request::Check {
-                file: check.get_str("FILE").unwrap_or("-"),
-                cert: check.get_str("CERT"),
-            }),
-        },
+        }),
+        [_, ..] => take_words(alloc, words),
     }
 }
