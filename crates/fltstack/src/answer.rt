@@ -55,7 +55,10 @@ impl fmt::Display for Answer {
                 let line = refusal.line;
                 let rule = RuleName(refusal.rule);
                 let words = text(refusal.rule);
-                write!(f, "refused callback {callback} point {point} line {line} {rule} {words}")
+                write!(
+                    f,
+                    "refused callback {callback} point {point} line {line} {rule} {words}"
+                )
             }
         }
     }

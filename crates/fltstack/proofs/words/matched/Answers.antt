@@ -17,5 +17,5 @@ returns-in-Some c =
     let given : option_map (λ s. s.now) c.get_str.result ≡ first_of (codes "FILE") rows = c.get_str.ensures ∙ first_value-rows (found_of c.in-Some.check.now) (codes "FILE") in
     let cert : option_map (λ s. s.now) c.get_str-in-Some.result ≡ first_of (codes "CERT") rows = c.get_str-in-Some.ensures ∙ first_value-rows (found_of c.in-Some.check.now) (codes "CERT") in
     let file : c.unwrap_or.result.now ≡ unwrap_or (first_of (codes "FILE") rows) (codes "-") =
-        ap (λ (s : Bor (List ℕ)). s.now) c.unwrap_or.ensures ∙ text_or c.get_str.result _ ∙ ap (λ o. unwrap_or o (codes "-")) given in
+    ap (λ (s : Bor (List ℕ)). s.now) c.unwrap_or.ensures ∙ text_or c.get_str.result _ ∙ ap (λ o. unwrap_or o (codes "-")) given in
     rw (both, file, cert) refl
