@@ -18,4 +18,4 @@ pub use locks::LockList;
 pub use sets::{Draining, DrainingBits, ModeBits, Modes, StatusBits, Statuses};
 pub use setting::{Setting, setting_of};
 pub use state::{Abs, CONTEXTS, LocksDiffer, OPERATIONS, is_partial_order, join, leq};
-pub use step::{Successor, Successors, transfer};
+pub use step::{Successor, Successors, transfer, transfer_is_monotone};

@@ -16,6 +16,13 @@ pub enum Answer<'a> {
     Certificate(usize),
 }
 
+/// What an analysis gives: the certificate as it is written, or why there is none.
+#[derive(Debug, Drop)]
+pub enum Analysis<'a> {
+    Found(Vec<u8>),
+    NotFound(Answer<'a>),
+}
+
 impl Answer<'_> {
     /// The exit status: 0 for yes, 1 for no, 2 where there is no answer.
     pub fn status(&self) -> u8 {

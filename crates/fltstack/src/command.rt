@@ -1,15 +1,20 @@
 //! The commands, over inputs and writers.
 
-use crate::answer::Answer;
+ghost use Rattle.std.specs.Prelude.{◌≡◌, ◌<◌};
+
+use crate::answer::{Analysis, Answer};
 use crate::inputs::Inputs;
 use crate::sink::{Sink, WriteFailed, put_all};
 use crate::split::certificate_start;
 use crate::words::{Request, read_words};
-use flt_cert::CertFault;
+use flt_analyse::{AnalyseFault, Ticks, analyse};
+use flt_cert::{CertFault, write};
 use flt_check::check;
 use flt_graph::lower;
 use flt_syntax::{ParseError, parse};
 use std::alloc::{AllocError, AllocFailed, Global};
+use std::marker::Brand;
+use std::sync::ledger::{Blank, Ledger};
 use thiserror::Error;
 
 /// Why a command ended without its answer.
@@ -109,6 +114,58 @@ fn check_files<'a, I: Inputs>(
     }
 }
 
+/// The least certificate of a text, with the transfers counted in a ledger that nobody reads.
+fn certify<'a, L: Ledger>(
+    alloc: Global,
+    text: &[u8],
+    blank: Blank,
+) -> Result<Analysis<'a>, AllocError>
+    requires name { blank.name ≡ L.name }
+    requires parts { blank.parts ≡ L.parts }
+    requires some { 0 < blank.parts }
+{
+    let tree = match parse(alloc, text) {
+        Ok(tree) => tree,
+        Err(ParseError::Syntax(fault)) => return Ok(Analysis::NotFound(Answer::Syntax(fault))),
+        Err(ParseError::OutOfMemory) => return Err(AllocError),
+    };
+    let graph = lower(alloc, &tree)?;
+    let mut ticks = Ticks::<L, 0, 0>::new(blank);
+    match analyse(alloc, &graph, &mut ticks) {
+        Ok(cert) => Ok(Analysis::Found(write(alloc, &cert)?)),
+        Err(AnalyseFault::Refused(refusal)) => Ok(Analysis::NotFound(Answer::Refused(refusal))),
+        Err(AnalyseFault::OutOfMemory) => Err(AllocError),
+    }
+}
+
+fn analyse_file<'a, I: Inputs>(
+    alloc: Global,
+    inputs: &I,
+    file: &'a str,
+) -> Result<Analysis<'a>, AllocError> {
+    match inputs.read(alloc, file)? {
+        Some(text) => certify::<Brand>(alloc, text.as_slice(), Blank::new(1)),
+        None => Ok(Analysis::NotFound(Answer::CannotRead(file))),
+    }
+}
+
+/// Writes an answer in one line, to `out` where it is one and to `err` where it says why there is none.
+fn tell<O: Sink, E: Sink>(
+    alloc: Global,
+    answer: &Answer,
+    out: &mut O,
+    err: &mut E,
+) -> Result<u8, CommandFault> {
+    let line = format!(in alloc; "{answer}\n")?;
+    let status = answer.status();
+    if status == 2 {
+        put_all(err, line.as_bytes())?;
+    } else {
+        put_all(out, line.as_bytes())?;
+    }
+    Ok(status)
+}
+
 /// Runs the command of a program's words, its own name left out, and answers the exit status: 0 for yes, 1 for no, and 2
 /// where there is no answer. What it says goes to `out`, why there is no answer to `err`.
 pub fn command<I: Inputs, O: Sink, E: Sink>(
@@ -125,14 +182,14 @@ pub fn command<I: Inputs, O: Sink, E: Sink>(
         }
         Request::Check { file, cert } => {
             let answer = check_files(alloc, inputs, file, cert)?;
-            let line = format!(in alloc; "{answer}\n")?;
-            let status = answer.status();
-            if status == 2 {
-                put_all(err, line.as_bytes())?;
-            } else {
-                put_all(out, line.as_bytes())?;
-            }
-            Ok(status)
+            tell(alloc, &answer, out, err)
         }
+        Request::Analyse { file } => match analyse_file(alloc, inputs, file)? {
+            Analysis::Found(certificate) => {
+                put_all(out, certificate.as_slice())?;
+                Ok(0)
+            }
+            Analysis::NotFound(answer) => tell(alloc, &answer, out, err),
+        },
     }
 }

@@ -1,0 +1,81 @@
+//! The points that a walk has still to look at, as a set of bits.
+
+ghost use Rattle.std.specs.Prelude.{◌≡◌, ◌<◌, true, false, position, slice_set};
+ghost use Rattle.flt_analyse.specs.Pending as spec;
+
+use std::marker::Model;
+
+/// How many points a callback has at most.
+pub(crate) const POINTS: usize = 512;
+
+/// How many bits a word has.
+const BITS: usize = 64;
+
+/// Which of the points below 512 are pending: point `p` is bit `p % 64` of word `p / 64`. The least one is found by the
+/// words and one count of trailing zeros.
+#[derive(Debug, Drop)]
+pub(crate) struct Pending {
+    words: [u64; POINTS / BITS],
+}
+
+impl Model for Pending {
+    ghost use Rattle.std.specs.Prelude.{List, Bool};
+    ghost use Rattle.flt_analyse.specs.Pending.{flags};
+
+    ghost Value = { List Bool };
+
+    ghost view = { λ s. flags s.words };
+}
+
+impl Pending {
+    /// None is pending.
+    pub(crate) fn none() -> Pending
+        ensures { result ≡ spec.no_flags }
+    {
+        Pending {
+            words: [0; POINTS / BITS],
+        }
+    }
+
+    /// The point is pending from now on.
+    pub(crate) fn insert(&mut self, point: usize)
+        requires { point < 512 }
+        ensures { self.new ≡ slice_set self.old point true }
+    {
+        let index = point / BITS;
+        let bit = point % BITS;
+        self.words[index] |= 1 << bit;
+    }
+
+    /// The point is pending no longer.
+    fn remove(&mut self, point: usize)
+        requires { point < 512 }
+        ensures { self.new ≡ slice_set self.old point false }
+    {
+        let index = point / BITS;
+        let bit = point % BITS;
+        self.words[index] &= !(1 << bit);
+    }
+
+    /// The least point that is pending.
+    fn least(&self) -> Option<usize>
+        ensures { result ≡ spec.least self.now }
+    {
+        for (index, word) in self.words.iter().enumerate() {
+            if *word != 0 {
+                return Some(index * BITS + word.trailing_zeros() as usize);
+            }
+        }
+        None
+    }
+
+    /// Takes out the least point that is pending.
+    pub(crate) fn take_least(&mut self) -> Option<usize>
+        ensures value { result ≡ spec.least self.old }
+        ensures rest { self.new ≡ spec.without (spec.least self.old) self.old }
+    {
+        let point = self.least()?;
+        self.remove(point);
+        Some(point)
+    }
+}
