@@ -219,19 +219,19 @@ operation_within x y d b = within_at x.operations y.operations (operation_place 
 -- ---- operands
 
 grows-lacks_context : (x y : State) (c : Option ContextVariable) → Below x y → Proper x → lacks_context x c ≡ true → lacks_context y c ≡ true
-grows-lacks_context x y (Some c) b p = grows-not _ _ (surely_held _ _ (context_within x y c b) (possible_at x.contexts (context_place c) p.contexts))
+grows-lacks_context x y (Some c) b p = grows-not _ _ (surely_held (context_in x c) (context_in y c) (context_within x y c b) (possible_at x.contexts (context_place c) p.contexts))
 grows-lacks_context x y None b p = same false
 
 grows-lacks_operation : (x y : State) (d : Option OperationVariable) → Below x y → Proper x → lacks_operation x d ≡ true → lacks_operation y d ≡ true
-grows-lacks_operation x y (Some d) b p = grows-not _ _ (surely_held _ _ (operation_within x y d b) (possible_at x.operations (operation_place d) p.operations))
+grows-lacks_operation x y (Some d) b p = grows-not _ _ (surely_held (operation_in x d) (operation_in y d) (operation_within x y d b) (possible_at x.operations (operation_place d) p.operations))
 grows-lacks_operation x y None b p = same false
 
 grows-may_hold_context : (x y : State) (c : Option ContextVariable) → Below x y → may_hold_context x c ≡ true → may_hold_context y c ≡ true
-grows-may_hold_context x y (Some c) b = within_held _ _ (context_within x y c b)
+grows-may_hold_context x y (Some c) b = within_held (context_in x c) (context_in y c) (context_within x y c b)
 grows-may_hold_context x y None b = same false
 
 grows-may_hold_operation : (x y : State) (d : Option OperationVariable) → Below x y → may_hold_operation x d ≡ true → may_hold_operation y d ≡ true
-grows-may_hold_operation x y (Some d) b = within_held _ _ (operation_within x y d b)
+grows-may_hold_operation x y (Some d) b = within_held (operation_in x d) (operation_in y d) (operation_within x y d b)
 grows-may_hold_operation x y None b = same false
 
 -- ---- rules
@@ -284,14 +284,15 @@ surely_possessed a b possession.GivenAway h p = surely_stale a b h p
 
 surely_fits : (w : StatusRow) (x y : State) → Below x y → Proper x → fits_state w y ≡ true → fits_state w x ≡ true
 surely_fits w x y b p =
-    grows-and _ _ _ _ (surely_possessed _ _ w.data (operation_within x y Data b) (possible_at x.operations (operation_place Data) p.operations))
-    (grows-and _ _ _ _ (surely_of_mode x.modes y.modes w.mode b.modes p.modes)
-    (grows-or _ _ _ _ (same w.in_draining) (grows-not _ _ (drained x y b))))
+    grows-and _ _ _ _
+    (grows-and _ _ _ _ (surely_possessed (operation_in x Data) (operation_in y Data) w.data (operation_within x y Data b) (possible_at x.operations (operation_place Data) p.operations))
+    (surely_of_mode x.modes y.modes w.mode b.modes p.modes))
+    (grows-or _ _ _ _ (same w.in_draining) (grows-not _ _ (drained x y b)))
 
 grows-returns : (s : Setting) (x y : State) (st : Option Status) → Below x y → Proper x → returns_illegally s x st ≡ true → returns_illegally s y st ≡ true
 grows-returns s x y (Some st) b p =
-    grows-not _ _ (grows-and _ _ _ _ (same (fits_setting (status_row (word_of st)) s))
-    (grows-and _ _ _ _ (surely_fits (status_row (word_of st)) x y b p) (same (not (completes_pending st)))))
+    grows-not _ _ (grows-and _ _ _ _ (grows-and _ _ _ _ (same (fits_setting (status_row (word_of st)) s)) (surely_fits (status_row (word_of st)) x y b p))
+    (same (not (completes_pending st))))
 grows-returns s x y None b p = λ e. e
 
 within_without : (xs ys : List StatusSet) (c : Option ContextVariable) → all_within xs ys ≡ true → all_within (contexts_without xs c) (contexts_without ys c) ≡ true
@@ -299,9 +300,9 @@ within_without xs ys (Some c) h = within_set xs ys (context_place c) null_alone 
 within_without xs ys None h = h
 
 grows-return : (s : Setting) (x y : State) (st : Option Status) (r : Rule) → Below x y → Proper x → return_breaks s x st r ≡ true → return_breaks s y st r ≡ true
-grows-return s x y st R02 b p = any_held _ _ (within_without x.contexts y.contexts (named_context st) b.contexts)
+grows-return s x y st R02 b p = any_held (contexts_without x.contexts (named_context st)) (contexts_without y.contexts (named_context st)) (within_without x.contexts y.contexts (named_context st) b.contexts)
 grows-return s x y st R05 b p =
-    grows-or _ _ _ _ (any_held _ _ (within_take 4 x.operations y.operations b.operations))
+    grows-or _ _ _ _ (any_held (take 4 x.operations) (take 4 y.operations) (within_take 4 x.operations y.operations b.operations))
     (grows-and _ _ _ _ (same (owes_data s.place)) (grows-may_hold_operation x y (Some Data) b))
 grows-return s x y st R06 b p = grows-returns s x y st b p
 grows-return s x y st R10 b p = λ h. ap (λ k. not (is_empty k)) (sym b.locks) ∙ h
@@ -322,12 +323,16 @@ some_not_none r e = cc
 
 none_then : (p q : Rule → Bool) (rs : List Rule) → ((r : Rule) → p r ≡ true → q r ≡ true) → find q rs ≡ None → find p rs ≡ None
 none_then p q [] f e = refl
-none_then p q (r ∷ rs) f e = by_test (p r) (q r) (f r) e
+none_then p q (r ∷ rs) f e =
+    let none = neither (q r) r (find q rs) e in
+    first_of (p r) r (find p rs) (λ h. f r h) none.0 (none_then p q rs f none.1)
   where
-    by_test : (a b : Bool) → (a ≡ true → b ≡ true) → cond b (Some r) (find q rs) ≡ None → cond a (Some r) (find p rs) ≡ None
-    by_test a true h e = elim (some_not_none r e) [ ]
-    by_test true false h e = let no = h refl in cc
-    by_test false false h e = none_then p q rs f e
+    neither : (b : Bool) (r : Rule) (o : Option Rule) → cond b (Some r) o ≡ None → (b ≡ false) × (o ≡ None)
+    neither true r o e = elim (some_not_none r e) [ ]
+    neither false r o e = (refl, e)
+    first_of : {c : Bool} (b : Bool) (r : Rule) (o : Option Rule) → (b ≡ true → c ≡ true) → c ≡ false → o ≡ None → cond b (Some r) o ≡ None
+    first_of true r o f e h = let no = f refl in cc
+    first_of false r o f e h = h
 
 -- a setting reads the locks alone
 same_setting : (g : Graph) (callback : ℕ) (x y : State) → Below x y → setting_of g callback x ≡ setting_of g callback y
@@ -336,7 +341,7 @@ same_setting g callback x y b = ap (λ k. setting_of g callback (record x { lock
 none_broken : (g : Graph) (callback : ℕ) (x y : State) (i : Instruction) → Below x y → Proper x →
     first_broken (setting_of g callback y) y i ≡ None → first_broken (setting_of g callback x) x i ≡ None
 none_broken g callback x y i b p e =
-    let here : first_broken (setting_of g callback x) y i ≡ None = rw same_setting g callback x y b e in
+    let here : first_broken (setting_of g callback x) y i ≡ None = ap (λ s. first_broken s y i) (same_setting g callback x y b) ∙ e in
     none_then (breaks (setting_of g callback x) x i) (breaks (setting_of g callback x) y i) rules (λ r. grows-breaks (setting_of g callback x) x y i r b p) here
 
 -- ---- successors
@@ -385,11 +390,15 @@ possible_grows a b h = grows-or _ _ _ _ (within_null a b h) (grows-or _ _ _ _ (w
 
 below-where_true : (p : ℕ) (x y : State) (t : Test) → Below x y → IsSuccessorBelow (at p (where_true x t)) (at p (where_true y t))
 below-where_true p x y (test.ContextIsSome c) b =
-    let within = without_within _ _ (context_within x y c b) in
-    if_below p _ _ _ _ (possible_grows _ _ within) (below_context x y c _ _ b within)
+    let some = without_null (context_in x c) in
+    let more = without_null (context_in y c) in
+    let within = without_within (context_in x c) (context_in y c) (context_within x y c b) in
+    if_below p (is_possible some) (is_possible more) _ _ (possible_grows some more within) (below_context x y c some more b within)
 below-where_true p x y (test.OperationIsSome o) b =
-    let within = without_within _ _ (operation_within x y (Removed o) b) in
-    if_below p _ _ _ _ (possible_grows _ _ within) (below_operation x y (Removed o) _ _ b within)
+    let some = without_null (operation_in x (Removed o)) in
+    let more = without_null (operation_in y (Removed o)) in
+    let within = without_within (operation_in x (Removed o)) (operation_in y (Removed o)) (operation_within x y (Removed o) b) in
+    if_below p (is_possible some) (is_possible more) _ _ (possible_grows some more within) (below_operation x y (Removed o) some more b within)
 below-where_true p x y test.IsIrp b =
     if_below p _ _ _ _ (implies _ _ (and_parts _ _ b.modes).0) (record { locks = b.locks; modes = refl; draining = b.draining; contexts = b.contexts; operations = b.operations })
 below-where_true p x y test.IsDraining b =
@@ -398,9 +407,9 @@ below-where_true p x y t b = (refl, from_below x y b)
 
 below-where_false : (p : ℕ) (x y : State) (t : Test) → Below x y → IsSuccessorBelow (at p (where_false x t)) (at p (where_false y t))
 below-where_false p x y (test.ContextIsSome c) b =
-    if_below p _ _ _ _ (within_null _ _ (context_within x y c b)) (below_context x y c null_alone null_alone b (within_same null_alone))
+    if_below p _ _ _ _ (within_null (context_in x c) (context_in y c) (context_within x y c b)) (below_context x y c null_alone null_alone b (within_same null_alone))
 below-where_false p x y (test.OperationIsSome o) b =
-    if_below p _ _ _ _ (within_null _ _ (operation_within x y (Removed o) b)) (below_operation x y (Removed o) null_alone null_alone b (within_same null_alone))
+    if_below p _ _ _ _ (within_null (operation_in x (Removed o)) (operation_in y (Removed o)) (operation_within x y (Removed o) b)) (below_operation x y (Removed o) null_alone null_alone b (within_same null_alone))
 below-where_false p x y test.IsIrp b =
     if_below p _ _ _ _ (implies _ _ (and_parts _ _ b.modes).1) (record { locks = b.locks; modes = refl; draining = b.draining; contexts = b.contexts; operations = b.operations })
 below-where_false p x y test.IsDraining b =

@@ -278,7 +278,6 @@ pub fn transfer(
 }
 
 /// What a state leads to is below what each state above it leads to. It does nothing: its clause is the law.
-#[tactic(auto, using(crate::proofs::Monotone::transfer_below))]
 pub fn transfer_is_monotone()
     ensures { (g : Graph) (callback point : ℕ) (x y : State) → IsTrue (is_proper x) → IsTrue (is_below x y) → spec.IsOutcomeBelow (spec.transfer g callback point x) (spec.transfer g callback point y) }
 {}
