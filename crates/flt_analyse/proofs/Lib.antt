@@ -1,0 +1,6 @@
+pub mod Bits
+pub mod Certificates
+pub mod Order
+pub mod Sizes
+pub mod Stages
+pub mod Walks

@@ -1,6 +1,8 @@
 //! The callbacks of a text, one after the other.
 
-ghost use Rattle.std.specs.Prelude.{◌≡◌, ◌<◌, ◌≤◌, ◌+◌, length};
+ghost use Rattle.std.specs.Prelude.{◌≡◌, ◌<◌, ◌≤◌, ◌+◌, ◌↔◌, length, IsTrue, IfOk, IfErr};
+ghost use Rattle.flt_check.specs.Checker.{Covers};
+ghost use Rattle.flt_analyse.specs.Least as spec;
 
 use crate::fault::AnalyseFault;
 use crate::pending::POINTS;
@@ -14,38 +16,52 @@ use sqlite_items::Items;
 use std::alloc::Global;
 use std::sync::ledger::Ledger;
 
-/// Whether a certificate can have as many callbacks and points as a graph.
-fn has_room(graph: &Graph) -> bool {
-    if graph.callbacks() == 0 || graph.callbacks() > MAX_CALLBACKS {
+/// Whether a certificate can have as many callbacks and points as a graph. It can for each graph of a text.
+fn has_room(graph: &Graph) -> bool
+    ensures { IsTrue result ↔ spec.HasRoom graph.now }
+{
+    let callbacks = graph.callbacks();
+    if callbacks == 0 || MAX_CALLBACKS < callbacks {
         return false;
     }
-    for callback in 0..graph.callbacks() {
-        if graph.points(callback) == 0 || graph.points(callback) > POINTS {
+    'rooms: for callback in 0..callbacks {
+        let points = graph.points(callback);
+        if points == 0 || POINTS < points {
             return false;
         }
     }
     true
 }
 
-/// The least certificate that covers, or the first point and rule at which the walk stops, where none does.
+/// The least certificate that covers a text. Each point is transferred at most 31 times, by `Ticks::transfer` alone.
+///
+/// # Errors
+///
+/// `Refused` where no certificate covers, with the first fault that is met: callbacks in order; in each the least pending
+/// point is looked at, and its successors are joined to what was found, the one where a call succeeds or a test holds first.
+/// `OutOfMemory` where a growth was refused.
 pub fn analyse<L: Ledger, const CALLBACK: usize, const POINT: usize>(
     alloc: Global,
     graph: &Graph,
     ticks: &mut Ticks<L, CALLBACK, POINT>,
-) -> Result<Cert, AnalyseFault> {
-    let mut callbacks = Items::new(alloc);
-    if has_room(graph) {
-        for callback in 0..graph.callbacks() {
-            callbacks.push(walk_callback(alloc, graph, callback, ticks)?)?;
-        }
-    }
-    match Cert::new(callbacks) {
-        Some(cert) => Ok(cert),
-        None => Err(AnalyseFault::Refused(Refusal {
+) -> Result<Cert, AnalyseFault>
+    ensures covers { IfOk result (λ c. Covers graph.now c) }
+    ensures least { IfOk result (λ c. spec.IsLeast graph.now c) }
+    ensures none { IfErr result (λ f. spec.IfRefused f (λ _. spec.NoneCovers graph.now)) }
+    ensures named { IfErr result (λ f. spec.IfRefused f (spec.IsNamed graph.now)) }
+    ensures bounded { ticks.new ≤ ticks.old + 31 }
+{
+    if !has_room(graph) {
+        return Err(AnalyseFault::Refused(Refusal {
             callback: 0,
             point: 0,
             line: 0,
             rule: Rule::R14,
-        })),
+        }));
     }
+    let mut callbacks = Items::new(alloc);
+    'walks: for callback in 0..graph.callbacks() {
+        callbacks.push(walk_callback(alloc, graph, callback, ticks)?)?;
+    }
+    Ok(Cert::new(callbacks).unwrap())
 }

@@ -1,6 +1,6 @@
 //! The points that a walk has still to look at, as a set of bits.
 
-ghost use Rattle.std.specs.Prelude.{◌≡◌, ◌<◌, true, false, position, slice_set};
+ghost use Rattle.std.specs.Prelude.{◌≡◌, ◌<◌, true, false, slice_set};
 ghost use Rattle.flt_analyse.specs.Pending as spec;
 
 use std::marker::Model;
@@ -30,7 +30,7 @@ impl Model for Pending {
 impl Pending {
     /// None is pending.
     pub(crate) fn none() -> Pending
-        ensures { result ≡ spec.no_flags }
+        ensures { result ≡ spec.no_flags 512 }
     {
         Pending {
             words: [0; POINTS / BITS],
@@ -61,7 +61,7 @@ impl Pending {
     fn least(&self) -> Option<usize>
         ensures { result ≡ spec.least self.now }
     {
-        for (index, word) in self.words.iter().enumerate() {
+        'words: for (index, word) in self.words.iter().enumerate() {
             if *word != 0 {
                 return Some(index * BITS + word.trailing_zeros() as usize);
             }
