@@ -1,5 +1,6 @@
 pub mod Bits
 pub mod Certificates
+pub mod Counts
 pub mod Order
 pub mod Sizes
 pub mod Stages
