@@ -3,9 +3,10 @@ use Rattle.std.proofs.Common.{◌≡◌, ◌≢◌, ◌<◌, ◌≤◌, ◌+◌,
 use Rattle.std.proofs.Math.Path.{subst}
 use Rattle.std.proofs.Math.ListN.{set}
 use Rattle.std.specs.Prelude.{◌==◌, ◌⊎◌}
-use Rattle.std.specs.Int.{bit_at}
+use Rattle.std.specs.Int.{bit_at, bit_not, w64, bits}
+use Rattle.std.specs.Prelude.{bit_or, bit_and}
 use Rattle.std.proofs.lemmas.Bool.{cases_eq}
-use Rattle.std.proofs.lemmas.Nat.Bits.{bit_at-zero}
+use Rattle.std.proofs.lemmas.Nat.Bits.{bit_at-zero, bit_at_set_same, bit_at_set_other, bit_at_clear_same, bit_at_clear_other}
 use Rattle.flt_analyse.specs.Pending.{word_flags, flags, least_from, least}
 
 -- ---- one word
@@ -54,8 +55,10 @@ pub changed : (words : List ℕ) (i j v : ℕ) (b : Bool) → i < length words �
 changed [] i j v b l m e h = absurd (omega arith)
 changed (w ∷ words) zero j v b l m e h =
     let long = length-word w 0 64 in
-    let first : word_flags v 0 64 ≡ set (word_flags w 0 64) j b = changed_word v w 0 64 j b m e (λ k low high s. h k (omega arith) (λ t. s (omega arith))) in
-    ap (λ xs. xs ++ flags words) first ∙ sym (set_first (word_flags w 0 64) (flags words) j b (omega arith))
+    let moved : j ≡ 0 + j = omega arith in
+    let first : word_flags v 0 64 ≡ set (word_flags w 0 64) j b = changed_word v w 0 64 j b m (subst (λ i. (bit_at v i == 1) ≡ b) moved e) (λ k low high s. h k (omega arith) (λ t. s (omega arith))) in
+    let place : j ≡ 64 * 0 + j = omega arith in
+    ap (λ xs. xs ++ flags words) first ∙ (sym (set_first (word_flags w 0 64) (flags words) j b (omega arith)) ∙ ap (λ i. set (word_flags w 0 64 ++ flags words) i b) place)
 changed (w ∷ words) (suc i) j v b l m e h =
     let long = length-word w 0 64 in
     let rest = changed words i j v b (omega arith) m e h in
@@ -89,14 +92,16 @@ zero_bits w e i = ap (λ k. bit_at k i) e ∙ bit_at-zero i
 least_in : (words : List ℕ) (s i j : ℕ) → i < length words → j < 64 → ((k : ℕ) → k < i → get_or words k 0 ≡ 0) → bit_at (get_or words i 0) j ≡ 1 →
     ((k : ℕ) → k < j → bit_at (get_or words i 0) k ≡ 0) → least_from s (flags words) ≡ Some (s + (64 * i + j))
 least_in [] s i j l m z e h = absurd (omega arith)
-least_in (w ∷ words) s zero j l m z e h = some_in_word w s 0 64 j (flags words) m e h ∙ ap (λ k. Some k) (let a : s + j ≡ s + (64 * 0 + j) = omega arith in a)
+least_in (w ∷ words) s zero j l m z e h =
+    some_in_word w s 0 64 j (flags words) m (subst (λ i. bit_at w i ≡ 1) (let a : j ≡ 0 + j = omega arith in a) e)
+    (λ i low. subst (λ k. bit_at w k ≡ 0) (let a : i ≡ 0 + i = omega arith in a) (h i low)) ∙ ap (λ k. Some k) (let a : s + j ≡ s + (64 * 0 + j) = omega arith in a)
 least_in (w ∷ words) s (suc i) j l m z e h =
     none_in_word w s 0 64 (flags words) (zero_bits w (z 0 (omega arith))) ∙
     (least_in words (s + 64) i j (omega arith) m (λ k low. z (suc k) (omega arith)) e h ∙ ap (λ k. Some k) (let a : s + 64 + (64 * i + j) ≡ s + (64 * suc i + j) = omega arith in a))
 
 pub least_at : (words : List ℕ) (i j : ℕ) → i < length words → j < 64 → ((k : ℕ) → k < i → get_or words k 0 ≡ 0) → bit_at (get_or words i 0) j ≡ 1 →
     ((k : ℕ) → k < j → bit_at (get_or words i 0) k ≡ 0) → least (flags words) ≡ Some (64 * i + j)
-least_at words i j l m z e h = least_in words 0 i j l m z e h
+least_at words i j l m z e h = least_in words 0 i j l m z e h ∙ ap (λ k. Some k) (let a : 0 + (64 * i + j) ≡ 64 * i + j = omega arith in a)
 
 none_in : (words : List ℕ) (s : ℕ) → ((k : ℕ) → k < length words → get_or words k 0 ≡ 0) → least_from s (flags words) ≡ None
 none_in [] s z = refl
@@ -104,3 +109,27 @@ none_in (w ∷ words) s z = none_in_word w s 0 64 (flags words) (zero_bits w (z 
 
 pub least_none : (words : List ℕ) → ((k : ℕ) → k < length words → get_or words k 0 ≡ 0) → least (flags words) ≡ None
 least_none words z = none_in words 0 z
+
+pub first_is : (words : List ℕ) (i j : ℕ) → i < length words → j < 64 → ((k : ℕ) → k < i → get_or words k 0 ≡ 0) → bit_at (get_or words i 0) j ≡ 1 →
+    ((k : ℕ) → k < j → bit_at (get_or words i 0) k ≡ 0) → Some (i * 64 + j) ≡ least (flags words)
+first_is words i j l m z e h = ap (λ k. Some k) (let a : i * 64 + j ≡ 64 * i + j = omega arith in a) ∙ sym (least_at words i j l m z e h)
+
+-- ---- a point goes in or out
+
+pub inserted : (words : List ℕ) (p : ℕ) → length words ≡ 8 → p < 512 → flags (set words (p / 64) (bit_or (get_or words (p / 64) 0) (1 * 2 ^ (p % 64) % 2 ^ bits w64))) ≡ set (flags words) p true
+inserted words p long below =
+    let low : p % 64 < 64 = omega arith in
+    let high : p / 64 < length words = omega arith in
+    let place : 64 * (p / 64) + p % 64 ≡ p = omega arith in
+    changed words (p / 64) (p % 64) _ true high low
+    (ap (λ b. b == 1) (bit_at_set_same w64 (get_or words (p / 64) 0) (p % 64) low))
+    (λ k within other. bit_at_set_other w64 (get_or words (p / 64) 0) (p % 64) low k other) ∙ ap (λ i. set (flags words) i true) place
+
+pub removed : (words : List ℕ) (p : ℕ) → length words ≡ 8 → p < 512 → flags (set words (p / 64) (bit_and (get_or words (p / 64) 0) (bit_not w64 (1 * 2 ^ (p % 64) % 2 ^ bits w64)))) ≡ set (flags words) p false
+removed words p long below =
+    let low : p % 64 < 64 = omega arith in
+    let high : p / 64 < length words = omega arith in
+    let place : 64 * (p / 64) + p % 64 ≡ p = omega arith in
+    changed words (p / 64) (p % 64) _ false high low
+    (ap (λ b. b == 1) (bit_at_clear_same w64 (get_or words (p / 64) 0) (p % 64) low))
+    (λ k within other. bit_at_clear_other w64 (get_or words (p / 64) 0) (p % 64) low k within other) ∙ ap (λ i. set (flags words) i false) place

@@ -2,7 +2,7 @@
 use Rattle.std.proofs.Common.{◌≡◌, ◌<◌, ◌≤◌, ◌+◌, ℕ, zero, suc, Bool, true, false, List, [], ◌∷◌, ◌++◌, length, get_or, nat_lt, Option, Some, None, refl, sym, ap, ◌∙◌, arith, inl, inr}
 use Rattle.std.proofs.Math.Path.{subst}
 use Rattle.std.proofs.Math.ListN.{get_or-append, get_or-eq_default}
-use Rattle.std.specs.Prelude.{◌⊎◌, IsTrue}
+use Rattle.std.specs.Prelude.{◌⊎◌, IsTrue, IfSome}
 use Rattle.std.specs.List.{list_all}
 use Rattle.std.proofs.lemmas.Bool.{and_parts, and_from, cases_lt, lt-ltb, ltb-true}
 use Rattle.std.proofs.lemmas.List.{get_or_push, length-append}
@@ -112,3 +112,14 @@ is_made g k room h =
         let low = points.0 in
         let high = points.1 in
         and_from _ _ (lt-ltb 0 (length (get_or k c [])) (omega arith)) (and_from _ _ (lt-ltb (length (get_or k c [])) 513 (omega arith)) one.proper)
+
+-- the same, of a certificate that was made of these columns
+made_same : (o : Option Certificate) (k made : Certificate) → IfSome o (λ i. i ≡ k) → o ≡ Some made → made ≡ k
+made_same (Some i) k made h e = let same : i ≡ made = cc in sym same ∙ h
+made_same None k made h e = cc
+
+pub made_covers : (g : Graph) (k made : Certificate) (o : Option Certificate) → IfSome o (λ i. i ≡ k) → o ≡ Some made → Columns g (length g.callbacks) k → Covers g made
+made_covers g k made o h e c = subst (λ i. Covers g i) (sym (made_same o k made h e)) (covers_all g k c)
+
+pub made_least : (g : Graph) (k made : Certificate) (o : Option Certificate) → IfSome o (λ i. i ≡ k) → o ≡ Some made → Columns g (length g.callbacks) k → IsLeast g made
+made_least g k made o h e c = subst (λ i. IsLeast g i) (sym (made_same o k made h e)) (least_of_all g k c)

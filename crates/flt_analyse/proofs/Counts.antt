@@ -12,8 +12,8 @@ use Rattle.flt_analyse.specs.Ticks.{one_at}
 use Rattle.flt_analyse.specs.Walk.{look, taken, opening, outcome_at}
 use Rattle.flt_analyse.specs.declared.walk.Walk.{Walk}
 use Rattle.flt_analyse.proofs.Order.{Laws}
-use Rattle.flt_analyse.proofs.Sizes.{bit}
-use Rattle.flt_analyse.proofs.Stages.{found, flagged, left, due, bit_one}
+use Rattle.flt_analyse.proofs.Sizes.{bit, bit_one}
+use Rattle.flt_analyse.proofs.Stages.{found, flagged, left, due}
 use Rattle.flt_analyse.proofs.Walks.{Stage, least_is, falls_due}
 
 one_if : (b : Bool) → (if b then 1 else 0) ≤ 1

@@ -4,4 +4,5 @@ pub mod Counts
 pub mod Order
 pub mod Sizes
 pub mod Stages
+pub mod Turns
 pub mod Walks

@@ -16,6 +16,14 @@ pub bit : Bool → ℕ
 bit true = 1
 bit false = 0
 
+pub bit_one : bit true ≡ 1
+unfolding bit
+bit_one = refl
+
+pub bit_none : bit false ≡ 0
+unfolding bit
+bit_none = refl
+
 bit_or : (a b : Bool) → bit a ≤ bit (a || b)
 unfolding bit
 bit_or true b = omega arith

@@ -24,7 +24,7 @@ use Rattle.flt_analyse.specs.Pending.{least, least_from, no_flags}
 use Rattle.flt_analyse.specs.Walk.{arrived, reach_at, reach, then_reach, spread, outcome_at, look, taken, nones, opening}
 use Rattle.flt_analyse.specs.declared.walk.Walk.{Walk}
 use Rattle.flt_analyse.proofs.Order.{Laws}
-use Rattle.flt_analyse.proofs.Sizes.{bit, size, size_least, size_most, join_grows}
+use Rattle.flt_analyse.proofs.Sizes.{bit, bit_one, bit_none, size, size_least, size_most, join_grows}
 
 -- ---- what stands at a point
 
@@ -64,7 +64,7 @@ pub record Kept (w v : Walk) : Type 0 where
   pub flags : length v.pending ≡ length w.pending
   pub cheaper : AllProper w → (q : ℕ) → due v q ≤ due w q
 
-some_same : (x y : State) → Some x ≡ Some y → x ≡ y
+pub some_same : (x y : State) → Some x ≡ Some y → x ≡ y
 some_same x y e = cc
 
 none_some : (x : State) → None ≡ Some x → ⊥
@@ -116,17 +116,9 @@ pub record Improves (old : Option State) (x : State) : Type 0 where
   pub proper : is_proper x ≡ true
   pub less : left (Some x) + 1 ≤ left old
 
-true_not_false : (b : Bool) {P : Type 0} → b ≡ true → b ≡ false → P
+pub true_not_false : (b : Bool) {P : Type 0} → b ≡ true → b ≡ false → P
 true_not_false true e h = cc
 true_not_false false e h = cc
-
-bit_one : bit true ≡ 1
-unfolding bit
-bit_one = refl
-
-bit_none : bit false ≡ 0
-unfolding bit
-bit_none = refl
 
 kept_arrived : Laws → (w : Walk) (p : ℕ) (x : State) → p < length w.points → p < length w.pending → (AllProper w → Improves (found w p) x) → ((y : State) → found w p ≡ Some y → is_below y x ≡ true) →
     (is_proper x ≡ true) → Kept w (arrived w p x)
@@ -190,6 +182,14 @@ below_arrived laws w p x ys h all one q z e = by_point (cases_eq q p)
 less_first : (x : State) → is_proper x ≡ true → left (Some x) + 1 ≤ left None
 unfolding left
 less_first x p = let a = size_least x p in let b = size_most x p in omega arith
+
+pub left_none : left None ≡ 31
+unfolding left
+left_none = refl
+
+pub left_some : (x : State) → is_proper x ≡ true → left (Some x) ≤ 30
+unfolding left
+left_some x p = let a = size_least x p in omega arith
 
 less_join : (x y : State) → is_proper x ≡ true → is_proper (join_of y x) ≡ true → is_proper y ≡ true → bytes_eq y.locks x.locks ≡ true → is_below x y ≡ false → left (Some (join_of y x)) + 1 ≤ left (Some y)
 unfolding left
@@ -262,7 +262,7 @@ led_below laws ys None b h e = tt
 led_below laws ys (Some a) None h e = elim h [ ]
 led_below laws ys (Some a) (Some b) h e = (e.0, ap (λ i. get_or ys i None) h.0 ∙ e.1, laws.transitive a.state b.state e.0 h.1 e.2)
 
-led_later : Laws → (w v : Walk) (s : Option Successor) → Kept w v → IsLedIn w.points s → IsLedIn v.points s
+pub led_later : Laws → (w v : Walk) (s : Option Successor) → Kept w v → IsLedIn w.points s → IsLedIn v.points s
 led_later laws w v None k h = tt
 led_later laws w v (Some next) k h =
     let later = k.grown next.point h.0 h.1 in (later.0, later.1, laws.transitive next.state h.0 later.0 h.2 later.2)
@@ -298,7 +298,7 @@ second_look laws g callback point x w next (Ok v) e good at within count k all p
         let o = outcome_led laws g callback point x w ys (Ok next) e good at within c b in
         l ys (sym c.count ∙ (sym count ∙ sym h.kept.count)) (h.below ys b (led_below laws ys next.first o.0.first o.1.first o.2)) (led_below laws ys next.second o.0.second o.1.second o.3)
 
-spread_looking : Laws → (g : Graph) (callback point : ℕ) (x : State) (w : Walk) (r : Result Successors Rule) → transfer g callback point x ≡ r →
+pub spread_looking : Laws → (g : Graph) (callback point : ℕ) (x : State) (w : Walk) (r : Result Successors Rule) → transfer g callback point x ≡ r →
     is_proper x ≡ true → found w point ≡ Some x → point < points_at g callback → length w.points ≡ points_at g callback → length w.points ≤ length w.pending → AllProper w → ProperSteps r →
     Looking g callback point x w (spread w r)
 spread_looking laws g callback point x w (Err r) e good at within count k all p = λ ys c b.

@@ -1,5 +1,5 @@
 -- Whole walks: what holds at each stage, and what it means where a walk ends or stops.
-use Rattle.std.proofs.Common.{◌≡◌, ◌<◌, ◌≤◌, ◌+◌, ◌-◌, ℕ, zero, suc, Bool, true, false, List, [], ◌∷◌, length, get_or, nat_lt, Option, Some, None, Result, Ok, Err, refl, sym, ap, ◌∙◌, arith, inl, inr}
+use Rattle.std.proofs.Common.{◌≡◌, ◌<◌, ◌≤◌, ◌+◌, ◌-◌, ℕ, zero, suc, Bool, true, false, List, [], ◌∷◌, ◌++◌, length, get_or, nat_lt, Option, Some, None, Result, Ok, Err, refl, sym, ap, ◌∙◌, arith, inl, inr}
 use Rattle.std.proofs.Math.Path.{subst}
 use Rattle.std.proofs.Math.ListN.{set, get_or-eq_default}
 use Rattle.std.specs.Prelude.{◌⊎◌, if◌then◌else◌, IsTrue}
@@ -23,8 +23,8 @@ use Rattle.flt_analyse.specs.Pending.{least, least_from, no_flags}
 use Rattle.flt_analyse.specs.Walk.{look, taken, nones, opening, outcome_at, spread}
 use Rattle.flt_analyse.specs.declared.walk.Walk.{Walk}
 use Rattle.flt_analyse.proofs.Order.{Laws}
-use Rattle.flt_analyse.proofs.Sizes.{bit, size, size_least, size_most}
-use Rattle.flt_analyse.proofs.Stages.{found, flagged, left, due, AllProper, IsAwake, Below, Kept, Looked, Looking, spread_looking, led_later, some_same, true_not_false, bit_one, bit_none}
+use Rattle.flt_analyse.proofs.Sizes.{bit, bit_one, bit_none}
+use Rattle.flt_analyse.proofs.Stages.{found, flagged, left, due, AllProper, IsAwake, Below, Kept, Looked, Looking, spread_looking, led_later, some_same, true_not_false, left_none, left_some}
 
 -- ---- the least flag
 
@@ -65,6 +65,10 @@ pub record Stage (g : Graph) (callback : ℕ) (w : Walk) : Type 0 where
 length-nones : (n : ℕ) → length (nones n) ≡ n
 length-nones zero = refl
 length-nones (suc n) = ap suc (length-nones n)
+
+pub nones_more : (n : ℕ) → nones n ++ None ∷ [] ≡ nones (n + 1)
+nones_more zero = refl
+nones_more (suc n) = ap (λ xs. None ∷ xs) (nones_more n)
 
 none_at : (n q : ℕ) → get_or (nones n) q None ≡ None
 none_at zero q = refl
@@ -270,11 +274,11 @@ total_falls f h (suc n) k = let a = total_falls f h n k in let b = k n in omega 
 total_less : (f h : ℕ → ℕ) (n p : ℕ) → p < n → ((q : ℕ) → f q ≤ h q) → f p + 1 ≤ h p → total f n < total h n
 unfolding total
 total_less f h zero p l k m = absurd (omega arith)
-total_less f h (suc n) p l k m = by_place (cases_lt p n)
+total_less f h (suc n) p l k m = by_place (cases_lt p n) (λ d. total_less f h n p d k m)
   where
-    by_place : ((p < n) ⊎ (n ≤ p)) → total f n + f n < total h n + h n
-    by_place (inl d) = let a = total_less f h n p d k m in let b = k n in omega arith
-    by_place (inr d) =
+    by_place : ((p < n) ⊎ (n ≤ p)) → (p < n → total f n < total h n) → total f n + f n < total h n + h n
+    by_place (inl d) less = let a = less d in let b = k n in omega arith
+    by_place (inr d) less =
         let same : p ≡ n = omega arith in
         let a = total_falls f h n k in
         let b : f n + 1 ≤ h n = subst (λ i. f i + 1 ≤ h i) same m in omega arith
@@ -292,7 +296,6 @@ room_falls laws g callback w v p s e ok h =
 
 -- at the opening no point can be looked at more than 31 times
 pub opening_due : (g : Graph) (callback q : ℕ) → 0 < points_at g callback → due (opening g callback) q ≤ 31
-unfolding left
 opening_due g callback q h = by_place (cases_eq q 0)
   where
     by_place : ((q ≡ 0) ⊎ (q ≡ 0 → ⊥)) → due (opening g callback) q ≤ 31
@@ -302,7 +305,8 @@ opening_due g callback q h = by_place (cases_eq q 0)
         first =
             let a : left (found (opening g callback) 0) ≡ left (Some (entry (place_at g callback))) = ap left (opening_first g callback h) in
             let b : bit (flagged (opening g callback) 0) ≡ 1 = ap bit (opening_flag g callback) ∙ bit_one in
-            let d = size_least (entry (place_at g callback)) (entry_proper (place_at g callback)) in omega arith
+            let d = left_some (entry (place_at g callback)) (entry_proper (place_at g callback)) in omega arith
     by_place (inr s) =
         let a : left (found (opening g callback) q) ≡ left None = ap left (opening_later g callback q s) in
+        let d = left_none in
         let b : bit (flagged (opening g callback) q) ≡ 0 = ap bit (opening_flags g callback q s) ∙ bit_none in omega arith

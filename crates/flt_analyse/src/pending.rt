@@ -1,6 +1,6 @@
 //! The points that a walk has still to look at, as a set of bits.
 
-ghost use Rattle.std.specs.Prelude.{◌≡◌, ◌<◌, true, false, slice_set};
+ghost use Rattle.std.specs.Prelude.{◌≡◌, ◌<◌, true, false, length, slice_set, IfSome};
 ghost use Rattle.flt_analyse.specs.Pending as spec;
 
 use std::marker::Model;
@@ -19,12 +19,28 @@ pub(crate) struct Pending {
 }
 
 impl Model for Pending {
-    ghost use Rattle.std.specs.Prelude.{List, Bool};
+    ghost use Rattle.std.specs.Prelude.{◌≡◌, List, Bool, length};
     ghost use Rattle.flt_analyse.specs.Pending.{flags};
 
     ghost Value = { List Bool };
 
     ghost view = { λ s. flags s.words };
+
+    ghost invariant = { λ s. length s.words ≡ 8 };
+}
+
+/// The least bit that is set, counted over the words from 0.
+fn first(words: &[u64]) -> Option<usize>
+    requires { length words.now ≡ 8 }
+    ensures value { result ≡ spec.least (spec.flags words.now) }
+    ensures within { IfSome result (λ point. point < 512) }
+{
+    'words: for (index, word) in words.iter().enumerate() {
+        if *word != 0 {
+            return Some(index * BITS + word.trailing_zeros() as usize);
+        }
+    }
+    None
 }
 
 impl Pending {
@@ -57,24 +73,12 @@ impl Pending {
         self.words[index] &= !(1 << bit);
     }
 
-    /// The least point that is pending.
-    fn least(&self) -> Option<usize>
-        ensures { result ≡ spec.least self.now }
-    {
-        'words: for (index, word) in self.words.iter().enumerate() {
-            if *word != 0 {
-                return Some(index * BITS + word.trailing_zeros() as usize);
-            }
-        }
-        None
-    }
-
     /// Takes out the least point that is pending.
     pub(crate) fn take_least(&mut self) -> Option<usize>
         ensures value { result ≡ spec.least self.old }
         ensures rest { self.new ≡ spec.without (spec.least self.old) self.old }
     {
-        let point = self.least()?;
+        let point = first(&self.words)?;
         self.remove(point);
         Some(point)
     }

@@ -1,5 +1,0 @@
-use Rattle.std.proofs.Common.{◌≡◌, ◌<◌, ℕ, get_or}
-use Rattle.flt_analyse.proofs.pending.Pending.least.Given as goal
-
-abbrev pub invariant-words : goal.invariant-words
-invariant-words l = (k : ℕ) → k < l.index → get_or l.self.words k 0 ≡ 0
