@@ -3,7 +3,7 @@ use Rattle.std.proofs.Common.{◌≡◌, ◌≢◌, ◌<◌, ◌≤◌, ◌+◌,
 use Rattle.std.proofs.Math.Path.{subst}
 use Rattle.std.proofs.Math.ListN.{set}
 use Rattle.std.specs.Prelude.{◌==◌, ◌⊎◌}
-use Rattle.std.specs.Int.{bit_at, bit_not, w64, bits}
+use Rattle.std.specs.Int.{bit_at, bit_not, w64}
 use Rattle.std.specs.Prelude.{bit_or, bit_and}
 use Rattle.std.proofs.lemmas.Bool.{cases_eq}
 use Rattle.std.proofs.lemmas.Nat.Bits.{bit_at-zero, bit_at_set_same, bit_at_set_other, bit_at_clear_same, bit_at_clear_other}
@@ -116,7 +116,7 @@ first_is words i j l m z e h = ap (λ k. Some k) (let a : i * 64 + j ≡ 64 * i 
 
 -- ---- a point goes in or out
 
-pub inserted : (words : List ℕ) (p : ℕ) → length words ≡ 8 → p < 512 → flags (set words (p / 64) (bit_or (get_or words (p / 64) 0) (1 * 2 ^ (p % 64) % 2 ^ bits w64))) ≡ set (flags words) p true
+pub inserted : (words : List ℕ) (p : ℕ) → length words ≡ 8 → p < 512 → flags (set words (p / 64) (bit_or (get_or words (p / 64) 0) (1 * 2 ^ (p % 64) % 18446744073709551616))) ≡ set (flags words) p true
 inserted words p long below =
     let low : p % 64 < 64 = omega arith in
     let high : p / 64 < length words = omega arith in
@@ -125,7 +125,7 @@ inserted words p long below =
     (ap (λ b. b == 1) (bit_at_set_same w64 (get_or words (p / 64) 0) (p % 64) low))
     (λ k within other. bit_at_set_other w64 (get_or words (p / 64) 0) (p % 64) low k other) ∙ ap (λ i. set (flags words) i true) place
 
-pub removed : (words : List ℕ) (p : ℕ) → length words ≡ 8 → p < 512 → flags (set words (p / 64) (bit_and (get_or words (p / 64) 0) (bit_not w64 (1 * 2 ^ (p % 64) % 2 ^ bits w64)))) ≡ set (flags words) p false
+pub removed : (words : List ℕ) (p : ℕ) → length words ≡ 8 → p < 512 → flags (set words (p / 64) (bit_and (get_or words (p / 64) 0) (bit_not w64 (1 * 2 ^ (p % 64) % 18446744073709551616)))) ≡ set (flags words) p false
 removed words p long below =
     let low : p % 64 < 64 = omega arith in
     let high : p / 64 < length words = omega arith in

@@ -66,9 +66,12 @@ length-nones : (n : ℕ) → length (nones n) ≡ n
 length-nones zero = refl
 length-nones (suc n) = ap suc (length-nones n)
 
+one_none_more : (n : ℕ) → nones n ++ None ∷ [] ≡ nones (suc n)
+one_none_more zero = refl
+one_none_more (suc n) = ap (λ xs. None ∷ xs) (one_none_more n)
+
 pub nones_more : (n : ℕ) → nones n ++ None ∷ [] ≡ nones (n + 1)
-nones_more zero = refl
-nones_more (suc n) = ap (λ xs. None ∷ xs) (nones_more n)
+nones_more n = one_none_more n ∙ ap nones (let a : suc n ≡ n + 1 = omega arith in a)
 
 none_at : (n q : ℕ) → get_or (nones n) q None ≡ None
 none_at zero q = refl
