@@ -4,11 +4,13 @@ use Rattle.clap.proofs.OnLiterals.{clap_on_literals}
 use Rattle.clap.specs.Faults.{fault_of, is_simple_and_free}
 use Rattle.clap.specs.Kinds.{Kinds, HasKind}
 use Rattle.clap.specs.Simple.{HasMatchesOf, app_of, is_simple, subcommand_of, subcommand_rows_of}
-use Rattle.clap.specs.Walk.{Text}
+use Rattle.clap.specs.Walk.{Row, Text}
+use Rattle.clap.specs.Matches.{subcommand_name_of}
 use Rattle.clap.specs.Values.{kind_of}
 use Rattle.clap.specs.declared.builder.command.Command.{Command}
 use Rattle.clap.specs.declared.error.Error.{Error}
 use Rattle.clap.specs.declared.parser.matches.ArgMatches.{ArgMatches}
+use Rattle.clap.specs.declared.parser.matches.ArgMatches.TheViews.{out-ArgMatches}
 use Rattle.fltstack.specs.Words.{IsCommand, asked_by, asked_words, is_memory, is_none, program_app}
 
 -- a name and the matches behind it
@@ -56,3 +58,10 @@ module _ (c : Command) (words : List Text) (is : IsCommand c program_app) where
       let some : is_none (fault_of (app_of c) words) ≡ false = has_kinds (fault_of (app_of c) words) e (kinds free) other in
       let none : is_none (fault_of program_app words) ≡ false = ap (λ a. is_none (fault_of a words)) (sym is.0) ∙ some in
       rw none refl
+
+-- the matches of a subcommand ask for what its name and its own matches ask for
+pub named : (m : ArgMatches) (name : Text) (rows : List Row) → subcommand_name_of m ≡ Some name →
+    option_map (λ (p : Text × List Row). p.1) (subcommand_rows_of m) ≡ Some rows → asked_by (name, rows) ≡ option_and_then asked_by (subcommand_rows_of m)
+named m name rows is matches =
+    let both : subcommand_rows_of m ≡ Some (name, rows) = paired _ _ (out-ArgMatches m).subcommand name rows is matches in
+    rw both refl

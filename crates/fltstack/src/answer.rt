@@ -1,13 +1,10 @@
-//! What a command answers, or why it can't, and how that is written.
+//! What a command answers, and how that is written.
 
 ghost use Rattle.std.specs.Prelude.{◌≡◌, Some};
-ghost use Rattle.fltstack.specs.Output as spec;
+ghost use Rattle.fltstack.specs.Lines as spec;
 
-use flt_cert::CertFault;
 use flt_check::Refusal;
 use flt_rules::{Rule, number, text};
-use flt_syntax::{ParseError, SyntaxFault};
-use std::alloc::AllocError;
 use std::fmt;
 
 /// What `check` says of a text and a certificate.
@@ -27,6 +24,15 @@ impl Answer {
             Answer::Refused(_) => 1,
         }
     }
+}
+
+/// What `analyse` says of a text.
+#[derive(Debug, Drop)]
+pub enum Analysis {
+    /// The least certificate, as it is written.
+    Found(Vec<u8>),
+    /// No certificate covers; this is the first fault that is met.
+    Refused(Refusal),
 }
 
 /// `R01` to `R15`.
@@ -60,64 +66,6 @@ impl fmt::Display for Answer {
                     "refused callback {callback} point {point} line {line} {rule} {words}"
                 )
             }
-        }
-    }
-}
-
-/// Why there is no answer.
-#[derive(Debug, Drop)]
-pub enum Failure<'a> {
-    CannotRead(&'a str),
-    Syntax(SyntaxFault),
-    /// The first line, from 1, that isn't as the format asks.
-    Certificate(usize),
-    OutOfMemory,
-}
-
-impl fmt::Display for Failure<'_> {
-    fn fmt<W: fmt::Write>(&self, f: &mut fmt::Formatter<W>) -> fmt::Result {
-        match self {
-            Failure::CannotRead(name) => write!(f, "cannot read {name}"),
-            Failure::Syntax(fault) => write!(f, "syntax {fault}"),
-            Failure::Certificate(line) => write!(f, "certificate line {line}"),
-            Failure::OutOfMemory => write!(f, "out of memory"),
-        }
-    }
-}
-
-impl From<AllocError> for Failure<'_> {
-    ghost use Rattle.std.specs.Prelude.{◌≡◌};
-    ghost use Rattle.fltstack.specs.declared.answer.Failure.TheVariants.{OutOfMemory};
-
-    ghost from_gives = { λ _ e. e ≡ OutOfMemory };
-
-    fn from(_: AllocError) -> Self {
-        Failure::OutOfMemory
-    }
-}
-
-impl From<CertFault> for Failure<'_> {
-    ghost use Rattle.std.specs.Prelude.{◌≡◌};
-
-    ghost from_gives = { λ e f. f ≡ spec.of_certificate e };
-
-    fn from(fault: CertFault) -> Self {
-        match fault {
-            CertFault::Line(line) => Failure::Certificate(line),
-            CertFault::OutOfMemory => Failure::OutOfMemory,
-        }
-    }
-}
-
-impl From<ParseError> for Failure<'_> {
-    ghost use Rattle.std.specs.Prelude.{◌≡◌};
-
-    ghost from_gives = { λ e f. f ≡ spec.of_parse e };
-
-    fn from(fault: ParseError) -> Self {
-        match fault {
-            ParseError::Syntax(fault) => Failure::Syntax(fault),
-            ParseError::OutOfMemory => Failure::OutOfMemory,
         }
     }
 }

@@ -6,6 +6,7 @@ use crate::sink::{Sink, WriteFailed};
 use std::alloc::{AllocError, Global};
 use std::test::Fail;
 
+mod analysis;
 mod changes;
 mod examples;
 mod refusals;

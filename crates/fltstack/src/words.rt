@@ -1,7 +1,9 @@
 //! The words of the command line.
 
-ghost use Rattle.std.specs.Prelude.{◌≡◌, IfOk, map, option_and_then, string_bytes};
+ghost use Rattle.std.specs.Prelude.{◌≡◌, Some, IfOk, map, option_and_then, string_bytes};
 ghost use Rattle.clap.specs.Simple.{subcommand_rows_of};
+ghost use Rattle.clap.specs.Walk.{rows_of};
+ghost use Rattle.clap.specs.Matches.{found_of};
 ghost use Rattle.fltstack.specs.Words as spec;
 
 use clap::error::ErrorKind;
@@ -16,6 +18,8 @@ pub enum Request<'a> {
         file: &'a str,
         cert: Option<&'a str>,
     },
+    /// Find the least certificate of the text of a file.
+    Analyse { file: &'a str },
     /// They can't be taken, or ask for help: the text that says so.
     Usage(String),
 }
@@ -38,6 +42,20 @@ fn check_command<'a>(alloc: Global) -> Result<Command<'a>, AllocError>
         .arg(cert)
 }
 
+fn analyse_command<'a>(alloc: Global) -> Result<Command<'a>, AllocError>
+    ensures { IfOk result (λ c. spec.IsCommand c spec.analyse_app) }
+{
+    let file = Arg::new(alloc, "FILE")
+        .required(true)
+        .help("The filter's text; `-` is the standard input");
+    Command::new(alloc, "analyse")
+        .about("Finds the least certificate that covers a filter's text")
+        .after_help(
+            "Prints the certificate (exit 0), or the point and rule for which there is none (exit 1).\nErrors go to the standard error with exit 2.\n\nExample: fltstack analyse examples/pending_reads.flt",
+        )
+        .arg(file)
+}
+
 fn program<'a>(alloc: Global) -> Result<Command<'a>, AllocError>
     ensures { IfOk result (λ c. spec.IsCommand c spec.program_app) }
 {
@@ -46,19 +64,39 @@ fn program<'a>(alloc: Global) -> Result<Command<'a>, AllocError>
         .after_help("With no words it acts as `check -`.")
         .subcommand_required(true)
         .no_binary_name(true)
-        .subcommand(check_command(alloc)?)
+        .subcommand(check_command(alloc)?)?
+        .subcommand(analyse_command(alloc)?)
+}
+
+/// What the matches of `check` ask for.
+fn asked_check<'a>(check: &ArgMatches<'a>) -> Request<'a>
+    ensures { spec.asked_of result ≡ Some (spec.check_of (rows_of (found_of check.now))) }
+{
+    Request::Check {
+        file: check.get_str("FILE").unwrap_or("-"),
+        cert: check.get_str("CERT"),
+    }
+}
+
+/// What the matches of `analyse` ask for.
+fn asked_analyse<'a>(analyse: &ArgMatches<'a>) -> Request<'a>
+    ensures { spec.asked_of result ≡ Some (spec.analyse_of (rows_of (found_of analyse.now))) }
+{
+    Request::Analyse {
+        file: analyse.get_str("FILE").unwrap_or("-"),
+    }
 }
 
 /// What the matches of a command line ask for.
 fn matched<'a>(alloc: Global, matches: &ArgMatches<'a>) -> Request<'a>
     ensures { spec.asked_of result ≡ option_and_then spec.asked_by (subcommand_rows_of matches.now) }
 {
-    match matches.subcommand_matches("check") {
+    if let Some(check) = matches.subcommand_matches("check") {
+        return asked_check(check);
+    }
+    match matches.subcommand_matches("analyse") {
+        Some(analyse) => asked_analyse(analyse),
         None => Request::Usage(String::new(alloc)),
-        Some(check) => Request::Check {
-            file: check.get_str("FILE").unwrap_or("-"),
-            cert: check.get_str("CERT"),
-        },
     }
 }
 

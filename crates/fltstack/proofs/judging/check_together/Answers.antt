@@ -1,7 +1,7 @@
 use Rattle.std.proofs.Common.{◌≡◌, Err, refl, rules}
-use Rattle.fltstack.specs.Output.{memory, unread, together}
-use Rattle.fltstack.specs.declared.answer.Failure.TheVariants.{OutOfMemory}
-use Rattle.fltstack.proofs.command.check_together.Goals as goal
+use Rattle.fltstack.specs.Judging.{memory, unread, together}
+use Rattle.fltstack.specs.declared.failure.Failure.TheVariants.{OutOfMemory}
+use Rattle.fltstack.proofs.judging.check_together.Goals as goal
 
 pub returns-in_err-read : goal.returns-in_err-read
 returns-in_err-read g c =

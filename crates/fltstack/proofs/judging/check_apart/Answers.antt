@@ -1,7 +1,7 @@
 use Rattle.std.proofs.Common.{◌≡◌, Err, refl, sym, rules}
-use Rattle.fltstack.specs.Output.{memory, unread, twice, missing, apart}
-use Rattle.fltstack.specs.declared.answer.Failure.TheVariants.{OutOfMemory}
-use Rattle.fltstack.proofs.command.check_apart.Goals as goal
+use Rattle.fltstack.specs.Judging.{memory, unread, twice, missing, apart}
+use Rattle.fltstack.specs.declared.failure.Failure.TheVariants.{OutOfMemory}
+use Rattle.fltstack.proofs.judging.check_apart.Goals as goal
 
 pub returns-in_err-text : goal.returns-in_err-text
 returns-in_err-text g c =
