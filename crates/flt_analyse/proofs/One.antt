@@ -1,8 +1,8 @@
 -- The order of the walk names one fault.
-use Rattle.std.proofs.Common.{◌≡◌, ◌<◌, ◌≤◌, ◌+◌, ℕ, zero, suc, length, Option, Some, None, Result, Ok, Err, refl, sym, ap, ◌∙◌, arith, inl, inr}
+use Rattle.std.proofs.Common.{◌≡◌, ◌<◌, ◌≤◌, ◌+◌, ℕ, zero, suc, Bool, true, false, Option, Some, None, Result, Ok, Err, refl, sym, ap, ◌∙◌, arith, inl, inr}
 use Rattle.std.proofs.Math.Path.{subst}
 use Rattle.std.specs.Prelude.{◌⊎◌}
-use Rattle.std.proofs.lemmas.Bool.{cases_order, cases_lt}
+use Rattle.std.proofs.lemmas.Bool.{cases_order, cases_lt, true≢false}
 use Rattle.flt_rules.specs.declared.rule.Rule.{Rule}
 use Rattle.flt_graph.specs.Graph.{line_at}
 use Rattle.flt_graph.specs.declared.graph.Graph.{Graph}
@@ -15,14 +15,26 @@ use Rattle.flt_analyse.specs.declared.walk.Walk.{Walk}
 some_point : (p q : ℕ) → Some p ≡ Some q → p ≡ q
 some_point p q e = cc
 
+abbrev walk_or : Walk → Result Walk Rule → Walk
+walk_or d (Ok w) = w
+walk_or d (Err r) = d
+
+abbrev rule_or : Rule → Result Walk Rule → Rule
+rule_or d (Ok w) = d
+rule_or d (Err r) = r
+
+abbrev went : Result Walk Rule → Bool
+went (Ok w) = true
+went (Err r) = false
+
 ok_same : (a b : Walk) (m : Result Walk Rule) → m ≡ Ok a → m ≡ Ok b → a ≡ b
-ok_same a b m e h = let s : Ok a ≡ Ok b = sym e ∙ h in cc
+ok_same a b m e h = ap (λ i. walk_or a i) (sym e ∙ h)
 
 err_same : (r s : Rule) (m : Result Walk Rule) → m ≡ Err r → m ≡ Err s → r ≡ s
-err_same r s m e h = let t : Err r ≡ Err s = sym e ∙ h in cc
+err_same r s m e h = ap (λ i. rule_or r i) (sym e ∙ h)
 
 not_ok : (a : Walk) (r : Rule) (m : Result Walk Rule) → m ≡ Ok a → m ≡ Err r → ⊥
-not_ok a r m e h = let s : Ok a ≡ Err r = sym e ∙ h in cc
+not_ok a r m e h = true≢false (ap (λ i. went i) (sym e ∙ h))
 
 not_none : (p : ℕ) (o : Option ℕ) → o ≡ Some p → o ≡ None → ⊥
 not_none p o e h = let s : Some p ≡ None = sym e ∙ h in cc
@@ -50,9 +62,9 @@ pub record Before (g : Graph) (callback n : ℕ) (a : Walk) : Type 0 where
   pub next : Walk
   pub looked : look g callback point (taken stage point) ≡ Ok next
 
-before : (g : Graph) (callback m n : ℕ) (a c : Walk) → n < m → Leads g callback m a c → Before g callback n a
-before g callback zero n a c l x = absurd (omega arith)
-before g callback (suc m) n a c l x = by_place (cases_lt n m) (λ k. before g callback m n a x.0 k x.1)
+stage_before : (g : Graph) (callback m n : ℕ) (a c : Walk) → n < m → Leads g callback m a c → Before g callback n a
+stage_before g callback zero n a c l x = absurd (omega arith)
+stage_before g callback (suc m) n a c l x = by_place (cases_lt n m) (λ k. stage_before g callback m n a x.0 k x.1)
   where
     by_place : ((n < m) ⊎ (m ≤ n)) → (n < m → Before g callback n a) → Before g callback n a
     by_place (inl k) f = f k
@@ -63,7 +75,7 @@ before g callback (suc m) n a c l x = by_place (cases_lt n m) (λ k. before g ca
 -- a walk that stops after so many looks has no later stage
 no_later : (g : Graph) (callback point m : ℕ) (rule : Rule) (c : Walk) (s : Stops g callback point rule) → s.looks < m → Leads g callback m (opening g callback) c → ⊥
 no_later g callback point m rule c s l x =
-    let b = before g callback m s.looks (opening g callback) c l x in
+    let b = stage_before g callback m s.looks (opening g callback) c l x in
     let e = same_stage g callback s.looks (opening g callback) b.stage s.last b.led s.led in
     let p = point_same b.stage s.last b.point point e b.least_point s.taken_next in
     not_ok b.next rule _ (moved g callback b.stage s.last b.point point (Ok b.next) e p b.looked) s.stopped
@@ -88,7 +100,7 @@ not_both_ends g callback p r a b = by_order (cases_order a.looks b.looks)
         not_none p (least a.last.pending) a.taken_next (ap (λ (i : Walk). least i.pending) e ∙ b.none)
     by_order (inr (inl l)) = no_later g callback p b.looks r b.last a l b.led
     by_order (inr (inr l)) =
-        let c = before g callback a.looks b.looks (opening g callback) a.last l a.led in
+        let c = stage_before g callback a.looks b.looks (opening g callback) a.last l a.led in
         let e = same_stage g callback b.looks (opening g callback) c.stage b.last c.led b.led in
         not_none c.point (least c.stage.pending) c.least_point (ap (λ (i : Walk). least i.pending) e ∙ b.none)
 

@@ -55,12 +55,15 @@ refused_none g callback (Refused r) below h = none_covers g callback below h.non
 refused_none g callback OutOfMemory below h = tt
 
 pub refused_named : (g : Graph) (callback : ℕ) (k : List (List Point)) (f : AnalyseFault) → callback < length g.callbacks → HasRoom g → Columns g callback k → IfRefused f (IsStop g callback) → IfRefused f (IsNamed g)
-refused_named g callback k (Refused r) below room c h = inr (room, record {
-  callback = subst (λ i. i < length g.callbacks) (sym h.here) below;
-  line = subst (λ i. r.line ≡ line_at g i r.point) (sym h.here) h.line;
-  stops = subst (λ i. Stops g i r.point r.rule) (sym h.here) h.stops;
-  earlier = λ i l. (c.each i (subst (λ j. i < j) h.here l)).ends;
-})
+refused_named g callback k (Refused r) below room c h = inr (
+  room,
+  record {
+    callback = subst (λ i. i < length g.callbacks) (sym h.here) below;
+    line = subst (λ i. r.line ≡ line_at g i r.point) (sym h.here) h.line;
+    stops = subst (λ i. Stops g i r.point r.rule) (sym h.here) h.stops;
+    earlier = λ i l. (c.each i (subst (λ j. i < j) h.here l)).ends;
+  },
+)
 refused_named g callback k OutOfMemory below room c h = tt
 
 -- a point of another callback isn't counted, and of its own one at most 31 times
