@@ -330,6 +330,7 @@ none_then p q (r ∷ rs) f e =
     neither : (b : Bool) (r : Rule) (o : Option Rule) → cond b (Some r) o ≡ None → (b ≡ false) × (o ≡ None)
     neither true r o e = elim (some_not_none r e) [ ]
     neither false r o e = (refl, e)
+
     first_of : {c : Bool} (b : Bool) (r : Rule) (o : Option Rule) → (b ≡ true → c ≡ true) → c ≡ false → o ≡ None → cond b (Some r) o ≡ None
     first_of true r o f e h = let no = f refl in cc
     first_of false r o f e h = h

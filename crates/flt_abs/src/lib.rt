@@ -17,5 +17,7 @@ pub use entry::{entry_state, is_entry_below};
 pub use locks::LockList;
 pub use sets::{Draining, DrainingBits, ModeBits, Modes, StatusBits, Statuses};
 pub use setting::{Setting, setting_of};
-pub use state::{Abs, CONTEXTS, LocksDiffer, OPERATIONS, is_partial_order, join, joins_are_least, leq};
+pub use state::{
+    Abs, CONTEXTS, LocksDiffer, OPERATIONS, is_partial_order, join, joins_are_least, leq,
+};
 pub use step::{Successor, Successors, transfer, transfer_is_monotone};

@@ -83,7 +83,7 @@ some_in_word w s k (suc n) (suc j) ys l e h =
     let first : (bit_at w k == 1) ≡ false = ap (λ b. b == 1) here in
     let moved : k + suc j ≡ suc k + j = omega arith in
     let rest = some_in_word w (suc s) (suc k) n j ys (omega arith) (subst (λ i. bit_at w i ≡ 1) moved e)
-        (λ i low. subst (λ m. bit_at w m ≡ 0) (let a : k + suc i ≡ suc k + i = omega arith in a) (h (suc i) (omega arith))) in
+    (λ i low. subst (λ m. bit_at w m ≡ 0) (let a : k + suc i ≡ suc k + i = omega arith in a) (h (suc i) (omega arith))) in
     ap (λ b. least_from s (b ∷ (word_flags w (suc k) n ++ ys))) first ∙ (rest ∙ ap (λ i. Some i) (let a : suc s + j ≡ s + suc j = omega arith in a))
 
 zero_bits : (w : ℕ) → w ≡ 0 → (i : ℕ) → bit_at w i ≡ 0

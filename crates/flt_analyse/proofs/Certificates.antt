@@ -55,6 +55,7 @@ least_of_all g k h other c callback point = by_place (cases_lt callback (length 
     none_below : (xs : List Point) → xs ≡ [] → IsPointBelow (get_or xs point None) (state_at other callback point)
     none_below [] e = tt
     none_below (x ∷ xs) e = cc
+
     by_place : ((callback < length g.callbacks) ⊎ (length g.callbacks ≤ callback)) → IsPointBelow (state_at k callback point) (state_at other callback point)
     by_place (inl l) = (h.each callback l).least (get_or other callback []) (column_of g other callback c l) point
     by_place (inr l) = none_below (get_or k callback []) (get_or-eq_default k [] (let b = h.count in omega arith))

@@ -1,6 +1,7 @@
 pub mod Bits
 pub mod Certificates
 pub mod Counts
+pub mod One
 pub mod Order
 pub mod Sizes
 pub mod Stages

@@ -75,6 +75,7 @@ set_grows_more a b h = by_null (and_cases (not b.null || a.null) _ h)
         let x = bit_or a.null b.null in
         let y = bit_or a.held b.held in
         let z = bit_more a.stale b.stale e in omega arith
+
     by_null : (((not b.null || a.null) ≡ false) ⊎ (((not b.held || a.held) && (not b.stale || a.stale)) ≡ false)) → set_size a + 1 ≤ set_size (either_status a b)
     by_null (inl e) =
         let x = bit_more a.null b.null e in

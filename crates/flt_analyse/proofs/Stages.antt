@@ -135,15 +135,19 @@ kept_arrived laws w p x h k better above good = record {
     grown : (q : ℕ) (y : State) → found w q ≡ Some y → ((q ≡ p) ⊎ (q ≡ p → ⊥)) → (z : State) × (found (arrived w p x) q ≡ Some z) × (is_below y z ≡ true)
     grown q y e (inl s) = (x, ap (λ i. found (arrived w p x) i) s ∙ found_same w p x h, above y (sym (ap (λ i. found w i) s) ∙ e))
     grown q y e (inr s) = (y, found_other w p q x s ∙ e, laws.reflexive y)
+
     quiet : (q : ℕ) → flagged (arrived w p x) q ≡ false → ((q ≡ p) ⊎ (q ≡ p → ⊥)) → (found (arrived w p x) q ≡ found w q) × (flagged w q ≡ false)
     quiet q e (inl s) = true_not_false (flagged (arrived w p x) p) (flagged_same w p x k) (sym (ap (λ i. flagged (arrived w p x) i) s) ∙ e)
     quiet q e (inr s) = (found_other w p q x s, sym (flagged_other w p q x s) ∙ e)
+
     proper : AllProper w → (q : ℕ) (y : State) → found (arrived w p x) q ≡ Some y → ((q ≡ p) ⊎ (q ≡ p → ⊥)) → is_proper y ≡ true
     proper all q y e (inl s) = sym (ap is_proper (some_same x y (sym (found_same w p x h) ∙ (sym (ap (λ i. found (arrived w p x) i) s) ∙ e)))) ∙ good
     proper all q y e (inr s) = all q y (sym (found_other w p q x s) ∙ e)
+
     awake : IsAwake w → (q : ℕ) → flagged (arrived w p x) q ≡ true → ((q ≡ p) ⊎ (q ≡ p → ⊥)) → (y : State) × (found (arrived w p x) q ≡ Some y)
     awake all q e (inl s) = (x, ap (λ i. found (arrived w p x) i) s ∙ found_same w p x h)
     awake all q e (inr s) = let one = all q (sym (flagged_other w p q x s) ∙ e) in (one.0, found_other w p q x s ∙ one.1)
+
     cheaper : Improves (found w p) x → (q : ℕ) → ((q ≡ p) ⊎ (q ≡ p → ⊥)) → due (arrived w p x) q ≤ due w q
     cheaper better q (inl s) =
         let l : left (found (arrived w p x) q) ≡ left (Some x) = ap left (ap (λ i. found (arrived w p x) i) s ∙ found_same w p x h) in
@@ -209,7 +213,7 @@ lead_at laws w next (Some y) e h k all good =
     either_way (Leading w (Some next)) (is_below next.state y) (Ok w) _
     (λ s. record { kept = kept_same laws w; led = (y, e, s); below = λ ys b one. b })
     (λ s. either_way (Leading w (Some next)) (bytes_eq y.locks next.state.locks) (Ok (arrived w next.point (join_of y next.state))) (Err R12)
-        (λ t. joined proper s t) (λ t. λ ys count b one. parted t ys b one))
+    (λ t. joined proper s t) (λ t. λ ys count b one. parted t ys b one))
   where
     joined : is_proper y ≡ true → is_below next.state y ≡ false → bytes_eq y.locks next.state.locks ≡ true → Reached w (arrived w next.point (join_of y next.state)) (Some next)
     joined proper s t =
@@ -228,6 +232,7 @@ lead_at laws w next (Some y) e h k all good =
               let own : is_below next.state mine.0 ≡ true = sym (ap (λ i. is_below next.state i) there) ∙ one.2 in
               below_arrived laws w next.point (join_of y next.state) ys h b (mine.0, mine.1, laws.least y next.state mine.0 mine.2 own);
         }
+
     parted : bytes_eq y.locks next.state.locks ≡ false → (ys : List Point) → Below w ys → IsLedIn ys (Some next) → ⊥
     parted t ys b one =
         let mine = b next.point y e in
@@ -243,8 +248,8 @@ lead laws w (Some next) k all good =
     either_way (Leading w (Some next)) (nat_lt next.point (length w.points)) (reach_at w next (found w next.point)) (Err R14)
     (λ e. lead_at laws w next (found w next.point) refl (ltb-true _ _ e) k all good)
     (λ e. λ ys count b one.
-        let past : length ys ≤ next.point = (let l = ltb-false next.point (length w.points) e in omega arith) in
-        none_some one.0 (sym (get_or-eq_default ys None past) ∙ one.1))
+    let past : length ys ≤ next.point = (let l = ltb-false next.point (length w.points) e in omega arith) in
+    none_some one.0 (sym (get_or-eq_default ys None past) ∙ one.1))
 
 -- ---- a point is looked at
 

@@ -9,7 +9,7 @@ use Rattle.flt_graph.specs.declared.graph.Graph.{Graph}
 use Rattle.flt_check.specs.declared.checker.Refusal.{Refusal}
 use Rattle.flt_cert.specs.Format.{Point}
 use Rattle.flt_analyse.specs.Columns.{Column, ProperSteps}
-use Rattle.flt_analyse.specs.Least.{IfRefused, IsStop, IsNamed, NoneCovers}
+use Rattle.flt_analyse.specs.Least.{HasRoom, IfRefused, IsStop, IsNamed, NoneCovers}
 use Rattle.flt_analyse.specs.Pending.{least}
 use Rattle.flt_analyse.specs.Walk.{look, taken, opening, outcome_at, Leads, Stops}
 use Rattle.flt_analyse.specs.declared.fault.AnalyseFault.{AnalyseFault}
@@ -54,14 +54,17 @@ pub refused_none : (g : Graph) (callback : ℕ) (f : AnalyseFault) → callback 
 refused_none g callback (Refused r) below h = none_covers g callback below h.none
 refused_none g callback OutOfMemory below h = tt
 
-pub refused_named : (g : Graph) (callback : ℕ) (k : List (List Point)) (f : AnalyseFault) → callback < length g.callbacks → Columns g callback k → IfRefused f (IsStop g callback) → IfRefused f (IsNamed g)
-refused_named g callback k (Refused r) below c h = inr (record {
-  callback = subst (λ i. i < length g.callbacks) (sym h.here) below;
-  line = subst (λ i. r.line ≡ line_at g i r.point) (sym h.here) h.line;
-  stops = subst (λ i. Stops g i r.point r.rule) (sym h.here) h.stops;
-  earlier = λ i l. (c.each i (subst (λ j. i < j) h.here l)).ends;
-})
-refused_named g callback k OutOfMemory below c h = tt
+pub refused_named : (g : Graph) (callback : ℕ) (k : List (List Point)) (f : AnalyseFault) → callback < length g.callbacks → HasRoom g → Columns g callback k → IfRefused f (IsStop g callback) → IfRefused f (IsNamed g)
+refused_named g callback k (Refused r) below room c h = inr (
+  room,
+  record {
+    callback = subst (λ i. i < length g.callbacks) (sym h.here) below;
+    line = subst (λ i. r.line ≡ line_at g i r.point) (sym h.here) h.line;
+    stops = subst (λ i. Stops g i r.point r.rule) (sym h.here) h.stops;
+    earlier = λ i l. (c.each i (subst (λ j. i < j) h.here l)).ends;
+  },
+)
+refused_named g callback k OutOfMemory below room c h = tt
 
 -- a point of another callback isn't counted, and of its own one at most 31 times
 pub before_more : (watched callback start before now : ℕ) → (callback ≤ watched → before ≤ start) → (watched ≢ callback → now ≤ before) → callback + 1 ≤ watched → now ≤ start

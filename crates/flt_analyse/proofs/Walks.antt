@@ -126,15 +126,19 @@ begins laws g callback some few = record {
   where
     first_is : (q : ℕ) (x : State) → found (opening g callback) q ≡ Some x → q ≡ 0 → entry (place_at g callback) ≡ x
     first_is q x e s = some_same _ x (sym (opening_first g callback some) ∙ (sym (ap (λ i. found (opening g callback) i) s) ∙ e))
+
     proper : (q : ℕ) (x : State) → found (opening g callback) q ≡ Some x → ((q ≡ 0) ⊎ (q ≡ 0 → ⊥)) → is_proper x ≡ true
     proper q x e (inl s) = sym (ap is_proper (first_is q x e s)) ∙ entry_proper (place_at g callback)
     proper q x e (inr s) = none_not_some x (sym (opening_later g callback q s) ∙ e)
+
     awake : (q : ℕ) → flagged (opening g callback) q ≡ true → ((q ≡ 0) ⊎ (q ≡ 0 → ⊥)) → (x : State) × (found (opening g callback) q ≡ Some x)
     awake q e (inl s) = (entry (place_at g callback), ap (λ i. found (opening g callback) i) s ∙ opening_first g callback some)
     awake q e (inr s) = true_not_false (flagged (opening g callback) q) e (opening_flags g callback q s)
+
     settled : (q : ℕ) (x : State) → found (opening g callback) q ≡ Some x → flagged (opening g callback) q ≡ false → ((q ≡ 0) ⊎ (q ≡ 0 → ⊥)) → StepsIn g callback q x (opening g callback).points
     settled q x e f (inl s) = true_not_false (flagged (opening g callback) q) (ap (λ i. flagged (opening g callback) i) s ∙ opening_flag g callback) f
     settled q x e f (inr s) = none_not_some x (sym (opening_later g callback q s) ∙ e)
+
     below : (ys : List Point) → IsCovered g callback ys → (q : ℕ) (x : State) → found (opening g callback) q ≡ Some x → ((q ≡ 0) ⊎ (q ≡ 0 → ⊥)) → (y : State) × (get_or ys q None ≡ Some y) × (is_below x y ≡ true)
     below ys c q x e (inl s) =
         let one = c.entered in
@@ -158,6 +162,7 @@ taken_within g callback w p s e = by_length (cases_lt p (length w.points))
   where
     one : (x : State) × (found w p ≡ Some x)
     one = taken_found g callback w p s e
+
     by_length : ((p < length w.points) ⊎ (length w.points ≤ p)) → p < points_at g callback
     by_length (inl l) = let a = s.count in omega arith
     by_length (inr l) = none_not_some one.0 (sym (get_or-eq_default w.points None l) ∙ one.1)
@@ -169,8 +174,8 @@ looking laws g callback w p s e ok =
     let one = taken_found g callback w p s e in
     let steps : ProperSteps (transfer g callback p one.0) = subst (λ o. ProperSteps (outcome_at g callback p o)) one.1 ok in
     let done : Looking g callback p one.0 (taken w p) (spread (taken w p) (transfer g callback p one.0)) =
-        spread_looking laws g callback p one.0 (taken w p) (transfer g callback p one.0) refl (s.proper p one.0 one.1) one.1 (taken_within g callback w p s e) s.count
-            (let a = s.count in let b = s.few in let c = s.flags in let d = length-set w.pending p false in omega arith) s.proper steps in
+    spread_looking laws g callback p one.0 (taken w p) (transfer g callback p one.0) refl (s.proper p one.0 one.1) one.1 (taken_within g callback w p s e) s.count
+    (let a = s.count in let b = s.few in let c = s.flags in let d = length-set w.pending p false in omega arith) s.proper steps in
     (one.0, one.1, subst (λ o. Looking g callback p one.0 (taken w p) (spread (taken w p) (outcome_at g callback p o))) (sym one.1) done)
 
 kept_stage : Laws → (g : Graph) (callback : ℕ) (w v : Walk) (p : ℕ) (x : State) → Stage g callback w → least w.pending ≡ Some p → found w p ≡ Some x → Looked g callback p x (taken w p) v → Stage g callback v
@@ -190,9 +195,11 @@ kept_stage laws g callback w v p x s e at l = record {
   where
     here : p < length w.pending
     here = (least_is w.pending p e).1
+
     awake : (q : ℕ) → flagged (taken w p) q ≡ true → ((q ≡ p) ⊎ (q ≡ p → ⊥)) → (y : State) × (found w q ≡ Some y)
     awake q f (inl k) = true_not_false (flagged (taken w p) q) f (ap (λ i. flagged (taken w p) i) k ∙ taken_flag w p here)
     awake q f (inr k) = s.awake q (sym (taken_flags w p q k) ∙ f)
+
     settled : (q : ℕ) (y : State) → found v q ≡ Some y → flagged v q ≡ false → ((q ≡ p) ⊎ (q ≡ p → ⊥)) → StepsIn g callback q y v.points
     settled q y f h (inl k) =
         let same : x ≡ y = some_same x y (sym at ∙ (sym (ap (λ i. found w i) k) ∙ (sym (l.kept.quiet q h).0 ∙ f))) in
@@ -221,11 +228,13 @@ falls_due laws g callback w v p s e ok h = ((λ q. others q (cases_eq q p)), own
   where
     kept : Kept (taken w p) v
     kept = (let l = looking laws g callback w p s e ok in looked g callback p l.0 (taken w p) v _ h l.2).kept
+
     own : due v p + 1 ≤ due w p
     own =
         let a = kept.cheaper s.proper p in
         let b : bit (flagged (taken w p) p) ≡ 0 = ap bit (taken_flag w p (least_is w.pending p e).1) ∙ bit_none in
         let d : bit (flagged w p) ≡ 1 = ap bit (least_is w.pending p e).0 ∙ bit_one in omega arith
+
     others : (q : ℕ) → ((q ≡ p) ⊎ (q ≡ p → ⊥)) → due v q ≤ due w q
     others q (inl k) = subst (λ i. due v i ≤ due w i) (sym k) (let a = own in omega arith)
     others q (inr k) =
@@ -254,6 +263,7 @@ below_all g callback w s ys c q = by_state (found w q) refl
     by_other : (x : State) (o : Option State) → ((y : State) × (o ≡ Some y) × (is_below x y ≡ true)) → IsPointBelow (Some x) o
     by_other x (Some z) h = ap (λ i. is_below x i) (some_same z h.0 h.1) ∙ h.2
     by_other x None h = none_not_some h.0 h.1
+
     by_state : (o : Option State) → found w q ≡ o → IsPointBelow o (get_or ys q None)
     by_state (Some x) e = by_other x (get_or ys q None) (s.below ys c q x e)
     by_state None e = tt

@@ -26,4 +26,3 @@ pub record Column (g : Graph) (callback : ℕ) (points : List Point) : Type 0 wh
   pub least : (ys : List Point) → IsCovered g callback ys → ArePointsBelow points ys
   pub proper : list_all is_point points ≡ true
   pub ends : Ends g callback
-

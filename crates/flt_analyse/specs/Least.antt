@@ -72,9 +72,9 @@ pub record LacksRoom (g : Graph) (f : Refusal) : Type 0 where
   pub line : f.line ≡ 0
   pub rule : f.rule ≡ R14
 
--- which fault is named
+-- which fault is named: it is the only one
 abbrev pub IsNamed : Graph → Refusal → Type 0
-IsNamed g f = LacksRoom g f ⊎ IsFirstFault g f
+IsNamed g f = LacksRoom g f ⊎ (HasRoom g × IsFirstFault g f)
 
 -- what holds of a refusal
 abbrev pub IfRefused : AnalyseFault → (Refusal → Type 0) → Type 0

@@ -2,6 +2,8 @@
 
 ghost use Rattle.std.specs.Prelude.{◌≡◌, ◌<◌, ◌≤◌, ◌+◌, ◌↔◌, length, IsTrue, IfOk, IfErr};
 ghost use Rattle.flt_check.specs.Checker.{Covers};
+ghost use Rattle.flt_check.specs.declared.checker.Refusal.{Refusal};
+ghost use Rattle.flt_graph.specs.declared.graph.Graph.{Graph};
 ghost use Rattle.flt_analyse.specs.Least as spec;
 
 use crate::fault::AnalyseFault;
@@ -66,3 +68,8 @@ pub fn analyse<L: Ledger, const CALLBACK: usize, const POINT: usize>(
     }
     Ok(Cert::new(callbacks).unwrap())
 }
+
+/// One fault is named of a graph at most. It does nothing: its clause is the law.
+pub fn one_fault_is_named()
+    ensures { (g : Graph) (f h : Refusal) → spec.IsNamed g f → spec.IsNamed g h → f ≡ h }
+{}

@@ -7,6 +7,6 @@ mod pending;
 mod ticks;
 mod walk;
 
-pub use analyser::analyse;
+pub use analyser::{analyse, one_fault_is_named};
 pub use fault::AnalyseFault;
 pub use ticks::Ticks;

@@ -19,7 +19,9 @@ pub enum Request<'a> {
         cert: Option<&'a str>,
     },
     /// Find the least certificate of the text of a file.
-    Analyse { file: &'a str },
+    Analyse {
+        file: &'a str,
+    },
     /// They can't be taken, or ask for help: the text that says so.
     Usage(String),
 }

@@ -6,6 +6,30 @@ use std::alloc::Global;
 use std::process::Abort;
 use std::test::Fail;
 
+/// The smallest filter, and one with a repeat that goes on while its state grows.
+const OTHERS: [Example; 2] = [
+    (
+        "filter a altitude 100\npre read {\nreturn NO_CALLBACK\n}\n",
+        &[&["111111111", "!"]],
+        "accepted\n",
+    ),
+    (
+        "filter a altitude 100\npre read {\nrepeat 2 {\nif c0 != NULL {\nFltReleaseContext c0\nc0 = NULL\n}\nif FltAllocateContext c0 {\n}\n}\nif c0 != NULL {\nFltReleaseContext c0\n}\nreturn NO_CALLBACK\n}\n",
+        &[&[
+            "311111111",
+            "311111111",
+            "211111111",
+            "411111111",
+            "111111111",
+            "311111111",
+            "211111111",
+            "511111111",
+            "!",
+        ]],
+        "accepted\n",
+    ),
+];
+
 /// What `analyse` prints, with its exit status: the certificate where the text is accepted, else the line; and `check` accepts
 /// that certificate.
 fn analyses(
@@ -43,5 +67,6 @@ fn finds_the_least_certificate_or_where_there_is_none(rt: HostRuntime) -> Result
     analyses_each(&rt, rt.alloc(), &CONTEXTS)?;
     analyses_each(&rt, rt.alloc(), &OPERATIONS)?;
     analyses_each(&rt, rt.alloc(), &LEVELS)?;
-    analyses_each(&rt, rt.alloc(), &LOCKS)
+    analyses_each(&rt, rt.alloc(), &LOCKS)?;
+    analyses_each(&rt, rt.alloc(), &OTHERS)
 }
