@@ -1,16 +1,16 @@
 -- From the points of callbacks to whole certificates.
-use Rattle.std.proofs.Common.{◌≡◌, ◌<◌, ◌≤◌, ◌+◌, ℕ, zero, suc, Bool, true, false, List, [], ◌∷◌, ◌++◌, length, get_or, nat_lt, Option, Some, None, refl, sym, ap, ◌∙◌, arith, inl, inr}
+use Rattle.std.proofs.Common.{◌≡◌, ◌<◌, ◌≤◌, ◌+◌, ℕ, zero, suc, true, List, [], ◌∷◌, ◌++◌, length, get_or, nat_lt, Option, Some, None, refl, sym, ◌∙◌, arith, inl, inr}
 use Rattle.std.proofs.Math.Path.{subst}
 use Rattle.std.proofs.Math.ListN.{get_or-append, get_or-eq_default}
-use Rattle.std.specs.Prelude.{◌⊎◌, IsTrue, IfSome}
+use Rattle.std.specs.Prelude.{◌⊎◌, IfSome}
 use Rattle.std.specs.List.{list_all}
 use Rattle.std.proofs.lemmas.Bool.{and_parts, and_from, cases_lt, lt-ltb, ltb-true}
 use Rattle.std.proofs.lemmas.List.{get_or_push, length-append}
 use Rattle.flt_graph.specs.Graph.{points_at}
 use Rattle.flt_graph.specs.declared.graph.Graph.{Graph}
-use Rattle.flt_cert.specs.Format.{Certificate, Point, is_point, is_callback, is_certificate}
-use Rattle.flt_check.specs.Checker.{Covers, state_at, count_at}
-use Rattle.flt_analyse.specs.Least.{IsCertificateBelow, IsLeast, NoneCovers, IsCovered, IsPointBelow, ArePointsBelow, HasRoom}
+use Rattle.flt_cert.specs.Format.{Certificate, Point, is_callback, is_certificate}
+use Rattle.flt_check.specs.Checker.{Covers, state_at}
+use Rattle.flt_analyse.specs.Least.{IsLeast, NoneCovers, IsCovered, IsPointBelow, HasRoom}
 use Rattle.flt_analyse.specs.Columns.{Column}
 
 -- the columns of the first callbacks

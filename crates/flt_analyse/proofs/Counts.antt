@@ -1,19 +1,17 @@
 -- The count of a point's transfers and what is still due to it stay within 31.
-use Rattle.std.proofs.Common.{◌≡◌, ◌≢◌, ◌<◌, ◌≤◌, ◌+◌, ℕ, zero, suc, Bool, true, false, get_or, Option, Some, None, Result, Ok, Err, refl, sym, ap, ◌∙◌, arith, inl, inr}
+use Rattle.std.proofs.Common.{◌≡◌, ◌≢◌, ◌≤◌, ◌+◌, ℕ, Bool, true, false, Some, Ok, sym, ap, ◌∙◌, arith, inl, inr}
 use Rattle.std.proofs.Math.Path.{subst}
 use Rattle.std.specs.Prelude.{◌⊎◌, ◌&&◌, ◌==◌, if◌then◌else◌}
 use Rattle.std.proofs.lemmas.Bool.{cases_eq, ne_eqb, and_left, and_right}
-use Rattle.flt_graph.specs.Graph.{points_at}
 use Rattle.flt_graph.specs.declared.graph.Graph.{Graph}
-use Rattle.flt_rules.specs.declared.rule.Rule.{Rule}
 use Rattle.flt_analyse.specs.Columns.{ProperSteps}
 use Rattle.flt_analyse.specs.Pending.{least}
 use Rattle.flt_analyse.specs.Ticks.{one_at}
-use Rattle.flt_analyse.specs.Walk.{look, taken, opening, outcome_at}
+use Rattle.flt_analyse.specs.Walk.{look, taken, outcome_at}
 use Rattle.flt_analyse.specs.declared.walk.Walk.{Walk}
 use Rattle.flt_analyse.proofs.Order.{Laws}
 use Rattle.flt_analyse.proofs.Sizes.{bit, bit_one}
-use Rattle.flt_analyse.proofs.Stages.{found, flagged, left, due}
+use Rattle.flt_analyse.proofs.Stages.{found, flagged, due}
 use Rattle.flt_analyse.proofs.Walks.{Stage, least_is, falls_due}
 
 one_if : (b : Bool) → (if b then 1 else 0) ≤ 1

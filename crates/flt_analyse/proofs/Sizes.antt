@@ -1,12 +1,11 @@
 -- A state can grow thirty times: how many statuses, modes and answers are in its sets.
-use Rattle.std.proofs.Common.{◌≡◌, ◌<◌, ◌≤◌, ◌+◌, ◌-◌, ◌*◌, ℕ, zero, suc, Bool, true, false, List, [], ◌∷◌, length, Option, Some, None, refl, sym, ap, ◌∙◌, arith}
+use Rattle.std.proofs.Common.{◌≡◌, ◌≤◌, ◌+◌, ◌*◌, ℕ, Bool, true, false, List, [], ◌∷◌, length, refl, sym, ◌∙◌, arith}
 use Rattle.std.specs.Prelude.{not, ◌||◌, ◌&&◌, ◌==◌, ◌⊎◌}
 use Rattle.std.proofs.Common.{inl, inr}
 use Rattle.std.specs.List.{list_all}
 use Rattle.std.specs.Str.{bytes_eq}
 use Rattle.std.proofs.lemmas.Bool.{and_parts, and_cases, eqb-true}
 use Rattle.std.proofs.lemmas.Slice.Eq.{bytes_eq-Decides}
-use Rattle.flt_abs.specs.Locks.{are_locks}
 use Rattle.flt_abs.specs.Sets.{StatusSet, statuses_within, modes_within, drainings_within, either_status, is_possible, is_mode_possible, is_draining_possible}
 use Rattle.flt_abs.specs.State.{State, is_below, is_proper, all_within, either_all, join_of}
 

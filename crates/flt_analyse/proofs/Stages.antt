@@ -1,30 +1,27 @@
 -- What each look of a walk keeps, and what its end and its stop mean.
-use Rattle.std.proofs.Common.{◌≡◌, ◌<◌, ◌≤◌, ◌+◌, ◌-◌, ℕ, zero, suc, Bool, true, false, List, [], ◌∷◌, length, get_or, nat_lt, Option, Some, None, Result, Ok, Err, refl, sym, ap, ◌∙◌, arith, inl, inr}
+use Rattle.std.proofs.Common.{◌≡◌, ◌<◌, ◌≤◌, ◌+◌, ◌-◌, ℕ, Bool, true, false, List, length, get_or, nat_lt, Option, Some, None, Result, Ok, Err, refl, sym, ap, ◌∙◌, arith, inl, inr}
 use Rattle.std.proofs.Math.Path.{subst}
-use Rattle.std.proofs.Math.ListN.{set, get_or-eq_default}
-use Rattle.std.specs.Prelude.{◌⊎◌, if◌then◌else◌, IsTrue}
-use Rattle.std.specs.List.{list_all}
+use Rattle.std.proofs.Math.ListN.{get_or-eq_default}
+use Rattle.std.specs.Prelude.{◌⊎◌, if◌then◌else◌}
 use Rattle.std.specs.Str.{bytes_eq}
-use Rattle.std.proofs.lemmas.Bool.{and_parts, and_from, cases_eq, cases_lt, ltb-true, ltb-false, lt-ltb, eq-eqb}
+use Rattle.std.proofs.lemmas.Bool.{and_parts, cases_eq, ltb-true, ltb-false}
 use Rattle.std.proofs.lemmas.List.{get_or-set_same, get_or-set_other, length-set}
 use Rattle.std.proofs.lemmas.Slice.Eq.{bytes_eq-Decides}
 use Rattle.flt_rules.specs.declared.rule.Rule.{Rule}
 use Rattle.flt_rules.specs.declared.rule.Rule.TheVariants.{R12, R14}
-use Rattle.flt_graph.specs.Graph.{place_at, points_at}
+use Rattle.flt_graph.specs.Graph.{points_at}
 use Rattle.flt_graph.specs.declared.graph.Graph.{Graph}
-use Rattle.flt_abs.specs.Entry.{entry}
 use Rattle.flt_abs.specs.State.{State, is_below, is_proper, join_of}
-use Rattle.flt_abs.specs.Step.{transfer, IsOutcomeBelow, IsSuccessorBelow, AreBelow}
+use Rattle.flt_abs.specs.Step.{transfer, IsOutcomeBelow, IsSuccessorBelow}
 use Rattle.flt_abs.specs.declared.step.Successor.{Successor}
 use Rattle.flt_abs.specs.declared.step.Successors.{Successors}
 use Rattle.flt_cert.specs.Format.{Point}
 use Rattle.flt_analyse.specs.Columns.{ProperNext, ProperSteps}
-use Rattle.flt_analyse.specs.Least.{IsLedIn, StepsIn, IsCovered, IsPointBelow, ArePointsBelow}
-use Rattle.flt_analyse.specs.Pending.{least, least_from, no_flags}
-use Rattle.flt_analyse.specs.Walk.{arrived, reach_at, reach, then_reach, spread, outcome_at, look, taken, nones, opening}
+use Rattle.flt_analyse.specs.Least.{IsLedIn, StepsIn, IsCovered}
+use Rattle.flt_analyse.specs.Walk.{arrived, reach_at, reach, then_reach, spread}
 use Rattle.flt_analyse.specs.declared.walk.Walk.{Walk}
 use Rattle.flt_analyse.proofs.Order.{Laws}
-use Rattle.flt_analyse.proofs.Sizes.{bit, bit_one, bit_none, size, size_least, size_most, join_grows}
+use Rattle.flt_analyse.proofs.Sizes.{bit, bit_one, size, size_least, size_most, join_grows}
 
 -- ---- what stands at a point
 

@@ -1,12 +1,11 @@
 -- One turn of the walk's loop, by what its calls say.
-use Rattle.std.proofs.Common.{◌≡◌, ◌≢◌, ◌<◌, ◌≤◌, ◌+◌, ℕ, zero, suc, List, [], ◌∷◌, ◌++◌, length, Option, Some, None, Result, Ok, Err, refl, sym, ap, ◌∙◌, arith, inl, inr}
+use Rattle.std.proofs.Common.{◌≡◌, ◌≢◌, ◌<◌, ◌≤◌, ◌+◌, ℕ, suc, List, length, Some, None, Result, Ok, Err, refl, sym, arith, inl, inr}
 use Rattle.std.proofs.Math.Path.{subst}
 use Rattle.std.specs.Prelude.{◌⊎◌}
 use Rattle.std.proofs.lemmas.Bool.{cases_eq}
 use Rattle.flt_rules.specs.declared.rule.Rule.{Rule}
 use Rattle.flt_graph.specs.Graph.{line_at}
 use Rattle.flt_graph.specs.declared.graph.Graph.{Graph}
-use Rattle.flt_check.specs.declared.checker.Refusal.{Refusal}
 use Rattle.flt_cert.specs.Format.{Point}
 use Rattle.flt_analyse.specs.Columns.{Column, ProperSteps}
 use Rattle.flt_analyse.specs.Least.{HasRoom, IfRefused, IsStop, IsNamed, NoneCovers}

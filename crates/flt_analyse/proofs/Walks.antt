@@ -1,10 +1,10 @@
 -- Whole walks: what holds at each stage, and what it means where a walk ends or stops.
-use Rattle.std.proofs.Common.{◌≡◌, ◌<◌, ◌≤◌, ◌+◌, ◌-◌, ℕ, zero, suc, Bool, true, false, List, [], ◌∷◌, ◌++◌, length, get_or, nat_lt, Option, Some, None, Result, Ok, Err, refl, sym, ap, ◌∙◌, arith, inl, inr}
+use Rattle.std.proofs.Common.{◌≡◌, ◌<◌, ◌≤◌, ◌+◌, ℕ, zero, suc, Bool, true, false, List, [], ◌∷◌, ◌++◌, length, get_or, Option, Some, None, Result, Ok, Err, refl, sym, ap, ◌∙◌, arith, inl, inr}
 use Rattle.std.proofs.Math.Path.{subst}
 use Rattle.std.proofs.Math.ListN.{set, get_or-eq_default}
-use Rattle.std.specs.Prelude.{◌⊎◌, if◌then◌else◌, IsTrue}
+use Rattle.std.specs.Prelude.{◌⊎◌}
 use Rattle.std.specs.List.{list_all}
-use Rattle.std.proofs.lemmas.Bool.{and_parts, and_from, cases_eq, cases_lt}
+use Rattle.std.proofs.lemmas.Bool.{and_from, cases_eq, cases_lt}
 use Rattle.std.proofs.lemmas.List.{get_or-set_same, get_or-set_other, length-set}
 use Rattle.flt_rules.specs.declared.rule.Rule.{Rule}
 use Rattle.flt_rules.specs.declared.place.Operation.TheVariants.{Read, Write}
@@ -15,10 +15,9 @@ use Rattle.flt_graph.specs.declared.graph.Graph.{Graph}
 use Rattle.flt_abs.specs.Entry.{entry}
 use Rattle.flt_abs.specs.State.{State, is_below, is_proper}
 use Rattle.flt_abs.specs.Step.{transfer}
-use Rattle.flt_abs.specs.declared.step.Successors.{Successors}
 use Rattle.flt_cert.specs.Format.{Point, is_point}
 use Rattle.flt_analyse.specs.Columns.{ProperSteps}
-use Rattle.flt_analyse.specs.Least.{IsLedIn, StepsIn, IsCovered, IsPointBelow, ArePointsBelow}
+use Rattle.flt_analyse.specs.Least.{StepsIn, IsCovered, IsPointBelow, ArePointsBelow}
 use Rattle.flt_analyse.specs.Pending.{least, least_from, no_flags}
 use Rattle.flt_analyse.specs.Walk.{look, taken, nones, opening, outcome_at, spread}
 use Rattle.flt_analyse.specs.declared.walk.Walk.{Walk}

@@ -4,14 +4,14 @@ use Rattle.flt_rules.specs.declared.rule.Rule.TheVariants.{R14}
 use Rattle.flt_graph.specs.Graph.{place_at, points_at, line_at}
 use Rattle.flt_graph.specs.declared.graph.Graph.{Graph}
 use Rattle.flt_abs.specs.Entry.{entry}
-use Rattle.flt_abs.specs.State.{State, is_below, is_proper}
+use Rattle.flt_abs.specs.State.{State, is_below}
 use Rattle.flt_abs.specs.Step.{transfer}
 use Rattle.flt_abs.specs.declared.step.Successor.{Successor}
 use Rattle.flt_abs.specs.declared.step.Successors.{Successors}
 use Rattle.flt_cert.specs.Format.{Certificate, Point, is_certificate}
 use Rattle.flt_check.specs.Checker.{Covers, state_at}
 use Rattle.flt_check.specs.declared.checker.Refusal.{Refusal}
-use Rattle.flt_analyse.specs.Walk.{IsFirstFault, Ends, Stops}
+use Rattle.flt_analyse.specs.Walk.{IsFirstFault, Stops}
 use Rattle.flt_analyse.specs.declared.fault.AnalyseFault.{AnalyseFault}
 use Rattle.flt_analyse.specs.declared.fault.AnalyseFault.TheVariants.{Refused, OutOfMemory}
 

@@ -1,5 +1,5 @@
 -- Sets of points below 512, as a flag for each. This project's own definitions.
-use Rattle.std.specs.Prelude.{ℕ, zero, suc, ◌+◌, Bool, true, false, List, [], ◌∷◌, ◌++◌, Option, Some, None, ◌==◌, slice_set}
+use Rattle.std.specs.Prelude.{ℕ, zero, suc, Bool, true, false, List, [], ◌∷◌, ◌++◌, Option, Some, None, ◌==◌, slice_set}
 use Rattle.std.specs.Int.{bit_at}
 
 -- the flags of so many bits of a word, from a bit on

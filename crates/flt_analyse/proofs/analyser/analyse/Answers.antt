@@ -1,4 +1,4 @@
-use Rattle.std.proofs.Common.{◌≡◌, ◌≤◌, ◌+◌, ℕ, length, sym, arith}
+use Rattle.std.proofs.Common.{◌≡◌, ◌+◌, length, sym, arith}
 use Rattle.std.proofs.Math.Path.{subst}
 use Rattle.flt_analyse.proofs.Certificates.{Columns, one_more, made_covers, made_least}
 use Rattle.flt_analyse.proofs.Turns.{before_more, after_more}

@@ -1,4 +1,4 @@
-use Rattle.std.proofs.Common.{◌≡◌, ◌≤◌, ◌<◌, ◌+◌, ℕ}
+use Rattle.std.proofs.Common.{◌≤◌, ◌+◌}
 use Rattle.flt_analyse.specs.Least.{HasRoom}
 use Rattle.flt_analyse.proofs.Certificates.{Columns}
 use Rattle.flt_analyse.proofs.analyser.analyse.Given as goal

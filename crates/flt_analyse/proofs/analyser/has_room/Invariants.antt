@@ -1,4 +1,4 @@
-use Rattle.std.proofs.Common.{◌≡◌, ◌<◌, ℕ, length}
+use Rattle.std.proofs.Common.{◌<◌, ℕ, length}
 use Rattle.flt_graph.specs.Graph.{points_at}
 use Rattle.flt_analyse.proofs.analyser.has_room.Given as goal
 

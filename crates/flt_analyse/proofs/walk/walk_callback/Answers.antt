@@ -1,4 +1,4 @@
-use Rattle.std.proofs.Common.{◌≡◌, ◌≤◌, ◌+◌, ℕ, length, refl, sym, arith}
+use Rattle.std.proofs.Common.{◌≡◌, ◌≤◌, length, sym, arith}
 use Rattle.flt_graph.specs.Graph.{points_at}
 use Rattle.flt_analyse.specs.declared.walk.Walk.{Walk}
 use Rattle.flt_analyse.proofs.Counts.{counted, stopped, other_callback}
@@ -6,7 +6,6 @@ use Rattle.flt_analyse.proofs.Order.{Laws}
 use Rattle.flt_analyse.proofs.Turns.{proper_at, look_at, stop_of, column_of_end, led_on}
 use Rattle.flt_analyse.proofs.Walks.{Stage, begins, goes_on, taken_within, room_falls, opening_due}
 use Rattle.flt_analyse.proofs.Stages.{due}
-use Rattle.flt_analyse.specs.Walk.{opening}
 use Rattle.std.proofs.Math.Path.{subst}
 use Rattle.flt_analyse.proofs.walk.walk_callback.Goals as goal
 

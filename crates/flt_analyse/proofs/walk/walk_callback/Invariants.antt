@@ -1,4 +1,4 @@
-use Rattle.std.proofs.Common.{◌≡◌, ◌≢◌, ◌≤◌, ◌+◌, ℕ}
+use Rattle.std.proofs.Common.{◌≢◌, ◌≤◌, ◌+◌, ℕ}
 use Rattle.flt_analyse.specs.Walk.{Leads, opening}
 use Rattle.flt_analyse.proofs.Stages.{due}
 use Rattle.flt_analyse.proofs.Walks.{Stage, room}

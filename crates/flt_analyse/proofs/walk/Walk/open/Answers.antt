@@ -1,4 +1,4 @@
-use Rattle.std.proofs.Common.{◌≡◌, [], ◌∷◌, ◌++◌, None, ap, ◌∙◌}
+use Rattle.std.proofs.Common.{[], ◌∷◌, ◌++◌, None, ap, ◌∙◌}
 use Rattle.flt_analyse.proofs.Walks.{nones_more}
 use Rattle.flt_analyse.proofs.walk.Walk.open.Goals as goal
 
