@@ -1,4 +1,5 @@
 pub mod LockLaws
+pub mod Monotone
 pub mod Order
 pub mod Outcomes
 pub mod SetLemmas

@@ -236,7 +236,7 @@ join_right a b p q same =
     (and_from _ _ (and_from _ _ (or_holds_right a.draining.no b.draining.no) (or_holds_right a.draining.yes b.draining.yes))
     (and_from _ _ (all_within_right a.contexts b.contexts (p.nine ∙ sym q.nine)) (all_within_right a.operations b.operations (p.five ∙ sym q.five)))))
 
-join_within : (a b d : State) → is_below a d ≡ true → is_below b d ≡ true → is_below (join_of a b) d ≡ true
+pub join_within : (a b d : State) → is_below a d ≡ true → is_below b d ≡ true → is_below (join_of a b) d ≡ true
 join_within a b d h e =
     let locks = and_parts (bytes_eq a.locks d.locks) _ h in
     let modes = and_parts (modes_within a.modes d.modes) _ locks.1 in
@@ -376,3 +376,73 @@ below_same a b h e =
     let made : state_with a.contexts a.operations a.modes.irp a.modes.fast a.draining.no a.draining.yes a.locks
     ≡ state_with b.contexts b.operations b.modes.irp b.modes.fast b.draining.no b.draining.yes b.locks = cc in
     made
+
+-- ---- the order as it is computed
+
+chain : (a b c : Bool) → (not a || b) ≡ true → (not b || c) ≡ true → (not a || c) ≡ true
+chain true true c h e = e
+chain true false c h e = cc
+chain false b c h e = refl
+
+same_holds : (a : Bool) → (not a || a) ≡ true
+same_holds true = refl
+same_holds false = refl
+
+set_chain : (a b c : StatusSet) → statuses_within a b ≡ true → statuses_within b c ≡ true → statuses_within a c ≡ true
+set_chain a b c h e =
+    let x = and_parts (not a.null || b.null) _ h in
+    let y = and_parts (not a.held || b.held) _ x.1 in
+    let z = and_parts (not b.null || c.null) _ e in
+    let w = and_parts (not b.held || c.held) _ z.1 in
+    and_from _ _ (chain a.null b.null c.null x.0 z.0) (and_from _ _ (chain a.held b.held c.held y.0 w.0) (chain a.stale b.stale c.stale y.1 w.1))
+
+sets_chain : (xs ys zs : List StatusSet) → all_within xs ys ≡ true → all_within ys zs ≡ true → all_within xs zs ≡ true
+sets_chain [] [] zs h e = e
+sets_chain [] (b ∷ ys) zs h e = cc
+sets_chain (a ∷ xs) [] zs h e = cc
+sets_chain (a ∷ xs) (b ∷ ys) [] h e = cc
+sets_chain (a ∷ xs) (b ∷ ys) (c ∷ zs) h e =
+    let left = and_parts (statuses_within a b) (all_within xs ys) h in
+    let right = and_parts (statuses_within b c) (all_within ys zs) e in
+    and_from _ _ (set_chain a b c left.0 right.0) (sets_chain xs ys zs left.1 right.1)
+
+set_itself : (a : StatusSet) → statuses_within a a ≡ true
+set_itself a = and_from _ _ (same_holds a.null) (and_from _ _ (same_holds a.held) (same_holds a.stale))
+
+sets_themselves : (xs : List StatusSet) → all_within xs xs ≡ true
+sets_themselves [] = refl
+sets_themselves (a ∷ xs) = and_from _ _ (set_itself a) (sets_themselves xs)
+
+pub below_itself : (a : State) → is_below a a ≡ true
+below_itself a =
+    and_from _ _ (same_places a.locks a.locks refl)
+    (and_from _ _ (and_from _ _ (same_holds a.modes.irp) (same_holds a.modes.fast))
+    (and_from _ _ (and_from _ _ (same_holds a.draining.no) (same_holds a.draining.yes))
+    (and_from _ _ (sets_themselves a.contexts) (sets_themselves a.operations))))
+
+pub below_chain : (a b c : State) → is_below a b ≡ true → is_below b c ≡ true → is_below a c ≡ true
+below_chain a b c h e =
+    let locks = and_parts (bytes_eq a.locks b.locks) _ h in
+    let modes = and_parts (modes_within a.modes b.modes) _ locks.1 in
+    let draining = and_parts (drainings_within a.draining b.draining) _ modes.1 in
+    let lists = and_parts (all_within a.contexts b.contexts) _ draining.1 in
+    let irp = and_parts (not a.modes.irp || b.modes.irp) _ modes.0 in
+    let no = and_parts (not a.draining.no || b.draining.no) _ draining.0 in
+    let locks-2 = and_parts (bytes_eq b.locks c.locks) _ e in
+    let modes-2 = and_parts (modes_within b.modes c.modes) _ locks-2.1 in
+    let draining-2 = and_parts (drainings_within b.draining c.draining) _ modes-2.1 in
+    let lists-2 = and_parts (all_within b.contexts c.contexts) _ draining-2.1 in
+    let irp-2 = and_parts (not b.modes.irp || c.modes.irp) _ modes-2.0 in
+    let no-2 = and_parts (not b.draining.no || c.draining.no) _ draining-2.0 in
+    let first : a.locks ≡ b.locks = (bytes_eq-Decides a.locks b.locks).0 locks.0 in
+    let second : b.locks ≡ c.locks = (bytes_eq-Decides b.locks c.locks).0 locks-2.0 in
+    and_from _ _ (same_places a.locks c.locks (first ∙ second))
+    (and_from _ _ (and_from _ _ (chain a.modes.irp b.modes.irp c.modes.irp irp.0 irp-2.0) (chain a.modes.fast b.modes.fast c.modes.fast irp.1 irp-2.1))
+    (and_from _ _ (and_from _ _ (chain a.draining.no b.draining.no c.draining.no no.0 no-2.0) (chain a.draining.yes b.draining.yes c.draining.yes no.1 no-2.1))
+    (and_from _ _ (sets_chain a.contexts b.contexts c.contexts lists.0 lists-2.0) (sets_chain a.operations b.operations c.operations lists.1 lists-2.1))))
+
+pub joined_left : (a b : State) → is_proper a ≡ true → is_proper b ≡ true → is_below a (join_of a b) ≡ true
+joined_left a b p q = join_left a b (proper_parts a p) (proper_parts b q)
+
+pub joined_right : (a b : State) → is_proper a ≡ true → is_proper b ≡ true → a.locks ≡ b.locks → is_below b (join_of a b) ≡ true
+joined_right a b p q same = join_right a b (proper_parts a p) (proper_parts b q) same

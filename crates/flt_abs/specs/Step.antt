@@ -1,5 +1,5 @@
 -- What an instruction makes of a state, and where it leads. Numbers aren't traced.
-use Rattle.std.specs.Prelude.{ℕ, List, Bool, true, false, ◌++◌, [], ◌∷◌, if◌then◌else◌, Option, Some, None, option_map, Result, Ok, Err}
+use Rattle.std.specs.Prelude.{◌≡◌, ℕ, List, Bool, true, false, ◌++◌, [], ◌∷◌, if◌then◌else◌, Option, Some, None, option_map, Result, Ok, Err, IsTrue}
 use Rattle.flt_rules.specs.Call.{place_of}
 use Rattle.flt_rules.specs.Table.{row}
 use Rattle.flt_rules.specs.declared.call.LockNumber.{LockNumber}
@@ -25,7 +25,7 @@ use Rattle.flt_abs.specs.Breaks.{first_broken}
 use Rattle.flt_abs.specs.Locks.{holds_lock, without_latest}
 use Rattle.flt_abs.specs.Sets.{StatusSet, null_alone, held_alone, stale_alone, null_or_held, without_null, is_possible, irp_alone, fast_alone, no_alone, yes_alone}
 use Rattle.flt_abs.specs.Setting.{setting_of}
-use Rattle.flt_abs.specs.State.{State}
+use Rattle.flt_abs.specs.State.{State, is_below}
 use Rattle.flt_abs.specs.Variables.{context_in, operation_in, with_context, with_operation}
 use Rattle.flt_abs.specs.declared.step.Successor.{Successor}
 use Rattle.flt_abs.specs.declared.step.Successors.{Successors}
@@ -134,3 +134,22 @@ unless_broken None next = Ok next
 abbrev pub transfer : Graph → ℕ → ℕ → State → Result Successors Rule
 transfer g callback point x =
     let i = instruction_at g callback point in unless_broken (first_broken (setting_of g callback x) x i) (leads_to x i)
+
+-- ---- the order of where it leads
+
+-- a successor is there on the second side too, at the same point and with a state above
+abbrev pub IsSuccessorBelow : Option Successor → Option Successor → Type 0
+IsSuccessorBelow (Some a) (Some b) = (a.point ≡ b.point) × IsTrue (is_below a.state b.state)
+IsSuccessorBelow (Some a) None = ⊥
+IsSuccessorBelow None b = Unit {0}
+
+-- each successor has one above it
+pub record AreBelow (a b : Successors) : Type 0 where
+  pub first : IsSuccessorBelow a.first b.first
+  pub second : IsSuccessorBelow a.second b.second
+
+-- what breaks no rule is below what has successors above its own; all is below what breaks one
+abbrev pub IsOutcomeBelow : Result Successors Rule → Result Successors Rule → Type 0
+IsOutcomeBelow (Ok a) (Ok b) = AreBelow a b
+IsOutcomeBelow (Err r) (Ok b) = ⊥
+IsOutcomeBelow a (Err r) = Unit {0}

@@ -19,5 +19,7 @@ pub use locks::LockList;
 pub use outcome::transfer_follows_situations;
 pub use sets::{Draining, DrainingBits, ModeBits, Modes, StatusBits, Statuses};
 pub use setting::{Setting, setting_of};
-pub use state::{Abs, CONTEXTS, LocksDiffer, OPERATIONS, is_partial_order, join, leq};
-pub use step::{Successor, Successors, transfer};
+pub use state::{
+    Abs, CONTEXTS, LocksDiffer, OPERATIONS, is_partial_order, join, joins_are_least, leq,
+};
+pub use step::{Successor, Successors, transfer, transfer_is_monotone};

@@ -1,9 +1,11 @@
 //! What an instruction makes of a state.
 
-ghost use Rattle.std.specs.Prelude.{◌≡◌, ◌<◌, true, false, length, IfSome};
+ghost use Rattle.std.specs.Prelude.{◌≡◌, ℕ, ◌<◌, true, false, length, IfSome, IsTrue};
 ghost use Rattle.flt_abs.specs.Sets as sets;
 ghost use Rattle.flt_abs.specs.Step as spec;
 ghost use Rattle.flt_graph.specs.Graph.{points_at};
+ghost use Rattle.flt_graph.specs.declared.graph.Graph.{Graph};
+ghost use Rattle.flt_abs.specs.State.{State, is_below, is_proper};
 
 use crate::breaks::first_broken;
 use crate::locks::LockList;
@@ -274,3 +276,8 @@ pub fn transfer(
         None => Ok(leads_to(state, &instruction)),
     }
 }
+
+/// What a state leads to is below what each state above it leads to. It does nothing: its clause is the law.
+pub fn transfer_is_monotone()
+    ensures { (g : Graph) (callback point : ℕ) (x y : State) → IsTrue (is_proper x) → IsTrue (is_below x y) → spec.IsOutcomeBelow (spec.transfer g callback point x) (spec.transfer g callback point y) }
+{}

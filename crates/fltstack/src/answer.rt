@@ -1,33 +1,57 @@
-//! What a command answers, and how it is written.
+//! What a command answers, and how that is written.
+
+ghost use Rattle.std.specs.Prelude.{◌≡◌, Some};
+ghost use Rattle.fltstack.specs.Lines as spec;
 
 use flt_check::Refusal;
-use flt_rules::{number, text};
-use flt_syntax::SyntaxFault;
+use flt_rules::{Rule, number, text};
 use std::fmt;
 
-/// The answer of a command that could read its words.
-#[derive(Debug, Drop)]
-pub enum Answer<'a> {
+/// What `check` says of a text and a certificate.
+#[derive(Clone, Copy, Debug)]
+pub enum Answer {
     Accepted,
     Refused(Refusal),
-    CannotRead(&'a str),
-    Syntax(SyntaxFault),
-    /// The first line, from 1, that isn't as the format asks.
-    Certificate(usize),
 }
 
-impl Answer<'_> {
-    /// The exit status: 0 for yes, 1 for no, 2 where there is no answer.
-    pub fn status(&self) -> u8 {
+impl Answer {
+    /// The exit status: 0 for yes, 1 for no.
+    pub fn status(&self) -> u8
+        ensures { result ≡ spec.answer_status self.now }
+    {
         match self {
             Answer::Accepted => 0,
             Answer::Refused(_) => 1,
-            Answer::CannotRead(_) | Answer::Syntax(_) | Answer::Certificate(_) => 2,
         }
     }
 }
 
-impl fmt::Display for Answer<'_> {
+/// What `analyse` says of a text.
+#[derive(Debug, Drop)]
+pub enum Analysis {
+    /// The least certificate, as it is written.
+    Found(Vec<u8>),
+    /// No certificate covers; this is the first fault that is met.
+    Refused(Refusal),
+}
+
+/// `R01` to `R15`.
+#[derive(Drop)]
+struct RuleName(Rule);
+
+impl fmt::Display for RuleName {
+    ghost output = { λ r. Some (spec.rule_name r.0) };
+
+    fn fmt<W: fmt::Write>(&self, f: &mut fmt::Formatter<W>) -> fmt::Result {
+        let number = number(self.0);
+        let zero = if number < 10 { "0" } else { "" };
+        write!(f, "R{zero}{number}")
+    }
+}
+
+impl fmt::Display for Answer {
+    ghost output = { λ a. Some (spec.answer_line a) };
+
     fn fmt<W: fmt::Write>(&self, f: &mut fmt::Formatter<W>) -> fmt::Result {
         match self {
             Answer::Accepted => write!(f, "accepted"),
@@ -35,14 +59,13 @@ impl fmt::Display for Answer<'_> {
                 let callback = refusal.callback;
                 let point = refusal.point;
                 let line = refusal.line;
-                write!(f, "refused callback {callback} point {point} line {line} ")?;
-                let rule = number(refusal.rule);
+                let rule = RuleName(refusal.rule);
                 let words = text(refusal.rule);
-                write!(f, "R{rule:02} {words}")
+                write!(
+                    f,
+                    "refused callback {callback} point {point} line {line} {rule} {words}"
+                )
             }
-            Answer::CannotRead(name) => write!(f, "cannot read {name}"),
-            Answer::Syntax(fault) => write!(f, "syntax {fault}"),
-            Answer::Certificate(line) => write!(f, "certificate line {line}"),
         }
     }
 }

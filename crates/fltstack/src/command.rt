@@ -1,14 +1,17 @@
 //! The commands, over inputs and writers.
 
-use crate::answer::Answer;
+ghost use Rattle.std.specs.Io.KnownBytes.{Appends};
+ghost use Rattle.std.specs.Prelude.{◌≡◌, ◌≢◌, ◌⊎◌, ◌++◌, ◌∷◌, [], ℕ, List, IfOk, IfErr, map, string_bytes};
+ghost use Rattle.fltstack.specs.Lines.{answer_line, answer_status};
+ghost use Rattle.fltstack.specs.Output as spec;
+
+use crate::answer::{Analysis, Answer};
+use crate::certify::analyse_file;
+use crate::failure::Failure;
 use crate::inputs::Inputs;
+use crate::judging::check_files;
 use crate::sink::{Sink, WriteFailed, put_all};
-use crate::split::certificate_start;
 use crate::words::{Request, read_words};
-use flt_cert::CertFault;
-use flt_check::check;
-use flt_graph::lower;
-use flt_syntax::{ParseError, parse};
 use std::alloc::{AllocError, AllocFailed, Global};
 use thiserror::Error;
 
@@ -54,59 +57,24 @@ impl From<WriteFailed> for CommandFault {
     }
 }
 
-/// Whether a certificate covers a text.
-fn verdict<'a>(alloc: Global, text: &[u8], certificate: &[u8]) -> Result<Answer<'a>, AllocError> {
-    let tree = match parse(alloc, text) {
-        Ok(tree) => tree,
-        Err(ParseError::Syntax(fault)) => return Ok(Answer::Syntax(fault)),
-        Err(ParseError::OutOfMemory) => return Err(AllocError),
-    };
-    let cert = match flt_cert::read(alloc, certificate) {
-        Ok(cert) => cert,
-        Err(CertFault::Line(line)) => return Ok(Answer::Certificate(line)),
-        Err(CertFault::OutOfMemory) => return Err(AllocError),
-    };
-    let graph = lower(alloc, &tree)?;
-    match check(&graph, &cert) {
-        Ok(()) => Ok(Answer::Accepted),
-        Err(refusal) => Ok(Answer::Refused(refusal)),
-    }
+/// Writes an answer in one line, and gives its status.
+fn tell<O: Sink>(alloc: Global, answer: Answer, out: &mut O) -> Result<u8, CommandFault>
+    ensures prints { IfOk result (λ status. (status ≡ answer_status answer) × Appends (O.taken out.old) (O.taken out.new) (answer_line answer ++ 10 ∷ [])) }
+    ensures write { IfErr result (λ e. e ≡ CommandFault.Write → O.failures out.new ≢ O.failures out.old) }
+{
+    let line = format!(in alloc; "{answer}\n")?;
+    put_all(out, line.as_bytes())?;
+    Ok(answer.status())
 }
 
-/// The bytes of a second name. The standard input can be read once.
-fn read_second<I: Inputs>(
-    alloc: Global,
-    inputs: &I,
-    first: &str,
-    second: &str,
-) -> Result<Option<Vec<u8>>, AllocError> {
-    if first == "-" && second == "-" {
-        return Ok(None);
-    }
-    inputs.read(alloc, second)
-}
-
-fn check_files<'a, I: Inputs>(
-    alloc: Global,
-    inputs: &I,
-    file: &'a str,
-    cert: Option<&'a str>,
-) -> Result<Answer<'a>, AllocError> {
-    let Some(input) = inputs.read(alloc, file)? else {
-        return Ok(Answer::CannotRead(file));
-    };
-    match cert {
-        None => {
-            let (text, certificate) = input
-                .as_slice()
-                .split_at(certificate_start(input.as_slice()));
-            verdict(alloc, text, certificate)
-        }
-        Some(name) => match read_second(alloc, inputs, file, name)? {
-            None => Ok(Answer::CannotRead(name)),
-            Some(certificate) => verdict(alloc, input.as_slice(), certificate.as_slice()),
-        },
-    }
+/// Writes in one line why there is no answer, and gives the status of that.
+fn excuse<E: Sink>(alloc: Global, failure: &Failure, err: &mut E) -> Result<u8, CommandFault>
+    ensures status { IfOk result (λ status. status ≡ 2) }
+    ensures write { IfErr result (λ e. e ≡ CommandFault.Write → E.failures err.new ≢ E.failures err.old) }
+{
+    let line = format!(in alloc; "{failure}\n")?;
+    put_all(err, line.as_bytes())?;
+    Ok(2)
 }
 
 /// Runs the command of a program's words, its own name left out, and answers the exit status: 0 for yes, 1 for no, and 2
@@ -117,22 +85,28 @@ pub fn command<I: Inputs, O: Sink, E: Sink>(
     inputs: &I,
     out: &mut O,
     err: &mut E,
-) -> Result<u8, CommandFault> {
+) -> Result<u8, CommandFault>
+    ensures prints { IfOk result (λ status. (bytes : List ℕ) × spec.Prints (I.gives inputs.now) (map string_bytes words.now) bytes status × Appends (O.taken out.old) (O.taken out.new) bytes) }
+    ensures write { IfErr result (λ e. e ≡ CommandFault.Write → (O.failures out.new ≢ O.failures out.old) ⊎ (E.failures err.new ≢ E.failures err.old)) }
+{
     match read_words(alloc, words)? {
         Request::Usage(text) => {
             put_all(err, text.as_bytes())?;
             Ok(2)
         }
-        Request::Check { file, cert } => {
-            let answer = check_files(alloc, inputs, file, cert)?;
-            let line = format!(in alloc; "{answer}\n")?;
-            let status = answer.status();
-            if status == 2 {
-                put_all(err, line.as_bytes())?;
-            } else {
-                put_all(out, line.as_bytes())?;
+        Request::Check { file, cert } => match check_files(alloc, inputs, file, cert) {
+            Ok(answer) => tell(alloc, answer, out),
+            Err(Failure::OutOfMemory) => Err(CommandFault::OutOfMemory),
+            Err(failure) => excuse(alloc, &failure, err),
+        },
+        Request::Analyse { file } => match analyse_file(alloc, inputs, file) {
+            Ok(Analysis::Found(certificate)) => {
+                put_all(out, certificate.as_slice())?;
+                Ok(0)
             }
-            Ok(status)
-        }
+            Ok(Analysis::Refused(refusal)) => tell(alloc, Answer::Refused(refusal), out),
+            Err(Failure::OutOfMemory) => Err(CommandFault::OutOfMemory),
+            Err(failure) => excuse(alloc, &failure, err),
+        },
     }
 }

@@ -30,6 +30,11 @@ fn read_within<R: Read>(alloc: Global, reader: &mut R) -> Result<Option<Vec<u8>>
 }
 
 impl Inputs for Files<'_> {
+    ghost use Rattle.std.specs.Prelude.{⊤};
+
+    // A file system gives what it likes.
+    ghost gives = { λ _ _ _. ⊤ };
+
     fn read(&self, alloc: Global, name: &str) -> Result<Option<Vec<u8>>, AllocError> {
         if name == "-" {
             return read_within(alloc, &mut self.rt.stdin());
@@ -55,9 +60,7 @@ impl<W: Write + Drop> Stream<W> {
 }
 
 impl<W: Write + Drop> Sink for Stream<W> {
-    ghost use Rattle.std.specs.Prelude.{None};
-
-    ghost taken = { λ _. None };
+    ghost taken = { λ s. W.contents s.inner };
 
     ghost failures = { λ s. s.failures };
 

@@ -1,6 +1,6 @@
 //! Where a command writes.
 
-ghost use Rattle.fltstack.specs.Sink.{Appends};
+ghost use Rattle.std.specs.Io.KnownBytes.{Appends};
 ghost use Rattle.std.specs.Prelude.{◌≡◌, ◌≢◌, ℕ, ◌≤◌, ◌<◌, List, Option, length, take, OnOk, OnErr, IfOk};
 
 /// A write failed. How many of its bytes were taken before isn't known.
@@ -25,7 +25,9 @@ pub trait Sink {
 }
 
 /// Writes all of the bytes.
+#[tactic(auto, using(crate::proofs::Sinks::none_taken, crate::proofs::Sinks::more_taken))]
 pub fn put_all<S: Sink>(sink: &mut S, bytes: &[u8]) -> Result<(), WriteFailed>
+    ensures ok { OnOk result (Appends (S.taken sink.old) (S.taken sink.new) bytes.now) }
     ensures fine { OnOk result (S.failures sink.new ≡ S.failures sink.old) }
     ensures err { OnErr result (S.failures sink.new ≢ S.failures sink.old) }
 {

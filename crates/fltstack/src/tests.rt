@@ -6,6 +6,7 @@ use crate::sink::{Sink, WriteFailed};
 use std::alloc::{AllocError, Global};
 use std::test::Fail;
 
+mod analysis;
 mod changes;
 mod examples;
 mod memory;
@@ -18,6 +19,10 @@ struct Given<'a> {
 }
 
 impl Inputs for Given<'_> {
+    ghost use Rattle.std.specs.Prelude.{⊤};
+
+    ghost gives = { λ _ _ _. ⊤ };
+
     fn read(&self, alloc: Global, name: &str) -> Result<Option<Vec<u8>>, AllocError> {
         for (own, bytes) in self.files {
             if *own == name {

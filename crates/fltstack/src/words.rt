@@ -1,7 +1,13 @@
 //! The words of the command line.
 
+ghost use Rattle.std.specs.Prelude.{◌≡◌, Some, IfOk, map, option_and_then, string_bytes};
+ghost use Rattle.clap.specs.Simple.{subcommand_rows_of};
+ghost use Rattle.clap.specs.Walk.{rows_of};
+ghost use Rattle.clap.specs.Matches.{found_of};
+ghost use Rattle.fltstack.specs.Words as spec;
+
 use clap::error::ErrorKind;
-use clap::{Arg, Command};
+use clap::{Arg, ArgMatches, Command};
 use std::alloc::{AllocError, Global};
 
 /// What the words ask for.
@@ -12,11 +18,17 @@ pub enum Request<'a> {
         file: &'a str,
         cert: Option<&'a str>,
     },
+    /// Find the least certificate of the text of a file.
+    Analyse {
+        file: &'a str,
+    },
     /// They can't be taken, or ask for help: the text that says so.
     Usage(String),
 }
 
-fn check_command<'a>(alloc: Global) -> Result<Command<'a>, AllocError> {
+fn check_command<'a>(alloc: Global) -> Result<Command<'a>, AllocError>
+    ensures { IfOk result (λ c. spec.IsCommand c spec.check_app) }
+{
     let file = Arg::new(alloc, "FILE")
         .required(true)
         .help("The filter's text; `-` is the standard input");
@@ -32,34 +44,94 @@ fn check_command<'a>(alloc: Global) -> Result<Command<'a>, AllocError> {
         .arg(cert)
 }
 
-fn program<'a>(alloc: Global) -> Result<Command<'a>, AllocError> {
+fn analyse_command<'a>(alloc: Global) -> Result<Command<'a>, AllocError>
+    ensures { IfOk result (λ c. spec.IsCommand c spec.analyse_app) }
+{
+    let file = Arg::new(alloc, "FILE")
+        .required(true)
+        .help("The filter's text; `-` is the standard input");
+    Command::new(alloc, "analyse")
+        .about("Finds the least certificate that covers a filter's text")
+        .after_help(
+            "Prints the certificate (exit 0), or the point and rule for which there is none (exit 1).\nErrors go to the standard error with exit 2.\n\nExample: fltstack analyse examples/pending_reads.flt",
+        )
+        .arg(file)
+}
+
+fn program<'a>(alloc: Global) -> Result<Command<'a>, AllocError>
+    ensures { IfOk result (λ c. spec.IsCommand c spec.program_app) }
+{
     Command::new(alloc, "fltstack")
         .about("A static verifier for Windows file-system minifilters")
         .after_help("With no words it acts as `check -`.")
         .subcommand_required(true)
-        .subcommand(check_command(alloc)?)
+        .no_binary_name(true)
+        .subcommand(check_command(alloc)?)?
+        .subcommand(analyse_command(alloc)?)
+}
+
+/// What the matches of `check` ask for.
+fn asked_check<'a>(check: &ArgMatches<'a>) -> Request<'a>
+    ensures { spec.asked_of result ≡ Some (spec.check_of (rows_of (found_of check.now))) }
+{
+    Request::Check {
+        file: check.get_str("FILE").unwrap_or("-"),
+        cert: check.get_str("CERT"),
+    }
+}
+
+/// What the matches of `analyse` ask for.
+fn asked_analyse<'a>(analyse: &ArgMatches<'a>) -> Request<'a>
+    ensures { spec.asked_of result ≡ Some (spec.analyse_of (rows_of (found_of analyse.now))) }
+{
+    Request::Analyse {
+        file: analyse.get_str("FILE").unwrap_or("-"),
+    }
+}
+
+/// What the matches of a command line ask for.
+fn matched<'a>(alloc: Global, matches: &ArgMatches<'a>) -> Request<'a>
+    ensures { spec.asked_of result ≡ option_and_then spec.asked_by (subcommand_rows_of matches.now) }
+{
+    if let Some(check) = matches.subcommand_matches("check") {
+        return asked_check(check);
+    }
+    match matches.subcommand_matches("analyse") {
+        Some(analyse) => asked_analyse(analyse),
+        None => Request::Usage(String::new(alloc)),
+    }
+}
+
+fn is_memory(kind: ErrorKind) -> bool
+    ensures { result ≡ spec.is_memory kind }
+{
+    matches!(kind, ErrorKind::OutOfMemory)
+}
+
+/// What words ask for, where there are some.
+fn take_words<'a>(alloc: Global, words: &'a [String]) -> Result<Request<'a>, AllocError>
+    ensures { IfOk result (λ r. spec.asked_of r ≡ spec.asked_words (map string_bytes words.entry.now)) }
+{
+    match program(alloc)?.try_get_matches_from(words) {
+        Ok(matches) => Ok(matched(alloc, &matches)),
+        Err(error) => {
+            if is_memory(error.kind()) {
+                return Err(AllocError);
+            }
+            Ok(Request::Usage(format!(in alloc; "{error}")?))
+        }
+    }
 }
 
 /// What a program's words ask for, its own name left out.
-pub fn read_words<'a>(alloc: Global, words: &'a [String]) -> Result<Request<'a>, AllocError> {
-    if words.is_empty() {
-        return Ok(Request::Check {
+pub fn read_words<'a>(alloc: Global, words: &'a [String]) -> Result<Request<'a>, AllocError>
+    ensures { IfOk result (λ r. spec.asked_of r ≡ spec.asked (map string_bytes words.entry.now)) }
+{
+    match words {
+        [] => Ok(Request::Check {
             file: "-",
             cert: None,
-        });
-    }
-    match program(alloc)?
-        .no_binary_name(true)
-        .try_get_matches_from(words)
-    {
-        Err(error) if matches!(error.kind(), ErrorKind::OutOfMemory) => Err(AllocError),
-        Err(error) => Ok(Request::Usage(format!(in alloc; "{error}")?)),
-        Ok(matches) => match matches.subcommand_matches("check") {
-            None => Ok(Request::Usage(String::new(alloc))),
-            Some(check) => Ok(Request::Check {
-                file: check.get_str("FILE").unwrap_or("-"),
-                cert: check.get_str("CERT"),
-            }),
-        },
+        }),
+        [_, ..] => take_words(alloc, words),
     }
 }

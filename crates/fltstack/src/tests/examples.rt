@@ -44,7 +44,7 @@ fn takes_a_certificate_of_its_own(rt: HostRuntime) -> Result<(), Fail> {
 
 #[test]
 fn tells_each_error_in_one_line(rt: HostRuntime) -> Result<(), Fail> {
-    let table: [(&[&str], &[u8], &str); 8] = [
+    let table: [(&[&str], &[u8], &str); 10] = [
         (&["check", "-"], b"", "syntax 1:1 E03\n"),
         (&["check", "-"], CUT, "certificate line 5\n"),
         (&["check", "-"], SMALLEST, "certificate line 1\n"),
@@ -57,6 +57,8 @@ fn tells_each_error_in_one_line(rt: HostRuntime) -> Result<(), Fail> {
         (&["check", "-", "missing"], BOTH, "cannot read missing\n"),
         (&["check", "-", "-"], BOTH, "cannot read -\n"),
         (&["check", "missing", "gone"], BOTH, "cannot read missing\n"),
+        (&["analyse", "-"], BOTH, "syntax 5:1 E03\n"),
+        (&["analyse", "missing"], BOTH, "cannot read missing\n"),
     ];
     for (words, input, line) in table {
         let ran = run(rt.alloc(), words, &[("-", input)])?;
@@ -88,8 +90,9 @@ fn splits_at_the_exact_line_alone(rt: HostRuntime) -> Result<(), Fail> {
 
 #[test]
 fn tells_how_it_is_used(rt: HostRuntime) -> Result<(), Fail> {
-    let table: [&[&str]; 7] = [
-        &["analyse", "-"],
+    let table: [&[&str]; 8] = [
+        &["analyse"],
+        &["analyse", "a", "b"],
         &["run", "-", "-"],
         &["replay", "-", "-"],
         &["check"],

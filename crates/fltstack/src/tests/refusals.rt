@@ -7,7 +7,7 @@ use std::process::Abort;
 use std::test::Fail;
 
 /// A text, the states of its points callback by callback, and the line that is printed.
-type Example = (
+pub(super) type Example = (
     &'static str,
     &'static [&'static [&'static str]],
     &'static str,
@@ -33,7 +33,7 @@ fn tells(
     Ok(())
 }
 
-const CONTEXTS: [Example; 11] = [
+pub(super) const CONTEXTS: [Example; 11] = [
     (
         "filter a altitude 100\npre read {\nif FltAllocateContext c0 {\nreturn NO_CALLBACK\n}\nreturn NO_CALLBACK\n}\n",
         &[&["111111111", "211111111", "111111111", "!"]],
@@ -117,7 +117,7 @@ fn tells_what_becomes_of_contexts(rt: HostRuntime) -> Result<(), Fail> {
     Ok(())
 }
 
-const OPERATIONS: [Example; 7] = [
+pub(super) const OPERATIONS: [Example; 7] = [
     (
         "filter q altitude 100\nqueue\npre read {\n  if irp data {\n    if FltCbdqInsertIo data {\nn0 = file data\n      return PENDING\n    }\n  }\n  return NO_CALLBACK\n}\ncanceled {\n  if arg != NULL {\n    FltReleaseContext arg\n  }\n  FltCompletePendedPreOperation data COMPLETE STATUS_CANCELLED\n}\n",
         &[
@@ -194,7 +194,7 @@ fn tells_what_becomes_of_operations(rt: HostRuntime) -> Result<(), Fail> {
     Ok(())
 }
 
-const LEVELS: [Example; 4] = [
+pub(super) const LEVELS: [Example; 4] = [
     (
         "filter a altitude 100\npre read {\nreturn WITH_CALLBACK\n}\npost read {\nif FltGetInstanceContext c0 {\nFltReleaseContext c0\n}\nif arg != NULL {\nFltReleaseContext arg\n}\nreturn FINISHED_PROCESSING\n}\n",
         &[
@@ -253,7 +253,7 @@ fn tells_levels_and_places(rt: HostRuntime) -> Result<(), Fail> {
     Ok(())
 }
 
-const LOCKS: [Example; 6] = [
+pub(super) const LOCKS: [Example; 6] = [
     (
         "filter a altitude 100\nlock spin s\npre read {\nif n0 == 0 {\nKeAcquireSpinLock s\n}\nreturn NO_CALLBACK\n}\n",
         &[&[

@@ -1,10 +1,11 @@
 use Rattle.std.proofs.Common.{◌≡◌, ◌≤◌, ◌-◌, length, take}
-use Rattle.fltstack.specs.Sink.{Appends}
+use Rattle.std.specs.Io.KnownBytes.{Appends}
 use Rattle.fltstack.proofs.sink.put_all.Given as goal
 
 abbrev pub invariant-loop-at : goal.invariant-loop-at
 invariant-loop-at g l = record {
   within : l.at ≤ length l.bytes;
+  so_far : Appends (g.S.Sink.taken l.fn.sink) (g.S.Sink.taken l.sink) (take l.at l.bytes);
   fine : g.S.Sink.failures l.sink ≡ g.S.Sink.failures l.fn.sink;
 }
 

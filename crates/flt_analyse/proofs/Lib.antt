@@ -1,0 +1,9 @@
+pub mod Bits
+pub mod Certificates
+pub mod Counts
+pub mod One
+pub mod Order
+pub mod Sizes
+pub mod Stages
+pub mod Turns
+pub mod Walks

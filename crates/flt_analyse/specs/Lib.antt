@@ -1,0 +1,5 @@
+pub mod Columns
+pub mod Least
+pub mod Pending
+pub mod Ticks
+pub mod Walk

@@ -1,0 +1,12 @@
+//! The analyser: the least certificate that covers a text, or why there is none.
+#![tactic(auto)]
+
+mod analyser;
+mod fault;
+mod pending;
+mod ticks;
+mod walk;
+
+pub use analyser::{analyse, one_fault_is_named};
+pub use fault::AnalyseFault;
+pub use ticks::Ticks;

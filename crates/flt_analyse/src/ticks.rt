@@ -1,0 +1,62 @@
+//! A count of the transfers of a point.
+
+ghost use Rattle.std.specs.Prelude.{◌≡◌, ◌+◌, ◌<◌, length};
+ghost use Rattle.flt_abs.specs.Step as step;
+ghost use Rattle.flt_graph.specs.Graph.{points_at};
+ghost use Rattle.flt_analyse.specs.Ticks as spec;
+
+use flt_abs::{Abs, Successors, transfer};
+use flt_graph::Graph;
+use flt_rules::Rule;
+use std::marker::Model;
+use std::sync::ledger::{Blank, Book, Ledger, Share};
+
+/// How often the point POINT of the callback CALLBACK was transferred. It takes no bytes. As both numbers are the type's, what
+/// is proved of it holds of each point.
+#[derive(Drop)]
+pub struct Ticks<L: Ledger, const CALLBACK: usize, const POINT: usize> {
+    book: Book<L>,
+    share: Share<L>,
+}
+
+impl<L: Ledger, const CALLBACK: usize, const POINT: usize> Model for Ticks<L, CALLBACK, POINT> {
+    ghost use Rattle.std.specs.Prelude.{ℕ, ◌<◌};
+
+    ghost Value = { ℕ };
+
+    ghost view = { λ t. t.book.total };
+
+    ghost invariant = { λ t. 0 < t.share.parts };
+}
+
+impl<L: Ledger, const CALLBACK: usize, const POINT: usize> Ticks<L, CALLBACK, POINT> {
+    /// No transfer yet.
+    pub fn new(blank: Blank) -> Ticks<L, CALLBACK, POINT>
+        requires name { blank.name ≡ L.name }
+        requires parts { blank.parts ≡ L.parts }
+        requires some { 0 < blank.parts }
+        ensures { result ≡ 0 }
+    {
+        let (book, share) = blank.open();
+        Ticks { book, share }
+    }
+
+    /// `flt_abs::transfer`, counted where the point is the one that is watched.
+    pub fn transfer(
+        &mut self,
+        graph: &Graph,
+        callback: usize,
+        point: usize,
+        state: &Abs,
+    ) -> Result<Successors, Rule>
+        requires callback { callback < length graph.now.callbacks }
+        requires point { point < points_at graph.now callback }
+        ensures value { result ≡ step.transfer graph.now callback point state.now }
+        ensures count { self.new ≡ self.old + spec.one_at CALLBACK POINT callback point }
+    {
+        if callback == CALLBACK && point == POINT {
+            self.book.add(&mut self.share, 1);
+        }
+        transfer(graph, callback, point, state)
+    }
+}

@@ -1,0 +1,190 @@
+//! The walk over the points of one callback.
+
+ghost use Rattle.std.specs.Prelude.{◌≡◌, ◌≢◌, ◌<◌, ◌≤◌, ◌+◌, length, slice_index_or, None, Ok, Err, OnOk, IfOk, IfErr, IfSome, IfNone};
+ghost use Rattle.flt_graph.specs.Graph.{points_at};
+ghost use Rattle.flt_analyse.specs.Least as answer;
+ghost use Rattle.flt_analyse.specs.Columns.{Column, ProperNext, ProperSteps};
+ghost use Rattle.flt_analyse.specs.Pending.{least};
+ghost use Rattle.flt_analyse.specs.Ticks.{one_at};
+ghost use Rattle.flt_analyse.specs.Walk as spec;
+
+use crate::fault::AnalyseFault;
+use crate::pending::Pending;
+use crate::ticks::Ticks;
+use flt_abs::{
+    Abs, LocksDiffer, Successor, Successors, entry_state, join, joins_are_least, leq,
+    transfer_is_monotone,
+};
+use flt_check::Refusal;
+use flt_graph::Graph;
+use flt_rules::Rule;
+use sqlite_items::Items;
+use std::alloc::{AllocError, Global};
+use std::sync::ledger::Ledger;
+
+/// What was found so far at the points of a callback, and which of them are to be looked at.
+#[derive(Debug, Drop)]
+pub(crate) struct Walk {
+    pub(crate) points: Items<Option<Abs>>,
+    pub(crate) pending: Pending,
+}
+
+/// A state has no empty set: it does nothing, and its clause is what the type keeps.
+fn is_proper(successor: &Option<Successor>)
+    ensures { ProperNext successor.now }
+{
+    if let Some(next) = successor {
+        let _sets = next.state.contexts();
+    }
+}
+
+impl Walk {
+    /// The callback is entered, and nothing else is reached.
+    fn open(alloc: Global, graph: &Graph, callback: usize) -> Result<Walk, AllocError>
+        requires callback { callback < length graph.now.callbacks }
+        requires some { 0 < points_at graph.now callback }
+        ensures { IfOk result (λ w. w ≡ spec.opening graph.now callback) }
+    {
+        let mut points = Items::new(alloc);
+        'points: for _point in 0..graph.points(callback) {
+            points.push(None)?;
+        }
+        points.set(0, Some(entry_state(alloc, graph.place(callback))));
+        let mut pending = Pending::none();
+        pending.insert(0);
+        Ok(Walk { points, pending })
+    }
+
+    /// Takes the least point that is pending.
+    fn take(&mut self) -> Option<usize>
+        ensures value { result ≡ least self.old.pending }
+        ensures some { IfSome result (λ p. self.new ≡ spec.taken self.old p) }
+        ensures none { IfNone result (self.new ≡ self.old) }
+    {
+        self.pending.take_least()
+    }
+
+    /// A point has this state from now on, and is to be looked at.
+    fn arrive(&mut self, point: usize, state: Abs)
+        requires point { point < length self.old.points }
+        requires few { length self.old.points ≤ 512 }
+        ensures { self.new ≡ spec.arrived self.old point state }
+    {
+        self.points.set(point, Some(state));
+        self.pending.insert(point);
+    }
+
+    /// A state leads to a point, and is joined to what was found there.
+    ///
+    /// # Errors
+    ///
+    /// The rule that this breaks: other locks were held there, or there is no such point.
+    fn reach(&mut self, successor: Option<Successor>) -> Result<(), Rule>
+        requires few { length self.old.points ≤ 512 }
+        ensures ok { OnOk result (spec.reach self.old successor ≡ Ok self.new) }
+        ensures err { IfErr result (λ r. spec.reach self.old successor ≡ Err r) }
+    {
+        let Some(Successor { point, state }) = successor else {
+            return Ok(());
+        };
+        if self.points.len() <= point {
+            return Err(Rule::R14);
+        }
+        let joined = match &self.points.as_slice()[point] {
+            None => state,
+            Some(found) if leq(&state, found) => return Ok(()),
+            Some(found) => match join(found, &state) {
+                Ok(joined) => joined,
+                Err(LocksDiffer) => return Err(Rule::R12),
+            },
+        };
+        self.arrive(point, joined);
+        Ok(())
+    }
+
+    /// Where a point leads by what was found there, or the least rule that it breaks.
+    fn outcome<L: Ledger, const CALLBACK: usize, const POINT: usize>(
+        &self,
+        graph: &Graph,
+        callback: usize,
+        point: usize,
+        ticks: &mut Ticks<L, CALLBACK, POINT>,
+    ) -> Result<Successors, Rule>
+        requires callback { callback < length graph.now.callbacks }
+        requires point { point < points_at graph.now callback }
+        requires count { length self.now.points ≡ points_at graph.now callback }
+        ensures value { result ≡ spec.outcome_at graph.now callback point (slice_index_or self.now.points point None) }
+        ensures proper { ProperSteps result }
+        ensures count { ticks.new ≤ ticks.old + one_at CALLBACK POINT callback point }
+    {
+        match &self.points.as_slice()[point] {
+            Some(state) => {
+                let next = ticks.transfer(graph, callback, point, state)?;
+                is_proper(&next.first);
+                is_proper(&next.second);
+                Ok(next)
+            }
+            None => Ok(Successors {
+                first: None,
+                second: None,
+            }),
+        }
+    }
+
+    /// Looks at a point that was taken: its successors are reached, the one where a call succeeds or a test holds first.
+    ///
+    /// # Errors
+    ///
+    /// The first rule that this breaks.
+    fn look<L: Ledger, const CALLBACK: usize, const POINT: usize>(
+        &mut self,
+        graph: &Graph,
+        callback: usize,
+        point: usize,
+        ticks: &mut Ticks<L, CALLBACK, POINT>,
+    ) -> Result<(), Rule>
+        requires callback { callback < length graph.now.callbacks }
+        requires point { point < points_at graph.now callback }
+        requires count { length self.old.points ≡ points_at graph.now callback }
+        requires few { length self.old.points ≤ 512 }
+        ensures ok { OnOk result (spec.look graph.now callback point self.old ≡ Ok self.new) }
+        ensures err { IfErr result (λ r. spec.look graph.now callback point self.old ≡ Err r) }
+        ensures proper { ProperSteps (spec.outcome_at graph.now callback point (slice_index_or self.old.points point None)) }
+        ensures count { ticks.new ≤ ticks.old + one_at CALLBACK POINT callback point }
+    {
+        let next = self.outcome(graph, callback, point, ticks)?;
+        self.reach(next.first)?;
+        self.reach(next.second)
+    }
+}
+
+/// The least that covers the points of a callback.
+pub(crate) fn walk_callback<L: Ledger, const CALLBACK: usize, const POINT: usize>(
+    alloc: Global,
+    graph: &Graph,
+    callback: usize,
+    ticks: &mut Ticks<L, CALLBACK, POINT>,
+) -> Result<Items<Option<Abs>>, AnalyseFault>
+    requires callback { callback < length graph.now.callbacks }
+    requires some { 0 < points_at graph.now callback }
+    requires few { points_at graph.now callback < 513 }
+    ensures column { IfOk result (λ points. Column graph.now callback points) }
+    ensures stop { IfErr result (λ f. answer.IfRefused f (answer.IsStop graph.now callback)) }
+    ensures count { ticks.new ≤ ticks.old + 31 }
+    ensures other { CALLBACK ≢ callback → ticks.new ≤ ticks.old }
+{
+    joins_are_least();
+    transfer_is_monotone();
+    let mut walk = Walk::open(alloc, graph, callback)?;
+    'looks: while let Some(point) = walk.take() {
+        if let Err(rule) = walk.look(graph, callback, point, ticks) {
+            return Err(AnalyseFault::Refused(Refusal {
+                callback,
+                point,
+                line: graph.line(callback, point),
+                rule,
+            }));
+        }
+    }
+    Ok(walk.points)
+}

@@ -1,0 +1,67 @@
+-- What the matches of a command line ask for.
+use Rattle.std.proofs.Common.{◌≡◌, ◌⊎◌, inl, inr, List, [], ◌∷◌, true, false, Option, Some, None, Bor, refl, sym, ◌∙◌, ap, option_map, option_and_then, unwrap_or}
+use Rattle.clap.proofs.OnLiterals.{clap_on_literals}
+use Rattle.clap.specs.Faults.{fault_of, is_simple_and_free}
+use Rattle.clap.specs.Kinds.{Kinds, HasKind}
+use Rattle.clap.specs.Simple.{HasMatchesOf, app_of, is_simple, subcommand_of, subcommand_rows_of}
+use Rattle.clap.specs.Walk.{Row, Text}
+use Rattle.clap.specs.Matches.{subcommand_name_of}
+use Rattle.clap.specs.Values.{kind_of}
+use Rattle.clap.specs.declared.builder.command.Command.{Command}
+use Rattle.clap.specs.declared.error.Error.{Error}
+use Rattle.clap.specs.declared.parser.matches.ArgMatches.{ArgMatches}
+use Rattle.clap.specs.declared.parser.matches.ArgMatches.TheViews.{out-ArgMatches}
+use Rattle.fltstack.specs.Words.{IsCommand, asked_by, asked_words, is_memory, is_none, program_app}
+
+-- a name and the matches behind it
+module _ {A B C : Type 0} (f : A → B) (g : A → C) where
+  pub paired : (o : Option A) (x : B) (y : C) → option_map f o ≡ Some x →
+      option_map (λ (p : B × C). p.1) (option_map {U = B × C} (λ a. (f a, g a)) o) ≡ Some y → option_map {U = B × C} (λ a. (f a, g a)) o ≡ Some (x, y)
+  paired None x y e h = absurd (cc e)
+  paired (Some a) x y e h = cc (e, h)
+
+-- the text behind a reference, or another one
+pub text_or : (o : Option (Bor Text)) (other : Bor Text) → (unwrap_or o other).now ≡ unwrap_or (option_map (λ s. s.now) o) other.now
+text_or None other = refl
+text_or (Some s) other = refl
+
+-- an error that isn't want of memory has one of the kinds, so there is one
+pub has_kinds : (kinds : Kinds) (e : Error) → HasKind kinds e → is_memory (kind_of e) ≡ false → is_none kinds ≡ false
+has_kinds [] e (inl memory) other = absurd (cc (rw memory at other))
+has_kinds [] e (inr among) other = absurd among
+has_kinds (k ∷ kinds) e h other = refl
+
+is_plain : is_simple program_app ≡ true
+unfolding clap_on_literals
+is_plain = refl
+
+is_free : is_simple_and_free program_app ≡ true
+unfolding clap_on_literals
+is_free = refl
+
+module _ (c : Command) (words : List Text) (is : IsCommand c program_app) where
+  -- words that are taken ask for what was matched
+  pub taken : (m : ArgMatches) → HasMatchesOf (app_of c) words m → (is_simple_and_free (app_of c) ≡ true → fault_of (app_of c) words ≡ []) →
+      option_and_then asked_by (subcommand_rows_of m) ≡ asked_words words
+  taken m matches kinds =
+      let plain : is_simple (app_of c) ≡ true = ap is_simple is.0 ∙ is_plain in
+      let free : is_simple_and_free (app_of c) ≡ true = ap is_simple_and_free is.0 ∙ is_free in
+      let none : fault_of program_app words ≡ [] = ap (λ a. fault_of a words) (sym is.0) ∙ kinds free in
+      let same : subcommand_rows_of m ≡ subcommand_of program_app words = (matches plain).1 ∙ ap (λ a. subcommand_of a words) is.0 in
+      rw (same, none) refl
+
+  -- words that aren't taken ask for nothing
+  pub not_taken : (e : Error) → (is_simple_and_free (app_of c) ≡ true → HasKind (fault_of (app_of c) words) e) → is_memory (kind_of e) ≡ false →
+      None ≡ asked_words words
+  not_taken e kinds other =
+      let free : is_simple_and_free (app_of c) ≡ true = ap is_simple_and_free is.0 ∙ is_free in
+      let some : is_none (fault_of (app_of c) words) ≡ false = has_kinds (fault_of (app_of c) words) e (kinds free) other in
+      let none : is_none (fault_of program_app words) ≡ false = ap (λ a. is_none (fault_of a words)) (sym is.0) ∙ some in
+      rw none refl
+
+-- the matches of a subcommand ask for what its name and its own matches ask for
+pub named : (m : ArgMatches) (name : Text) (rows : List Row) → subcommand_name_of m ≡ Some name →
+    option_map (λ (p : Text × List Row). p.1) (subcommand_rows_of m) ≡ Some rows → asked_by (name, rows) ≡ option_and_then asked_by (subcommand_rows_of m)
+named m name rows is matches =
+    let both : subcommand_rows_of m ≡ Some (name, rows) = paired _ _ (out-ArgMatches m).subcommand name rows is matches in
+    rw both refl
