@@ -16,6 +16,6 @@ returns-in-Err-analyse_file g c =
     let told : c.in-Err-analyse_file.failure ≢ OutOfMemory = search rules in
     record {
       prints = failed_analysis _ _ c.in-Err-analyse_file.failure told _ _ c.excuse-in-Err-analyse_file.result (sym (rw c.in-Analyse.is at c.in_ok-text.ensures))
-        c.in-Err-analyse_file.ensures c.excuse-in-Err-analyse_file.ensures.status;
+          c.in-Err-analyse_file.ensures c.excuse-in-Err-analyse_file.ensures.status;
       write = search rules;
     }

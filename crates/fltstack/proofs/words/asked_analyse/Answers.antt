@@ -11,5 +11,5 @@ returns c =
     let found = found_of c.args.analyse.now in
     let given : option_map (λ s. s.now) c.get_str.result ≡ first_of (codes "FILE") (rows_of found) = c.get_str.ensures ∙ first_value-rows found (codes "FILE") in
     let file : c.unwrap_or.result.now ≡ spec.file_of (rows_of found) =
-        ap (λ (s : Bor (List ℕ)). s.now) c.unwrap_or.ensures ∙ text_or c.get_str.result _ ∙ ap (λ o. unwrap_or o (codes "-")) given in
+    ap (λ (s : Bor (List ℕ)). s.now) c.unwrap_or.ensures ∙ text_or c.get_str.result _ ∙ ap (λ o. unwrap_or o (codes "-")) given in
     rw file refl

@@ -11,6 +11,6 @@ returns c =
     let found = found_of c.args.check.now in
     let given : option_map (λ s. s.now) c.get_str.result ≡ first_of (codes "FILE") (rows_of found) = c.get_str.ensures ∙ first_value-rows found (codes "FILE") in
     let file : c.unwrap_or.result.now ≡ spec.file_of (rows_of found) =
-        ap (λ (s : Bor (List ℕ)). s.now) c.unwrap_or.ensures ∙ text_or c.get_str.result _ ∙ ap (λ o. unwrap_or o (codes "-")) given in
+    ap (λ (s : Bor (List ℕ)). s.now) c.unwrap_or.ensures ∙ text_or c.get_str.result _ ∙ ap (λ o. unwrap_or o (codes "-")) given in
     let cert : option_map (λ s. s.now) c.get_str-2.result ≡ first_of (codes "CERT") (rows_of found) = c.get_str-2.ensures ∙ first_value-rows found (codes "CERT") in
     rw (file, cert) refl
