@@ -3,21 +3,22 @@
 ghost use Rattle.flt_syntax.specs.ActionWords as spec;
 ghost use Rattle.flt_syntax.specs.Line.{begun, spaced};
 ghost use Rattle.flt_syntax.specs.Vocabulary.{atom_word};
-ghost use Rattle.std.specs.Prelude.{◌≡◌, [], ◌∷◌, ◌++◌, OnOk};
+ghost use Rattle.std.specs.Prelude.{◌≡◌, ◌∷◌, ◌++◌, OnOk};
 
 use crate::call_printer::fallible_call;
 use crate::filter::{Action, Condition, Test};
 use crate::line::{begin, number, word};
+use crate::token::Kind;
 use crate::variable::{Atom, Expression};
-use crate::vocabulary::{context_word, number_word, operation_variable_word, removed_word};
+use crate::vocabulary::{context_kind, number_kind, operation_variable_kind, removed_kind};
 use std::alloc::AllocError;
 
 fn atom(out: &mut Vec<u8>, atom: Atom) -> Result<(), AllocError>
-    ensures { OnOk result (out.new.items ≡ out.old.items ++ spaced (atom_word atom ∷ [])) }
+    ensures { OnOk result (out.new.items ≡ out.old.items ++ 32 ∷ atom_word atom) }
 {
     match atom {
         Atom::Number(n) => number(out, n),
-        Atom::Variable(n) => word(out, number_word(n)),
+        Atom::Variable(n) => word(out, number_kind(n)),
     }
 }
 
@@ -28,12 +29,12 @@ fn expression(out: &mut Vec<u8>, expression: Expression) -> Result<(), AllocErro
         Expression::Atom(x) => atom(out, x),
         Expression::Sum(x, y) => {
             atom(out, x)?;
-            word(out, b"+")?;
+            word(out, Kind::Plus)?;
             atom(out, y)
         }
         Expression::Difference(x, y) => {
             atom(out, x)?;
-            word(out, b"-")?;
+            word(out, Kind::Minus)?;
             atom(out, y)
         }
     }
@@ -45,37 +46,37 @@ pub fn action(out: &mut Vec<u8>, level: usize, action: Action) -> Result<(), All
 {
     match action {
         Action::SetNumber(n, e) => {
-            begin(out, level, number_word(n))?;
-            word(out, b"=")?;
+            begin(out, level, number_kind(n))?;
+            word(out, Kind::Assign)?;
             expression(out, e)
         }
         Action::ReadValue(n, c) => {
-            begin(out, level, number_word(n))?;
-            word(out, b"=")?;
-            word(out, b"value")?;
-            word(out, context_word(c))
+            begin(out, level, number_kind(n))?;
+            word(out, Kind::Assign)?;
+            word(out, Kind::Value)?;
+            word(out, context_kind(c))
         }
         Action::ReadFile(n, d) => {
-            begin(out, level, number_word(n))?;
-            word(out, b"=")?;
-            word(out, b"file")?;
-            word(out, operation_variable_word(d))
+            begin(out, level, number_kind(n))?;
+            word(out, Kind::Assign)?;
+            word(out, Kind::File)?;
+            word(out, operation_variable_kind(d))
         }
         Action::WriteValue(c, x) => {
-            begin(out, level, b"value")?;
-            word(out, context_word(c))?;
-            word(out, b"=")?;
+            begin(out, level, Kind::Value)?;
+            word(out, context_kind(c))?;
+            word(out, Kind::Assign)?;
             atom(out, x)
         }
         Action::ClearContext(c) => {
-            begin(out, level, context_word(c))?;
-            word(out, b"=")?;
-            word(out, b"NULL")
+            begin(out, level, context_kind(c))?;
+            word(out, Kind::Assign)?;
+            word(out, Kind::Null)
         }
         Action::ClearOperation(o) => {
-            begin(out, level, removed_word(o))?;
-            word(out, b"=")?;
-            word(out, b"NULL")
+            begin(out, level, removed_kind(o))?;
+            word(out, Kind::Assign)?;
+            word(out, Kind::Null)
         }
     }
 }
@@ -85,30 +86,30 @@ fn test(out: &mut Vec<u8>, test: Test) -> Result<(), AllocError>
 {
     match test {
         Test::ContextIsSome(c) => {
-            word(out, context_word(c))?;
-            word(out, b"!=")?;
-            word(out, b"NULL")
+            word(out, context_kind(c))?;
+            word(out, Kind::NotEqual)?;
+            word(out, Kind::Null)
         }
         Test::OperationIsSome(o) => {
-            word(out, removed_word(o))?;
-            word(out, b"!=")?;
-            word(out, b"NULL")
+            word(out, removed_kind(o))?;
+            word(out, Kind::NotEqual)?;
+            word(out, Kind::Null)
         }
         Test::Equal(n, x) => {
-            word(out, number_word(n))?;
-            word(out, b"==")?;
+            word(out, number_kind(n))?;
+            word(out, Kind::Equal)?;
             atom(out, x)
         }
         Test::Less(n, x) => {
-            word(out, number_word(n))?;
-            word(out, b"<")?;
+            word(out, number_kind(n))?;
+            word(out, Kind::Less)?;
             atom(out, x)
         }
         Test::IsIrp => {
-            word(out, b"irp")?;
-            word(out, b"data")
+            word(out, Kind::Irp)?;
+            word(out, Kind::Data)
         }
-        Test::IsDraining => word(out, b"draining"),
+        Test::IsDraining => word(out, Kind::Draining),
     }
 }
 

@@ -5,11 +5,12 @@ ghost use Rattle.flt_syntax.specs.Line.{begun, spaced};
 ghost use Rattle.std.specs.Prelude.{◌≡◌, ◌++◌, OnOk};
 
 use crate::filter::{FallibleCall, Lock, PlainCall, Status};
-use crate::line::{begin, word};
+use crate::line::{begin, name, word};
+use crate::token::Kind;
 use crate::variable::ContextVariable;
 use crate::vocabulary::{
-    acquire_word, context_word, delete_word, existing_word, final_status_word, get_word,
-    operation_variable_word, release_word, removed_word, set_word,
+    acquire_kind, context_kind, delete_kind, existing_kind, final_status_kind, get_kind,
+    operation_variable_kind, release_kind, removed_kind, set_kind,
 };
 use flt_rules::LockNumber;
 use std::alloc::AllocError;
@@ -17,16 +18,16 @@ use std::alloc::AllocError;
 /// Nothing, or a word and the context behind it.
 fn optional(
     out: &mut Vec<u8>,
-    name: &[u8],
+    word_before: Kind,
     context: Option<ContextVariable>,
 ) -> Result<(), AllocError>
-    ensures { OnOk result (out.new.items ≡ out.old.items ++ spaced (spec.optional_words name.now context)) }
+    ensures { OnOk result (out.new.items ≡ out.old.items ++ spaced (spec.optional_words word_before context)) }
 {
     match context {
         None => Ok(()),
         Some(c) => {
-            word(out, name)?;
-            word(out, context_word(c))
+            word(out, word_before)?;
+            word(out, context_kind(c))
         }
     }
 }
@@ -36,22 +37,22 @@ fn status(out: &mut Vec<u8>, status: Status) -> Result<(), AllocError>
 {
     match status {
         Status::WithCallback(context) => {
-            word(out, b"WITH_CALLBACK")?;
-            optional(out, b"context", context)
+            word(out, Kind::WithCallback)?;
+            optional(out, Kind::Context, context)
         }
         Status::Synchronize(context) => {
-            word(out, b"SYNCHRONIZE")?;
-            optional(out, b"context", context)
+            word(out, Kind::Synchronize)?;
+            optional(out, Kind::Context, context)
         }
-        Status::NoCallback => word(out, b"NO_CALLBACK"),
+        Status::NoCallback => word(out, Kind::NoCallback),
         Status::Complete(status) => {
-            word(out, b"COMPLETE")?;
-            word(out, final_status_word(status))
+            word(out, Kind::Complete)?;
+            word(out, final_status_kind(status))
         }
-        Status::Pending => word(out, b"PENDING"),
-        Status::DisallowFastIo => word(out, b"DISALLOW_FASTIO"),
-        Status::FinishedProcessing => word(out, b"FINISHED_PROCESSING"),
-        Status::MoreProcessingRequired => word(out, b"MORE_PROCESSING_REQUIRED"),
+        Status::Pending => word(out, Kind::Pending),
+        Status::DisallowFastIo => word(out, Kind::DisallowFastIo),
+        Status::FinishedProcessing => word(out, Kind::FinishedProcessing),
+        Status::MoreProcessingRequired => word(out, Kind::MoreProcessingRequired),
     }
 }
 
@@ -70,44 +71,44 @@ pub fn fallible_call(out: &mut Vec<u8>, call: &FallibleCall) -> Result<(), Alloc
 {
     match call {
         FallibleCall::AllocateContext(c) => {
-            word(out, b"FltAllocateContext")?;
-            word(out, context_word(*c))
+            word(out, Kind::AllocateContext)?;
+            word(out, context_kind(*c))
         }
         FallibleCall::GetContext(anchor, c) => {
-            word(out, get_word(*anchor))?;
-            word(out, context_word(*c))
+            word(out, get_kind(*anchor))?;
+            word(out, context_kind(*c))
         }
         FallibleCall::SetContext(anchor, existing, c, old) => {
-            word(out, set_word(*anchor))?;
-            word(out, existing_word(*existing))?;
-            word(out, context_word(*c))?;
-            optional(out, b"old", *old)
+            word(out, set_kind(*anchor))?;
+            word(out, existing_kind(*existing))?;
+            word(out, context_kind(*c))?;
+            optional(out, Kind::Old, *old)
         }
         FallibleCall::DeleteContextOf(anchor, old) => {
-            word(out, delete_word(*anchor))?;
-            optional(out, b"old", *old)
+            word(out, delete_kind(*anchor))?;
+            optional(out, Kind::Old, *old)
         }
         FallibleCall::InsertIo(context) => {
-            word(out, b"FltCbdqInsertIo")?;
-            word(out, b"data")?;
-            optional(out, b"context", *context)
+            word(out, Kind::InsertIo)?;
+            word(out, Kind::Data)?;
+            optional(out, Kind::Context, *context)
         }
         FallibleCall::RemoveNextIo(o, c) => {
-            word(out, b"FltCbdqRemoveNextIo")?;
-            word(out, removed_word(*o))?;
-            word(out, b"context")?;
-            word(out, context_word(*c))
+            word(out, Kind::RemoveNextIo)?;
+            word(out, removed_kind(*o))?;
+            word(out, Kind::Context)?;
+            word(out, context_kind(*c))
         }
         FallibleCall::QueueDeferredIoWorkItem(routine, context) => {
-            word(out, b"FltQueueDeferredIoWorkItem")?;
-            word(out, b"data")?;
-            word(out, routine.name.as_slice())?;
-            optional(out, b"context", *context)
+            word(out, Kind::QueueDeferredIoWorkItem)?;
+            word(out, Kind::Data)?;
+            name(out, routine.name.as_slice())?;
+            optional(out, Kind::Context, *context)
         }
         FallibleCall::QueueGenericWorkItem(routine, context) => {
-            word(out, b"FltQueueGenericWorkItem")?;
-            word(out, routine.name.as_slice())?;
-            optional(out, b"context", *context)
+            word(out, Kind::QueueGenericWorkItem)?;
+            name(out, routine.name.as_slice())?;
+            optional(out, Kind::Context, *context)
         }
     }
 }
@@ -133,35 +134,35 @@ pub fn plain_call(
 {
     match call {
         PlainCall::DeleteContext(c) => {
-            begin(out, level, b"FltDeleteContext")?;
-            word(out, context_word(c))
+            begin(out, level, Kind::DeleteContext)?;
+            word(out, context_kind(c))
         }
         PlainCall::ReferenceContext(c, d) => {
-            begin(out, level, b"FltReferenceContext")?;
-            word(out, context_word(c))?;
-            word(out, b"as")?;
-            word(out, context_word(d))
+            begin(out, level, Kind::ReferenceContext)?;
+            word(out, context_kind(c))?;
+            word(out, Kind::As)?;
+            word(out, context_kind(d))
         }
         PlainCall::ReleaseContext(c) => {
-            begin(out, level, b"FltReleaseContext")?;
-            word(out, context_word(c))
+            begin(out, level, Kind::ReleaseContext)?;
+            word(out, context_kind(c))
         }
         PlainCall::AcquireLock(kind, number) => {
-            begin(out, level, acquire_word(kind))?;
-            word(out, lock_name(locks, number))
+            begin(out, level, acquire_kind(kind))?;
+            name(out, lock_name(locks, number))
         }
         PlainCall::ReleaseLock(kind, number) => {
-            begin(out, level, release_word(kind))?;
-            word(out, lock_name(locks, number))
+            begin(out, level, release_kind(kind))?;
+            name(out, lock_name(locks, number))
         }
         PlainCall::CompletePendedPreOperation(d, found) => {
-            begin(out, level, b"FltCompletePendedPreOperation")?;
-            word(out, operation_variable_word(d))?;
+            begin(out, level, Kind::CompletePendedPreOperation)?;
+            word(out, operation_variable_kind(d))?;
             status(out, found)
         }
         PlainCall::CompletePendedPostOperation => {
-            begin(out, level, b"FltCompletePendedPostOperation")?;
-            word(out, b"data")
+            begin(out, level, Kind::CompletePendedPostOperation)?;
+            word(out, Kind::Data)
         }
     }
 }

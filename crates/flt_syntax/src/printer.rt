@@ -9,16 +9,17 @@ ghost use Rattle.std.specs.List.{list_all};
 use crate::action_printer::{action, condition};
 use crate::call_printer::{optional_status, plain_call};
 use crate::filter::{Callback, Condition, Filter, Head, Lock, Statement};
-use crate::line::{begin, end, number, word};
+use crate::line::{begin, end, name, number, word};
+use crate::token::Kind;
 use crate::tree::Tree;
-use crate::vocabulary::{lock_kind_word, operation_word};
+use crate::vocabulary::{lock_kind_kind, operation_kind};
 use std::alloc::{AllocError, Global};
 
 /// The brace that ends a block.
 fn closing(out: &mut Vec<u8>, level: usize) -> Result<(), AllocError>
     ensures { OnOk result (out.new.items ≡ out.old.items ++ lines_text (spec.closing level)) }
 {
-    begin(out, level, b"}")?;
+    begin(out, level, Kind::CloseBrace)?;
     end(out)
 }
 
@@ -26,9 +27,9 @@ fn closing(out: &mut Vec<u8>, level: usize) -> Result<(), AllocError>
 fn if_line(out: &mut Vec<u8>, level: usize, asked: &Condition) -> Result<(), AllocError>
     ensures { OnOk result (out.new.items ≡ out.old.items ++ lines_text (spec.if_line level asked.now ∷ [])) }
 {
-    begin(out, level, b"if")?;
+    begin(out, level, Kind::If)?;
     condition(out, asked)?;
-    word(out, b"{")?;
+    word(out, Kind::OpenBrace)?;
     end(out)
 }
 
@@ -36,9 +37,9 @@ fn if_line(out: &mut Vec<u8>, level: usize, asked: &Condition) -> Result<(), All
 fn repeat_line(out: &mut Vec<u8>, level: usize, turns: u64) -> Result<(), AllocError>
     ensures { OnOk result (out.new.items ≡ out.old.items ++ lines_text (spec.repeat_line level turns ∷ [])) }
 {
-    begin(out, level, b"repeat")?;
+    begin(out, level, Kind::Repeat)?;
     number(out, turns)?;
-    word(out, b"{")?;
+    word(out, Kind::OpenBrace)?;
     end(out)
 }
 
@@ -46,9 +47,9 @@ fn repeat_line(out: &mut Vec<u8>, level: usize, turns: u64) -> Result<(), AllocE
 fn else_line(out: &mut Vec<u8>, level: usize) -> Result<(), AllocError>
     ensures { OnOk result (out.new.items ≡ out.old.items ++ lines_text (spec.else_line level ∷ [])) }
 {
-    begin(out, level, b"}")?;
-    word(out, b"else")?;
-    word(out, b"{")?;
+    begin(out, level, Kind::CloseBrace)?;
+    word(out, Kind::Else)?;
+    word(out, Kind::OpenBrace)?;
     end(out)
 }
 
@@ -57,14 +58,13 @@ fn body(
     out: &mut Vec<u8>,
     level: usize,
     locks: &[Lock],
-    mut statements: &[Statement],
+    statements: &[Statement],
 ) -> Result<(), AllocError>
-    requires { level + points statements.entry.now ≤ 1024 }
-    ensures { OnOk result (out.new.items ≡ out.old.items ++ lines_text (spec.body_lines locks.now statements.entry.now level)) }
+    requires { level + points statements.now ≤ 1024 }
+    ensures { OnOk result (out.new.items ≡ out.old.items ++ lines_text (spec.body_lines locks.now statements.now level)) }
 {
-    while let [first, rest @ ..] = statements {
-        statement(out, level, locks, first)?;
-        statements = rest;
+    for next in statements {
+        statement(out, level, locks, next)?;
     }
     Ok(())
 }
@@ -80,11 +80,14 @@ fn otherwise(
     requires { level + 1 + points refused.now ≤ 1024 }
     ensures { OnOk result (out.new.items ≡ out.old.items ++ lines_text (spec.otherwise (map (spec.statement_lines locks.now) refused.now) level)) }
 {
-    if !refused.is_empty() {
-        else_line(out, level)?;
-        body(out, level + 1, locks, refused)?;
+    match refused {
+        [] => closing(out, level),
+        [_, ..] => {
+            else_line(out, level)?;
+            body(out, level + 1, locks, refused)?;
+            closing(out, level)
+        }
     }
-    closing(out, level)
 }
 
 #[cycle(printer)]
@@ -107,7 +110,7 @@ fn statement(
             end(out)
         }
         Statement::Return(_, status) => {
-            begin(out, level, b"return")?;
+            begin(out, level, Kind::Return)?;
             optional_status(out, *status)?;
             end(out)
         }
@@ -130,25 +133,25 @@ fn head(out: &mut Vec<u8>, head: &Head) -> Result<(), AllocError>
 {
     match head {
         Head::Pre(operation) => {
-            begin(out, 0, b"pre")?;
-            word(out, operation_word(*operation))
+            begin(out, 0, Kind::Pre)?;
+            word(out, operation_kind(*operation))
         }
         Head::Post(operation) => {
-            begin(out, 0, b"post")?;
-            word(out, operation_word(*operation))
+            begin(out, 0, Kind::Post)?;
+            word(out, operation_kind(*operation))
         }
-        Head::Canceled => begin(out, 0, b"canceled"),
-        Head::DeferredPre(name) => {
-            begin(out, 0, b"deferred_pre")?;
-            word(out, name.as_slice())
+        Head::Canceled => begin(out, 0, Kind::Canceled),
+        Head::DeferredPre(routine) => {
+            begin(out, 0, Kind::DeferredPre)?;
+            name(out, routine.as_slice())
         }
-        Head::DeferredPost(name) => {
-            begin(out, 0, b"deferred_post")?;
-            word(out, name.as_slice())
+        Head::DeferredPost(routine) => {
+            begin(out, 0, Kind::DeferredPost)?;
+            name(out, routine.as_slice())
         }
-        Head::Generic(name) => {
-            begin(out, 0, b"generic")?;
-            word(out, name.as_slice())
+        Head::Generic(routine) => {
+            begin(out, 0, Kind::Generic)?;
+            name(out, routine.as_slice())
         }
     }
 }
@@ -158,7 +161,7 @@ fn head_line(out: &mut Vec<u8>, found: &Head) -> Result<(), AllocError>
     ensures { OnOk result (out.new.items ≡ out.old.items ++ lines_text (spec.head_line found.now ∷ [])) }
 {
     head(out, found)?;
-    word(out, b"{")?;
+    word(out, Kind::OpenBrace)?;
     end(out)
 }
 
@@ -176,7 +179,7 @@ fn callbacks(
     locks: &[Lock],
     mut found: &[Callback],
 ) -> Result<(), AllocError>
-    requires { IsTrue (list_all is_small found.entry.now) }
+    requires { IsTrue (list_all is_small found.now) }
     ensures { OnOk result (out.new.items ≡ out.old.items ++ lines_text (flat_map (spec.callback_lines locks.now) found.entry.now)) }
 {
     while let [first, rest @ ..] = found {
@@ -190,9 +193,9 @@ fn lock_lines(out: &mut Vec<u8>, mut locks: &[Lock]) -> Result<(), AllocError>
     ensures { OnOk result (out.new.items ≡ out.old.items ++ lines_text (map spec.lock_line locks.entry.now)) }
 {
     while let [lock, rest @ ..] = locks {
-        begin(out, 0, b"lock")?;
-        word(out, lock_kind_word(lock.kind))?;
-        word(out, lock.name.as_slice())?;
+        begin(out, 0, Kind::Lock)?;
+        word(out, lock_kind_kind(lock.kind))?;
+        name(out, lock.name.as_slice())?;
         end(out)?;
         locks = rest;
     }
@@ -203,7 +206,7 @@ fn queue_line(out: &mut Vec<u8>, has_queue: bool) -> Result<(), AllocError>
     ensures { OnOk result (out.new.items ≡ out.old.items ++ lines_text (spec.queue_lines has_queue)) }
 {
     if has_queue {
-        begin(out, 0, b"queue")?;
+        begin(out, 0, Kind::Queue)?;
         end(out)?;
     }
     Ok(())
@@ -213,9 +216,9 @@ fn queue_line(out: &mut Vec<u8>, has_queue: bool) -> Result<(), AllocError>
 fn name_line(out: &mut Vec<u8>, filter: &Filter) -> Result<(), AllocError>
     ensures { OnOk result (out.new.items ≡ out.old.items ++ lines_text (spec.name_line filter.now ∷ [])) }
 {
-    begin(out, 0, b"filter")?;
-    word(out, filter.name.as_slice())?;
-    word(out, b"altitude")?;
+    begin(out, 0, Kind::Filter)?;
+    name(out, filter.name.as_slice())?;
+    word(out, Kind::Altitude)?;
     number(out, filter.altitude)?;
     end(out)
 }

@@ -1,154 +1,195 @@
-//! The words that stand for variables, statuses and the like.
+//! How the words of the grammar are spelled, and which of them stand for variables, statuses and the like.
 
 ghost use Rattle.flt_syntax.specs.Vocabulary as spec;
-ghost use Rattle.std.specs.Prelude.{◌≡◌};
+ghost use Rattle.std.specs.Prelude.{◌≡◌, map, option_map};
 
+use crate::lex::same_kind;
+use crate::token::{KEYWORDS, Kind};
 use crate::variable::{ContextVariable, NumberVariable, OperationVariable, RemovedVariable};
 use flt_rules::{Anchor, Existing, FinalStatus, LockKind, Operation};
 
-pub fn number_word(n: NumberVariable) -> &'static [u8]
-    ensures { result.now ≡ spec.number_word n }
+fn word_for(kind: Kind, mut table: &[(&'static [u8], Kind)]) -> &'static [u8]
+    ensures { result.now ≡ spec.word_for kind (map (λ e. (e.0.now, e.1)) table.entry.now) }
+{
+    while let [entry, rest @ ..] = table {
+        if same_kind(entry.1, kind) {
+            return entry.0;
+        }
+        table = rest;
+    }
+    b""
+}
+
+fn symbol(kind: Kind) -> Option<&'static [u8]>
+    ensures { option_map (λ z. z.now) result ≡ spec.symbol kind }
+{
+    match kind {
+        Kind::OpenBrace => Some(b"{"),
+        Kind::CloseBrace => Some(b"}"),
+        Kind::Assign => Some(b"="),
+        Kind::Equal => Some(b"=="),
+        Kind::NotEqual => Some(b"!="),
+        Kind::Less => Some(b"<"),
+        Kind::Plus => Some(b"+"),
+        Kind::Minus => Some(b"-"),
+        _ => None,
+    }
+}
+
+/// The symbol or word of a kind.
+#[tactic(auto, unfolding(crate::specs::Vocabulary::spelling))]
+pub fn spelling(kind: Kind) -> &'static [u8]
+    ensures { result.now ≡ spec.spelling kind }
+{
+    match symbol(kind) {
+        None => word_for(kind, &KEYWORDS),
+        Some(symbol) => symbol,
+    }
+}
+
+pub fn number_kind(n: NumberVariable) -> Kind
+    ensures { result ≡ spec.number_kind n }
 {
     match n {
-        NumberVariable::N0 => b"n0",
-        NumberVariable::N1 => b"n1",
-        NumberVariable::N2 => b"n2",
-        NumberVariable::N3 => b"n3",
-        NumberVariable::N4 => b"n4",
-        NumberVariable::N5 => b"n5",
-        NumberVariable::N6 => b"n6",
-        NumberVariable::N7 => b"n7",
+        NumberVariable::N0 => Kind::N0,
+        NumberVariable::N1 => Kind::N1,
+        NumberVariable::N2 => Kind::N2,
+        NumberVariable::N3 => Kind::N3,
+        NumberVariable::N4 => Kind::N4,
+        NumberVariable::N5 => Kind::N5,
+        NumberVariable::N6 => Kind::N6,
+        NumberVariable::N7 => Kind::N7,
     }
 }
 
-pub fn context_word(c: ContextVariable) -> &'static [u8]
-    ensures { result.now ≡ spec.context_word c }
+pub fn context_kind(c: ContextVariable) -> Kind
+    ensures { result ≡ spec.context_kind c }
 {
     match c {
-        ContextVariable::C0 => b"c0",
-        ContextVariable::C1 => b"c1",
-        ContextVariable::C2 => b"c2",
-        ContextVariable::C3 => b"c3",
-        ContextVariable::C4 => b"c4",
-        ContextVariable::C5 => b"c5",
-        ContextVariable::C6 => b"c6",
-        ContextVariable::C7 => b"c7",
-        ContextVariable::Arg => b"arg",
+        ContextVariable::C0 => Kind::C0,
+        ContextVariable::C1 => Kind::C1,
+        ContextVariable::C2 => Kind::C2,
+        ContextVariable::C3 => Kind::C3,
+        ContextVariable::C4 => Kind::C4,
+        ContextVariable::C5 => Kind::C5,
+        ContextVariable::C6 => Kind::C6,
+        ContextVariable::C7 => Kind::C7,
+        ContextVariable::Arg => Kind::Arg,
     }
 }
 
-pub fn removed_word(o: RemovedVariable) -> &'static [u8]
-    ensures { result.now ≡ spec.removed_word o }
+pub fn removed_kind(o: RemovedVariable) -> Kind
+    ensures { result ≡ spec.removed_kind o }
 {
     match o {
-        RemovedVariable::O0 => b"o0",
-        RemovedVariable::O1 => b"o1",
-        RemovedVariable::O2 => b"o2",
-        RemovedVariable::O3 => b"o3",
+        RemovedVariable::O0 => Kind::O0,
+        RemovedVariable::O1 => Kind::O1,
+        RemovedVariable::O2 => Kind::O2,
+        RemovedVariable::O3 => Kind::O3,
     }
 }
 
-pub fn operation_variable_word(d: OperationVariable) -> &'static [u8]
-    ensures { result.now ≡ spec.operation_variable_word d }
+pub fn operation_variable_kind(d: OperationVariable) -> Kind
+    ensures { result ≡ spec.operation_variable_kind d }
 {
     match d {
-        OperationVariable::Removed(o) => removed_word(o),
-        OperationVariable::Data => b"data",
+        OperationVariable::Removed(o) => removed_kind(o),
+        OperationVariable::Data => Kind::Data,
     }
 }
 
-pub fn final_status_word(status: FinalStatus) -> &'static [u8]
-    ensures { result.now ≡ spec.final_status_word status }
+pub fn final_status_kind(status: FinalStatus) -> Kind
+    ensures { result ≡ spec.final_status_kind status }
 {
     match status {
-        FinalStatus::Success => b"STATUS_SUCCESS",
-        FinalStatus::AccessDenied => b"STATUS_ACCESS_DENIED",
-        FinalStatus::Cancelled => b"STATUS_CANCELLED",
-        FinalStatus::InsufficientResources => b"STATUS_INSUFFICIENT_RESOURCES",
-        FinalStatus::InvalidParameter => b"STATUS_INVALID_PARAMETER",
-        FinalStatus::Pending => b"STATUS_PENDING",
+        FinalStatus::Success => Kind::StatusSuccess,
+        FinalStatus::AccessDenied => Kind::StatusAccessDenied,
+        FinalStatus::Cancelled => Kind::StatusCancelled,
+        FinalStatus::InsufficientResources => Kind::StatusInsufficientResources,
+        FinalStatus::InvalidParameter => Kind::StatusInvalidParameter,
+        FinalStatus::Pending => Kind::StatusPending,
     }
 }
 
-pub fn operation_word(operation: Operation) -> &'static [u8]
-    ensures { result.now ≡ spec.operation_word operation }
+pub fn operation_kind(operation: Operation) -> Kind
+    ensures { result ≡ spec.operation_kind operation }
 {
     match operation {
-        Operation::Create => b"create",
-        Operation::Read => b"read",
-        Operation::Write => b"write",
-        Operation::Cleanup => b"cleanup",
+        Operation::Create => Kind::Create,
+        Operation::Read => Kind::Read,
+        Operation::Write => Kind::Write,
+        Operation::Cleanup => Kind::Cleanup,
     }
 }
 
 /// The kind of a lock where it is declared.
-pub fn lock_kind_word(kind: LockKind) -> &'static [u8]
-    ensures { result.now ≡ spec.lock_kind_word kind }
+pub fn lock_kind_kind(kind: LockKind) -> Kind
+    ensures { result ≡ spec.lock_kind_kind kind }
 {
     match kind {
-        LockKind::Spin => b"spin",
-        LockKind::Fast => b"fast",
-        LockKind::Push => b"push",
+        LockKind::Spin => Kind::Spin,
+        LockKind::Fast => Kind::Fast,
+        LockKind::Push => Kind::Push,
     }
 }
 
 /// The call that acquires a lock of the kind.
-pub fn acquire_word(kind: LockKind) -> &'static [u8]
-    ensures { result.now ≡ spec.acquire_word kind }
+pub fn acquire_kind(kind: LockKind) -> Kind
+    ensures { result ≡ spec.acquire_kind kind }
 {
     match kind {
-        LockKind::Spin => b"KeAcquireSpinLock",
-        LockKind::Fast => b"ExAcquireFastMutex",
-        LockKind::Push => b"FltAcquirePushLockExclusive",
+        LockKind::Spin => Kind::AcquireSpinLock,
+        LockKind::Fast => Kind::AcquireFastMutex,
+        LockKind::Push => Kind::AcquirePushLock,
     }
 }
 
 /// The call that releases a lock of the kind.
-pub fn release_word(kind: LockKind) -> &'static [u8]
-    ensures { result.now ≡ spec.release_word kind }
+pub fn release_kind(kind: LockKind) -> Kind
+    ensures { result ≡ spec.release_kind kind }
 {
     match kind {
-        LockKind::Spin => b"KeReleaseSpinLock",
-        LockKind::Fast => b"ExReleaseFastMutex",
-        LockKind::Push => b"FltReleasePushLock",
+        LockKind::Spin => Kind::ReleaseSpinLock,
+        LockKind::Fast => Kind::ReleaseFastMutex,
+        LockKind::Push => Kind::ReleasePushLock,
     }
 }
 
 /// The call that gets the context of a stream or of an instance.
-pub fn get_word(anchor: Anchor) -> &'static [u8]
-    ensures { result.now ≡ spec.get_word anchor }
+pub fn get_kind(anchor: Anchor) -> Kind
+    ensures { result ≡ spec.get_kind anchor }
 {
     match anchor {
-        Anchor::Stream => b"FltGetStreamContext",
-        Anchor::Instance => b"FltGetInstanceContext",
+        Anchor::Stream => Kind::GetStreamContext,
+        Anchor::Instance => Kind::GetInstanceContext,
     }
 }
 
 /// The call that sets the context of a stream or of an instance.
-pub fn set_word(anchor: Anchor) -> &'static [u8]
-    ensures { result.now ≡ spec.set_word anchor }
+pub fn set_kind(anchor: Anchor) -> Kind
+    ensures { result ≡ spec.set_kind anchor }
 {
     match anchor {
-        Anchor::Stream => b"FltSetStreamContext",
-        Anchor::Instance => b"FltSetInstanceContext",
+        Anchor::Stream => Kind::SetStreamContext,
+        Anchor::Instance => Kind::SetInstanceContext,
     }
 }
 
 /// The call that deletes the context of a stream or of an instance.
-pub fn delete_word(anchor: Anchor) -> &'static [u8]
-    ensures { result.now ≡ spec.delete_word anchor }
+pub fn delete_kind(anchor: Anchor) -> Kind
+    ensures { result ≡ spec.delete_kind anchor }
 {
     match anchor {
-        Anchor::Stream => b"FltDeleteStreamContext",
-        Anchor::Instance => b"FltDeleteInstanceContext",
+        Anchor::Stream => Kind::DeleteStreamContext,
+        Anchor::Instance => Kind::DeleteInstanceContext,
     }
 }
 
-pub fn existing_word(existing: Existing) -> &'static [u8]
-    ensures { result.now ≡ spec.existing_word existing }
+pub fn existing_kind(existing: Existing) -> Kind
+    ensures { result ≡ spec.existing_kind existing }
 {
     match existing {
-        Existing::Keep => b"KEEP_IF_EXISTS",
-        Existing::Replace => b"REPLACE_IF_EXISTS",
+        Existing::Keep => Kind::KeepIfExists,
+        Existing::Replace => Kind::ReplaceIfExists,
     }
 }
