@@ -9,7 +9,6 @@ use crate::vocabulary;
 use std::alloc::AllocError;
 
 /// The beginning of a line at a level, with its first word.
-#[tactic(auto, using(crate::proofs::Appending::deeper))]
 pub fn begin(out: &mut Vec<u8>, level: usize, word: Kind) -> Result<(), AllocError>
     ensures { OnOk result (out.new.items ≡ out.old.items ++ (spec.indentation level ++ spelling word)) }
 {
