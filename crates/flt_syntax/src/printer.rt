@@ -174,11 +174,7 @@ fn callback(out: &mut Vec<u8>, locks: &[Lock], callback: &Callback) -> Result<()
     closing(out, 0)
 }
 
-fn callbacks(
-    out: &mut Vec<u8>,
-    locks: &[Lock],
-    mut found: &[Callback],
-) -> Result<(), AllocError>
+fn callbacks(out: &mut Vec<u8>, locks: &[Lock], mut found: &[Callback]) -> Result<(), AllocError>
     requires { IsTrue (list_all is_small found.now) }
     ensures { OnOk result (out.new.items ≡ out.old.items ++ lines_text (flat_map (spec.callback_lines locks.now) found.entry.now)) }
 {
@@ -233,6 +229,10 @@ pub fn print(alloc: Global, tree: &Tree) -> Result<Vec<u8>, AllocError>
     name_line(&mut out, filter)?;
     lock_lines(&mut out, filter.locks.as_slice())?;
     queue_line(&mut out, filter.queue.is_some())?;
-    callbacks(&mut out, filter.locks.as_slice(), filter.callbacks.as_slice())?;
+    callbacks(
+        &mut out,
+        filter.locks.as_slice(),
+        filter.callbacks.as_slice(),
+    )?;
     Ok(out)
 }
