@@ -1,3 +1,4 @@
+pub mod Appending
 pub mod Complete
 pub mod CompleteCalls
 pub mod CompleteFiles

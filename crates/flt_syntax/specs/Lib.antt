@@ -1,7 +1,9 @@
 pub mod Action
 pub mod ActionGrammar
+pub mod ActionWords
 pub mod Call
 pub mod CallGrammar
+pub mod CallWords
 pub mod Condition
 pub mod Cursor
 pub mod File
@@ -9,13 +11,16 @@ pub mod Grammar
 pub mod Head
 pub mod Lex
 pub mod Limits
+pub mod Line
 pub mod Measures
 pub mod Names
 pub mod Operand
+pub mod Printing
 pub mod Scope
 pub mod Spelling
 pub mod Statement
 pub mod Status
 pub mod Tables
+pub mod Vocabulary
 pub mod Whole
 pub mod Words

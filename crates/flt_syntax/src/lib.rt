@@ -2,7 +2,9 @@
 #![tactic(auto)]
 
 mod action;
+mod action_printer;
 mod call;
+mod call_printer;
 mod condition;
 mod cursor;
 mod fault;
@@ -10,10 +12,12 @@ mod file;
 mod filter;
 mod head;
 mod lex;
+mod line;
 mod measure;
 mod names;
 mod naming;
 mod operand;
+mod printer;
 mod scope;
 mod statement;
 mod status;
@@ -22,6 +26,7 @@ mod tests;
 mod token;
 mod tree;
 mod variable;
+mod vocabulary;
 mod whole;
 
 pub use fault::{FaultKind, ParseError, SyntaxFault};
@@ -30,6 +35,7 @@ pub use filter::{
     Action, Callback, Condition, FallibleCall, Filter, Head, Lock, PlainCall, Position, Routine,
     Statement, Status, Test,
 };
+pub use printer::print;
 pub use tree::Tree;
 pub use variable::{
     Atom, ContextVariable, Expression, NumberVariable, OperationVariable, RemovedVariable,

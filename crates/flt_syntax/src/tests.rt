@@ -1,7 +1,7 @@
 //! Texts and what is told of them.
 
 use crate::fault::ParseError;
-use crate::parse;
+use crate::{parse, print};
 use std::alloc::Global;
 use std::test::Fail;
 
@@ -560,5 +560,34 @@ fn a_prefix_of_a_text_is_a_fault(rt: HostRuntime) -> Result<(), Fail> {
 fn names_and_blocks_are_read_within_memory(rt: HostRuntime) -> Result<(), Fail> {
     let told = answer(rt.alloc(), NAMES_AND_BLOCKS)?;
     assert_eq!(rt; told.as_str(), "ok");
+    Ok(())
+}
+
+/// Texts, and their canonical texts.
+const LAYOUTS: [(&[u8], &[u8]); 3] = [
+    (PENDING_READS, PENDING_READS),
+    (
+        b"# one line\nfilter a\taltitude 7 pre read{if draining{}else{}if n0==18446744073709551615{n0=n0-10}else{return # no status\n}repeat 3{}}",
+        b"filter a altitude 7\npre read {\n  if draining {\n  }\n  if n0 == 18446744073709551615 {\n    n0 = n0 - 10\n  } else {\n    return\n  }\n  repeat 3 {\n  }\n}\n",
+    ),
+    (
+        b"filter a altitude 100 lock push p lock spin s\r\ngeneric w { KeAcquireSpinLock s if FltSetStreamContext KEEP_IF_EXISTS c0 old c1 { } FltReferenceContext arg as c2 if FltQueueGenericWorkItem w context c2 { } return SYNCHRONIZE context c3 }",
+        b"filter a altitude 100\nlock push p\nlock spin s\ngeneric w {\n  KeAcquireSpinLock s\n  if FltSetStreamContext KEEP_IF_EXISTS c0 old c1 {\n  }\n  FltReferenceContext arg as c2\n  if FltQueueGenericWorkItem w context c2 {\n  }\n  return SYNCHRONIZE context c3\n}\n",
+    ),
+];
+
+/// The canonical text of what a text spells.
+fn printed(alloc: Global, text: &[u8]) -> Result<Vec<u8>, ParseError> {
+    Ok(print(alloc, &parse(alloc, text)?)?)
+}
+
+#[test]
+fn a_tree_is_printed_in_the_canonical_layout(rt: HostRuntime) -> Result<(), Fail> {
+    for (at, (text, want)) in LAYOUTS.iter().enumerate() {
+        let once = printed(rt.alloc(), text)?;
+        assert_eq!(rt; once.as_slice(), *want, "row {at}");
+        let twice = printed(rt.alloc(), once.as_slice())?;
+        assert_eq!(rt; twice.as_slice(), *want, "row {at}");
+    }
     Ok(())
 }
