@@ -1,11 +1,13 @@
 -- Filters that differ in where their parts stand alone.
 use Rattle.std.proofs.Common.{◌≡◌, ℕ, List, [], ◌∷◌}
-use Rattle.std.specs.Prelude.{Option}
+use Rattle.std.specs.Prelude.{Option, is_some}
 use Rattle.flt_syntax.specs.declared.filter.Action.{Action}
+use Rattle.flt_syntax.specs.declared.filter.Callback.{Callback}
 use Rattle.flt_syntax.specs.declared.filter.Condition.{Condition}
 use Rattle.flt_syntax.specs.declared.filter.Condition.TheVariants as made
 use Rattle.flt_syntax.specs.declared.filter.FallibleCall.{FallibleCall}
 use Rattle.flt_syntax.specs.declared.filter.FallibleCall.TheVariants.{QueueDeferredIoWorkItem, QueueGenericWorkItem}
+use Rattle.flt_syntax.specs.declared.filter.Filter.{Filter}
 use Rattle.flt_syntax.specs.declared.filter.PlainCall.{PlainCall}
 use Rattle.flt_syntax.specs.declared.filter.Routine.{Routine}
 use Rattle.flt_syntax.specs.declared.filter.Statement.{Statement}
@@ -35,3 +37,18 @@ mutual
   pub data AlikeAll : List Statement → List Statement → Type 0 where
     empty : AlikeAll [] []
     go_on : {s t : Statement} {ss ts : List Statement} → Alike s t → AlikeAll ss ts → AlikeAll (s ∷ ss) (t ∷ ts)
+
+pub record AlikeCallback (c d : Callback) : Type 0 where
+  pub head : c.head ≡ d.head
+  pub body : AlikeAll c.body d.body
+
+pub data AlikeCallbacks : List Callback → List Callback → Type 0 where
+  no_callback : AlikeCallbacks [] []
+  one_callback : {c d : Callback} {cs ds : List Callback} → AlikeCallback c d → AlikeCallbacks cs ds → AlikeCallbacks (c ∷ cs) (d ∷ ds)
+
+pub record AlikeFilter (f g : Filter) : Type 0 where
+  pub name : f.name ≡ g.name
+  pub altitude : f.altitude ≡ g.altitude
+  pub locks : f.locks ≡ g.locks
+  pub queue : is_some f.queue ≡ is_some g.queue
+  pub callbacks : AlikeCallbacks f.callbacks g.callbacks

@@ -245,15 +245,14 @@ leads (suc m) fits =
     and_left (slice_index (decimal (suc m)) 0 == 48) _ (ne_eqb (get_or (decimal (suc m)) 0 0) 48 (λ e. absurd (omega (arith, e))))
 
 -- a number as a word
-pub numeral : ℕ → Word
+abbrev pub numeral : ℕ → Word
 numeral n = record { kind = k.Number; value = n }
 
 decimal_number : (n : ℕ) → n < 2 ^ 64 → number (decimal n) ≡ numeral n
-unfolding number numeral
+unfolding number
 decimal_number n fits = let r = decimal_reads n fits in rw (leads n fits, r.value) refl
 
 digits_piece : (ds : Text) (n : ℕ) → 0 < length ds → list_all is_ascii_digit ds ≡ true → number ds ≡ numeral n → Piece ds (numeral n)
-unfolding numeral
 digits_piece [] n some e h = absurd (omega arith)
 digits_piece (c ∷ w) n some e h =
     let p = and_parts (is_ascii_digit c) (list_all is_ascii_digit w) e in

@@ -57,19 +57,19 @@ module _ {text : Text} where
   pub says_line : {P : Span} (ws : List Text) → Says text ws P → Says text (ws ++ []) P
   says_line ws a = says_same ws (ws ++ []) (append-nil ws) a
 
-  read_none : {P : Span} → ((i : Input) → P i i) → (i o : Input) → Tells text [] [] i o → P i o
-  read_none f _ _ (told {i}) = f i
+  read_none : (P : Span) → ((i : Input) → P i i) → (i o : Input) → Tells text [] [] i o → P i o
+  read_none P f _ _ (told {i}) = f i
 
   pub says_none : {P : Span} → ((i : Input) → P i i) → Says text [] P
-  says_none f = record { vs = []; pieces = none; reads = read_none f }
+  says_none f = record { vs = []; pieces = none; reads = read_none _ f }
 
-  read_word : {P : Span} (w : Text) (v : Word) → ((t : Token) (o : Input) → t.word ≡ v → bytes_of text t ≡ w → P (t ∷ o) o) →
+  read_word : (P : Span) (w : Text) (v : Word) → ((t : Token) (o : Input) → t.word ≡ v → bytes_of text t ≡ w → P (t ∷ o) o) →
       (i o : Input) → Tells text (w ∷ []) (v ∷ []) i o → P i o
-  read_word w v f _ _ (tell {t = t} e h (told {i})) = f t i e h
+  read_word P w v f _ _ (tell {t = t} e h (told {i})) = f t i e h
 
   pub says_word : {P : Span} (w : Text) (v : Word) → Piece w v → ((t : Token) (o : Input) → t.word ≡ v → bytes_of text t ≡ w → P (t ∷ o) o) →
       Says text (w ∷ []) P
-  says_word w v p f = record { vs = v ∷ []; pieces = more p none; reads = read_word w v f }
+  says_word w v p f = record { vs = v ∷ []; pieces = more p none; reads = read_word _ w v f }
 
   pub says_next : (kd : Kind) → Piece (spelling kd) (word kd) → Says text (spelling kd ∷ []) (Next kd)
   says_next kd p = says_word (spelling kd) (word kd) p (λ t o e h. words.next (ap (λ w. w.kind) e))
@@ -87,7 +87,6 @@ module _ {text : Text} where
       (words.name (ap (λ x. cursor.is_word x.kind) f ∙ named_word w e)))
 
   pub says_number : (n : ℕ) → n < 2 ^ 64 → Says text (decimal n ∷ []) (λ i o. NumberAt i n o)
-  unfolding numeral
   says_number n fits =
       says_word (decimal n) (numeral n) (decimal_piece n fits) (λ t o f h. subst (λ x. NumberAt (t ∷ o) x o) (ap (λ x. x.value) f)
       (words.number (ap (λ x. x.kind) f)))

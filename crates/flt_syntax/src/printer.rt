@@ -239,7 +239,7 @@ pub fn print(alloc: Global, tree: &Tree) -> Result<Vec<u8>, AllocError>
 }
 
 /// The canonical text of a well-formed filter spells it, apart from lines and columns.
-#[tactic(auto, using(crate::proofs::Lexed::lexes, crate::proofs::SaidCalls::says_condition))]
+#[tactic(auto, using(crate::proofs::Lexed::lexes, crate::proofs::Reprinted::parses_again))]
 pub fn parses_again()
     ensures { ParsesAgain }
 {}
