@@ -10,18 +10,18 @@ indented : {ws : List Text} {vs : List Word} {z : Text} (level : ℕ) → Writte
 indented zero w = w
 indented (suc level) w = gap blank (gap blank (indented level w))
 
-words_out : (w : Text) (ws : List Text) (vs : List Word) {us : List Text} {ys : List Word} {z : Text} → Pieces (w ∷ ws) vs → Written us ys z →
-    Written ((w ∷ ws) ++ us) (vs ++ ys) (w ++ (spaced ws ++ 10 ∷ z))
-words_out w _ _ (more p none) r = said p feed r
-words_out w (u ∷ us) _ {z = z} (more p (more q ps)) r =
-    subst (λ l. Written (w ∷ ((u ∷ us) ++ _)) _ (w ++ 32 ∷ l)) (sym (append_assoc u (spaced us) (10 ∷ z)))
-    (said p blank (words_out u us _ (more q ps) r))
+words_out : (w : Text) (ws : List Text) (vs : List Word) (after : List Text) (ys : List Word) (z : Text) → Pieces (w ∷ ws) vs → Written after ys z →
+    Written (w ∷ (ws ++ after)) (vs ++ ys) (w ++ (spaced ws ++ 10 ∷ z))
+words_out w _ _ after ys z (more p none) r = said p feed r
+words_out w _ _ after ys z (more {v = v} p (more {w = u} {v = x} {ws = us} {vs = xs} q ps)) r =
+    subst (λ l. Written (w ∷ u ∷ (us ++ after)) (v ∷ x ∷ (xs ++ ys)) (w ++ 32 ∷ l)) (sym (append_assoc u (spaced us) (10 ∷ z)))
+    (said p blank (words_out u us (x ∷ xs) after ys z (more q ps) r))
 
-line_out : (ws : List Text) (vs : List Word) {us : List Text} {ys : List Word} {z : Text} → Pieces ws vs → Written us ys z →
-    Written (ws ++ us) (vs ++ ys) (joined ws ++ 10 ∷ z)
-line_out _ _ none r = gap feed r
-line_out (w ∷ ws) vs {z = z} (more p ps) r =
-    subst (λ l. Written ((w ∷ ws) ++ _) _ l) (sym (append_assoc w (spaced ws) (10 ∷ z))) (words_out w ws vs (more p ps) r)
+line_out : (ws : List Text) (vs : List Word) (after : List Text) (ys : List Word) (z : Text) → Pieces ws vs → Written after ys z →
+    Written (ws ++ after) (vs ++ ys) (joined ws ++ 10 ∷ z)
+line_out _ _ after ys z none r = gap feed r
+line_out (w ∷ ws) vs after ys z (more p ps) r =
+    subst (λ l. Written (w ∷ (ws ++ after)) (vs ++ ys) l) (sym (append_assoc w (spaced ws) (10 ∷ z))) (words_out w ws vs after ys z (more p ps) r)
 
 record Cut (ws us : List Text) (vs : List Word) : Type 0 where
   front : List Word
@@ -46,4 +46,4 @@ laid_out (l ∷ ls) vs p =
     let c = cut l.words (words_of ls) vs p in
     subst (λ x. Written (l.words ++ words_of ls) x (line_text l ++ lines_text ls)) c.whole
     (subst (λ x. Written (l.words ++ words_of ls) (c.front ++ c.back) x) (layout l (lines_text ls))
-      (indented l.level (line_out l.words c.front c.here (laid_out ls c.back c.behind))))
+      (indented l.level (line_out l.words c.front (words_of ls) c.back (lines_text ls) c.here (laid_out ls c.back c.behind))))

@@ -45,7 +45,7 @@ spells f h w short read a =
       new_locks = subst (AreNewLocks []) a.locks w.new_locks;
       few_callbacks = subst (λ n. n ≤ max_callbacks) (length_alike a.callbacks) w.few_callbacks;
       new_callbacks = new_alike [] [] f.callbacks h.callbacks no_callback a.callbacks w.new_callbacks;
-      small = subst IsTrue (small_callbacks a.callbacks) w.small;
+      small = subst IsTrue (small_callbacks f.callbacks h.callbacks a.callbacks) w.small;
       served = served_alike f.queue h.queue f.callbacks h.callbacks a.queue a.callbacks w.served;
       whole = whole_alike f.callbacks h.callbacks f.callbacks h.callbacks a.callbacks a.callbacks w.whole;
     }

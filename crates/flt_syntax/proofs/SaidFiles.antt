@@ -50,11 +50,11 @@ module _ (text : Text) where
       (λ i o p. g.one_lock p.1.1 p.1.2.1 p.1.2.2 p.2)
 
   -- a queue, if there is one, wherever it stands
-  LikeQueue : Option Position → Span
+  abbrev pub LikeQueue : Option Position → Span
   LikeQueue q i o = (r : Option Position) × QueueAt i r o × (is_some q ≡ is_some r)
 
   says_queue : (q : Option Position) → Says text (words_of (queue_lines (is_some q))) (LikeQueue q)
-  unfolding spelling keyword same_kind LikeQueue
+  unfolding spelling keyword same_kind
   says_queue None = says_none (λ i. (None, g.no_queue, refl))
   says_queue (Some at) = says_by (says_kind k.Queue refl) (λ i o p. (Some (position i), g.some_queue p, refl))
 
@@ -95,7 +95,7 @@ module _ (text : Text) where
   LikeFilter f i o = kind o ≡ k.End → (h : Filter) × FileAt text i h × AlikeFilter f h
 
   pub says_filter : (f : Filter) → IsWellFormed f → Says text (words_of (filter_lines f)) (LikeFilter f)
-  unfolding spelling keyword same_kind LikeQueue
+  unfolding spelling keyword same_kind
   says_filter f w =
       says_by
       (says_both

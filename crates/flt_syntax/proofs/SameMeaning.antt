@@ -4,10 +4,11 @@ use Rattle.std.specs.List.{list_all, list_any}
 use Rattle.std.specs.Prelude.{◌&&◌, ◌||◌, not, sum, nat_le, Option, Some, None, is_some, option_map, IsTrue}
 use Rattle.flt_syntax.specs.Head.{same_event, has_event, is_named, has_routine}
 use Rattle.flt_syntax.specs.Lex.{Text}
-use Rattle.flt_syntax.specs.Measures.{points_of, points, cost_of, cost, max_points, max_cost, is_small, are_small}
-use Rattle.flt_syntax.specs.Reprinting.{nowhere, call_without, condition_without, statement_without, callback_without, without_places}
-use Rattle.flt_syntax.specs.Spelling.{is_declared, AreNewCallbacks, finds_routine, test_finds, statement_finds, finds_routines, AreWhole, IsServed}
+use Rattle.flt_syntax.specs.Measures.{points_step, points, cost_step, cost, max_points, max_cost, is_small, are_small}
+use Rattle.flt_syntax.specs.Reprinting.{nowhere, call_without, condition_without, step_without, statement_without, callback_without, without_places}
+use Rattle.flt_syntax.specs.Spelling.{is_declared, AreNewCallbacks, finds_routine, test_finds, finds_step, finds_routines, AreWhole, IsServed}
 use Rattle.flt_syntax.specs.Whole.{runs_deferred, runs_generic, has_deferred, has_generic, lacks_pre}
+use Rattle.flt_syntax.specs.declared.filter.Action.{Action}
 use Rattle.flt_syntax.specs.declared.filter.Callback.{Callback}
 use Rattle.flt_syntax.specs.declared.filter.Condition.{Condition}
 use Rattle.flt_syntax.specs.declared.filter.Condition.TheVariants as made
@@ -18,52 +19,86 @@ use Rattle.flt_syntax.specs.declared.filter.Head.{Head}
 use Rattle.flt_syntax.specs.declared.filter.Head.TheVariants.{Pre, Post, Canceled, DeferredPre, DeferredPost, Generic}
 use Rattle.flt_syntax.specs.declared.filter.Lock.{Lock}
 use Rattle.flt_syntax.specs.declared.filter.Position.{Position}
-use Rattle.flt_syntax.specs.declared.filter.Statement.{Statement}
-use Rattle.flt_syntax.specs.declared.filter.Statement.TheVariants.{If, Repeat}
+use Rattle.flt_syntax.specs.declared.filter.PlainCall.{PlainCall}
+use Rattle.flt_syntax.specs.declared.filter.Statement.{Statement, roll-Statement}
+use Rattle.flt_syntax.specs.declared.filter.Statement.TheVariants.{Act, Call, Return, If, Repeat, rolls-Act, rolls-Call, rolls-Return, rolls-If, rolls-Repeat}
+use Rattle.flt_syntax.specs.declared.filter.Statement.TheOpen.{Statement-F}
+use Rattle.flt_syntax.specs.declared.filter.Statement.TheFolds.{fold-Statement, map-Statement, fold-roll-Statement}
+use Rattle.flt_syntax.specs.declared.filter.Status.{Status}
 use Rattle.flt_syntax.proofs.Alike as alike
 use Rattle.flt_syntax.proofs.Alike.{AlikeCall, AlikeCondition, Alike, AlikeAll, AlikeCallback, AlikeCallbacks, no_callback, one_callback, AlikeFilter}
 use Rattle.flt_syntax.proofs.Sound.{differ}
 
+-- ---- folds
+
+-- two steps agree wherever the parts stand
+record Agree (X : Type 0) (a b : Statement-F X → X) : Type 0 where
+  acts : (m n : ℕ) (x : Action) → a (Statement-F.Act m x) ≡ b (Statement-F.Act n x)
+  calls : (m n : ℕ) (c : PlainCall) → a (Statement-F.Call m c) ≡ b (Statement-F.Call n c)
+  returns : (m n : ℕ) (s : Option Status) → a (Statement-F.Return m s) ≡ b (Statement-F.Return n s)
+  choices : (m n : ℕ) (c d : Condition) (gs rs : List X) → AlikeCondition c d → a (Statement-F.If m c gs rs) ≡ b (Statement-F.If n d gs rs)
+  repeats : (m n turns : ℕ) (bs : List X) → a (Statement-F.Repeat m turns bs) ≡ b (Statement-F.Repeat n turns bs)
+
+unrolled : (X : Type 0) (step : Statement-F X → X) (s : Statement) (y : Statement-F Statement) → roll-Statement y ≡ s →
+    fold-Statement X step s ≡ step (map-Statement Statement X (fold-Statement X step) y)
+unrolled X step s y e = ap (fold-Statement X step) (sym e) ∙ fold-roll-Statement X step y
+
+module _ (X : Type 0) (a b : Statement-F X → X) (same : Agree X a b) where
+  mutual
+    fold_alike : {s t : Statement} → Alike s t → fold-Statement X a s ≡ fold-Statement X b t
+    fold_alike (alike.act {m = m} {n = n} {a = x}) =
+        unrolled X a (Act m x) (Statement-F.Act m x) (rolls-Act m x) ∙ same.acts m n x ∙ sym (unrolled X b (Act n x) (Statement-F.Act n x) (rolls-Act n x))
+    fold_alike (alike.call {m} {n} {c}) =
+        unrolled X a (Call m c) (Statement-F.Call m c) (rolls-Call m c) ∙ same.calls m n c ∙ sym (unrolled X b (Call n c) (Statement-F.Call n c) (rolls-Call n c))
+    fold_alike (alike.return {m} {n} {s}) =
+        unrolled X a (Return m s) (Statement-F.Return m s) (rolls-Return m s) ∙ same.returns m n s ∙ sym (unrolled X b (Return n s) (Statement-F.Return n s) (rolls-Return n s))
+    fold_alike (alike.choice {m} {n} {c} {d} {gs} {hs} {rs} {ss} q p r) =
+        unrolled X a (If m c gs rs) (Statement-F.If m c gs rs) (rolls-If m c gs rs)
+        ∙ ap (λ l. a (Statement-F.If m c l (map (fold-Statement X a) rs))) (folds_alike p)
+        ∙ ap (λ l. a (Statement-F.If m c (map (fold-Statement X b) hs) l)) (folds_alike r)
+        ∙ same.choices m n c d (map (fold-Statement X b) hs) (map (fold-Statement X b) ss) q
+        ∙ sym (unrolled X b (If n d hs ss) (Statement-F.If n d hs ss) (rolls-If n d hs ss))
+    fold_alike (alike.repeat {m} {n} {turns} {bs} {ds} p) =
+        unrolled X a (Repeat m turns bs) (Statement-F.Repeat m turns bs) (rolls-Repeat m turns bs)
+        ∙ ap (λ l. a (Statement-F.Repeat m turns l)) (folds_alike p)
+        ∙ same.repeats m n turns (map (fold-Statement X b) ds)
+        ∙ sym (unrolled X b (Repeat n turns ds) (Statement-F.Repeat n turns ds) (rolls-Repeat n turns ds))
+
+    folds_alike : {ss ts : List Statement} → AlikeAll ss ts → map (fold-Statement X a) ss ≡ map (fold-Statement X b) ts
+    folds_alike alike.empty = refl
+    folds_alike (alike.go_on {s} {t} {ss} {ts} p q) =
+        ap (λ x. x ∷ map (fold-Statement X a) ss) (fold_alike p) ∙ ap (λ l. fold-Statement X b t ∷ l) (folds_alike q)
+
 -- ---- points and cost
 
-mutual
-  points_alike : {s t : Statement} → Alike s t → points_of s ≡ points_of t
-  points_alike alike.act = refl
-  points_alike alike.call = refl
-  points_alike alike.return = refl
-  points_alike (alike.choice c p q) = ap (λ n. 1 + (n + _)) (points_all p) ∙ ap (λ n. 1 + (_ + n)) (points_all q)
-  points_alike (alike.repeat p) = ap (λ n. 1 + n) (points_all p)
+points_agree : Agree ℕ points_step points_step
+points_agree =
+    record { acts = λ m n x. refl; calls = λ m n c. refl; returns = λ m n s. refl; choices = λ m n c d gs rs q. refl; repeats = λ m n turns bs. refl }
 
-  points_all : {ss ts : List Statement} → AlikeAll ss ts → points ss ≡ points ts
-  points_all alike.empty = refl
-  points_all (alike.go_on p q) = ap (λ n. n + _) (points_alike p) ∙ ap (λ n. _ + n) (points_all q)
+cost_agree : Agree ℕ cost_step cost_step
+cost_agree =
+    record { acts = λ m n x. refl; calls = λ m n c. refl; returns = λ m n s. refl; choices = λ m n c d gs rs q. refl; repeats = λ m n turns bs. refl }
 
-mutual
-  cost_alike : {s t : Statement} → Alike s t → cost_of s ≡ cost_of t
-  cost_alike alike.act = refl
-  cost_alike alike.call = refl
-  cost_alike alike.return = refl
-  cost_alike (alike.choice c p q) = ap (λ n. 1 + max n _) (cost_all p) ∙ ap (λ n. 1 + max _ n) (cost_all q)
-  cost_alike (alike.repeat p) = ap (λ n. 1 + _ * (1 + n)) (cost_all p)
-
-  cost_all : {ss ts : List Statement} → AlikeAll ss ts → cost ss ≡ cost ts
-  cost_all alike.empty = refl
-  cost_all (alike.go_on p q) = ap (λ n. n + _) (cost_alike p) ∙ ap (λ n. _ + n) (cost_all q)
+small_by : (p c : ℕ) → Bool
+small_by p c = nat_le (p + 1) max_points && nat_le (c + 1) max_cost
 
 small_alike : {c d : Callback} → AlikeCallback c d → is_small c ≡ is_small d
-small_alike a =
-    ap (λ n. nat_le (n + 1) max_points && nat_le (cost _ + 1) max_cost) (points_all a.body)
-    ∙ ap (λ n. nat_le (points _ + 1) max_points && nat_le (n + 1) max_cost) (cost_all a.body)
+unfolding small_by
+small_alike {c} {d} a =
+    ap (λ l. small_by (sum l) (cost c.body)) (folds_alike ℕ points_step points_step points_agree a.body)
+    ∙ ap (λ l. small_by (points d.body) (sum l)) (folds_alike ℕ cost_step cost_step cost_agree a.body)
 
-pub small_callbacks : {cs ds : List Callback} → AlikeCallbacks cs ds → list_all is_small cs ≡ list_all is_small ds
-small_callbacks no_callback = refl
-small_callbacks (one_callback a r) = ap (λ b. b && _) (small_alike a) ∙ ap (λ b. _ && b) (small_callbacks r)
+pub small_callbacks : (cs ds : List Callback) → AlikeCallbacks cs ds → list_all is_small cs ≡ list_all is_small ds
+small_callbacks _ _ no_callback = refl
+small_callbacks _ _ (one_callback {c} {d} {cs} {ds} a r) =
+    ap (λ b. b && list_all is_small cs) (small_alike a) ∙ ap (λ b. is_small d && b) (small_callbacks cs ds r)
 
 -- ---- heads
 
 any_alike : (p : Head → Bool) {cs ds : List Callback} → AlikeCallbacks cs ds → list_any (λ c. p c.head) cs ≡ list_any (λ c. p c.head) ds
 any_alike p no_callback = refl
-any_alike p (one_callback a r) = ap (λ h. p h || _) a.head ∙ ap (λ b. _ || b) (any_alike p r)
+any_alike p (one_callback {c} {d} {cs} {ds} a r) =
+    ap (λ h. p h || list_any (λ x. p x.head) cs) a.head ∙ ap (λ b. p d.head || b) (any_alike p r)
 
 event_alike : (h : Head) {cs ds : List Callback} → AlikeCallbacks cs ds → has_event h cs ≡ has_event h ds
 event_alike h = any_alike (λ x. same_event x h)
@@ -116,18 +151,18 @@ module _ {all again : List Callback} (a : AlikeCallbacks all again) (from : Head
   test_alike alike.a_test = refl
   test_alike (alike.a_call p) = call_finds p
 
-  mutual
-    finds_alike : {s t : Statement} → Alike s t → statement_finds all from s ≡ statement_finds again from t
-    finds_alike alike.act = refl
-    finds_alike alike.call = refl
-    finds_alike alike.return = refl
-    finds_alike (alike.choice c p q) =
-        ap (λ b. b && (_ && _)) (test_alike c) ∙ ap (λ b. _ && (b && _)) (finds_all p) ∙ ap (λ b. _ && (_ && b)) (finds_all q)
-    finds_alike (alike.repeat p) = finds_all p
+  finds_agree : Agree Bool (finds_step all from) (finds_step again from)
+  finds_agree =
+      record {
+        acts = λ m n x. refl;
+        calls = λ m n c. refl;
+        returns = λ m n s. refl;
+        choices = λ m n c d gs rs q. ap (λ b. b && (list_all (λ x. x) gs && list_all (λ x. x) rs)) (test_alike q);
+        repeats = λ m n turns bs. refl;
+      }
 
-    finds_all : {ss ts : List Statement} → AlikeAll ss ts → finds_routines all from ss ≡ finds_routines again from ts
-    finds_all alike.empty = refl
-    finds_all (alike.go_on p q) = ap (λ b. b && _) (finds_alike p) ∙ ap (λ b. _ && b) (finds_all q)
+  finds_all : {ss ts : List Statement} → AlikeAll ss ts → finds_routines all from ss ≡ finds_routines again from ts
+  finds_all p = ap (list_all (λ b. b)) (folds_alike Bool (finds_step all from) (finds_step again from) finds_agree p)
 
 lacks_alike : (h : Head) {cs ds : List Callback} → AlikeCallbacks cs ds → lacks_pre cs h ≡ lacks_pre ds h
 lacks_alike (Post op) a = ap not (event_alike (Pre op) a)
@@ -144,25 +179,25 @@ whole_alike all again _ _ a (one_callback {c} {d} {cs} {ds} x r) w =
 
 call_alike : {c d : FallibleCall} → AlikeCall c d → call_without c ≡ call_without d
 call_alike alike.same = refl
-call_alike (alike.deferred e) = ap (λ n. QueueDeferredIoWorkItem (record { name = n; position = nowhere }) _) e
-call_alike (alike.generic e) = ap (λ n. QueueGenericWorkItem (record { name = n; position = nowhere }) _) e
+call_alike (alike.deferred {c = c} e) = ap (λ n. QueueDeferredIoWorkItem (record { name = n; position = nowhere }) c) e
+call_alike (alike.generic {c = c} e) = ap (λ n. QueueGenericWorkItem (record { name = n; position = nowhere }) c) e
 
 condition_alike : {c d : Condition} → AlikeCondition c d → condition_without c ≡ condition_without d
 condition_alike alike.a_test = refl
 condition_alike (alike.a_call p) = ap made.Succeeds (call_alike p)
 
-mutual
-  statement_alike : {s t : Statement} → Alike s t → statement_without s ≡ statement_without t
-  statement_alike alike.act = refl
-  statement_alike alike.call = refl
-  statement_alike alike.return = refl
-  statement_alike (alike.choice c p q) =
-      ap (λ x. If 0 x _ _) (condition_alike c) ∙ ap (λ x. If 0 _ x _) (body_alike p) ∙ ap (λ x. If 0 _ _ x) (body_alike q)
-  statement_alike (alike.repeat p) = ap (λ x. Repeat 0 _ x) (body_alike p)
+without_agree : Agree Statement step_without step_without
+without_agree =
+    record {
+      acts = λ m n x. refl;
+      calls = λ m n c. refl;
+      returns = λ m n s. refl;
+      choices = λ m n c d gs rs q. ap (λ x. If 0 x gs rs) (condition_alike q);
+      repeats = λ m n turns bs. refl;
+    }
 
-  body_alike : {ss ts : List Statement} → AlikeAll ss ts → map statement_without ss ≡ map statement_without ts
-  body_alike alike.empty = refl
-  body_alike (alike.go_on p q) = ap (λ x. x ∷ _) (statement_alike p) ∙ ap (λ x. _ ∷ x) (body_alike q)
+body_alike : {ss ts : List Statement} → AlikeAll ss ts → map statement_without ss ≡ map statement_without ts
+body_alike p = folds_alike Statement step_without step_without without_agree p
 
 callbacks_alike : {cs ds : List Callback} → AlikeCallbacks cs ds → map callback_without cs ≡ map callback_without ds
 callbacks_alike no_callback = refl
