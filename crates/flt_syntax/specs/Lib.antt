@@ -15,6 +15,7 @@ pub mod Line
 pub mod Measures
 pub mod Operand
 pub mod Printing
+pub mod Reprinting
 pub mod Scope
 pub mod Spelling
 pub mod Statement
@@ -22,4 +23,5 @@ pub mod Status
 pub mod Tables
 pub mod Vocabulary
 pub mod Whole
+pub mod WellFormed
 pub mod Words
