@@ -238,8 +238,8 @@ pub fn print(alloc: Global, tree: &Tree) -> Result<Vec<u8>, AllocError>
     Ok(out)
 }
 
-/// The canonical text of a well-formed filter spells it, apart from lines and columns.
-#[tactic(auto, using(crate::proofs::Lexed::lexes, crate::proofs::Reprinted::parses_again))]
+/// The canonical text of a well-formed filter spells it, apart from lines and columns, if it is not too long.
+#[tactic(auto, using(crate::proofs::Reprinted::parses_again))]
 pub fn parses_again()
     ensures { ParsesAgain }
 {}
