@@ -16,6 +16,7 @@ pub mod Measures
 pub mod Names
 pub mod Operand
 pub mod Printing
+pub mod Reprinting
 pub mod Scope
 pub mod Spelling
 pub mod Statement
@@ -23,4 +24,5 @@ pub mod Status
 pub mod Tables
 pub mod Vocabulary
 pub mod Whole
+pub mod WellFormed
 pub mod Words

@@ -35,7 +35,7 @@ pub use filter::{
     Action, Callback, Condition, FallibleCall, Filter, Head, Lock, PlainCall, Position, Routine,
     Statement, Status, Test,
 };
-pub use printer::print;
+pub use printer::{parses_again, print};
 pub use tree::Tree;
 pub use variable::{
     Atom, ContextVariable, Expression, NumberVariable, OperationVariable, RemovedVariable,

@@ -3,6 +3,7 @@
 ghost use Rattle.flt_syntax.specs.Line.{begun, line_text, lines_text};
 ghost use Rattle.flt_syntax.specs.Measures.{points, points_of, max_points, is_small};
 ghost use Rattle.flt_syntax.specs.Printing as spec;
+ghost use Rattle.flt_syntax.specs.Reprinting.{ParsesAgain};
 ghost use Rattle.std.specs.Prelude.{◌≡◌, ◌≤◌, ◌+◌, [], ◌∷◌, ◌++◌, map, flat_map, IfOk, OnOk, IsTrue};
 ghost use Rattle.std.specs.List.{list_all};
 
@@ -236,3 +237,9 @@ pub fn print(alloc: Global, tree: &Tree) -> Result<Vec<u8>, AllocError>
     )?;
     Ok(out)
 }
+
+/// The canonical text of a well-formed filter spells it, apart from lines and columns, if it is not too long.
+#[tactic(auto, using(crate::proofs::Reprinted::parses_again))]
+pub fn parses_again()
+    ensures { ParsesAgain }
+{}
