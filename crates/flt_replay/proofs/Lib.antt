@@ -1,1 +1,3 @@
+pub mod Local
+pub mod Reading
 pub mod Remaining

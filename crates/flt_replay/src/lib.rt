@@ -8,3 +8,4 @@ mod local;
 mod lock_list;
 mod parts;
 mod rest;
+mod world;
