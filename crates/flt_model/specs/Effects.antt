@@ -18,9 +18,11 @@ pub record Step : Type 0 where
 
 -- ---- variables that a call asks to be held, each as what it names
 
+-- what a context variable names, as an object
 abbrev pub context : Option ℕ → Option Object
 context x = option_map Context x
 
+-- what an operation variable names, as an object
 abbrev pub operation : Option ℕ → Option Object
 operation v = option_map Visit v
 
@@ -43,10 +45,12 @@ empties a (Some o ∷ needs) = empties a needs
 
 -- ---- events of what may be there
 
+-- a context that may be there is gained
 abbrev pub gains_context : ℕ → Option ℕ → List Event
 gains_context a None = []
 gains_context a (Some x) = event.Gain a (Context x) ∷ []
 
+-- a context that may be there is lost
 abbrev pub loses_context : ℕ → Option ℕ → List Event
 loses_context a None = []
 loses_context a (Some x) = event.Lose a (Context x) ∷ []
@@ -57,10 +61,12 @@ freed_by_drop s x = if (context_at s x).references == 1 then event.Free x ∷ []
 
 -- ---- the reference of a link that is gone: it goes to the variable that receives it, or is dropped
 
+-- the store without the link
 abbrev pub after_unlink : Store → ℕ → Option ContextVariable → Store
 after_unlink s x None = drop_reference (with_link s x None) x
 after_unlink s x (Some d) = with_link s x None
 
+-- the events of that
 abbrev pub events_of_unlink : ℕ → Store → ℕ → Option ContextVariable → List Event
 events_of_unlink a s x None = freed_by_drop s x
 events_of_unlink a s x (Some d) = event.Gain a (Context x) ∷ []
@@ -72,6 +78,7 @@ module _ (w : World) (a : ℕ) where
   abbrev pub onward : List Statement → Activation
   onward rest = record (activation_at w a) { rest = rest }
 
+  -- the activation is now this, and what activations share is that
   abbrev pub goes_on : Activation → Store → List Event → Step
   goes_on act s events = record {
     world = record w { activations = set w.activations a act; store = s };

@@ -1,5 +1,5 @@
 -- What a journal says: the transitions of each entry, and which entry is the first that isn't a run or that breaks something.
-use Rattle.std.specs.Prelude.{ℕ, zero, suc, ◌+◌, Bool, List, [], ◌∷◌, ◌++◌, replicate, Option, Some, None, option_map, option_and_then}
+use Rattle.std.specs.Prelude.{◌≡◌, ℕ, zero, suc, ◌+◌, Bool, List, [], ◌∷◌, ◌++◌, replicate, Option, Some, None, option_map, option_and_then}
 use Rattle.flt_syntax.specs.declared.filter.Filter.{Filter}
 use Rattle.flt_model.specs.declared.moves.JournalEntry.{JournalEntry}
 use Rattle.flt_model.specs.declared.moves.JournalEntry.TheVariants.{Move, Go}
@@ -8,7 +8,7 @@ use Rattle.flt_model.specs.declared.verdict.Verdict.TheVariants.{Legal, NotARun,
 use Rattle.flt_model.specs.declared.verdict.Violation.{Violation}
 use Rattle.flt_model.specs.Effects.{Step}
 use Rattle.flt_model.specs.Program.{by_altitude}
-use Rattle.flt_model.specs.Runs.{Moment, start, after, next, broken}
+use Rattle.flt_model.specs.Runs.{Moment, start, after, next, run, broken, breaks}
 use Rattle.flt_model.specs.Steps.{Transition, Make, Local, Board}
 
 -- ---- entries
@@ -28,6 +28,14 @@ abbrev pub expand : List JournalEntry → Option (List Transition)
 expand [] = Some []
 expand (e ∷ es) = option_and_then (λ xs. option_map (λ ys. xs ++ ys) (expand es)) (expansion e)
 
+-- the transitions of a journal are a run on these filters that breaks nothing
+pub record IsCleanRun (filters : List Filter) (entries : List JournalEntry) : Type 0 where
+  pub transitions : List Transition
+  pub last : Moment
+  pub expanded : expand entries ≡ Some transitions
+  pub runs : run (by_altitude filters) transitions ≡ Some last
+  pub clean : breaks (by_altitude filters) transitions ≡ None
+
 -- ---- the verdict
 
 -- where some transitions lead: to a moment, to one that isn't enabled, or to a break
@@ -36,18 +44,22 @@ pub data Course : Type 0 where
   Stops : Course
   Fails : (violation : Violation) → Course
 
+-- a violation ends the course
 abbrev pub unless_broken : Option Violation → Course → Course
 unless_broken None rest = rest
 unless_broken (Some v) rest = Fails v
 
+-- a step that isn't enabled ends the course
 abbrev pub course_by : Option Step → (Step → Course) → Course
 course_by None f = Stops
 course_by (Some s) f = f s
 
+-- the course of some transitions from a moment on
 abbrev pub course : List Filter → Moment → List Transition → Course
 course p m [] = Reaches m
 course p m (x ∷ xs) = course_by (next p m x) (λ s. unless_broken (broken p m s) (course p (after m s) xs))
 
+-- the course of an entry; one without transitions is never enabled
 abbrev pub entry_course : List Filter → Moment → Option (List Transition) → Course
 entry_course p m None = Stops
 entry_course p m (Some xs) = course p m xs
@@ -58,6 +70,7 @@ judged (Reaches m) n rest = rest m
 judged Stops n rest = NotARun n
 judged (Fails v) n rest = Breaks v n
 
+-- the verdict about entries from a moment on, where n stand before them
 abbrev pub verdict_from : List Filter → Moment → ℕ → List JournalEntry → Verdict
 verdict_from p m n [] = Legal
 verdict_from p m n (e ∷ es) = judged (entry_course p m (expansion e)) n (λ r. verdict_from p r (n + 1) es)

@@ -20,5 +20,6 @@ abbrev pub level_with : Filter → Level → List LockNumber → Level
 level_with f level [] = level
 level_with f level (l ∷ locks) = level_with f (greater_level level (raised_by (kind_of_lock f l))) locks
 
+-- the level at a place, with these locks
 abbrev pub level_at : Filter → Place → List LockNumber → Level
 level_at f place locks = level_with f (entry_level place) locks

@@ -21,3 +21,8 @@ pub mod WorkedQueue
 pub mod WorkedStack
 pub mod WorkedContexts
 pub mod WorkedBreaks
+pub mod WorkedCalls
+pub mod WorkedMisuse
+pub mod JournalText
+pub mod JournalTextReading
+pub mod Streams

@@ -35,6 +35,7 @@ abbrev pub turns_left : ℕ → ℕ → List Statement → List Statement → Li
 turns_left line zero block rest = rest
 turns_left line (suc turns) block rest = block ++ tree.Repeat line turns block ∷ rest
 
+-- these statements remain
 abbrev pub goes_on_to : List Statement → Activation → Activation
 goes_on_to list act = record act { rest = list }
 

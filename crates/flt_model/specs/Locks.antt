@@ -6,9 +6,11 @@ use Rattle.flt_rules.specs.Call.{place_of}
 use Rattle.flt_rules.specs.declared.call.LockNumber.{LockNumber}
 use Rattle.flt_model.specs.World.{Store, holders_at}
 
+-- whether two numbers are one lock
 abbrev pub same_lock : LockNumber → LockNumber → Bool
 same_lock l m = place_of l == place_of m
 
+-- whether the lock is in the list
 abbrev pub holds_lock : LockNumber → List LockNumber → Bool
 holds_lock l = list_any (same_lock l)
 
@@ -27,6 +29,7 @@ without_last l (m ∷ locks) = if same_lock l m && not (holds_lock l locks) then
 abbrev pub holder_of : Store → ℕ → LockNumber → Option ℕ
 holder_of s f l = get_or (holders_at s f) (place_of l) None
 
+-- the lock has this holder from now on, or none
 abbrev pub with_holder : Store → ℕ → LockNumber → Option ℕ → Store
 with_holder s f l holder = record s { holders = set s.holders f (set (holders_at s f) (place_of l) holder) }
 

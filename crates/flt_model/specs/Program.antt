@@ -37,9 +37,11 @@ by_altitude (f ∷ rest) = put_by_altitude f (by_altitude rest)
 abbrev pub no_filter : Filter
 no_filter = record { name = []; altitude = 0; locks = []; queue = None; callbacks = [] }
 
+-- the filter of a number
 abbrev pub filter_at : List Filter → ℕ → Filter
 filter_at p f = get_or p f no_filter
 
+-- its callbacks
 abbrev pub callbacks_at : List Filter → ℕ → List Callback
 callbacks_at p f = (filter_at p f).callbacks
 
@@ -49,6 +51,7 @@ filter_of p altitude = position_or_len (λ (f : Filter). f.altitude == altitude)
 
 -- ---- callbacks by what they are registered for
 
+-- whether two operations are of one kind
 abbrev pub same_operation : Operation → Operation → Bool
 same_operation Create Create = true
 same_operation Read Read = true
@@ -56,24 +59,29 @@ same_operation Write Write = true
 same_operation Cleanup Cleanup = true
 same_operation _ _ = false
 
+-- a pre callback of the operation
 abbrev pub is_pre_of : Operation → Head → Bool
 is_pre_of kind (head.Pre own) = same_operation own kind
 is_pre_of kind _ = false
 
+-- a post callback of the operation
 abbrev pub is_post_of : Operation → Head → Bool
 is_post_of kind (head.Post own) = same_operation own kind
 is_post_of kind _ = false
 
+-- the CompleteCanceledIo callback
 abbrev pub is_canceled : Head → Bool
 is_canceled head.Canceled = true
 is_canceled _ = false
 
+-- the routine of a name
 abbrev pub is_routine : List ℕ → Head → Bool
 is_routine name (head.DeferredPre own) = bytes_eq own name
 is_routine name (head.DeferredPost own) = bytes_eq own name
 is_routine name (head.Generic own) = bytes_eq own name
 is_routine name _ = false
 
+-- whether one of the callbacks has such a head
 abbrev pub has_head : (Head → Bool) → List Callback → Bool
 has_head test cs = list_any (λ (c : Callback). test c.head) cs
 
@@ -90,6 +98,7 @@ body_for test cs = body_of (find (λ (c : Callback). test c.head) cs)
 abbrev pub routine_of : List Callback → Routine → ℕ
 routine_of cs r = position_or_len (λ (c : Callback). is_routine r.name c.head) cs
 
+-- the statements of the callback of a number
 abbrev pub body_at : List Callback → ℕ → List Statement
 body_at cs routine = body_of (slice_get cs routine)
 
@@ -102,21 +111,26 @@ place_by (head.DeferredPre name) = place.DeferredPre
 place_by (head.DeferredPost name) = place.DeferredPost
 place_by (head.Generic name) = place.Generic
 
+-- the place of a callback that may not be there
 abbrev pub place_for : Option Callback → Place
 place_for None = place.Generic
 place_for (Some c) = place_by c.head
 
+-- the place of the callback of a number
 abbrev pub place_at : List Callback → ℕ → Place
 place_at cs routine = place_for (slice_get cs routine)
 
 -- ---- what a filter is registered for
 
+-- whether the operation has a pre callback
 abbrev pub has_pre : List Callback → Operation → Bool
 has_pre cs kind = has_head (is_pre_of kind) cs
 
+-- whether the operation has a post callback
 abbrev pub has_post : List Callback → Operation → Bool
 has_post cs kind = has_head (is_post_of kind) cs
 
+-- the operation has a post callback, or no pre callback
 abbrev pub is_paired : List Callback → Operation → Bool
 is_paired cs kind = not (has_pre cs kind) || has_post cs kind
 

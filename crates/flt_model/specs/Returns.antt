@@ -29,6 +29,7 @@ there (Some x) = x
 
 -- a trace and a world, and the activation that ends
 module _ (p : List Filter) (t : List Event) (w : World) (a : ℕ) where
+  -- the activation that ends
   abbrev act : Activation
   act = activation_at w a
 
@@ -36,12 +37,14 @@ module _ (p : List Filter) (t : List Event) (w : World) (a : ℕ) where
   abbrev pub ended : Activation
   ended = record act { rest = []; ended = true }
 
+  -- it ends, with these events before its last
   abbrev pub ends : Store → List Event → Step
   ends s events = record {
     world = record w { activations = set w.activations a ended; store = s };
     events = events ++ event.End a ∷ [];
   }
 
+  -- a status is given, or is missing where one is wanted
   abbrev pub status_given : Option Status → List Event
   status_given st = if answers (actor_at w a).place || is_some st then event.Status a (Returned st) ∷ [] else []
 
@@ -56,15 +59,18 @@ module _ (p : List Filter) (t : List Event) (w : World) (a : ℕ) where
       ++ (if makes_frame w.store v way then loses_context a x else [])
       ++ (if settles_visit way then event.Settle v ∷ [] else [])
 
+  -- the visit is settled by the status
   abbrev pub answered : Option Status → ℕ → Option ℕ → Step
   answered st v x =
       let way = way_of p w.store v (Returned st) in
       ends (settled_by w.store v x way) (status_given st ++ context_used st ++ visit_given_back v x way)
 
+  -- only a callback that answers for a visit settles one
   abbrev pub returned : Option Status → Bool → Option ℕ → Step
   returned st true (Some v) = answered st v (there (named_in act (named_by st)))
   returned st true None = ends w.store (status_given st ++ context_used st)
   returned st false given = ends w.store (status_given st ++ context_used st)
 
+  -- `return`, with a status or without
   abbrev pub returns : Option Status → Step
   returns st = returned st (answers (actor_at w a).place) (operation_in act Data)

@@ -14,9 +14,11 @@ pub record Moment : Type 0 where
   pub world : World
   pub trace : List Event
 
+-- the moment before all transitions
 abbrev pub start : List Filter → Moment
 start p = record { world = opening p; trace = [] }
 
+-- the moment after a step
 abbrev pub after : Moment → Step → Moment
 after m s = record { world = s.world; trace = m.trace ++ s.events }
 
@@ -24,6 +26,7 @@ after m s = record { world = s.world; trace = m.trace ++ s.events }
 abbrev pub next : List Filter → Moment → Transition → Option Step
 next p m x = step p m.world m.trace x
 
+-- where transitions lead from a moment on
 abbrev pub run_from : List Filter → Moment → List Transition → Option Moment
 run_from p m [] = Some m
 run_from p m (x ∷ xs) = option_and_then (λ s. run_from p (after m s) xs) (next p m x)
@@ -68,6 +71,7 @@ abbrev pub first_or : Option Violation → ℕ → Option Break → Option Break
 first_or (Some v) k rest = Some (record { moment = k; violation = v })
 first_or None k rest = rest
 
+-- the first break from a moment on, where k transitions stand before it
 abbrev pub breaks_from : List Filter → Moment → ℕ → List Transition → Option Break
 breaks_from p m k [] = None
 breaks_from p m k (x ∷ xs) =

@@ -31,6 +31,7 @@ given_by (Returned st) = st
 given_by (CompletesPre whose v st) = Some st
 given_by (CompletesPost v) = Some status.FinishedProcessing
 
+-- whether a callback returned it
 abbrev pub is_returned : Answer → Bool
 is_returned (Returned st) = true
 is_returned _ = false
@@ -41,6 +42,7 @@ context_of (status.WithCallback c) = c
 context_of (status.Synchronize c) = c
 context_of _ = None
 
+-- the same of a status that may be missing
 abbrev pub named_by : Option Status → Option ContextVariable
 named_by None = None
 named_by (Some st) = context_of st
@@ -60,6 +62,7 @@ abbrev pub way_after : Bool → Option Status → Way
 way_after returned (Some status.MoreProcessingRequired) = if returned then Stays else Rises
 way_after returned _ = Rises
 
+-- by the stage of the visit
 abbrev pub way_by : Bool → Stage → Bool → Option Status → Way
 way_by post stage.Pre returned st = way_before post returned st
 way_by post stage.Post returned st = way_after returned st
@@ -70,10 +73,12 @@ way_of p s v answer =
     let visit = visit_at s v in
     way_by (has_post (callbacks_at p visit.filter) (arrival_of s v).kind) visit.stage (is_returned answer) (given_by answer)
 
+-- whether the filter's part is over
 abbrev pub settles_visit : Way → Bool
 settles_visit Stays = false
 settles_visit _ = true
 
+-- whether the post callback is to be called
 abbrev pub asks_for_frame : Way → Bool
 asks_for_frame Frames = true
 asks_for_frame _ = false
@@ -94,6 +99,7 @@ is_led s v = not (is_settled s v) && not (visit_at s v).draining
 abbrev pub makes_frame : Store → ℕ → Way → Bool
 makes_frame s v way = asks_for_frame way && is_led s v
 
+-- the operation goes on, where the visit still moves it
 abbrev pub lead : Store → ℕ → Option ℕ → Way → Store
 lead s v x way =
     let visit = visit_at s v in

@@ -33,6 +33,7 @@ use Rattle.flt_model.specs.Trace.{is_held}
 use Rattle.flt_model.specs.Variables.{operation_in}
 use Rattle.flt_model.specs.World.{World, activation_at, actor_at, arrival_of, visit_at}
 
+-- the word of a status, as the table has it
 abbrev pub word_of : Status → StatusWord
 word_of (status.WithCallback c) = word.WithCallback
 word_of (status.Synchronize c) = word.Synchronize
@@ -48,11 +49,13 @@ abbrev pub completes_pending : Status → Bool
 completes_pending (status.Complete final.Pending) = true
 completes_pending _ = false
 
+-- whether two stages are one
 abbrev pub same_stage : Stage → Stage → Bool
 same_stage stage.Pre stage.Pre = true
 same_stage stage.Post stage.Post = true
 same_stage _ _ = false
 
+-- whether two modes are one
 abbrev pub same_mode : Mode → Mode → Bool
 same_mode Irp Irp = true
 same_mode Fast Fast = true
@@ -60,11 +63,13 @@ same_mode _ _ = false
 
 -- ---- returned
 
+-- only pre and post callbacks return a status, each of its own stage
 abbrev pub fits_stage : Place → Stage → Bool
 fits_stage (place.Pre kind) s = same_stage s stage.Pre
 fits_stage (place.Post kind) s = same_stage s stage.Post
 fits_stage _ s = false
 
+-- the pre callback of a create
 abbrev pub is_pre_create : Place → Bool
 is_pre_create (place.Pre Create) = true
 is_pre_create _ = false
@@ -74,6 +79,7 @@ abbrev pub is_possessed : Bool → Possession → Bool
 is_possessed held possession.Held = held
 is_possessed held possession.GivenAway = not held
 
+-- the mode that a row asks for, if it asks for one
 abbrev pub is_of_mode : Mode → Option Mode → Bool
 is_of_mode m None = true
 is_of_mode m (Some wanted) = same_mode m wanted
@@ -91,6 +97,7 @@ module _ (p : List Filter) (w : World) (t : List Event) (a : ℕ) where
       && is_of_mode arrival.mode r.mode
       && (r.in_draining || not actor.draining)
 
+  -- about a visit that is there, by the row of the status
   abbrev pub is_returned_legally : Status → Option ℕ → Bool
   is_returned_legally st None = false
   is_returned_legally st (Some v) = fits_row (status_row (word_of st)) v && not (completes_pending st)
@@ -102,10 +109,12 @@ module _ (p : List Filter) (w : World) (t : List Event) (a : ℕ) where
 
   -- ---- handed on by FltCompletePendedPreOperation
 
+  -- WITH_CALLBACK
   abbrev pub is_with_callback : StatusWord → Bool
   is_with_callback word.WithCallback = true
   is_with_callback _ = false
 
+  -- COMPLETE
   abbrev pub is_complete : StatusWord → Bool
   is_complete word.Complete = true
   is_complete _ = false
@@ -115,6 +124,7 @@ module _ (p : List Filter) (w : World) (t : List Event) (a : ℕ) where
   fits_canceled place.Canceled Given st = is_complete st
   fits_canceled _ _ st = true
 
+  -- to a visit before the filters below; WITH_CALLBACK where each operation with a pre callback has a post callback
   abbrev pub may_hand : Possessed → ℕ → Status → Bool
   may_hand whose v st =
       same_stage (visit_at w.store v).stage stage.Pre
@@ -131,10 +141,12 @@ module _ (p : List Filter) (w : World) (t : List Event) (a : ℕ) where
 
   -- ---- pended: only an I/O request packet may be queued or deferred
 
+  -- the operation is an I/O request packet, if there is one
   abbrev pub is_packet : Option ℕ → Bool
   is_packet None = true
   is_packet (Some v) = same_mode (arrival_of w.store v).mode Irp
 
+  -- the calls that queue or defer `data`
   abbrev pub may_pend : Call → Bool
   may_pend call.InsertIo = is_packet (operation_in (activation_at w a) Data)
   may_pend call.QueueDeferredIoWorkItem = is_packet (operation_in (activation_at w a) Data)

@@ -41,6 +41,7 @@ may_be_refused (fallible.QueueDeferredIoWorkItem r c) = true
 may_be_refused (fallible.QueueGenericWorkItem r c) = true
 may_be_refused _ = false
 
+-- whether a condition leaves the system a choice
 abbrev pub leaves_choice : Condition → Bool
 leaves_choice (condition.Succeeds c) = may_be_refused c
 leaves_choice (condition.Test t) = false
@@ -56,12 +57,14 @@ may_go w a grant _ = grant
 -- ---- steps that others see; a local one is none
 
 module _ (p : List Filter) (t : List Event) (w : World) (a : ℕ) where
+  -- an action that others see
   abbrev pub act_step : List Statement → Action → Option Step
   act_step rest (action.ReadValue n c) = Some (read_value w a n c rest)
   act_step rest (action.ReadFile n d) = Some (read_file w a n d rest)
   act_step rest (action.WriteValue c x) = Some (write_value w a c x rest)
   act_step rest _ = None
 
+  -- a call that always succeeds
   abbrev pub plain_step : List Statement → PlainCall → Step
   plain_step rest (plain.DeleteContext c) = delete w a c rest
   plain_step rest (plain.ReferenceContext c d) = reference w a c d rest
@@ -71,6 +74,7 @@ module _ (p : List Filter) (t : List Event) (w : World) (a : ℕ) where
   plain_step rest (plain.CompletePendedPreOperation d st) = complete_pre w a p d st rest
   plain_step rest plain.CompletePendedPostOperation = complete_post w a p rest
 
+  -- a call that can fail
   abbrev pub fallible_step : Bool → List Statement → List Statement → FallibleCall → Step
   fallible_step grant granted refused (fallible.AllocateContext d) = allocate w a d grant granted refused
   fallible_step grant granted refused (fallible.GetContext on d) = get w a on d granted refused
@@ -83,10 +87,12 @@ module _ (p : List Filter) (t : List Event) (w : World) (a : ℕ) where
   fallible_step grant granted refused (fallible.QueueGenericWorkItem r c) =
       queue_generic w a (routine_of (callbacks_at p (actor_at w a).filter) r) c grant granted refused
 
+  -- a test that others see
   abbrev pub test_step : List Statement → List Statement → Test → Option Step
   test_step holds fails test.IsIrp = Some (test_irp w a holds fails)
   test_step holds fails _ = None
 
+  -- a condition that others see
   abbrev pub if_step : Bool → List Statement → List Statement → Condition → Option Step
   if_step grant granted refused (condition.Test x) = test_step granted refused x
   if_step grant granted refused (condition.Succeeds c) = Some (fallible_step grant granted refused c)
@@ -99,9 +105,11 @@ module _ (p : List Filter) (t : List Event) (w : World) (a : ℕ) where
   statement_step rest grant (Statement-F.If line asked granted refused) = if_step grant (granted ++ rest) (refused ++ rest) asked
   statement_step rest grant (Statement-F.Repeat line turns block) = None
 
+  -- only with a choice that there is
   abbrev pub first_step : List Statement → Bool → Statement-F Statement → Option Step
   first_step rest grant s = if may_go w a grant s then statement_step rest grant s else None
 
+  -- the end of a body is a `return` without a status
   abbrev pub list_step : List Statement → Bool → Option Step
   list_step [] grant = if grant then Some (returns p t w a None) else None
   list_step (s ∷ rest) grant = first_step rest grant (out-Statement s)
@@ -110,9 +118,11 @@ module _ (p : List Filter) (t : List Event) (w : World) (a : ℕ) where
   abbrev pub board : Bool → Option Step
   board grant = let act = activation_at w a in if act.ended then None else list_step act.rest grant
 
+  -- the activation is now this, and nothing happened that others see
   abbrev pub moved_on : Activation → Step
   moved_on act = record { world = record w { activations = set w.activations a act }; events = [] }
 
+  -- a local step
   abbrev pub local : Option Step
   local =
       let act = activation_at w a in

@@ -24,14 +24,17 @@ abbrev pub gain : ℕ → Object → Event → ℕ
 gain a o (Gain b p) = of_actor b a (same_object p o)
 gain a o _ = 0
 
+-- the same of losses
 abbrev pub lose : ℕ → Object → Event → ℕ
 lose a o (Lose b p) = of_actor b a (same_object p o)
 lose a o _ = 0
 
+-- the same of a context that is freed
 abbrev pub free : ℕ → Event → ℕ
 free x (Free y) = one_if y x
 free x _ = 0
 
+-- the same of a visit that is settled
 abbrev pub settle : ℕ → Event → ℕ
 settle v (Settle u) = one_if u v
 settle v _ = 0
@@ -40,12 +43,15 @@ settle v _ = 0
 unfoldable pub gains : List Event → ℕ → Object → ℕ
 gains t a o = sum_by (gain a o) t
 
+-- how often it lost the object
 unfoldable pub loses : List Event → ℕ → Object → ℕ
 loses t a o = sum_by (lose a o) t
 
+-- how often the context was freed
 unfoldable pub frees : List Event → ℕ → ℕ
 frees t x = sum_by (free x) t
 
+-- how often the visit was settled
 unfoldable pub settles : List Event → ℕ → ℕ
 settles t v = sum_by (settle v) t
 

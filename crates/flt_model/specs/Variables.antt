@@ -16,6 +16,7 @@ use Rattle.flt_model.specs.World.{Activation}
 
 -- ---- where a variable stands among those of its kind
 
+-- `n0` to `n7`
 abbrev pub number_place : NumberVariable → ℕ
 number_place N0 = 0
 number_place N1 = 1
@@ -26,6 +27,7 @@ number_place N5 = 5
 number_place N6 = 6
 number_place N7 = 7
 
+-- `c0` to `c7`, then `arg`
 abbrev pub context_place : ContextVariable → ℕ
 context_place C0 = 0
 context_place C1 = 1
@@ -37,6 +39,7 @@ context_place C6 = 6
 context_place C7 = 7
 context_place Arg = 8
 
+-- `o0` to `o3`, then `data`
 abbrev pub operation_place : OperationVariable → ℕ
 operation_place (Removed O0) = 0
 operation_place (Removed O1) = 1
@@ -46,12 +49,15 @@ operation_place Data = 4
 
 -- ---- what it names; none is NULL
 
+-- a number
 abbrev pub number_in : Activation → NumberVariable → ℕ
 number_in act n = get_or act.numbers (number_place n) 0
 
+-- a context
 abbrev pub context_in : Activation → ContextVariable → Option ℕ
 context_in act c = get_or act.contexts (context_place c) None
 
+-- a visit of an operation
 abbrev pub operation_in : Activation → OperationVariable → Option ℕ
 operation_in act d = get_or act.operations (operation_place d) None
 
@@ -59,12 +65,15 @@ operation_in act d = get_or act.operations (operation_place d) None
 abbrev pub named_in : Activation → Option ContextVariable → Option (Option ℕ)
 named_in act c = option_map (context_in act) c
 
+-- the activation with this number in the variable
 abbrev pub with_number : Activation → NumberVariable → ℕ → Activation
 with_number act n value = record act { numbers = set act.numbers (number_place n) value }
 
+-- the activation with this context in the variable, or NULL
 abbrev pub with_context_in : Activation → ContextVariable → Option ℕ → Activation
 with_context_in act c x = record act { contexts = set act.contexts (context_place c) x }
 
+-- the activation with this visit in the variable, or NULL
 abbrev pub with_operation_in : Activation → OperationVariable → Option ℕ → Activation
 with_operation_in act d v = record act { operations = set act.operations (operation_place d) v }
 
@@ -86,10 +95,12 @@ starting body given arg = record {
 
 -- ---- numbers wrap at 2^64
 
+-- what an atom stands for
 abbrev pub atom_value : Activation → Atom → ℕ
 atom_value act (atom.Number k) = k
 atom_value act (atom.Variable n) = number_in act n
 
+-- what a sum or a difference comes to
 abbrev pub expression_value : Activation → Expression → ℕ
 expression_value act (expression.Atom x) = atom_value act x
 expression_value act (expression.Sum x y) = (atom_value act x + atom_value act y) % 2 ^ 64

@@ -27,14 +27,17 @@ along test t (e ∷ es) = test t e && along test (t ++ e ∷ []) es
 -- ---- V1, no stale use: what is used or lost is held; no context is touched after it was freed, or by another filter; no
 -- variable is NULL where an object is needed
 
+-- a context that wasn't freed
 unfoldable pub is_live : List Event → Object → Bool
 is_live t (Context x) = frees t x == 0
 is_live t (Visit v) = true
 
+-- a context of the activation's own filter
 abbrev pub is_own : World → ℕ → Object → Bool
 is_own w a (Context x) = (context_at w.store x).owner == (actor_at w a).filter
 is_own w a (Visit v) = true
 
+-- the event touches nothing stale
 abbrev pub is_fresh : World → List Event → Event → Bool
 is_fresh w t (Use a o) = is_held t a o && (is_live t o && is_own w a o)
 is_fresh w t (Lose a o) = is_held t a o && (is_live t o && is_own w a o)
@@ -53,19 +56,23 @@ abbrev pub is_let_go : List Event → ℕ → Event → Bool
 is_let_go t a (Gain b (Context x)) = not (is_held t a (Context x))
 is_let_go t a _ = true
 
+-- at its end the activation has let everything go
 abbrev pub leaks_nothing : List Event → Event → Bool
 leaks_nothing t (End a) = list_all (is_let_go t a) t
 leaks_nothing t _ = true
 
+-- no event leaks
 abbrev pub no_leak : List Event → List Event → Bool
 no_leak t events = along leaks_nothing t events
 
 -- ---- V3, settled once
 
+-- no visit is settled again
 abbrev pub is_first_settling : List Event → Event → Bool
 is_first_settling t (Settle v) = settles t v == 0
 is_first_settling t _ = true
 
+-- no event settles again
 abbrev pub settled_once : List Event → List Event → Bool
 settled_once t events = along is_first_settling t events
 
@@ -80,20 +87,25 @@ abbrev pub holders_from : List Event → ℕ → ℕ → List Activation → ℕ
 holders_from t v a [] = 0
 holders_from t v a (act ∷ acts) = holding t v a act + holders_from t v (a + 1) acts
 
+-- how many entries of a queue have the visit
 unfoldable pub in_queue : ℕ → List Entry → ℕ
 in_queue v queue = sum_by (λ (e : Entry). one_if e.visit v) queue
 
+-- 1 where it is this visit
 abbrev pub in_some : ℕ → Option ℕ → ℕ
 in_some v None = 0
 in_some v (Some u) = one_if u v
 
+-- 1 where a work item has the visit
 abbrev pub in_item : ℕ → Option Item → ℕ
 in_item v None = 0
 in_item v (Some i) = in_some v i.visit
 
+-- how many activations, entries and work items have the visit
 unfoldable pub owners : World → List Event → ℕ → ℕ
 owners w t v = holders_from t v 0 w.activations + sum_by (in_queue v) w.store.queues + sum_by (in_item v) w.store.items
 
+-- one while it is unsettled, none after
 abbrev pub is_owned : World → List Event → ℕ → Bool
 is_owned w t v = owners w t v == (if is_settled w.store v then 0 else 1)
 
@@ -115,6 +127,7 @@ module _ (p : List Filter) (w : World) (t : List Event) where
   is_legal (Call a k) = may_pend p w t a k
   is_legal _ = true
 
+  -- each event is legal
   abbrev pub legal_statuses : List Event → Bool
   legal_statuses events = list_all is_legal events
 
@@ -124,6 +137,7 @@ module _ (p : List Filter) (w : World) (t : List Event) where
       not (is_above (level_at (filter_at p (actor_at w a).filter) (actor_at w a).place (activation_at w a).locks) (row k).greatest)
   is_low_enough _ = true
 
+  -- each call is low enough
   abbrev pub levels_kept : List Event → Bool
   levels_kept events = list_all is_low_enough events
 
@@ -134,6 +148,7 @@ module _ (p : List Filter) (w : World) (t : List Event) where
   is_disciplined (End a) = is_empty (activation_at w a).locks
   is_disciplined _ = true
 
+  -- each event keeps the discipline
   abbrev pub lock_discipline : List Event → Bool
   lock_discipline events = list_all is_disciplined events
 
@@ -143,5 +158,6 @@ module _ (p : List Filter) (w : World) (t : List Event) where
       has_place (row k).places (actor_at w a).place && (not (actor_at w a).draining || is_legal_in_draining k)
   is_in_place _ = true
 
+  -- each call is in place
   abbrev pub legal_places : List Event → Bool
   legal_places events = list_all is_in_place events

@@ -42,8 +42,8 @@ abbrev pub makes_one : List Statement → List Filter
 makes_one body = reading (if_call (fallible.AllocateContext C0) body [] ∷ no_callback ∷ [])
 
 pub releases_twice :
-  verdict (makes_one (call (plain.ReleaseContext C0) ∷ call (plain.ReleaseContext C0) ∷ []))
-  (arrive Read ∷ pre 0 ∷ go 0 1 ∷ go 0 1 ∷ go 0 1 ∷ []) ≡ Breaks V1 4
+    verdict (makes_one (call (plain.ReleaseContext C0) ∷ call (plain.ReleaseContext C0) ∷ []))
+    (arrive Read ∷ pre 0 ∷ go 0 1 ∷ go 0 1 ∷ go 0 1 ∷ []) ≡ Breaks V1 4
 unfolding computed
 releases_twice = refl
 
@@ -62,12 +62,12 @@ leaks_nothing = refl
 
 abbrev pub completes_twice : List Filter
 completes_twice =
-  filter 100
-  (on (head.Pre Read) (if_call (fallible.QueueDeferredIoWorkItem (routine 114) None) [] [] ∷ no_callback ∷ [])
-  ∷ on (head.DeferredPre (114 ∷ [])) (call (plain.CompletePendedPreOperation Data status.NoCallback) ∷ []) ∷ []) ∷ []
+    filter 100
+    (on (head.Pre Read) (if_call (fallible.QueueDeferredIoWorkItem (routine 114) None) [] [] ∷ no_callback ∷ [])
+    ∷ on (head.DeferredPre (114 ∷ [])) (call (plain.CompletePendedPreOperation Data status.NoCallback) ∷ []) ∷ []) ∷ []
 
 pub settles_twice :
-  verdict completes_twice (arrive Read ∷ pre 0 ∷ go 0 1 ∷ Move (move.Work 0) ∷ go 1 1 ∷ go 0 1 ∷ []) ≡ Breaks V3 5
+    verdict completes_twice (arrive Read ∷ pre 0 ∷ go 0 1 ∷ Move (move.Work 0) ∷ go 1 1 ∷ go 0 1 ∷ []) ≡ Breaks V3 5
 unfolding computed
 settles_twice = refl
 
@@ -92,8 +92,8 @@ unfolding computed
 wants_missing_post = refl
 
 pub queues_fast :
-  verdict (reading (if_call (fallible.InsertIo None) (return status.Pending ∷ []) [] ∷ no_callback ∷ []))
-  (Move (move.Arrive Read FastIo 0) ∷ pre 0 ∷ go 0 1 ∷ []) ≡ Breaks V5 2
+    verdict (reading (if_call (fallible.InsertIo None) (return status.Pending ∷ []) [] ∷ no_callback ∷ []))
+    (Move (move.Arrive Read FastIo 0) ∷ pre 0 ∷ go 0 1 ∷ []) ≡ Breaks V5 2
 unfolding computed
 queues_fast = refl
 
@@ -103,8 +103,8 @@ abbrev pub gets : Statement
 gets = if_call (fallible.GetContext Instance C0) (call (plain.ReleaseContext C0) ∷ []) []
 
 pub gets_in_post :
-  verdict (filter 100 (passes Read ∷ on (head.Post Read) (gets ∷ return status.FinishedProcessing ∷ []) ∷ []) ∷ [])
-  (arrive Read ∷ pre 0 ∷ go 0 1 ∷ lower 0 ∷ post 0 ∷ go 1 1 ∷ []) ≡ Breaks V6 5
+    verdict (filter 100 (passes Read ∷ on (head.Post Read) (gets ∷ return status.FinishedProcessing ∷ []) ∷ []) ∷ [])
+    (arrive Read ∷ pre 0 ∷ go 0 1 ∷ lower 0 ∷ post 0 ∷ go 1 1 ∷ []) ≡ Breaks V6 5
 unfolding computed
 gets_in_post = refl
 
@@ -146,8 +146,8 @@ waits = refl
 -- ---- V8: a create has no stream on its way down
 
 pub gets_stream_in_create :
-  verdict (filter 100 (on (head.Pre Create) (if_call (fallible.GetContext Stream C0) [] [] ∷ no_callback ∷ []) ∷ []) ∷ [])
-  (arrive Create ∷ pre 0 ∷ go 0 1 ∷ []) ≡ Breaks V8 2
+    verdict (filter 100 (on (head.Pre Create) (if_call (fallible.GetContext Stream C0) [] [] ∷ no_callback ∷ []) ∷ []) ∷ [])
+    (arrive Create ∷ pre 0 ∷ go 0 1 ∷ []) ≡ Breaks V8 2
 unfolding computed
 gets_stream_in_create = refl
 

@@ -1,6 +1,7 @@
 -- Short names for the trees and the journals of worked runs. Everything stands on line 1, and names are a byte or none.
-use Rattle.std.specs.Prelude.{ℕ, true, List, [], ◌∷◌, Option, Some, None, option_and_then}
+use Rattle.std.specs.Prelude.{ℕ, true, List, [], ◌∷◌, Option, Some, None, option_and_then, option_map, map}
 use Rattle.flt_rules.specs.declared.call.LockKind.{LockKind}
+use Rattle.flt_rules.specs.declared.call.LockNumber.{LockNumber}
 use Rattle.flt_rules.specs.declared.place.Mode.TheVariants.{Irp}
 use Rattle.flt_rules.specs.declared.place.Operation.{Operation}
 use Rattle.flt_syntax.specs.declared.filter.Callback.{Callback}
@@ -12,7 +13,7 @@ use Rattle.flt_syntax.specs.declared.filter.Head.TheVariants as head
 use Rattle.flt_syntax.specs.declared.filter.Lock.{Lock}
 use Rattle.flt_syntax.specs.declared.filter.PlainCall.{PlainCall}
 use Rattle.flt_syntax.specs.declared.filter.PlainCall.TheVariants as plain
-use Rattle.flt_syntax.specs.declared.filter.Position.{Position}
+use Rattle.flt_syntax.specs.declared.filter.Position.{Position as Place}
 use Rattle.flt_syntax.specs.declared.filter.Routine.{Routine}
 use Rattle.flt_syntax.specs.declared.filter.Statement.{Statement, out-Statement}
 use Rattle.flt_syntax.specs.declared.filter.Statement.TheVariants as tree
@@ -30,6 +31,7 @@ use Rattle.flt_model.specs.Expansion.{expand, verdict}
 use Rattle.flt_model.specs.Program.{by_altitude}
 use Rattle.flt_model.specs.Runs.{Break, Moment, run, breaks}
 use Rattle.flt_model.specs.Trace.{one_if, of_actor, gains, loses, frees, settles, is_held}
+use Rattle.flt_model.specs.World.{Activation, Context, Outcome, Position, Route}
 use Rattle.flt_model.specs.Violations.{is_live, holding, in_queue, owners}
 
 -- ---- statements
@@ -52,7 +54,7 @@ release_if c = if_test (test.ContextIsSome c) (call (plain.ReleaseContext c) ∷
 
 -- ---- filters
 
-abbrev pub corner : Position
+abbrev pub corner : Place
 corner = record { line = 1; column = 1 }
 
 abbrev pub on : Head → List Statement → Callback
@@ -105,6 +107,21 @@ go a n = Go a n true
 -- the run of a journal
 abbrev pub played : List Filter → List JournalEntry → Option Moment
 played filters entries = option_and_then (run (by_altitude filters)) (expand entries)
+
+-- the references of its contexts at its end, and the outcomes of its operations
+abbrev pub references_after : List Filter → List JournalEntry → Option (List ℕ)
+references_after filters entries =
+    option_map (λ m. map (λ (c : Context). c.references) m.world.store.contexts) (played filters entries)
+
+abbrev pub outcomes_after : List Filter → List JournalEntry → Option (List (Option Outcome))
+outcomes_after filters entries = option_map (λ m. map (λ (r : Route). r.outcome) m.world.store.routes) (played filters entries)
+
+-- where its operations stand then, and the locks of its activations
+abbrev pub positions_after : List Filter → List JournalEntry → Option (List Position)
+positions_after filters entries = option_map (λ m. map (λ (r : Route). r.position) m.world.store.routes) (played filters entries)
+
+abbrev pub locks_after : List Filter → List JournalEntry → Option (List (List LockNumber))
+locks_after filters entries = option_map (λ m. map (λ (act : Activation). act.locks) m.world.activations) (played filters entries)
 
 -- its first break
 abbrev pub broken_by : List Filter → List JournalEntry → Option Break

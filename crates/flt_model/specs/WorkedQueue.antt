@@ -21,24 +21,24 @@ use Rattle.flt_model.specs.WorkedParts.{computed, broken_by, call, return, if_ca
 -- pre read: an I/O request packet is pended in the queue
 abbrev pub pends : Callback
 pends = on (head.Pre Read)
-  (if_test test.IsIrp (if_call (fallible.InsertIo None) (return status.Pending ∷ []) [] ∷ []) [] ∷ return status.NoCallback ∷ [])
+    (if_test test.IsIrp (if_call (fallible.InsertIo None) (return status.Pending ∷ []) [] ∷ []) [] ∷ return status.NoCallback ∷ [])
 
 -- canceled: the operation is completed as cancelled
 abbrev pub cancels : Callback
 cancels = on head.Canceled
-  (release_if Arg ∷ call (plain.CompletePendedPreOperation Data (status.Complete final.Cancelled)) ∷ [])
+    (release_if Arg ∷ call (plain.CompletePendedPreOperation Data (status.Complete final.Cancelled)) ∷ [])
 
 -- pre write: the front entry is taken out of the queue, and its operation goes on
 abbrev pub resumes : Callback
 resumes = on (head.Pre Write)
-  (if_call (fallible.RemoveNextIo O0 C0)
+    (if_call (fallible.RemoveNextIo O0 C0)
     (release_if C0 ∷ call (plain.CompletePendedPreOperation (Removed O0) status.NoCallback) ∷ []) []
-  ∷ return status.NoCallback ∷ [])
+    ∷ return status.NoCallback ∷ [])
 
 -- an operation is pended and cancelled, and completed before the pre callback that pended it has returned
 abbrev pub cancelled_early : List JournalEntry
 cancelled_early =
-  arrive Read ∷ pre 0 ∷ go 0 1 ∷ go 0 1 ∷ cancel 0 ∷ canceled 0 ∷ go 1 2 ∷ go 1 1 ∷ go 0 1 ∷ []
+    arrive Read ∷ pre 0 ∷ go 0 1 ∷ go 0 1 ∷ cancel 0 ∷ canceled 0 ∷ go 1 2 ∷ go 1 1 ∷ go 0 1 ∷ []
 
 pub cancelled_early-legal : verdict (filter 100 (pends ∷ cancels ∷ []) ∷ []) cancelled_early ≡ Legal
 unfolding computed

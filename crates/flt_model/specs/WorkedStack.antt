@@ -1,5 +1,5 @@
 -- Worked runs of two filters, one above the other.
-use Rattle.std.specs.Prelude.{◌≡◌, refl, ℕ, List, [], ◌∷◌, Some, option_map, map}
+use Rattle.std.specs.Prelude.{◌≡◌, refl, ℕ, List, [], ◌∷◌, Some}
 use Rattle.flt_rules.specs.declared.place.Operation.TheVariants.{Read}
 use Rattle.flt_rules.specs.declared.status.FinalStatus.TheVariants as final
 use Rattle.flt_syntax.specs.declared.filter.Filter.{Filter}
@@ -8,8 +8,8 @@ use Rattle.flt_syntax.specs.declared.filter.Status.TheVariants as status
 use Rattle.flt_model.specs.declared.moves.JournalEntry.{JournalEntry}
 use Rattle.flt_model.specs.declared.verdict.Verdict.TheVariants.{Legal, NotARun}
 use Rattle.flt_model.specs.Expansion.{verdict}
-use Rattle.flt_model.specs.World.{Route, Completed}
-use Rattle.flt_model.specs.WorkedParts.{computed, played, return, on, filter, passes, cleans_up, arrive, pre, lower, post, go}
+use Rattle.flt_model.specs.World.{Completed}
+use Rattle.flt_model.specs.WorkedParts.{computed, outcomes_after, return, on, filter, passes, cleans_up, arrive, pre, lower, post, go}
 
 abbrev pub watches : ℕ → Filter
 watches altitude = filter altitude (passes Read ∷ cleans_up Read ∷ [])
@@ -44,7 +44,7 @@ unfolding computed
 denied_below-legal = refl
 
 pub denied_below-outcome :
-  option_map (λ m. map (λ (r : Route). r.outcome) m.world.store.routes) (played (watches 200 ∷ denies ∷ []) denied_below)
-  ≡ Some (Some (Completed final.AccessDenied) ∷ [])
+    outcomes_after (watches 200 ∷ denies ∷ []) denied_below
+    ≡ Some (Some (Completed final.AccessDenied) ∷ [])
 unfolding computed
 denied_below-outcome = refl

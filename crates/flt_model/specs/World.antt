@@ -25,10 +25,12 @@ pub data Presence : Type 0 where
   Detaching : Presence
   Detached : Presence
 
+-- the filter sees operations
 abbrev pub is_attached : Presence → Bool
 is_attached Attached = true
 is_attached _ = false
 
+-- its teardown has begun
 abbrev pub is_detaching : Presence → Bool
 is_detaching Detaching = true
 is_detaching _ = false
@@ -129,6 +131,7 @@ pub record Store : Type 0 where
   pub contexts : List Context
   pub items : List (Option Item)
 
+-- all that there is at a moment
 pub record World : Type 0 where
   pub actors : List Actor
   pub activations : List Activation
@@ -154,33 +157,43 @@ opening p = record {
 
 -- ---- what is there at a number
 
+-- whether the filter of a number is there
 abbrev pub presence_at : Store → ℕ → Presence
 presence_at s f = get_or s.presences f Detached
 
+-- the queue of a filter, the front entry first
 abbrev pub queue_at : Store → ℕ → List Entry
 queue_at s f = get_or s.queues f []
 
+-- who holds each lock of a filter
 abbrev pub holders_at : Store → ℕ → List (Option ℕ)
 holders_at s f = get_or s.holders f []
 
+-- an operation that isn't there
 abbrev pub no_arrival : Arrival
 no_arrival = record { kind = Read; mode = Irp; file = 0 }
 
+-- what the operation of a number is
 abbrev pub arrival_at : Store → ℕ → Arrival
 arrival_at s o = get_or s.arrivals o no_arrival
 
+-- how far one has come that isn't there
 abbrev pub no_route : Route
 no_route = record { position = Up; frames = []; cancelled = true; outcome = None }
 
+-- how far the operation of a number has come
 abbrev pub route_at : Store → ℕ → Route
 route_at s o = get_or s.routes o no_route
 
+-- a visit that isn't there
 abbrev pub no_visit : Visit
 no_visit = record { operation = 0; filter = 0; stage = Post; draining = true }
 
+-- the visit of a number
 abbrev pub visit_at : Store → ℕ → Visit
 visit_at s v = get_or s.visits v no_visit
 
+-- whether the filter's part in the operation is over
 abbrev pub is_settled : Store → ℕ → Bool
 is_settled s v = get_or s.settled v true
 
@@ -188,37 +201,47 @@ is_settled s v = get_or s.settled v true
 abbrev pub arrival_of : Store → ℕ → Arrival
 arrival_of s v = arrival_at s (visit_at s v).operation
 
+-- a context that isn't there
 abbrev pub no_context : Context
 no_context = record { owner = 0; references = 0; value = 0; link = None }
 
+-- the context of a number
 abbrev pub context_at : Store → ℕ → Context
 context_at s x = get_or s.contexts x no_context
 
+-- no reference is left
 abbrev pub is_freed : Context → Bool
 is_freed c = c.references == 0
 
+-- the work item of a number, until it starts
 abbrev pub item_at : Store → ℕ → Option Item
 item_at s i = get_or s.items i None
 
+-- an activation that isn't there
 abbrev pub no_actor : Actor
 no_actor = record { filter = 0; place = Generic; draining = false }
 
+-- what the activation of a number is
 abbrev pub actor_at : World → ℕ → Actor
 actor_at w a = get_or w.actors a no_actor
 
+-- how far one has come that isn't there
 abbrev pub nobody : Activation
 nobody = record { rest = []; numbers = []; contexts = []; operations = []; locks = []; ended = true }
 
+-- how far the activation of a number has come
 abbrev pub activation_at : World → ℕ → Activation
 activation_at w a = get_or w.activations a nobody
 
 -- ---- links
 
+-- whether two keys are one
 abbrev pub same_key : Key → Key → Bool
 same_key (Stream f) (Stream g) = f == g
 same_key Instance Instance = true
 same_key _ _ = false
 
+-- whether a context's link is this one
 abbrev pub is_linked_to : Link → Option Link → Bool
 is_linked_to l None = false
 is_linked_to l (Some m) = (l.filter == m.filter) && same_key l.key m.key
@@ -229,15 +252,19 @@ linked_at s l = position (λ (c : Context). is_linked_to l c.link) s.contexts
 
 -- ---- changes
 
+-- the operation has come so far
 abbrev pub with_route : Store → ℕ → Route → Store
 with_route s o r = record s { routes = set s.routes o r }
 
+-- the filter's queue is this
 abbrev pub with_queue : Store → ℕ → List Entry → Store
 with_queue s f queue = record s { queues = set s.queues f queue }
 
+-- the filter is so from now on
 abbrev pub with_presence : Store → ℕ → Presence → Store
 with_presence s f presence = record s { presences = set s.presences f presence }
 
+-- the context is this from now on
 abbrev pub with_context : Store → ℕ → Context → Store
 with_context s x c = record s { contexts = set s.contexts x c }
 
@@ -251,5 +278,6 @@ add_reference s x =
 abbrev pub drop_reference : Store → ℕ → Store
 drop_reference s x = let c = context_at s x in with_context s x (record c { references = c.references - 1 })
 
+-- the context has this link from now on, or none
 abbrev pub with_link : Store → ℕ → Option Link → Store
 with_link s x l = with_context s x (record (context_at s x) { link = l })

@@ -25,7 +25,9 @@ pub enum Answer {
         status: Status,
     },
     /// FINISHED_PROCESSING, by FltCompletePendedPostOperation, for the visit.
-    CompletesPost { visit: usize },
+    CompletesPost {
+        visit: usize,
+    },
 }
 
 /// One thing that happens in a step. The first number is the activation's.

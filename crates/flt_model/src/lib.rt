@@ -3,9 +3,26 @@
 #![tactic(auto)]
 
 mod event;
+mod fault;
+mod journal;
+mod laws;
+mod lines;
 mod moves;
+mod reader;
+mod scanner;
+mod streams;
 mod verdict;
+mod writer;
 
 pub use event::{Answer, Event, Object};
+pub use fault::JournalFault;
+pub use journal::Journal;
+pub use laws::{legal_journals_are_clean_runs, local_steps_are_quiet};
 pub use moves::{JournalEntry, Key, Move};
+pub use reader::{MAX_ENTRIES, read};
+pub use streams::{ReadFault, Sink, Source, WriteFault};
 pub use verdict::{Verdict, Violation};
+pub use writer::{put_all, write};
+
+#[cfg(test)]
+mod tests;

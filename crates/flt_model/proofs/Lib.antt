@@ -1,0 +1,10 @@
+pub mod CleanRuns
+pub mod LocalLaws
+mod JournalLaws
+mod LineEnds
+mod LinesOnline
+mod Numbers
+mod Online
+mod ReadingSteps
+mod SpelledRead
+mod WritingSteps

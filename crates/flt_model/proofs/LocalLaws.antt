@@ -1,0 +1,118 @@
+-- A local step has no events, and a moment at which each visit has its owner stays so.
+use Rattle.std.proofs.Common.{◌≡◌, ℕ, zero, suc, ◌+◌, Bool, true, false, List, [], ◌∷◌, ◌++◌, length, Option, Some, None, ap, sym, subst, refl, ◌∙◌}
+use Rattle.std.proofs.Math.ListN.{set, get_or}
+use Rattle.std.proofs.lemmas.List.{append-nil}
+use Rattle.std.specs.Prelude.{not, cond, ◌&&◌, ◌==◌, if◌then◌else◌, sum_by, option_map}
+use Rattle.flt_syntax.specs.declared.filter.Action.{Action}
+use Rattle.flt_syntax.specs.declared.filter.Action.TheVariants as action
+use Rattle.flt_syntax.specs.declared.filter.Filter.{Filter}
+use Rattle.flt_syntax.specs.declared.filter.Statement.{Statement, out-Statement}
+use Rattle.flt_syntax.specs.declared.filter.Statement.TheOpen.{Statement-F}
+use Rattle.flt_model.specs.declared.event.Event.{Event}
+use Rattle.flt_model.specs.declared.event.Object.TheVariants.{Visit}
+use Rattle.flt_model.specs.declared.verdict.Violation.{Violation}
+use Rattle.flt_model.specs.declared.verdict.Violation.TheVariants.{V4}
+use Rattle.flt_model.specs.Effects.{Step}
+use Rattle.flt_model.specs.LocalSteps.{after_action, goes_on_to, holds_condition, after_statement, local_step}
+use Rattle.flt_model.specs.Runs.{Moment, next, broken}
+use Rattle.flt_model.specs.Steps.{Local, moved_on}
+use Rattle.flt_model.specs.Trace.{is_held}
+use Rattle.flt_model.specs.Violations.{holding, holders_from, in_queue, in_item, owners, is_owned, all_below, one_owner}
+use Rattle.flt_model.specs.World.{World, Activation, nobody, activation_at, actor_at, is_settled}
+
+-- ---- a local step goes on
+
+-- whether an activation has ended, if there is one
+abbrev ended_in : Bool → Option Activation → Bool
+ended_in b None = b
+ended_in b (Some act) = act.ended
+
+module _ (act next_act : Activation) (rest : List Statement) where
+  action_ended : (a : Action) → option_map (goes_on_to rest) (after_action act a) ≡ Some next_act → next_act.ended ≡ act.ended
+  action_ended (action.SetNumber n x) e = ap (ended_in act.ended) (sym e)
+  action_ended (action.ClearContext c) e = ap (ended_in act.ended) (sym e)
+  action_ended (action.ClearOperation o) e = ap (ended_in act.ended) (sym e)
+  action_ended (action.ReadValue n c) e = absurd (cc)
+  action_ended (action.ReadFile n d) e = absurd (cc)
+  action_ended (action.WriteValue c x) e = absurd (cc)
+
+  branch_ended : (granted refused : List Statement) (o : Option Bool) →
+      option_map (λ b. goes_on_to ((if b then granted else refused) ++ rest) act) o ≡ Some next_act → next_act.ended ≡ act.ended
+  branch_ended granted refused None e = absurd (cc)
+  branch_ended granted refused (Some b) e = ap (ended_in act.ended) (sym e)
+
+  statement_ended : (draining : Bool) (layer : Statement-F Statement) → after_statement draining act rest layer ≡ Some next_act →
+      next_act.ended ≡ act.ended
+  statement_ended draining (Statement-F.Act line a) e = action_ended a e
+  statement_ended draining (Statement-F.Call line c) e = absurd (cc)
+  statement_ended draining (Statement-F.Return line st) e = absurd (cc)
+  statement_ended draining (Statement-F.If line asked granted refused) e =
+      branch_ended granted refused (holds_condition draining act asked) e
+  statement_ended draining (Statement-F.Repeat line turns block) e = ap (ended_in act.ended) (sym e)
+
+step_ended : (draining : Bool) (act next_act : Activation) (list : List Statement) → local_step draining act list ≡ Some next_act →
+    next_act.ended ≡ act.ended
+step_ended draining act next_act [] e = absurd (cc)
+step_ended draining act next_act (s ∷ rest) e = statement_ended act next_act rest draining (out-Statement s) e
+
+-- ---- owners
+
+holding_same : (t : List Event) (v a : ℕ) (old act : Activation) → act.ended ≡ old.ended → holding t v a act ≡ holding t v a old
+unfolding holding
+holding_same t v a old act h = ap (λ b. if not b && is_held t a (Visit v) then 1 else 0) h
+
+holders_set : (t : List Event) (v n : ℕ) (acts : List Activation) (a : ℕ) (act : Activation) → act.ended ≡ (get_or acts a nobody).ended →
+    holders_from t v n (set acts a act) ≡ holders_from t v n acts
+holders_set t v n [] a act h = refl
+holders_set t v n (x ∷ acts) zero act h = ap (λ k. k + holders_from t v (n + 1) acts) (holding_same t v n x act h)
+holders_set t v n (x ∷ acts) (suc a) act h = ap (λ k. holding t v n x + k) (holders_set t v (n + 1) acts a act h)
+
+module _ (p : List Filter) (w : World) (t : List Event) (a : ℕ) (act : Activation) where
+  owners_same : (v : ℕ) → act.ended ≡ (activation_at w a).ended → owners (moved_on p t w a act).world t v ≡ owners w t v
+  unfolding owners
+  owners_same v h =
+      ap (λ k. k + sum_by (in_queue v) w.store.queues + sum_by (in_item v) w.store.items) (holders_set t v 0 w.activations a act h)
+
+  owned_same : (v : ℕ) → act.ended ≡ (activation_at w a).ended → is_owned (moved_on p t w a act).world t v ≡ is_owned w t v
+  owned_same v h = ap (λ k. k == (if is_settled w.store v then 0 else 1)) (owners_same v h)
+
+below_same : (n : ℕ) (f g : ℕ → Bool) → ((v : ℕ) → f v ≡ g v) → all_below n f ≡ all_below n g
+below_same zero f g h = refl
+below_same (suc n) f g h = ap (λ b. b && all_below n f) (h n) ∙ ap (λ b. g n && b) (below_same n f g h)
+
+-- ---- the law
+
+record Quiet (p : List Filter) (m : Moment) (s : Step) : Type 0 where
+  events : s.events ≡ []
+  fine : broken p m s ≡ None
+
+module _ (p : List Filter) (m : Moment) (a : ℕ) where
+  owner_stays : (act : Activation) → act.ended ≡ (activation_at m.world a).ended → one_owner m.world m.trace ≡ true →
+      one_owner (moved_on p m.trace m.world a act).world (m.trace ++ []) ≡ true
+  owner_stays act h owned =
+      ap (λ t. one_owner (moved_on p m.trace m.world a act).world t) (append-nil m.trace)
+      ∙ (below_same (length m.world.store.visits) (is_owned (moved_on p m.trace m.world a act).world m.trace) (is_owned m.world m.trace)
+      (λ v. owned_same p m.world m.trace a act v h)
+      ∙ owned)
+
+  moved_quiet : (act : Activation) → act.ended ≡ (activation_at m.world a).ended → one_owner m.world m.trace ≡ true →
+      Quiet p m (moved_on p m.trace m.world a act)
+  moved_quiet act h owned =
+      let none : Option Violation = None in
+      record { events = refl; fine = ap (λ b. cond (not b) (Some V4) none) (owner_stays act h owned) }
+
+  quiet_by : (b : Bool) (o : Option Activation) (s : Step) →
+      ((act : Activation) → o ≡ Some act → act.ended ≡ (activation_at m.world a).ended) → one_owner m.world m.trace ≡ true →
+      (if b then None else option_map (moved_on p m.trace m.world a) o) ≡ Some s → Quiet p m s
+  quiet_by true o s kept owned e = absurd (cc)
+  quiet_by false None s kept owned e = absurd (cc)
+  quiet_by false (Some act) s kept owned e =
+      let same : moved_on p m.trace m.world a act ≡ s = cc in subst (λ q. Quiet p m q) same (moved_quiet act (kept act refl) owned)
+
+pub local_quiet : (p : List Filter) (m : Moment) (a : ℕ) (s : Step) → one_owner m.world m.trace ≡ true →
+    next p m (Local a) ≡ Some s → (s.events ≡ []) × (broken p m s ≡ None)
+local_quiet p m a s owned e =
+    let act = activation_at m.world a in
+    let draining = (actor_at m.world a).draining in
+    let q = quiet_by p m a act.ended (local_step draining act act.rest) s (λ n. step_ended draining act n act.rest) owned e in
+    (q.events, q.fine)

@@ -1,0 +1,70 @@
+-- The steps of reading, as loops and recursions make them.
+use Rattle.std.proofs.Common.{◌≡◌, ◌<◌, ◌+◌, ◌-◌, ℕ, zero, suc, true, false, List, [], ◌∷◌, ◌++◌, length, refl, sym, ap, arith, ◌∙◌}
+use Rattle.std.specs.Prelude.{◌==◌, Ok, Err, Some, None, if◌then◌else◌}
+use Rattle.flt_model.specs.Streams.{Text}
+use Rattle.flt_model.specs.JournalText.{Entries, most_entries}
+use Rattle.flt_model.specs.JournalTextReading.{Reads, byte, digits, with_digit, line, ending, closed, entries_from, Fault}
+use Rattle.flt_model.specs.declared.scanner.Stop.{Stop}
+use Rattle.flt_model.specs.declared.scanner.Stop.TheVariants.{Wrong, Failed}
+use Rattle.flt_model.specs.declared.moves.JournalEntry.{JournalEntry}
+
+-- ---- digits
+
+one_less : (n : ℕ) → 0 < n → n ≡ suc (n - 1)
+one_less n h = omega arith
+
+pub digits_none : (left end n : ℕ) (text new : Text) (e : Stop) → Reads {A = ℕ} (byte text) (Err e) new → Reads {A = ℕ} (digits left end n text) (Err e) new
+unfolding digits
+digits_none zero end n text new Wrong h = rw h refl
+digits_none (suc left) end n text new Wrong h = rw h refl
+digits_none left end n text new Failed h = tt
+
+pub digits_end : (left end n b : ℕ) (text new : Text) → byte text ≡ Ok (b, new) → (b == end) ≡ true → digits left end n text ≡ Ok (n, new)
+unfolding digits
+digits_end zero end n b text new h e = rw (h, e) refl
+digits_end (suc left) end n b text new h e = rw (h, e) refl
+
+pub digits_last : (left end n b : ℕ) (text new : Text) → left ≡ 0 → byte text ≡ Ok (b, new) → (b == end) ≡ false → digits left end n text ≡ Err new
+unfolding digits
+digits_last left end n b text new z h e = rw (z, h, e) refl
+
+pub digits_wrong : (left end n b : ℕ) (text new : Text) → 0 < left → byte text ≡ Ok (b, new) → (b == end) ≡ false → with_digit n b ≡ None → digits left end n text ≡ Err new
+unfolding digits
+digits_wrong left end n b text new z h e d = rw (one_less left z, h, e, d) refl
+
+more_behind : (less end n b m : ℕ) (text new : Text) → byte text ≡ Ok (b, new) → (b == end) ≡ false → with_digit n b ≡ Some m →
+    digits (suc less) end n text ≡ digits less end m new
+unfolding digits
+more_behind less end n b m text new h e d = rw (h, e, d) refl
+
+pub digits_more : (left end n b m : ℕ) (text new : Text) → 0 < left → byte text ≡ Ok (b, new) → (b == end) ≡ false → with_digit n b ≡ Some m →
+    digits left end n text ≡ digits (left - 1) end m new
+digits_more left end n b m text new z h e d = ap (λ k. digits k end n text) (one_less left z) ∙ more_behind (left - 1) end n b m text new h e d
+
+-- ---- entries
+
+pub most_entries_is : most_entries ≡ 1000000
+unfolding most_entries
+most_entries_is = refl
+
+one_left : (n number : ℕ) → number < n → n - number ≡ suc (n - (number + 1))
+one_left n number h = omega arith
+
+pub next_entry : (n number : ℕ) (found : Entries) (entry : JournalEntry) (text new : Text) → number < n → length found ≡ number →
+    line text ≡ Ok (Some entry, new) → entries_from (n - number) found text ≡ entries_from (n - (number + 1)) (found ++ entry ∷ []) new
+unfolding entries_from
+next_entry n number found entry text new low count read = rw (one_left n number low, read) refl
+
+pub last_entry : (n number : ℕ) (found : Entries) (text new : Text) → number < n →
+    line text ≡ Ok (None, new) → entries_from (n - number) found text ≡ closed found new
+unfolding entries_from
+last_entry n number found text new low read = rw (one_left n number low, read) refl
+
+pub bad_entry : (n number : ℕ) (found : Entries) (text new : Text) → number < n → length found ≡ number →
+    line text ≡ Err new → entries_from (n - number) found text ≡ Err (record { line = number + 2; left = new })
+unfolding entries_from
+bad_entry n number found text new low count read = rw (one_left n number low, count, read) refl
+
+pub full : (n number : ℕ) (found : Entries) (text : Text) → number ≡ n → entries_from (n - number) found text ≡ ending found text
+unfolding entries_from
+full n number found text h = let none : n - number ≡ 0 = omega arith in rw none refl

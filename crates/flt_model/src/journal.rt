@@ -1,0 +1,63 @@
+//! Journals as values.
+
+ghost use Rattle.std.specs.Prelude.{◌≡◌, [], ◌∷◌, ◌++◌, length, slice_get, OnOk, OnErr};
+ghost use Rattle.std.specs.Option.{option_copied};
+
+use crate::moves::JournalEntry;
+use sqlite_items::Items;
+use std::alloc::{AllocError, Global};
+use std::marker::Model;
+
+/// What happened on a stack, entry by entry.
+#[derive(Debug, Drop)]
+pub struct Journal {
+    entries: Items<JournalEntry>,
+}
+
+impl Model for Journal {
+    ghost use Rattle.flt_model.specs.JournalText.{Entries};
+
+    ghost Value = { Entries };
+
+    ghost view = { λ j. j.entries };
+}
+
+impl Journal {
+    /// The journal without an entry.
+    pub fn new(alloc: Global) -> Journal
+        ensures { result ≡ [] }
+    {
+        Journal {
+            entries: Items::new(alloc),
+        }
+    }
+
+    /// One more entry, as the last one.
+    pub fn push(&mut self, entry: JournalEntry) -> Result<(), AllocError>
+        ensures ok { OnOk result (self.new ≡ self.old ++ entry ∷ []) }
+        ensures err { OnErr result (self.new ≡ self.old) }
+    {
+        self.entries.push(entry)
+    }
+
+    /// How many entries there are.
+    pub fn len(&self) -> usize
+        ensures { result ≡ length self.now }
+    {
+        self.entries.len()
+    }
+
+    /// The entry of a number, counted from 0; none past the last one.
+    pub fn entry(&self, number: usize) -> Option<JournalEntry>
+        ensures { result ≡ slice_get self.now number }
+    {
+        self.entries.get(number).copied()
+    }
+
+    /// All entries, the first one first.
+    pub fn entries(&self) -> &[JournalEntry]
+        ensures { result.now ≡ self.now }
+    {
+        self.entries.as_slice()
+    }
+}

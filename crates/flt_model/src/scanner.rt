@@ -1,0 +1,106 @@
+//! The bytes of a reader, and the numbers that stand in them.
+
+ghost use Rattle.std.specs.Prelude.{◌≡◌, ◌<◌, ◌≤◌, ◌+◌, length};
+ghost use Rattle.flt_model.specs.JournalTextReading as spec;
+
+use crate::streams::{ReadFault, Source};
+
+/// Why reading stopped.
+#[derive(Clone, Copy, Debug, PartialEq, Eq)]
+pub(crate) enum Stop {
+    /// The latest byte isn't as asked, or one is missing.
+    Wrong,
+    /// The reader failed.
+    Failed,
+}
+
+impl From<ReadFault> for Stop {
+    ghost use Rattle.flt_model.specs.declared.scanner.Stop.TheVariants.{Failed};
+    ghost use Rattle.std.specs.Prelude.{◌≡◌};
+
+    ghost from_gives = { λ _ e. e ≡ Failed };
+
+    fn from(_e: ReadFault) -> Stop {
+        Stop::Failed
+    }
+}
+
+pub(crate) fn byte<R: Source>(reader: &mut R) -> Result<u8, Stop>
+    ensures read { spec.Reads (spec.byte (R.coming reader.old)) result (R.coming reader.new) }
+    ensures fails { spec.Counts result (R.failures reader.old) (R.failures reader.new) }
+    ensures reads { R.reads reader.new ≤ R.reads reader.old + 1 }
+{
+    reader.next()?.ok_or(Stop::Wrong)
+}
+
+/// These bytes.
+pub(crate) fn exactly<R: Source>(reader: &mut R, bytes: &[u8]) -> Result<(), Stop>
+    ensures read { spec.Reads (spec.exactly bytes.now (R.coming reader.old)) result (R.coming reader.new) }
+    ensures fails { spec.Counts result (R.failures reader.old) (R.failures reader.new) }
+    ensures reads { R.reads reader.new ≤ R.reads reader.old + length bytes.now }
+{
+    let [first, others @ ..] = bytes else {
+        return Ok(());
+    };
+    if byte(reader)? == *first {
+        exactly(reader, others)
+    } else {
+        Err(Stop::Wrong)
+    }
+}
+
+/// A number with one more digit, if it stays below 2 ^ 32.
+fn with_digit(number: u32, digit: u8) -> Option<u32>
+    ensures { result ≡ spec.with_digit number digit }
+{
+    match digit {
+        b'0'..=b'9' => {
+            let more = 10 * (number as u64) + (digit - b'0') as u64;
+            if more <= u32::MAX as u64 {
+                Some(more as u32)
+            } else {
+                None
+            }
+        }
+        _ => None,
+    }
+}
+
+/// The digits of a number behind those that were read, so many at most, and the byte behind it.
+#[tactic(auto, using(crate::proofs::ReadingSteps::digits_none, crate::proofs::ReadingSteps::digits_end, crate::proofs::ReadingSteps::digits_last, crate::proofs::ReadingSteps::digits_wrong, crate::proofs::ReadingSteps::digits_more))]
+fn digits<R: Source>(reader: &mut R, left: usize, end: u8, number: u32) -> Result<u32, Stop>
+    requires { left < 100 }
+    ensures read { spec.Reads (spec.digits left end number (R.coming reader.old)) result (R.coming reader.new) }
+    ensures fails { spec.Counts result (R.failures reader.old) (R.failures reader.new) }
+    ensures reads { R.reads reader.new ≤ R.reads reader.old + (left + 1) }
+{
+    let next = byte(reader)?;
+    if next == end {
+        return Ok(number);
+    }
+    if left == 0 {
+        return Err(Stop::Wrong);
+    }
+    match with_digit(number, next) {
+        Some(number) => digits(reader, left - 1, end, number),
+        None => Err(Stop::Wrong),
+    }
+}
+
+/// A number with no zero in front, and the byte behind it.
+#[tactic(auto, unfolding(crate::specs::JournalTextReading::number))]
+pub(crate) fn number<R: Source>(reader: &mut R, end: u8) -> Result<u32, Stop>
+    ensures read { spec.Reads (spec.number end (R.coming reader.old)) result (R.coming reader.new) }
+    ensures fails { spec.Counts result (R.failures reader.old) (R.failures reader.new) }
+    ensures reads { R.reads reader.new ≤ R.reads reader.old + 11 }
+{
+    let first = byte(reader)?;
+    if first == b'0' {
+        exactly(reader, &[end])?;
+        return Ok(0);
+    }
+    match with_digit(0, first) {
+        Some(number) => digits(reader, 9, end, number),
+        None => Err(Stop::Wrong),
+    }
+}

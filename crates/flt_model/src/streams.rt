@@ -1,0 +1,48 @@
+//! Streams of bytes, as journals are read from them and written to them.
+
+ghost use Rattle.flt_model.specs.Streams.{Gives, with_bytes};
+ghost use Rattle.std.specs.Prelude.{◌≡◌, ◌≢◌, ℕ, ◌+◌, ◌≤◌, ◌<◌, List, Option, length, take, OnOk, OnErr, IfOk};
+
+/// A read failed.
+#[derive(Clone, Copy, Debug, PartialEq, Eq)]
+pub struct ReadFault;
+
+/// A write failed. How many of its bytes were taken before isn't known.
+#[derive(Clone, Copy, Debug, PartialEq, Eq)]
+pub struct WriteFault;
+
+/// Gives bytes, one at a time, and counts its failures, of which an interruption is one.
+pub trait Source {
+    // The bytes that it still gives.
+    ghost coming: { Self → List ℕ };
+
+    // The count of its failures, which is another one after each.
+    ghost failures: { Self → ℕ };
+
+    // The count of its reads, to which each adds one at most.
+    ghost reads: { Self → ℕ };
+
+    /// The next byte, or that there is none.
+    fn next(&mut self) -> Result<Option<u8>, ReadFault>
+        ensures byte { IfOk result (λ b. Gives (coming self.old) b (coming self.new)) }
+        ensures fine { OnOk result (failures self.new ≡ failures self.old) }
+        ensures err { OnErr result (failures self.new ≢ failures self.old) }
+        ensures reads { reads self.new ≤ reads self.old + 1 };
+}
+
+/// Takes bytes, some at a time, and counts its failures, of which an interruption is one.
+pub trait Sink {
+    // What it has taken; none where it can't say.
+    ghost taken: { Self → Option (List ℕ) };
+
+    // The count of its failures, which is another one after each.
+    ghost failures: { Self → ℕ };
+
+    /// Takes some of the bytes, and answers how many; at least one if there are any.
+    fn put(&mut self, bytes: &[u8]) -> Result<usize, WriteFault>
+        ensures within { IfOk result (λ n. n ≤ length bytes.now) }
+        ensures moves { IfOk result (λ n. 0 < length bytes.now → 0 < n) }
+        ensures ok { IfOk result (λ n. taken self.new ≡ with_bytes (taken self.old) (take n bytes.now)) }
+        ensures fine { OnOk result (failures self.new ≡ failures self.old) }
+        ensures err { OnErr result (failures self.new ≢ failures self.old) };
+}

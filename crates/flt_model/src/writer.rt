@@ -1,0 +1,211 @@
+//! The text of journals.
+
+ghost use Rattle.std.specs.Prelude.{◌≡◌, ◌≢◌, ◌<◌, ◌++◌, OnOk, OnErr};
+ghost use Rattle.std.specs.Fmt.{decimal};
+ghost use Rattle.flt_model.specs.Streams.{with_bytes};
+ghost use Rattle.flt_model.specs.JournalText as spec;
+
+use crate::journal::Journal;
+use crate::moves::{JournalEntry, Key, Move};
+use crate::streams::{Sink, WriteFault};
+use flt_rules::{Mode, Operation};
+
+/// Writes all of the bytes.
+pub fn put_all<W: Sink>(writer: &mut W, bytes: &[u8]) -> Result<(), WriteFault>
+    ensures ok { OnOk result (W.taken writer.new ≡ with_bytes (W.taken writer.old) bytes.now) }
+    ensures fine { OnOk result (W.failures writer.new ≡ W.failures writer.old) }
+    ensures err { OnErr result (W.failures writer.new ≢ W.failures writer.old) }
+{
+    let mut at = 0;
+    while at < bytes.len() {
+        at += writer.put(&bytes[at..])?;
+    }
+    Ok(())
+}
+
+#[tactic(auto, using(std::proofs::lemmas::Fmt::decimal_digit, std::proofs::lemmas::Fmt::decimal_step, crate::proofs::WritingSteps::two_parts))]
+fn put_decimal<W: Sink>(writer: &mut W, number: u32) -> Result<(), WriteFault>
+    ensures ok { OnOk result (W.taken writer.new ≡ with_bytes (W.taken writer.old) (decimal number)) }
+    ensures fine { OnOk result (W.failures writer.new ≡ W.failures writer.old) }
+    ensures err { OnErr result (W.failures writer.new ≢ W.failures writer.old) }
+{
+    let digit = b'0' + (number % 10) as u8;
+    if number < 10 {
+        return put_all(writer, &[digit]);
+    }
+    put_decimal(writer, number / 10)?;
+    put_all(writer, &[digit])
+}
+
+/// A number, and a byte behind it.
+#[tactic(auto, using(crate::proofs::WritingSteps::two_parts))]
+fn put_number<W: Sink>(writer: &mut W, number: u32, end: u8) -> Result<(), WriteFault>
+    ensures ok { OnOk result (W.taken writer.new ≡ with_bytes (W.taken writer.old) (spec.number_text number end)) }
+    ensures fine { OnOk result (W.failures writer.new ≡ W.failures writer.old) }
+    ensures err { OnErr result (W.failures writer.new ≢ W.failures writer.old) }
+{
+    put_decimal(writer, number)?;
+    put_all(writer, &[end])
+}
+
+/// A word, a number and a byte behind it.
+#[tactic(auto, using(crate::proofs::WritingSteps::two_parts))]
+fn put_named<W: Sink>(writer: &mut W, word: &[u8], number: u32, end: u8) -> Result<(), WriteFault>
+    ensures ok { OnOk result (W.taken writer.new ≡ with_bytes (W.taken writer.old) (word.now ++ spec.number_text number end)) }
+    ensures fine { OnOk result (W.failures writer.new ≡ W.failures writer.old) }
+    ensures err { OnErr result (W.failures writer.new ≢ W.failures writer.old) }
+{
+    put_all(writer, word)?;
+    put_number(writer, number, end)
+}
+
+fn operation_text(operation: Operation) -> &'static [u8]
+    ensures { result.now ≡ spec.operation_text operation }
+{
+    match operation {
+        Operation::Create => b"create ",
+        Operation::Read => b"read ",
+        Operation::Write => b"write ",
+        Operation::Cleanup => b"cleanup ",
+    }
+}
+
+fn mode_text(mode: Mode) -> &'static [u8]
+    ensures { result.now ≡ spec.mode_text mode }
+{
+    match mode {
+        Mode::Irp => b"irp ",
+        Mode::Fast => b"fast ",
+    }
+}
+
+fn grant_text(grant: bool) -> &'static [u8]
+    ensures { result.now ≡ spec.grant_text grant }
+{
+    if grant { b"yes\n" } else { b"no\n" }
+}
+
+#[tactic(auto, using(crate::proofs::WritingSteps::three_parts))]
+fn put_arrive<W: Sink>(
+    writer: &mut W,
+    operation: Operation,
+    mode: Mode,
+    file: u32,
+) -> Result<(), WriteFault>
+    ensures ok { OnOk result (W.taken writer.new ≡ with_bytes (W.taken writer.old) (spec.move_line (Move.Arrive operation mode file))) }
+    ensures fine { OnOk result (W.failures writer.new ≡ W.failures writer.old) }
+    ensures err { OnErr result (W.failures writer.new ≢ W.failures writer.old) }
+{
+    put_all(writer, b"arrive ")?;
+    put_all(writer, operation_text(operation))?;
+    put_named(writer, mode_text(mode), file, b'\n')
+}
+
+/// A word and two numbers.
+#[tactic(auto, using(crate::proofs::WritingSteps::three_parts))]
+fn put_two<W: Sink>(
+    writer: &mut W,
+    word: &[u8],
+    altitude: u32,
+    serial: u32,
+) -> Result<(), WriteFault>
+    ensures ok { OnOk result (W.taken writer.new ≡ with_bytes (W.taken writer.old) (word.now ++ (spec.number_text altitude 32 ++ spec.number_text serial 10))) }
+    ensures fine { OnOk result (W.failures writer.new ≡ W.failures writer.old) }
+    ensures err { OnErr result (W.failures writer.new ≢ W.failures writer.old) }
+{
+    put_all(writer, word)?;
+    put_number(writer, altitude, b' ')?;
+    put_number(writer, serial, b'\n')
+}
+
+fn put_key<W: Sink>(writer: &mut W, key: Key) -> Result<(), WriteFault>
+    ensures ok { OnOk result (W.taken writer.new ≡ with_bytes (W.taken writer.old) (spec.key_text key)) }
+    ensures fine { OnOk result (W.failures writer.new ≡ W.failures writer.old) }
+    ensures err { OnErr result (W.failures writer.new ≢ W.failures writer.old) }
+{
+    match key {
+        Key::Stream(file) => put_named(writer, b"stream ", file, b'\n'),
+        Key::Instance => put_all(writer, b"instance\n"),
+    }
+}
+
+#[tactic(auto, using(crate::proofs::WritingSteps::three_parts))]
+fn put_unlink<W: Sink>(writer: &mut W, altitude: u32, key: Key) -> Result<(), WriteFault>
+    ensures ok { OnOk result (W.taken writer.new ≡ with_bytes (W.taken writer.old) (spec.move_line (Move.Unlink altitude key))) }
+    ensures fine { OnOk result (W.failures writer.new ≡ W.failures writer.old) }
+    ensures err { OnErr result (W.failures writer.new ≢ W.failures writer.old) }
+{
+    put_all(writer, b"unlink ")?;
+    put_number(writer, altitude, b' ')?;
+    put_key(writer, key)
+}
+
+fn put_move<W: Sink>(writer: &mut W, made: Move) -> Result<(), WriteFault>
+    ensures ok { OnOk result (W.taken writer.new ≡ with_bytes (W.taken writer.old) (spec.move_line made)) }
+    ensures fine { OnOk result (W.failures writer.new ≡ W.failures writer.old) }
+    ensures err { OnErr result (W.failures writer.new ≢ W.failures writer.old) }
+{
+    match made {
+        Move::Arrive {
+            operation,
+            mode,
+            file,
+        } => put_arrive(writer, operation, mode, file),
+        Move::Pre { serial } => put_named(writer, b"pre ", serial, b'\n'),
+        Move::Skip { serial } => put_named(writer, b"skip ", serial, b'\n'),
+        Move::Lower { serial } => put_named(writer, b"lower ", serial, b'\n'),
+        Move::Post { serial } => put_named(writer, b"post ", serial, b'\n'),
+        Move::Cancel { serial } => put_named(writer, b"cancel ", serial, b'\n'),
+        Move::Canceled { altitude, serial } => put_two(writer, b"canceled ", altitude, serial),
+        Move::Work { item } => put_named(writer, b"work ", item, b'\n'),
+        Move::Detach { altitude } => put_named(writer, b"detach ", altitude, b'\n'),
+        Move::Drain { altitude, serial } => put_two(writer, b"drain ", altitude, serial),
+        Move::Unlink { altitude, key } => put_unlink(writer, altitude, key),
+        Move::Detached { altitude } => put_named(writer, b"detached ", altitude, b'\n'),
+    }
+}
+
+#[tactic(auto, using(crate::proofs::WritingSteps::three_parts))]
+fn put_go<W: Sink>(
+    writer: &mut W,
+    activation: u32,
+    steps: u32,
+    grant: bool,
+) -> Result<(), WriteFault>
+    ensures ok { OnOk result (W.taken writer.new ≡ with_bytes (W.taken writer.old) (spec.entry_line (JournalEntry.Go activation steps grant))) }
+    ensures fine { OnOk result (W.failures writer.new ≡ W.failures writer.old) }
+    ensures err { OnErr result (W.failures writer.new ≢ W.failures writer.old) }
+{
+    put_named(writer, b"go ", activation, b' ')?;
+    put_number(writer, steps, b' ')?;
+    put_all(writer, grant_text(grant))
+}
+
+fn put_entry<W: Sink>(writer: &mut W, entry: JournalEntry) -> Result<(), WriteFault>
+    ensures ok { OnOk result (W.taken writer.new ≡ with_bytes (W.taken writer.old) (spec.entry_line entry)) }
+    ensures fine { OnOk result (W.failures writer.new ≡ W.failures writer.old) }
+    ensures err { OnErr result (W.failures writer.new ≢ W.failures writer.old) }
+{
+    match entry {
+        JournalEntry::Move(made) => put_move(writer, made),
+        JournalEntry::Go {
+            activation,
+            steps,
+            grant,
+        } => put_go(writer, activation, steps, grant),
+    }
+}
+
+/// Writes the one spelling of a journal.
+#[tactic(auto, using(crate::proofs::WritingSteps::entries_begin, crate::proofs::WritingSteps::entries_end))]
+pub fn write<W: Sink>(journal: &Journal, writer: &mut W) -> Result<(), WriteFault>
+    ensures ok { OnOk result (W.taken writer.new ≡ with_bytes (W.taken writer.old) (spec.spelling journal.now)) }
+    ensures fine { OnOk result (W.failures writer.new ≡ W.failures writer.old) }
+    ensures err { OnErr result (W.failures writer.new ≢ W.failures writer.old) }
+{
+    put_all(writer, b"fltjournal 1\n")?;
+    for entry in journal.entries() {
+        put_entry(writer, *entry)?;
+    }
+    put_all(writer, b"end\n")
+}
