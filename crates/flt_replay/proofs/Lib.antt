@@ -1,3 +1,3 @@
-pub mod Local
+pub mod LocalLaws
 pub mod Reading
 pub mod Remaining

@@ -26,9 +26,9 @@ pub(crate) struct Activation<'a> {
 }
 
 impl<'a> Model for Activation<'a> {
-    ghost use Rattle.flt_model.specs.World.{Activation};
+    ghost use Rattle.flt_model.specs.World as machine;
 
-    ghost Value = { Activation };
+    ghost Value = { machine.Activation };
 
     ghost use Rattle.flt_replay.specs.Coded.{activation_code};
 

@@ -41,7 +41,10 @@ impl<'a> Activation<'a> {
         match test {
             Test::ContextIsSome(variable) => Some(self.context(variable).is_some()),
             Test::OperationIsSome(variable) => {
-                Some(self.operation(OperationVariable::Removed(variable)).is_some())
+                Some(
+                    self.operation(OperationVariable::Removed(variable))
+                        .is_some(),
+                )
             }
             Test::Equal(variable, atom) => Some(self.number(variable) == self.atom(atom)),
             Test::Less(variable, atom) => Some(self.number(variable) < self.atom(atom)),
@@ -60,11 +63,7 @@ impl<'a> Activation<'a> {
     }
 
     /// The step of a statement of the text, which was the first one. False where others see it.
-    fn statement(
-        &mut self,
-        draining: bool,
-        statement: &'a Statement,
-    ) -> Result<bool, AllocError>
+    fn statement(&mut self, draining: bool, statement: &'a Statement) -> Result<bool, AllocError>
         ensures { IfOk result (λ local. spec.after_statement draining self.old self.old.rest (out-Statement statement.now) ≡ (if local then Some self.new else None)) }
     {
         match statement {
@@ -91,6 +90,7 @@ impl<'a> Activation<'a> {
     }
 
     /// One step that nobody else sees. False where the next one is seen; the first statement is then gone.
+    #[tactic(auto, using(crate::proofs::LocalLaws::statement_same))]
     pub(crate) fn step_locally(&mut self, draining: bool) -> Result<bool, AllocError>
         ensures { IfOk result (λ local. spec.local_step draining self.old self.old.rest ≡ (if local then Some self.new else None)) }
     {

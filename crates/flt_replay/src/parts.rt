@@ -36,9 +36,9 @@ pub(crate) struct Standing {
 }
 
 impl Model for Standing {
-    ghost use Rattle.flt_model.specs.World.{Presence};
+    ghost use Rattle.flt_model.specs.World as machine;
 
-    ghost Value = { Presence };
+    ghost Value = { machine.Presence };
 
     ghost use Rattle.flt_replay.specs.Parts.{presence_of};
 
@@ -53,9 +53,9 @@ pub(crate) struct Entry {
 }
 
 impl Model for Entry {
-    ghost use Rattle.flt_model.specs.World.{Entry};
+    ghost use Rattle.flt_model.specs.World as machine;
 
-    ghost Value = { Entry };
+    ghost Value = { machine.Entry };
 
     ghost view = { λ e. record { visit = e.visit; context = e.context } };
 }
@@ -69,9 +69,9 @@ pub(crate) struct Arrival {
 }
 
 impl Model for Arrival {
-    ghost use Rattle.flt_model.specs.World.{Arrival};
+    ghost use Rattle.flt_model.specs.World as machine;
 
-    ghost Value = { Arrival };
+    ghost Value = { machine.Arrival };
 
     ghost view = { λ a. record { kind = a.kind; mode = a.mode; file = a.file } };
 }
@@ -84,9 +84,9 @@ pub(crate) struct Frame {
 }
 
 impl Model for Frame {
-    ghost use Rattle.flt_model.specs.World.{Frame};
+    ghost use Rattle.flt_model.specs.World as machine;
 
-    ghost Value = { Frame };
+    ghost Value = { machine.Frame };
 
     ghost view = { λ f. record { filter = f.filter; context = f.context } };
 }
@@ -102,9 +102,9 @@ pub(crate) struct Route {
 }
 
 impl Model for Route {
-    ghost use Rattle.flt_model.specs.World.{Route};
+    ghost use Rattle.flt_model.specs.World as machine;
 
-    ghost Value = { Route };
+    ghost Value = { machine.Route };
 
     ghost use Rattle.std.specs.Prelude.{option_map};
     ghost use Rattle.flt_replay.specs.Parts.{position_of, outcome_of};
@@ -122,9 +122,9 @@ pub(crate) struct Visit {
 }
 
 impl Model for Visit {
-    ghost use Rattle.flt_model.specs.World.{Visit};
+    ghost use Rattle.flt_model.specs.World as machine;
 
-    ghost Value = { Visit };
+    ghost Value = { machine.Visit };
 
     ghost view = { λ v. record { operation = v.operation; filter = v.filter; stage = v.stage; draining = v.draining } };
 }
@@ -137,9 +137,9 @@ pub(crate) struct Link {
 }
 
 impl Model for Link {
-    ghost use Rattle.flt_model.specs.World.{Link};
+    ghost use Rattle.flt_model.specs.World as machine;
 
-    ghost Value = { Link };
+    ghost Value = { machine.Link };
 
     ghost view = { λ l. record { filter = l.filter; key = l.key } };
 }
@@ -154,9 +154,9 @@ pub(crate) struct Context {
 }
 
 impl Model for Context {
-    ghost use Rattle.flt_model.specs.World.{Context};
+    ghost use Rattle.flt_model.specs.World as machine;
 
-    ghost Value = { Context };
+    ghost Value = { machine.Context };
 
     ghost view = { λ c. record { owner = c.owner; references = c.references; value = c.value; link = c.link } };
 }
@@ -171,9 +171,9 @@ pub(crate) struct Item {
 }
 
 impl Model for Item {
-    ghost use Rattle.flt_model.specs.World.{Item};
+    ghost use Rattle.flt_model.specs.World as machine;
 
-    ghost Value = { Item };
+    ghost Value = { machine.Item };
 
     ghost view = { λ i. record { filter = i.filter; routine = i.routine; visit = i.visit; context = i.context } };
 }
@@ -187,9 +187,9 @@ pub(crate) struct Actor {
 }
 
 impl Model for Actor {
-    ghost use Rattle.flt_model.specs.World.{Actor};
+    ghost use Rattle.flt_model.specs.World as machine;
 
-    ghost Value = { Actor };
+    ghost Value = { machine.Actor };
 
     ghost view = { λ a. record { filter = a.filter; place = a.place; draining = a.draining } };
 }

@@ -29,11 +29,12 @@ pub(crate) struct World<'a> {
 }
 
 impl<'a> Model for World<'a> {
-    ghost use Rattle.flt_model.specs.World.{World};
+    ghost use Rattle.flt_model.specs.World as machine;
+
+    ghost Value = { machine.World };
+
     ghost use Rattle.std.specs.Coded.{codes};
     ghost use Rattle.flt_replay.specs.Coded.{activation_code};
-
-    ghost Value = { World };
 
     ghost coded = { Prim.hlevel (codes, activation_code) };
 
