@@ -9,8 +9,8 @@ use flt_syntax::Status;
 /// What an activation can hold.
 #[derive(Clone, Copy, Debug, PartialEq, Eq)]
 pub enum Object {
-    Context(u32),
-    Visit(u32),
+    Context(usize),
+    Visit(usize),
 }
 
 /// How a status reaches the filter manager.
@@ -21,12 +21,12 @@ pub enum Answer {
     /// Handed on by FltCompletePendedPreOperation, for the visit.
     CompletesPre {
         whose: Possessed,
-        visit: u32,
+        visit: usize,
         status: Status,
     },
     /// FINISHED_PROCESSING, by FltCompletePendedPostOperation, for the visit.
     CompletesPost {
-        visit: u32,
+        visit: usize,
     },
 }
 
@@ -34,25 +34,25 @@ pub enum Answer {
 #[derive(Clone, Copy, Debug, PartialEq, Eq)]
 pub enum Event {
     /// A call of the driver kit is made.
-    Call(u32, Call),
+    Call(usize, Call),
     /// A status is given.
-    Status(u32, Answer),
+    Status(usize, Answer),
     /// A lock is asked for.
-    Lock(u32, LockNumber),
+    Lock(usize, LockNumber),
     /// A lock is given back.
-    Unlock(u32, LockNumber),
+    Unlock(usize, LockNumber),
     /// What a variable names is used.
-    Use(u32, Object),
+    Use(usize, Object),
     /// A variable is used that is NULL.
-    Empty(u32),
+    Empty(usize),
     /// The activation holds the object once more.
-    Gain(u32, Object),
+    Gain(usize, Object),
     /// The activation holds the object once less.
-    Lose(u32, Object),
+    Lose(usize, Object),
     /// The last reference of a context goes.
-    Free(u32),
+    Free(usize),
     /// The filter's part in the operation is over.
-    Settle(u32),
+    Settle(usize),
     /// The activation ends.
-    End(u32),
+    End(usize),
 }

@@ -1,0 +1,3 @@
+pub mod LocalLaws
+pub mod Reading
+pub mod Remaining

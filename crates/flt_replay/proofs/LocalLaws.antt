@@ -1,0 +1,57 @@
+-- What a local step does to the variables doesn't depend on the statements that remain.
+use Rattle.std.proofs.Common.{◌≡◌, ℕ, ◌+◌, ◌-◌, ◌%◌, ◌^◌, Bool, true, false, List, Option, Some, None, if◌then◌else◌, option_map, refl, ap}
+use Rattle.flt_syntax.specs.declared.filter.Action.{Action}
+use Rattle.flt_syntax.specs.declared.filter.Action.TheVariants as action
+use Rattle.flt_syntax.specs.declared.filter.Condition.{Condition}
+use Rattle.flt_syntax.specs.declared.filter.Condition.TheVariants as condition
+use Rattle.flt_syntax.specs.declared.filter.Statement.{Statement}
+use Rattle.flt_syntax.specs.declared.filter.Statement.TheOpen.{Statement-F}
+use Rattle.flt_syntax.specs.declared.filter.Test.{Test}
+use Rattle.flt_syntax.specs.declared.filter.Test.TheVariants as test
+use Rattle.flt_syntax.specs.declared.variable.Atom.{Atom}
+use Rattle.flt_syntax.specs.declared.variable.Atom.TheVariants as atom
+use Rattle.flt_syntax.specs.declared.variable.Expression.{Expression}
+use Rattle.flt_syntax.specs.declared.variable.Expression.TheVariants as expression
+use Rattle.flt_model.specs.LocalSteps.{after_action, holds_test, holds_condition, after_statement, goes_on_to}
+use Rattle.flt_model.specs.Variables.{atom_value, expression_value, with_number}
+use Rattle.flt_model.specs.World.{Activation}
+
+module _ (draining : Bool) (act : Activation) (others rest : List Statement) where
+  abbrev elsewhere : Activation
+  elsewhere = record act { rest = others }
+
+  atom_same : (x : Atom) → atom_value elsewhere x ≡ atom_value act x
+  atom_same (atom.Number k) = refl
+  atom_same (atom.Variable n) = refl
+
+  expression_same : (e : Expression) → expression_value elsewhere e ≡ expression_value act e
+  expression_same (expression.Atom x) = atom_same x
+  expression_same (expression.Sum x y) = rw (atom_same x, atom_same y) refl
+  expression_same (expression.Difference x y) = rw (atom_same x, atom_same y) refl
+
+  action_same : (a : Action) → option_map (goes_on_to rest) (after_action elsewhere a) ≡ option_map (goes_on_to rest) (after_action act a)
+  action_same (action.SetNumber n e) = rw (expression_same e) refl
+  action_same (action.ClearContext c) = refl
+  action_same (action.ClearOperation o) = refl
+  action_same (action.ReadValue n c) = refl
+  action_same (action.ReadFile n d) = refl
+  action_same (action.WriteValue c x) = refl
+
+  test_same : (t : Test) → holds_test draining elsewhere t ≡ holds_test draining act t
+  test_same (test.ContextIsSome c) = refl
+  test_same (test.OperationIsSome o) = refl
+  test_same (test.Equal n x) = rw (atom_same x) refl
+  test_same (test.Less n x) = rw (atom_same x) refl
+  test_same test.IsDraining = refl
+  test_same test.IsIrp = refl
+
+  condition_same : (k : Condition) → holds_condition draining elsewhere k ≡ holds_condition draining act k
+  condition_same (condition.Test t) = test_same t
+  condition_same (condition.Succeeds c) = refl
+
+  pub statement_same : (s : Statement-F Statement) → after_statement draining elsewhere rest s ≡ after_statement draining act rest s
+  statement_same (Statement-F.Act line a) = action_same a
+  statement_same (Statement-F.Call line c) = refl
+  statement_same (Statement-F.Return line status) = refl
+  statement_same (Statement-F.If line asked granted refused) = rw (condition_same asked) refl
+  statement_same (Statement-F.Repeat line turns block) = refl

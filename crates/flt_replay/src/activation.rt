@@ -1,0 +1,179 @@
+//! An activation: one run of a callback, with its variables and the locks that it holds.
+
+ghost use Rattle.std.specs.Prelude.{◌≡◌, ◌<◌, true, [], replicate, IfOk, OnOk, MatchOption};
+ghost use Rattle.flt_model.specs.Variables as spec;
+ghost use Rattle.flt_replay.specs.Rest.{statement_of};
+
+use crate::rest::{Rest, Upcoming};
+use flt_rules::LockNumber;
+use flt_syntax::{
+    Atom, ContextVariable, Expression, NumberVariable, OperationVariable, RemovedVariable,
+    Statement,
+};
+use sqlite_items::Items;
+use std::alloc::{AllocError, Global};
+use std::marker::Model;
+
+/// How far a callback has come. A variable keeps its number when what it names is released or handed over.
+#[derive(Drop)]
+pub(crate) struct Activation<'a> {
+    pub(crate) rest: Rest<'a>,
+    numbers: [u64; 8],
+    contexts: [Option<usize>; 9],
+    operations: [Option<usize>; 5],
+    pub(crate) locks: Items<LockNumber>,
+    pub(crate) ended: bool,
+}
+
+impl<'a> Model for Activation<'a> {
+    ghost use Rattle.flt_model.specs.World as machine;
+
+    ghost Value = { machine.Activation };
+
+    ghost use Rattle.flt_replay.specs.Coded.{activation_code};
+
+    ghost coded = { activation_code };
+
+    ghost view = { λ a. record { rest = a.rest; numbers = a.numbers; contexts = a.contexts; operations = a.operations; locks = a.locks; ended = a.ended } };
+}
+
+fn number_place(variable: NumberVariable) -> usize
+    ensures value { result ≡ spec.number_place variable }
+    ensures within { result < 8 }
+{
+    match variable {
+        NumberVariable::N0 => 0,
+        NumberVariable::N1 => 1,
+        NumberVariable::N2 => 2,
+        NumberVariable::N3 => 3,
+        NumberVariable::N4 => 4,
+        NumberVariable::N5 => 5,
+        NumberVariable::N6 => 6,
+        NumberVariable::N7 => 7,
+    }
+}
+
+fn context_place(variable: ContextVariable) -> usize
+    ensures value { result ≡ spec.context_place variable }
+    ensures within { result < 9 }
+{
+    match variable {
+        ContextVariable::C0 => 0,
+        ContextVariable::C1 => 1,
+        ContextVariable::C2 => 2,
+        ContextVariable::C3 => 3,
+        ContextVariable::C4 => 4,
+        ContextVariable::C5 => 5,
+        ContextVariable::C6 => 6,
+        ContextVariable::C7 => 7,
+        ContextVariable::Arg => 8,
+    }
+}
+
+fn operation_place(variable: OperationVariable) -> usize
+    ensures value { result ≡ spec.operation_place variable }
+    ensures within { result < 5 }
+{
+    match variable {
+        OperationVariable::Removed(RemovedVariable::O0) => 0,
+        OperationVariable::Removed(RemovedVariable::O1) => 1,
+        OperationVariable::Removed(RemovedVariable::O2) => 2,
+        OperationVariable::Removed(RemovedVariable::O3) => 3,
+        OperationVariable::Data => 4,
+    }
+}
+
+impl<'a> Activation<'a> {
+    /// At entry all is 0 or NULL but the given operation and the given context.
+    pub(crate) fn starting(
+        alloc: Global,
+        body: &'a [Statement],
+        given: Option<usize>,
+        arg: Option<usize>,
+    ) -> Activation<'a>
+        ensures { result ≡ spec.starting body.now given arg }
+    {
+        Activation {
+            rest: Rest::new(alloc, body),
+            numbers: [0; 8],
+            contexts: [None, None, None, None, None, None, None, None, arg],
+            operations: [None, None, None, None, given],
+            locks: Items::new(alloc),
+            ended: false,
+        }
+    }
+
+    pub(crate) fn number(&self, variable: NumberVariable) -> u64
+        ensures { result ≡ spec.number_in self.now variable }
+    {
+        self.numbers[number_place(variable)]
+    }
+
+    pub(crate) fn context(&self, variable: ContextVariable) -> Option<usize>
+        ensures { result ≡ spec.context_in self.now variable }
+    {
+        self.contexts[context_place(variable)]
+    }
+
+    pub(crate) fn operation(&self, variable: OperationVariable) -> Option<usize>
+        ensures { result ≡ spec.operation_in self.now variable }
+    {
+        self.operations[operation_place(variable)]
+    }
+
+    /// What a variable names that a call need not have.
+    pub(crate) fn named(&self, variable: Option<ContextVariable>) -> Option<Option<usize>>
+        ensures { result ≡ spec.named_in self.now variable }
+    {
+        match variable {
+            Some(variable) => Some(self.context(variable)),
+            None => None,
+        }
+    }
+
+    pub(crate) fn set_number(&mut self, variable: NumberVariable, value: u64)
+        ensures { self.new ≡ spec.with_number self.old variable value }
+    {
+        self.numbers[number_place(variable)] = value;
+    }
+
+    pub(crate) fn set_context(&mut self, variable: ContextVariable, context: Option<usize>)
+        ensures { self.new ≡ spec.with_context_in self.old variable context }
+    {
+        self.contexts[context_place(variable)] = context;
+    }
+
+    pub(crate) fn set_operation(&mut self, variable: OperationVariable, visit: Option<usize>)
+        ensures { self.new ≡ spec.with_operation_in self.old variable visit }
+    {
+        self.operations[operation_place(variable)] = visit;
+    }
+
+    /// Sets a variable that a call need not have.
+    pub(crate) fn set_old(&mut self, variable: Option<ContextVariable>, context: Option<usize>)
+        ensures { self.new ≡ spec.with_old self.old variable context }
+    {
+        if let Some(variable) = variable {
+            self.set_context(variable, context);
+        }
+    }
+
+    pub(crate) fn atom(&self, atom: Atom) -> u64
+        ensures { result ≡ spec.atom_value self.now atom }
+    {
+        match atom {
+            Atom::Number(number) => number,
+            Atom::Variable(variable) => self.number(variable),
+        }
+    }
+
+    pub(crate) fn expression(&self, expression: Expression) -> u64
+        ensures { result ≡ spec.expression_value self.now expression }
+    {
+        match expression {
+            Expression::Atom(atom) => self.atom(atom),
+            Expression::Sum(left, right) => self.atom(left).wrapping_add(self.atom(right)),
+            Expression::Difference(left, right) => self.atom(left).wrapping_sub(self.atom(right)),
+        }
+    }
+}

@@ -1,0 +1,135 @@
+//! The callbacks of a filter by what they are registered for, and its locks.
+
+ghost use Rattle.std.specs.Prelude.{◌≡◌};
+ghost use Rattle.flt_model.specs.Levels as levels;
+ghost use Rattle.flt_model.specs.Program as spec;
+
+use flt_rules::{Level, LockKind, LockNumber, Operation, Place, raised_level};
+use flt_syntax::{Callback, Filter, Head, Statement};
+
+fn same_operation(a: Operation, b: Operation) -> bool
+    ensures { result ≡ spec.same_operation a b }
+{
+    matches!(
+        (a, b),
+        (Operation::Create, Operation::Create)
+            | (Operation::Read, Operation::Read)
+            | (Operation::Write, Operation::Write)
+            | (Operation::Cleanup, Operation::Cleanup)
+    )
+}
+
+fn is_pre_of(kind: Operation, head: &Head) -> bool
+    ensures { result ≡ spec.is_pre_of kind head.now }
+{
+    match head {
+        Head::Pre(own) => same_operation(*own, kind),
+        _ => false,
+    }
+}
+
+fn is_post_of(kind: Operation, head: &Head) -> bool
+    ensures { result ≡ spec.is_post_of kind head.now }
+{
+    match head {
+        Head::Post(own) => same_operation(*own, kind),
+        _ => false,
+    }
+}
+
+fn is_canceled(head: &Head) -> bool
+    ensures { result ≡ spec.is_canceled head.now }
+{
+    matches!(head, Head::Canceled)
+}
+
+fn is_routine(name: &[u8], head: &Head) -> bool
+    ensures { result ≡ spec.is_routine name.now head.now }
+{
+    match head {
+        Head::DeferredPre(own) => own.as_slice() == name,
+        Head::DeferredPost(own) => own.as_slice() == name,
+        Head::Generic(own) => own.as_slice() == name,
+        _ => false,
+    }
+}
+
+/// Where a callback runs, by its head.
+fn place_by(head: &Head) -> Place
+    ensures { result ≡ spec.place_by head.now }
+{
+    match head {
+        Head::Pre(kind) => Place::Pre(*kind),
+        Head::Post(kind) => Place::Post(*kind),
+        Head::Canceled => Place::Canceled,
+        Head::DeferredPre(_) => Place::DeferredPre,
+        Head::DeferredPost(_) => Place::DeferredPost,
+        Head::Generic(_) => Place::Generic,
+    }
+}
+
+pub(crate) fn has_pre(callbacks: &[Callback], kind: Operation) -> bool
+    ensures { result ≡ spec.has_pre callbacks.now kind }
+{
+    callbacks.iter().any(|c| is_pre_of(kind, &c.head))
+}
+
+pub(crate) fn has_post(callbacks: &[Callback], kind: Operation) -> bool
+    ensures { result ≡ spec.has_post callbacks.now kind }
+{
+    callbacks.iter().any(|c| is_post_of(kind, &c.head))
+}
+
+fn is_paired(callbacks: &[Callback], kind: Operation) -> bool
+    ensures { result ≡ spec.is_paired callbacks.now kind }
+{
+    !has_pre(callbacks, kind) || has_post(callbacks, kind)
+}
+
+/// Whether each operation with a pre callback has a post callback.
+pub(crate) fn are_paired(callbacks: &[Callback]) -> bool
+    ensures { result ≡ spec.are_paired callbacks.now }
+{
+    is_paired(callbacks, Operation::Create)
+        && is_paired(callbacks, Operation::Read)
+        && is_paired(callbacks, Operation::Write)
+        && is_paired(callbacks, Operation::Cleanup)
+}
+
+pub(crate) fn body_at(callbacks: &[Callback], routine: usize) -> &[Statement]
+    ensures { result.now ≡ spec.body_at callbacks.now routine }
+{
+    match callbacks.get(routine) {
+        Some(callback) => callback.body.as_slice(),
+        None => &[],
+    }
+}
+
+pub(crate) fn place_at(callbacks: &[Callback], routine: usize) -> Place
+    ensures { result ≡ spec.place_at callbacks.now routine }
+{
+    match callbacks.get(routine) {
+        Some(callback) => place_by(&callback.head),
+        None => Place::Generic,
+    }
+}
+
+/// The kind of a declared lock.
+fn kind_of_lock(filter: &Filter, lock: LockNumber) -> Option<LockKind>
+    ensures { result ≡ spec.kind_of_lock filter.now lock }
+{
+    match filter.locks.get(usize::from(lock.place())) {
+        Some(lock) => Some(lock.kind),
+        None => None,
+    }
+}
+
+/// A lock that isn't declared raises nothing.
+fn raised_by(kind: Option<LockKind>) -> Level
+    ensures { result ≡ levels.raised_by kind }
+{
+    match kind {
+        Some(kind) => raised_level(kind),
+        None => Level::Passive,
+    }
+}

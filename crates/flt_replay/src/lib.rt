@@ -1,0 +1,12 @@
+//! The monitor of journals, which is to say whether a journal is a run of the machine on some filters, and the first thing that
+//! it breaks. So far it has what a step of a callback stands on: the statements that remain, an activation's variables, the local
+//! steps, and reads of the world. Nothing is public yet.
+#![tactic(auto)]
+
+mod activation;
+mod callbacks;
+mod local;
+mod lock_list;
+mod parts;
+mod rest;
+mod world;

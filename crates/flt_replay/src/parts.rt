@@ -1,0 +1,195 @@
+//! What activations share: operations, visits, contexts and what waits, one struct for each record of the machine.
+
+use flt_model::Key;
+use flt_rules::{FinalStatus, Mode, Operation, Place, Stage};
+use sqlite_items::Items;
+use std::marker::Model;
+
+/// Whether a filter's instance is there.
+#[derive(Clone, Copy, PartialEq, Eq)]
+pub(crate) enum Presence {
+    Attached,
+    Detaching,
+    Detached,
+}
+
+/// Where an operation stands.
+#[derive(Clone, Copy)]
+pub(crate) enum Position {
+    /// At a filter on its way down, or below the last one.
+    Down(usize),
+    Visiting,
+    Up,
+}
+
+/// How an operation ended at its lowest point.
+#[derive(Clone, Copy)]
+pub(crate) enum Outcome {
+    Completed(FinalStatus),
+    Disallowed,
+}
+
+/// The presence of a filter's instance.
+#[derive(Drop)]
+pub(crate) struct Standing {
+    pub(crate) presence: Presence,
+}
+
+impl Model for Standing {
+    ghost use Rattle.flt_model.specs.World as machine;
+
+    ghost Value = { machine.Presence };
+
+    ghost use Rattle.flt_replay.specs.Parts.{presence_of};
+
+    ghost view = { λ s. presence_of s.presence };
+}
+
+/// What stands in a cancel-safe queue.
+#[derive(Drop)]
+pub(crate) struct Entry {
+    pub(crate) visit: usize,
+    pub(crate) context: Option<usize>,
+}
+
+impl Model for Entry {
+    ghost use Rattle.flt_model.specs.World as machine;
+
+    ghost Value = { machine.Entry };
+
+    ghost view = { λ e. record { visit = e.visit; context = e.context } };
+}
+
+/// What an operation is; it never changes.
+#[derive(Drop)]
+pub(crate) struct Arrival {
+    pub(crate) kind: Operation,
+    pub(crate) mode: Mode,
+    pub(crate) file: u32,
+}
+
+impl Model for Arrival {
+    ghost use Rattle.flt_model.specs.World as machine;
+
+    ghost Value = { machine.Arrival };
+
+    ghost view = { λ a. record { kind = a.kind; mode = a.mode; file = a.file } };
+}
+
+/// A post callback that is to be called, with its completion context.
+#[derive(Drop)]
+pub(crate) struct Frame {
+    pub(crate) filter: usize,
+    pub(crate) context: Option<usize>,
+}
+
+impl Model for Frame {
+    ghost use Rattle.flt_model.specs.World as machine;
+
+    ghost Value = { machine.Frame };
+
+    ghost view = { λ f. record { filter = f.filter; context = f.context } };
+}
+
+/// How far an operation has come.
+#[derive(Drop)]
+pub(crate) struct Route {
+    pub(crate) position: Position,
+    /// In the order of the filters.
+    pub(crate) frames: Items<Frame>,
+    pub(crate) cancelled: bool,
+    pub(crate) outcome: Option<Outcome>,
+}
+
+impl Model for Route {
+    ghost use Rattle.flt_model.specs.World as machine;
+
+    ghost Value = { machine.Route };
+
+    ghost use Rattle.std.specs.Prelude.{option_map};
+    ghost use Rattle.flt_replay.specs.Parts.{position_of, outcome_of};
+
+    ghost view = { λ r. record { position = position_of r.position; frames = r.frames; cancelled = r.cancelled; outcome = option_map outcome_of r.outcome } };
+}
+
+/// One passing of an operation through a filter; it never changes.
+#[derive(Drop)]
+pub(crate) struct Visit {
+    pub(crate) operation: usize,
+    pub(crate) filter: usize,
+    pub(crate) stage: Stage,
+    pub(crate) draining: bool,
+}
+
+impl Model for Visit {
+    ghost use Rattle.flt_model.specs.World as machine;
+
+    ghost Value = { machine.Visit };
+
+    ghost view = { λ v. record { operation = v.operation; filter = v.filter; stage = v.stage; draining = v.draining } };
+}
+
+/// What a context is linked to, of a filter.
+#[derive(Drop)]
+pub(crate) struct Link {
+    pub(crate) filter: usize,
+    pub(crate) key: Key,
+}
+
+impl Model for Link {
+    ghost use Rattle.flt_model.specs.World as machine;
+
+    ghost Value = { machine.Link };
+
+    ghost view = { λ l. record { filter = l.filter; key = l.key } };
+}
+
+/// A context with the filter that allocated it; without references it is freed.
+#[derive(Drop)]
+pub(crate) struct Context {
+    pub(crate) owner: usize,
+    pub(crate) references: u128,
+    pub(crate) value: u64,
+    pub(crate) link: Option<Link>,
+}
+
+impl Model for Context {
+    ghost use Rattle.flt_model.specs.World as machine;
+
+    ghost Value = { machine.Context };
+
+    ghost view = { λ c. record { owner = c.owner; references = c.references; value = c.value; link = c.link } };
+}
+
+/// A queued work item; a routine by the number of its callback.
+#[derive(Drop)]
+pub(crate) struct Item {
+    pub(crate) filter: usize,
+    pub(crate) routine: usize,
+    pub(crate) visit: Option<usize>,
+    pub(crate) context: Option<usize>,
+}
+
+impl Model for Item {
+    ghost use Rattle.flt_model.specs.World as machine;
+
+    ghost Value = { machine.Item };
+
+    ghost view = { λ i. record { filter = i.filter; routine = i.routine; visit = i.visit; context = i.context } };
+}
+
+/// Whose callback an activation runs, and where; it never changes.
+#[derive(Drop)]
+pub(crate) struct Actor {
+    pub(crate) filter: usize,
+    pub(crate) place: Place,
+    pub(crate) draining: bool,
+}
+
+impl Model for Actor {
+    ghost use Rattle.flt_model.specs.World as machine;
+
+    ghost Value = { machine.Actor };
+
+    ghost view = { λ a. record { filter = a.filter; place = a.place; draining = a.draining } };
+}
