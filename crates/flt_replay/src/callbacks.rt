@@ -4,8 +4,8 @@ ghost use Rattle.std.specs.Prelude.{◌≡◌};
 ghost use Rattle.flt_model.specs.Levels as levels;
 ghost use Rattle.flt_model.specs.Program as spec;
 
-use flt_rules::{Level, LockKind, LockNumber, Operation, Place, raised_level};
-use flt_syntax::{Callback, Filter, Head, Statement};
+use flt_rules::{Level, LockKind, LockNumber, Operation, Place, entry_level, raised_level};
+use flt_syntax::{Callback, Filter, Head, Routine, Statement};
 
 fn same_operation(a: Operation, b: Operation) -> bool
     ensures { result ≡ spec.same_operation a b }
@@ -96,6 +96,45 @@ pub(crate) fn are_paired(callbacks: &[Callback]) -> bool
         && is_paired(callbacks, Operation::Cleanup)
 }
 
+/// The statements of the pre callback of an operation; none where it isn't there.
+pub(crate) fn pre_body(callbacks: &[Callback], kind: Operation) -> &[Statement]
+    ensures { result.now ≡ spec.body_for (spec.is_pre_of kind) callbacks.now }
+{
+    match callbacks.iter().find(|c| is_pre_of(kind, &c.head)) {
+        Some(callback) => callback.body.as_slice(),
+        None => &[],
+    }
+}
+
+pub(crate) fn post_body(callbacks: &[Callback], kind: Operation) -> &[Statement]
+    ensures { result.now ≡ spec.body_for (spec.is_post_of kind) callbacks.now }
+{
+    match callbacks.iter().find(|c| is_post_of(kind, &c.head)) {
+        Some(callback) => callback.body.as_slice(),
+        None => &[],
+    }
+}
+
+pub(crate) fn canceled_body(callbacks: &[Callback]) -> &[Statement]
+    ensures { result.now ≡ spec.body_for spec.is_canceled callbacks.now }
+{
+    match callbacks.iter().find(|c| is_canceled(&c.head)) {
+        Some(callback) => callback.body.as_slice(),
+        None => &[],
+    }
+}
+
+/// The number of the routine that a call names; past all callbacks where there is none.
+pub(crate) fn routine_of(callbacks: &[Callback], routine: &Routine) -> usize
+    ensures { result ≡ spec.routine_of callbacks.now routine.now }
+{
+    let name = routine.name.as_slice();
+    match callbacks.iter().position(|c| is_routine(name, &c.head)) {
+        Some(number) => number,
+        None => callbacks.len(),
+    }
+}
+
 pub(crate) fn body_at(callbacks: &[Callback], routine: usize) -> &[Statement]
     ensures { result.now ≡ spec.body_at callbacks.now routine }
 {
@@ -132,4 +171,23 @@ fn raised_by(kind: Option<LockKind>) -> Level
         Some(kind) => raised_level(kind),
         None => Level::Passive,
     }
+}
+
+fn level_with(filter: &Filter, level: Level, locks: &[LockNumber]) -> Level
+    ensures { result ≡ levels.level_with filter.now level locks.now }
+{
+    match locks {
+        [] => level,
+        [lock, others @ ..] => {
+            let raised = raised_by(kind_of_lock(filter, *lock));
+            level_with(filter, level.max(raised), others)
+        }
+    }
+}
+
+/// The level of a callback of a place that holds these locks.
+pub(crate) fn level_at(filter: &Filter, place: Place, locks: &[LockNumber]) -> Level
+    ensures { result ≡ levels.level_at filter.now place locks.now }
+{
+    level_with(filter, entry_level(place), locks)
 }

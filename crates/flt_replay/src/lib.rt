@@ -3,9 +3,23 @@
 #![tactic(auto)]
 
 mod activation;
+mod board;
 mod callbacks;
+mod calls;
+mod effects;
+mod ledger;
 mod local;
 mod lock_list;
+mod monitor;
+mod moves;
 mod parts;
+mod queue;
 mod rest;
-mod world;
+mod settling;
+mod stack;
+mod store;
+#[cfg(test)]
+mod tests;
+mod violations;
+
+pub use monitor::replay;

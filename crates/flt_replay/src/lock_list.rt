@@ -18,6 +18,17 @@ pub(crate) fn holds_lock(lock: LockNumber, locks: &[LockNumber]) -> bool
     locks.iter().any(|held| same_lock(lock, *held))
 }
 
+/// Whether a lock is the latest taken.
+pub(crate) fn is_latest(lock: LockNumber, locks: &[LockNumber]) -> bool
+    ensures { result ≡ spec.is_latest lock locks.now }
+{
+    match locks {
+        [] => false,
+        [last] => same_lock(lock, *last),
+        [_, others @ ..] => is_latest(lock, others),
+    }
+}
+
 impl<'a> Activation<'a> {
     pub(crate) fn holds_lock(&self, lock: LockNumber) -> bool
         ensures { result ≡ spec.holds_lock lock self.now.locks }
