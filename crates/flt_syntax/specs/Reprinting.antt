@@ -1,6 +1,5 @@
 -- A filter apart from where its parts stand, and the law that its canonical text spells it so.
-use Rattle.std.specs.Prelude.{◌≡◌, ◌≤◌, List, map, length, option_map}
-use Rattle.flt_syntax.specs.Lex.{Text}
+use Rattle.std.specs.Prelude.{◌≡◌, ◌≤◌, map, length, option_map}
 use Rattle.flt_syntax.specs.Limits.{max_text}
 use Rattle.flt_syntax.specs.Printing.{canonical_text}
 use Rattle.flt_syntax.specs.Spelling.{Spells}
