@@ -34,6 +34,7 @@ use Rattle.flt_syntax.specs.declared.token.Kind.{Kind}
 use Rattle.flt_syntax.specs.declared.variable.Atom.{Atom}
 use Rattle.flt_syntax.specs.declared.variable.ContextVariable.{ContextVariable}
 use Rattle.flt_syntax.specs.declared.variable.Expression.{Expression}
+use Rattle.flt_syntax.proofs.Pieces.{some_same}
 use Rattle.flt_syntax.proofs.Sound.{none_some}
 use Rattle.flt_syntax.proofs.TokenBytes.{AreTokens, more}
 
@@ -68,9 +69,6 @@ optional_status_on calls.no_status h = h
 optional_status_on (calls.some_status p) h = status_on p h
 
 -- ---- the lock of a number
-
-some_same : {A : Type 0} (a b : A) → Some a ≡ Some b → a ≡ b
-some_same a b e = cc
 
 place_if : (c : Bool) (n m : ℕ) (a l : LockNumber) (rest : Option LockNumber) → (n == m) ≡ c → place_of a ≡ m →
     (rest ≡ Some l → place_of l ≡ n) → (if c then Some a else rest) ≡ Some l → place_of l ≡ n

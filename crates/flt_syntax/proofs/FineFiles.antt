@@ -1,5 +1,5 @@
 -- What is spelled is well-formed: statements, callbacks and whole texts.
-use Rattle.std.proofs.Common.{◌≡◌, ℕ, suc, ◌-◌, ◌≤◌, Bool, true, List, [], ◌∷◌, length, refl, arith}
+use Rattle.std.proofs.Common.{◌≡◌, ℕ, ◌-◌, ◌≤◌, true, List, [], ◌∷◌, length, refl, arith}
 use Rattle.std.proofs.lemmas.Bool.{and_from}
 use Rattle.std.specs.List.{list_all}
 use Rattle.std.specs.Prelude.{Option, is_some}
@@ -10,7 +10,6 @@ use Rattle.flt_syntax.specs.Lex.{Text}
 use Rattle.flt_syntax.specs.Limits.{max_depth, max_repeats}
 use Rattle.flt_syntax.specs.Reprinting.{SpelledIsWellFormed, PrintAndParse}
 use Rattle.flt_syntax.specs.Scope.{Scope}
-use Rattle.flt_syntax.specs.Spelling.{Spells}
 use Rattle.flt_syntax.specs.WellFormed as fine
 use Rattle.flt_syntax.specs.WellFormed.{is_name, IsStatement, IsElse, IsBlock, AreStatements, IsHead, AreCallbacks, IsWellFormed}
 use Rattle.flt_syntax.specs.declared.filter.Callback.{Callback}

@@ -192,7 +192,7 @@ all_more (d ∷ ds) c e h =
     let p = and_parts (is_ascii_digit d) (list_all is_ascii_digit ds) e in
     and_from (is_ascii_digit d) (list_all is_ascii_digit (ds ++ c ∷ [])) p.0 (all_more ds c p.1 h)
 
-some_same : {A : Type 0} (a b : A) → Some a ≡ Some b → a ≡ b
+pub some_same : {A : Type 0} (a b : A) → Some a ≡ Some b → a ≡ b
 some_same a b e = cc
 
 value_by : (x : Bool) (m l : ℕ) (z y : Text) → (value_from m z ≡ Some l → value_from m (z ++ y) ≡ value_from l y) →
