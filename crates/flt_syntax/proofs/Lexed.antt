@@ -1,12 +1,11 @@
 -- Words with blanks behind them are read back one by one.
-use Rattle.std.proofs.Common.{◌≡◌, ℕ, zero, suc, ◌+◌, ◌-◌, ◌≤◌, Bool, true, false, min, List, [], ◌∷◌, ◌++◌, length, take, drop, refl, sym, ap, subst, ◌∙◌, arith, append_assoc}
+use Rattle.std.proofs.Common.{◌≡◌, ℕ, zero, suc, ◌+◌, ◌-◌, ◌≤◌, false, min, List, [], ◌∷◌, ◌++◌, length, take, drop, refl, sym, ap, subst, ◌∙◌, arith, append_assoc}
 use Rattle.std.proofs.Math.Seq.{take-append_seam, drop-append_seam}
 use Rattle.std.proofs.lemmas.List.{length-append}
 use Rattle.std.specs.Prelude.{◌==◌, slice_range}
 use Rattle.flt_syntax.specs.Cursor.{Input, kind, bytes_of}
-use Rattle.flt_syntax.specs.Lex.{Text, past, one_column_on, word, is_blank, is_fault, token, tokens_from}
+use Rattle.flt_syntax.specs.Lex.{Text, past, is_blank, is_fault, token, tokens_from}
 use Rattle.flt_syntax.specs.declared.filter.Position.{Position}
-use Rattle.flt_syntax.specs.declared.token.Kind.{Kind}
 use Rattle.flt_syntax.specs.declared.token.Kind.TheVariants as k
 use Rattle.flt_syntax.specs.declared.token.Token.{Token}
 use Rattle.flt_syntax.specs.declared.token.Word.{Word}
@@ -89,7 +88,7 @@ cut pre w y =
     ∙ ap (take (length w)) (drop-append_seam pre (w ++ y)) ∙ take-append_seam w y
 
 -- the bytes of a word that stands behind others
-bytes : (text pre w y : Text) (t : Token) → text ≡ pre ++ (w ++ y) → t.start ≡ length pre → t.end ≡ length pre + length w → bytes_of text t ≡ w
+pub bytes : (text pre w y : Text) (t : Token) → text ≡ pre ++ (w ++ y) → t.start ≡ length pre → t.end ≡ length pre + length w → bytes_of text t ≡ w
 bytes text pre w y t e s n =
     rw (s, n, e, min_left _ _ (within pre w y), before_end (length pre) (length w)) (cut pre w y)
 
@@ -100,7 +99,7 @@ pub record Lexed (text : Text) (ws : List Text) (vs : List Word) (i : Input) : T
   pub ends : kind rest ≡ k.End
   pub tells : Tells text ws vs i rest
 
-one_on : (pre : Text) (b off : ℕ) → off ≡ length pre → off + 1 ≡ length (pre ++ b ∷ [])
+pub one_on : (pre : Text) (b off : ℕ) → off ≡ length pre → off + 1 ≡ length (pre ++ b ∷ [])
 one_on pre b off e = omega (arith, length-append pre (b ∷ []))
 
 some_on : (pre w : Text) (b off : ℕ) → off ≡ length pre → off + length w + 1 ≡ length (pre ++ (w ++ b ∷ []))
@@ -114,7 +113,7 @@ gap_read _ z last at off feed = refl
 along : (text : Text) (ws : List Text) (vs : List Word) (i j : Input) → i ≡ j → Lexed text ws vs j → Lexed text ws vs i
 along text ws vs i j e r = subst (Lexed text ws vs) (sym e) r
 
-lexed_gap : (text pre z : Text) (b : ℕ) → text ≡ pre ++ b ∷ z → text ≡ (pre ++ b ∷ []) ++ z
+pub lexed_gap : (text pre z : Text) (b : ℕ) → text ≡ pre ++ b ∷ z → text ≡ (pre ++ b ∷ []) ++ z
 lexed_gap text pre z b e = e ∙ sym (append_assoc pre (b ∷ []) z)
 
 lexed_word : (text pre w z : Text) (b : ℕ) → text ≡ pre ++ (w ++ b ∷ z) → text ≡ (pre ++ (w ++ b ∷ [])) ++ z

@@ -4,6 +4,8 @@ pub mod Complete
 pub mod CompleteCalls
 pub mod CompleteFiles
 pub mod CompleteStatements
+pub mod FineCalls
+pub mod FineFiles
 pub mod LaidOut
 pub mod Laws
 pub mod Lexed
@@ -22,4 +24,5 @@ pub mod Sound
 pub mod SoundCalls
 pub mod SoundFiles
 pub mod SoundStatements
+pub mod TokenBytes
 pub mod Turns

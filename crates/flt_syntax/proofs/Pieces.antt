@@ -1,14 +1,14 @@
 -- Names, numbers and the words of the grammar are read as one word each.
-use Rattle.std.proofs.Common.{◌≡◌, ◌≢◌, ℕ, zero, suc, ◌+◌, ◌-◌, ◌*◌, ◌/◌, ◌%◌, ◌^◌, ◌<◌, ◌≤◌, Bool, true, false, List, [], ◌∷◌, ◌++◌, length, take, map, refl, sym, ap, subst, ◌∙◌, arith, get_or}
+use Rattle.std.proofs.Common.{◌≡◌, ℕ, zero, suc, ◌+◌, ◌-◌, ◌*◌, ◌/◌, ◌%◌, ◌^◌, ◌<◌, ◌≤◌, Bool, true, false, List, [], ◌∷◌, ◌++◌, length, take, map, refl, sym, ap, subst, ◌∙◌, arith, get_or}
 use Rattle.std.proofs.Math.Seq.{take-append_seam}
 use Rattle.std.proofs.lemmas.Bool.{eqb-true, ltb-true, lt-ltb, le-ltb, le-leb, ne_eqb, and_parts, and_from, and_left, and_right, not-true}
 use Rattle.std.proofs.lemmas.Fmt.{decimal_by_steps, decimal_digit, decimal_nonempty, first_decimal}
 use Rattle.std.specs.Char.{is_ascii_digit}
 use Rattle.std.specs.List.{list_all, prefix_len}
-use Rattle.std.specs.Prelude.{◌==◌, ◌&&◌, not, nat_lt, nat_le, slice_index, if◌then◌else◌, Option, Some, None, decimal}
+use Rattle.std.specs.Prelude.{◌==◌, ◌&&◌, not, nat_lt, slice_index, if◌then◌else◌, Some, None, decimal}
 use Rattle.std.specs.Str.{bytes_eq}
 use Rattle.flt_syntax.specs.Cursor as cursor
-use Rattle.flt_syntax.specs.Lex.{Text, word, is_word, is_blank, is_fault, lookup, keyword, value_from, number_by, number, run, pair_or, token, same_kind}
+use Rattle.flt_syntax.specs.Lex.{Text, word, is_word, is_blank, is_fault, lookup, keyword, value_from, number, run, pair_or, token, same_kind}
 use Rattle.flt_syntax.specs.Vocabulary.{spelling}
 use Rattle.flt_syntax.specs.WellFormed.{is_name}
 use Rattle.flt_syntax.specs.declared.token.Kind.{Kind}
@@ -192,7 +192,7 @@ all_more (d ∷ ds) c e h =
     let p = and_parts (is_ascii_digit d) (list_all is_ascii_digit ds) e in
     and_from (is_ascii_digit d) (list_all is_ascii_digit (ds ++ c ∷ [])) p.0 (all_more ds c p.1 h)
 
-some_same : {A : Type 0} (a b : A) → Some a ≡ Some b → a ≡ b
+pub some_same : {A : Type 0} (a b : A) → Some a ≡ Some b → a ≡ b
 some_same a b e = cc
 
 value_by : (x : Bool) (m l : ℕ) (z y : Text) → (value_from m z ≡ Some l → value_from m (z ++ y) ≡ value_from l y) →

@@ -1,22 +1,19 @@
 -- The canonical text of a well-formed filter spells it.
-use Rattle.std.proofs.Common.{◌≡◌, ◌≤◌, ℕ, zero, false, [], ◌++◌, length, refl, sym, ap, subst, ◌∙◌}
-use Rattle.std.specs.List.{list_all}
+use Rattle.std.proofs.Common.{◌≤◌, zero, false, [], length, refl, sym, subst}
 use Rattle.std.specs.Prelude.{IsTrue}
-use Rattle.flt_syntax.specs.Cursor.{Input, kind}
 use Rattle.flt_syntax.specs.Grammar.{FileAt}
-use Rattle.flt_syntax.specs.Lex.{Text, tokens, tokens_from}
+use Rattle.flt_syntax.specs.Lex.{tokens, tokens_from}
 use Rattle.flt_syntax.specs.Limits.{max_text, max_altitude, max_locks, max_callbacks}
 use Rattle.flt_syntax.specs.Line.{lines_text}
-use Rattle.flt_syntax.specs.Measures.{is_small}
 use Rattle.flt_syntax.specs.Printing.{filter_lines, canonical_text}
-use Rattle.flt_syntax.specs.Reprinting.{without_places, ParsesAgain}
+use Rattle.flt_syntax.specs.Reprinting.{ParsesAgain}
 use Rattle.flt_syntax.specs.Spelling.{Spells, AreNewLocks}
 use Rattle.flt_syntax.specs.WellFormed.{IsWellFormed}
 use Rattle.flt_syntax.specs.declared.filter.Filter.{Filter}
 use Rattle.flt_syntax.specs.declared.filter.Position.{Position}
 use Rattle.flt_syntax.proofs.Alike.{AlikeFilter, no_callback}
 use Rattle.flt_syntax.proofs.LaidOut.{laid_out}
-use Rattle.flt_syntax.proofs.Lexed.{Lexed, lexes}
+use Rattle.flt_syntax.proofs.Lexed.{lexes}
 use Rattle.flt_syntax.proofs.SaidFiles.{says_filter}
 use Rattle.flt_syntax.proofs.SameMeaning.{small_callbacks, new_alike, length_alike, served_alike, whole_alike, places_alike}
 

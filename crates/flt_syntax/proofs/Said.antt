@@ -1,7 +1,7 @@
 -- What words say, wherever they are read: the words are pieces, and their tokens are as a production asks.
-use Rattle.std.proofs.Common.{◌≡◌, ℕ, ◌<◌, ◌^◌, true, List, [], ◌∷◌, ◌++◌, refl, sym, ap, subst, ◌∙◌}
+use Rattle.std.proofs.Common.{◌≡◌, ℕ, ◌<◌, ◌^◌, true, List, [], ◌∷◌, ◌++◌, sym, ap, subst, ◌∙◌}
 use Rattle.std.proofs.lemmas.List.{append-nil}
-use Rattle.std.specs.Prelude.{Option, Some, None, decimal}
+use Rattle.std.specs.Prelude.{Option, Some, decimal}
 use Rattle.flt_syntax.specs.Cursor as cursor
 use Rattle.flt_syntax.specs.Cursor.{Input, bytes_of}
 use Rattle.flt_syntax.specs.Lex.{Text, word, keyword}
@@ -10,7 +10,6 @@ use Rattle.flt_syntax.specs.WellFormed.{is_name}
 use Rattle.flt_syntax.specs.Words as words
 use Rattle.flt_syntax.specs.Words.{Next, Meant, NameAt, NumberAt}
 use Rattle.flt_syntax.specs.declared.token.Kind.{Kind}
-use Rattle.flt_syntax.specs.declared.token.Kind.TheVariants as k
 use Rattle.flt_syntax.specs.declared.token.Token.{Token}
 use Rattle.flt_syntax.specs.declared.token.Word.{Word}
 use Rattle.flt_syntax.proofs.Lexed.{Piece, Pieces, none, more, Tells, told, tell}

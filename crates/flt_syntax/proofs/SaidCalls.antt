@@ -1,5 +1,5 @@
 -- The words of statuses, calls, tests and actions say them.
-use Rattle.std.proofs.Common.{◌≡◌, ℕ, Bool, true, List, [], ◌∷◌, refl}
+use Rattle.std.proofs.Common.{◌≡◌, Bool, true, List, [], ◌∷◌, refl}
 use Rattle.std.specs.Prelude.{Option, Some, None}
 use Rattle.flt_rules.specs.declared.call.Anchor.TheVariants.{Stream, Instance}
 use Rattle.flt_rules.specs.declared.call.LockKind.{LockKind}
@@ -41,7 +41,7 @@ use Rattle.flt_syntax.specs.declared.variable.Expression.{Expression}
 use Rattle.flt_syntax.specs.declared.variable.Expression.TheVariants as expressions
 use Rattle.flt_syntax.proofs.Alike.{AlikeCall, same, deferred, generic, AlikeCondition, a_test, a_call}
 use Rattle.flt_syntax.proofs.Pieces.{reads_back, less_piece, plus_piece, minus_piece, assign_piece, equal_piece, differs_piece}
-use Rattle.flt_syntax.proofs.Said.{Says, Both, says_both, says_by, says_none, says_next, says_kind, says_meant, says_name, says_number}
+use Rattle.flt_syntax.proofs.Said.{Says, says_both, says_by, says_none, says_next, says_kind, says_meant, says_name, says_number}
 use Rattle.flt_syntax.proofs.SaidWords.{says_number_variable, says_context, says_removed, says_operation_variable, says_final_status, says_existing}
 
 module _ (text : Text) (locks : List Lock) (queue : Bool) where

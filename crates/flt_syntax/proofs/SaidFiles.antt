@@ -1,15 +1,14 @@
 -- The lines of a well-formed filter say it, but for where its parts stand.
-use Rattle.std.proofs.Common.{◌≡◌, ℕ, ◌+◌, ◌-◌, ◌<◌, ◌≤◌, ◌^◌, Bool, true, List, [], ◌∷◌, ◌++◌, length, map, refl, sym, ap, subst, ◌∙◌, arith}
+use Rattle.std.proofs.Common.{◌≡◌, ℕ, ◌<◌, ◌≤◌, ◌^◌, Bool, true, List, [], ◌∷◌, ◌++◌, length, map, refl, subst, arith}
 use Rattle.std.proofs.lemmas.Bool.{and_parts}
 use Rattle.std.specs.List.{list_all}
-use Rattle.std.specs.Prelude.{Option, Some, None, is_some, decimal, flat_map}
-use Rattle.flt_syntax.specs.Cursor.{Input, kind, position}
+use Rattle.std.specs.Prelude.{Option, Some, None, is_some, flat_map}
+use Rattle.flt_syntax.specs.Cursor.{kind, position}
 use Rattle.flt_syntax.specs.Grammar as g
 use Rattle.flt_syntax.specs.Grammar.{HeadAt, CallbackAt, CallbacksAt, LocksAt, QueueAt, FileAt}
 use Rattle.flt_syntax.specs.Lex.{Text, keyword, same_kind}
 use Rattle.flt_syntax.specs.Limits.{max_altitude}
-use Rattle.flt_syntax.specs.Line.{Line}
-use Rattle.flt_syntax.specs.Printing.{closing, body_lines, head_words, head_line, callback_lines, lock_line, queue_lines, name_line, filter_lines}
+use Rattle.flt_syntax.specs.Printing.{closing, body_lines, head_words, callback_lines, lock_line, queue_lines, filter_lines}
 use Rattle.flt_syntax.specs.Vocabulary.{spelling}
 use Rattle.flt_syntax.specs.WellFormed as fine
 use Rattle.flt_syntax.specs.WellFormed.{is_name, IsHead, AreCallbacks, IsWellFormed}
@@ -22,7 +21,7 @@ use Rattle.flt_syntax.specs.declared.filter.Position.{Position}
 use Rattle.flt_syntax.specs.declared.token.Kind.TheVariants as k
 use Rattle.flt_syntax.proofs.Alike.{AlikeCallback, AlikeCallbacks, no_callback, one_callback, AlikeFilter}
 use Rattle.flt_syntax.proofs.Pieces.{open_piece, close_piece}
-use Rattle.flt_syntax.proofs.Said.{Span, Says, Both, says_both, says_by, says_none, says_next, says_kind, says_name, says_number}
+use Rattle.flt_syntax.proofs.Said.{Span, Says, says_both, says_by, says_none, says_next, says_kind, says_name, says_number}
 use Rattle.flt_syntax.proofs.SaidCalls.{scope}
 use Rattle.flt_syntax.proofs.SaidStatements.{words_of, says_lines, says_body}
 use Rattle.flt_syntax.proofs.SaidWords.{says_operation, says_lock_kind}

@@ -1,16 +1,15 @@
 -- The lines of statements say them, but for where they stand.
-use Rattle.std.proofs.Common.{◌≡◌, ℕ, suc, ◌+◌, ◌<◌, ◌≤◌, ◌^◌, Bool, true, List, [], ◌∷◌, ◌++◌, map, refl, sym, ap, ◌∙◌, arith}
+use Rattle.std.proofs.Common.{◌≡◌, ℕ, ◌+◌, ◌<◌, ◌≤◌, ◌^◌, Bool, List, [], ◌∷◌, ◌++◌, map, refl, sym, ap, ◌∙◌, arith}
 use Rattle.std.proofs.lemmas.Grind.{flat_map-append}
-use Rattle.std.specs.Prelude.{Option, Some, None, decimal, flat_map}
-use Rattle.flt_syntax.specs.ActionWords.{action_words, condition_words}
+use Rattle.std.specs.Prelude.{flat_map}
+use Rattle.flt_syntax.specs.ActionWords.{action_words}
 use Rattle.flt_syntax.specs.CallWords.{plain_words, optional_status_words}
-use Rattle.flt_syntax.specs.Cursor.{Input}
 use Rattle.flt_syntax.specs.Grammar as g
 use Rattle.flt_syntax.specs.Grammar.{StatementAt, ElseAt, BlockAt, StatementsAt}
 use Rattle.flt_syntax.specs.Lex.{Text, keyword, same_kind}
 use Rattle.flt_syntax.specs.Limits.{max_turns}
 use Rattle.flt_syntax.specs.Line.{Line}
-use Rattle.flt_syntax.specs.Printing.{Lines, lines_step, in_turn, inside, closing, otherwise, statement_lines, body_lines}
+use Rattle.flt_syntax.specs.Printing.{Lines, lines_step, in_turn, inside, closing, otherwise, statement_lines}
 use Rattle.flt_syntax.specs.Vocabulary.{spelling}
 use Rattle.flt_syntax.specs.WellFormed.{IsStatement, IsElse, IsBlock, AreStatements}
 use Rattle.flt_syntax.specs.WellFormed as fine

@@ -1,10 +1,10 @@
 -- What does not depend on where the parts of a filter stand.
-use Rattle.std.proofs.Common.{◌≡◌, ◌≤◌, ℕ, suc, ◌+◌, ◌*◌, max, Bool, true, false, List, [], ◌∷◌, ◌++◌, length, map, refl, sym, ap, subst, ◌∙◌}
+use Rattle.std.proofs.Common.{◌≡◌, ℕ, suc, ◌+◌, Bool, List, [], ◌∷◌, ◌++◌, length, map, refl, sym, ap, ◌∙◌}
 use Rattle.std.specs.List.{list_all, list_any}
-use Rattle.std.specs.Prelude.{◌&&◌, ◌||◌, not, sum, nat_le, Option, Some, None, is_some, option_map, IsTrue}
+use Rattle.std.specs.Prelude.{◌&&◌, ◌||◌, not, sum, nat_le, Option, Some, None, is_some, option_map}
 use Rattle.flt_syntax.specs.Head.{same_event, has_event, is_named, has_routine}
 use Rattle.flt_syntax.specs.Lex.{Text}
-use Rattle.flt_syntax.specs.Measures.{points_step, points, cost_step, cost, max_points, max_cost, is_small, are_small}
+use Rattle.flt_syntax.specs.Measures.{points_step, points, cost_step, cost, max_points, max_cost, is_small}
 use Rattle.flt_syntax.specs.Reprinting.{nowhere, call_without, condition_without, step_without, statement_without, callback_without, without_places}
 use Rattle.flt_syntax.specs.Spelling.{is_declared, AreNewCallbacks, finds_routine, test_finds, finds_step, finds_routines, AreWhole, IsServed}
 use Rattle.flt_syntax.specs.Whole.{runs_deferred, runs_generic, has_deferred, has_generic, lacks_pre}

@@ -1,5 +1,5 @@
--- A filter apart from where its parts stand, and the law that its canonical text spells it so.
-use Rattle.std.specs.Prelude.{◌≡◌, ◌≤◌, List, map, length, option_map}
+-- A filter apart from where its parts stand, and the laws that its canonical text spells it so.
+use Rattle.std.specs.Prelude.{◌≡◌, ◌≤◌, map, length, option_map}
 use Rattle.flt_syntax.specs.Lex.{Text}
 use Rattle.flt_syntax.specs.Limits.{max_text}
 use Rattle.flt_syntax.specs.Printing.{canonical_text}
@@ -62,4 +62,13 @@ without_places f =
 -- the canonical text of a well-formed filter spells it, apart from lines and columns, if it is not too long
 abbrev pub ParsesAgain : Type 0
 ParsesAgain = (f : Filter) → IsWellFormed f → length (canonical_text f) ≤ max_text →
+    (g : Filter) × Spells (canonical_text f) g × (without_places g ≡ without_places f)
+
+-- what a text spells is well-formed
+abbrev pub SpelledIsWellFormed : Type 0
+SpelledIsWellFormed = (text : Text) (f : Filter) → Spells text f → IsWellFormed f
+
+-- what a text spells is spelled by its canonical text too, apart from lines and columns, if that is not too long
+abbrev pub PrintAndParse : Type 0
+PrintAndParse = (text : Text) (f : Filter) → Spells text f → length (canonical_text f) ≤ max_text →
     (g : Filter) × Spells (canonical_text f) g × (without_places g ≡ without_places f)

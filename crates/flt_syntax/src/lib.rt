@@ -35,7 +35,7 @@ pub use filter::{
     Action, Callback, Condition, FallibleCall, Filter, Head, Lock, PlainCall, Position, Routine,
     Statement, Status, Test,
 };
-pub use printer::{parses_again, print};
+pub use printer::{parses_again, print, print_and_parse, spelled_is_well_formed};
 pub use tree::Tree;
 pub use variable::{
     Atom, ContextVariable, Expression, NumberVariable, OperationVariable, RemovedVariable,

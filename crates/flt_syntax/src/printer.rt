@@ -3,7 +3,7 @@
 ghost use Rattle.flt_syntax.specs.Line.{begun, line_text, lines_text};
 ghost use Rattle.flt_syntax.specs.Measures.{points, points_of, max_points, is_small};
 ghost use Rattle.flt_syntax.specs.Printing as spec;
-ghost use Rattle.flt_syntax.specs.Reprinting.{ParsesAgain};
+ghost use Rattle.flt_syntax.specs.Reprinting.{ParsesAgain, PrintAndParse, SpelledIsWellFormed};
 ghost use Rattle.std.specs.Prelude.{◌≡◌, ◌≤◌, ◌+◌, [], ◌∷◌, ◌++◌, map, flat_map, IfOk, OnOk, IsTrue};
 ghost use Rattle.std.specs.List.{list_all};
 
@@ -242,4 +242,16 @@ pub fn print(alloc: Global, tree: &Tree) -> Result<Vec<u8>, AllocError>
 #[tactic(auto, using(crate::proofs::Reprinted::parses_again))]
 pub fn parses_again()
     ensures { ParsesAgain }
+{}
+
+/// What a text spells is well-formed.
+#[tactic(auto, using(crate::proofs::FineFiles::is_well_formed))]
+pub fn spelled_is_well_formed()
+    ensures { SpelledIsWellFormed }
+{}
+
+/// What a text spells its canonical text spells too, apart from lines and columns, if that is not too long.
+#[tactic(auto, using(crate::proofs::FineFiles::prints_and_parses))]
+pub fn print_and_parse()
+    ensures { PrintAndParse }
 {}

@@ -1,0 +1,170 @@
+-- What is spelled is well-formed: tokens, statuses, calls, tests and statements without blocks. A derivation also hands on
+-- that what is left are tokens of the text.
+use Rattle.std.proofs.Common.{◌≡◌, ℕ, ◌<◌, ◌^◌, Bool, true, false, List, slice_get, get_or, refl, ap, sym, ◌∙◌}
+use Rattle.std.proofs.lemmas.Bool.{eqb-true, and_parts}
+use Rattle.std.proofs.lemmas.List.Quantifiers.{position-Some}
+use Rattle.std.proofs.lemmas.Option.{slice_get-get_or}
+use Rattle.std.proofs.lemmas.Slice.Eq.{bytes_eq-Decides}
+use Rattle.std.specs.Prelude.{◌==◌, ◌&&◌, if◌then◌else◌, Option, Some, None}
+use Rattle.std.specs.Str.{bytes_eq}
+use Rattle.flt_rules.specs.Call.{place_of, lock_at}
+use Rattle.flt_rules.specs.declared.call.LockKind.{LockKind}
+use Rattle.flt_rules.specs.declared.call.LockNumber.{LockNumber}
+use Rattle.flt_rules.specs.declared.call.LockNumber.TheVariants.{L0, L1, L2, L3, L4, L5, L6, L7}
+use Rattle.flt_syntax.specs.ActionGrammar as actions
+use Rattle.flt_syntax.specs.ActionGrammar.{AtomAt, ExpressionAt, ActionAt, TestAt, ConditionAt}
+use Rattle.flt_syntax.specs.CallGrammar as calls
+use Rattle.flt_syntax.specs.CallGrammar.{StatusAt, OptionalStatusAt, RoutineAt, LockAt, FallibleAt, PlainAt}
+use Rattle.flt_syntax.specs.CallWords.{name_of, lock_name}
+use Rattle.flt_syntax.specs.Cursor.{Input}
+use Rattle.flt_syntax.specs.Lex.{Text}
+use Rattle.flt_syntax.specs.Scope.{Scope, same_lock_kind, lock_place, lock_at_place, lock_number}
+use Rattle.flt_syntax.specs.WellFormed.{is_name, IsAtom, IsExpression, IsAction, IsTest, IsFallible, IsCondition, IsLock, IsPlain}
+use Rattle.flt_syntax.specs.Words as words
+use Rattle.flt_syntax.specs.Words.{Next, Meant, NameAt, NumberAt, OptionalAt}
+use Rattle.flt_syntax.specs.declared.filter.Action.{Action}
+use Rattle.flt_syntax.specs.declared.filter.Condition.{Condition}
+use Rattle.flt_syntax.specs.declared.filter.FallibleCall.{FallibleCall}
+use Rattle.flt_syntax.specs.declared.filter.Lock.{Lock}
+use Rattle.flt_syntax.specs.declared.filter.PlainCall.{PlainCall}
+use Rattle.flt_syntax.specs.declared.filter.Routine.{Routine}
+use Rattle.flt_syntax.specs.declared.filter.Status.{Status}
+use Rattle.flt_syntax.specs.declared.filter.Test.{Test}
+use Rattle.flt_syntax.specs.declared.token.Kind.{Kind}
+use Rattle.flt_syntax.specs.declared.variable.Atom.{Atom}
+use Rattle.flt_syntax.specs.declared.variable.ContextVariable.{ContextVariable}
+use Rattle.flt_syntax.specs.declared.variable.Expression.{Expression}
+use Rattle.flt_syntax.proofs.Pieces.{some_same}
+use Rattle.flt_syntax.proofs.Sound.{none_some}
+use Rattle.flt_syntax.proofs.TokenBytes.{AreTokens, more}
+
+-- ---- tokens
+
+pub next_on : {text : Text} {kd : Kind} {i o : Input} → Next kd i o → AreTokens text i → AreTokens text o
+next_on (words.next e) (more t h) = h
+
+pub meant_on : {A : Type 0} {text : Text} {table : Kind → Option A} {i o : Input} {a : A} → Meant table i a o → AreTokens text i → AreTokens text o
+meant_on (words.meant e) (more t h) = h
+
+pub fine_name : {text name : Text} {i o : Input} → NameAt text i name o → AreTokens text i → (is_name name ≡ true) × AreTokens text o
+fine_name (words.name e) (more t h) = (t.named e, h)
+
+pub fine_number : {text : Text} {n : ℕ} {i o : Input} → NumberAt i n o → AreTokens text i → (n < 2 ^ 64) × AreTokens text o
+fine_number (words.number e) (more t h) = (t.fits, h)
+
+optional_on : {text : Text} {kd : Kind} {i o : Input} {c : Option ContextVariable} → OptionalAt kd i c o → AreTokens text i → AreTokens text o
+optional_on words.without h = h
+optional_on (words.behind n p) h = meant_on p (next_on n h)
+
+-- ---- statuses
+
+status_on : {text : Text} {i o : Input} {s : Status} → StatusAt i s o → AreTokens text i → AreTokens text o
+status_on (calls.with_callback n p) h = optional_on p (next_on n h)
+status_on (calls.synchronize n p) h = optional_on p (next_on n h)
+status_on (calls.complete n p) h = meant_on p (next_on n h)
+status_on (calls.bare p) h = meant_on p h
+
+pub optional_status_on : {text : Text} {i o : Input} {s : Option Status} → OptionalStatusAt i s o → AreTokens text i → AreTokens text o
+optional_status_on calls.no_status h = h
+optional_status_on (calls.some_status p) h = status_on p h
+
+-- ---- the lock of a number
+
+place_if : (c : Bool) (n m : ℕ) (a l : LockNumber) (rest : Option LockNumber) → (n == m) ≡ c → place_of a ≡ m →
+    (rest ≡ Some l → place_of l ≡ n) → (if c then Some a else rest) ≡ Some l → place_of l ≡ n
+place_if true n m a l rest e h f s = sym (ap place_of (some_same a l s)) ∙ h ∙ sym (eqb-true n m e)
+place_if false n m a l rest e h f s = f s
+
+-- the place of the lock at a place
+place_back : (n : ℕ) (l : LockNumber) → lock_at n ≡ Some l → place_of l ≡ n
+place_back n l =
+    place_if (n == 0) n 0 L0 l _ refl refl (place_if (n == 1) n 1 L1 l _ refl refl (place_if (n == 2) n 2 L2 l _ refl refl
+    (place_if (n == 3) n 3 L3 l _ refl refl (place_if (n == 4) n 4 L4 l _ refl refl (place_if (n == 5) n 5 L5 l _ refl refl
+    (place_if (n == 6) n 6 L6 l _ refl refl (place_if (n == 7) n 7 L7 l None refl refl (λ e. elim (none_some l e) [ ]))))))))
+
+name_at : (kind : LockKind) (name : Text) (locks : List Lock) (l : LockNumber) (place : Option ℕ) → lock_place kind name locks ≡ place →
+    lock_at_place place ≡ Some l → lock_name locks l ≡ name
+name_at kind name locks l None e h = elim (none_some l h) [ ]
+name_at kind name locks l (Some n) e h =
+    let d : Lock = record { kind = kind; name = name } in
+    let x : Lock = get_or locks n d in
+    let p = position-Some (λ y. same_lock_kind y.kind kind && bytes_eq y.name name) locks n d e in
+    ap (λ m. name_of (slice_get locks m)) (place_back n l h)
+    ∙ ap name_of (slice_get-get_or locks n d p.0)
+    ∙ (bytes_eq-Decides x.name name).0 (and_parts (same_lock_kind x.kind kind) (bytes_eq x.name name) p.1).1
+
+-- the lock that is found by a name has that name
+name_back : (kind : LockKind) (name : Text) (locks : List Lock) (l : LockNumber) → lock_number kind name locks ≡ Some l → lock_name locks l ≡ name
+name_back kind name locks l e = name_at kind name locks l (lock_place kind name locks) refl e
+
+fine_lock : {scope : Scope} {kind : LockKind} {i o : Input} {l : LockNumber} → LockAt scope kind i l o → AreTokens scope.text i →
+    IsLock scope.locks kind l × AreTokens scope.text o
+fine_lock {scope = scope} {kind = kind} {l = l} (calls.lock {name = name} p e) h =
+    let n = fine_name p h in
+    let s = name_back kind name scope.locks l e in
+    ((ap is_name s ∙ n.0, ap (λ w. lock_number kind w scope.locks) s ∙ e), n.1)
+
+-- ---- calls
+
+fine_routine : {text : Text} {i o : Input} {r : Routine} → RoutineAt text i r o → AreTokens text i → (is_name r.name ≡ true) × AreTokens text o
+fine_routine (calls.routine p) h = fine_name p h
+
+fine_call : {scope : Scope} {i o : Input} {c : FallibleCall} → FallibleAt scope i c o → AreTokens scope.text i →
+    IsFallible scope.queue c × AreTokens scope.text o
+fine_call (calls.allocate n p) h = (tt, meant_on p (next_on n h))
+fine_call (calls.get_stream n p) h = (tt, meant_on p (next_on n h))
+fine_call (calls.get_instance n p) h = (tt, meant_on p (next_on n h))
+fine_call (calls.set_stream n m p q e) h = (e, optional_on q (meant_on p (meant_on m (next_on n h))))
+fine_call (calls.set_instance n m p q e) h = (e, optional_on q (meant_on p (meant_on m (next_on n h))))
+fine_call (calls.delete_stream n p) h = (tt, optional_on p (next_on n h))
+fine_call (calls.delete_instance n p) h = (tt, optional_on p (next_on n h))
+fine_call (calls.insert_io e n m p) h = (e, optional_on p (next_on m (next_on n h)))
+fine_call (calls.remove_next_io e n p m q) h = (e, meant_on q (next_on m (meant_on p (next_on n h))))
+fine_call (calls.queue_deferred n m p q) h = let r = fine_routine p (next_on m (next_on n h)) in (r.0, optional_on q r.1)
+fine_call (calls.queue_generic n p q) h = let r = fine_routine p (next_on n h) in (r.0, optional_on q r.1)
+
+pub fine_plain : {scope : Scope} {i o : Input} {c : PlainCall} → PlainAt scope i c o → AreTokens scope.text i →
+    IsPlain scope.locks c × AreTokens scope.text o
+fine_plain (calls.delete n p) h = (tt, meant_on p (next_on n h))
+fine_plain (calls.reference n p m q e) h = (e, meant_on q (next_on m (meant_on p (next_on n h))))
+fine_plain (calls.release n p) h = (tt, meant_on p (next_on n h))
+fine_plain (calls.acquire_spin n p) h = fine_lock p (next_on n h)
+fine_plain (calls.release_spin n p) h = fine_lock p (next_on n h)
+fine_plain (calls.acquire_fast n p) h = fine_lock p (next_on n h)
+fine_plain (calls.release_fast n p) h = fine_lock p (next_on n h)
+fine_plain (calls.acquire_push n p) h = fine_lock p (next_on n h)
+fine_plain (calls.release_push n p) h = fine_lock p (next_on n h)
+fine_plain (calls.complete_pre n p q) h = (tt, status_on q (meant_on p (next_on n h)))
+fine_plain (calls.complete_post n m) h = (tt, next_on m (next_on n h))
+
+-- ---- actions and tests
+
+fine_atom : {text : Text} {i o : Input} {x : Atom} → AtomAt i x o → AreTokens text i → IsAtom x × AreTokens text o
+fine_atom (actions.number p) h = fine_number p h
+fine_atom (actions.variable p) h = (tt, meant_on p h)
+
+fine_expression : {text : Text} {i o : Input} {e : Expression} → ExpressionAt i e o → AreTokens text i → IsExpression e × AreTokens text o
+fine_expression (actions.one p) h = fine_atom p h
+fine_expression (actions.sum p n q) h = let x = fine_atom p h in let y = fine_atom q (next_on n x.1) in ((x.0, y.0), y.1)
+fine_expression (actions.difference p n q) h = let x = fine_atom p h in let y = fine_atom q (next_on n x.1) in ((x.0, y.0), y.1)
+
+pub fine_action : {text : Text} {i o : Input} {a : Action} → ActionAt i a o → AreTokens text i → IsAction a × AreTokens text o
+fine_action (actions.set_number p n q) h = fine_expression q (next_on n (meant_on p h))
+fine_action (actions.read_value p n m q) h = (tt, meant_on q (next_on m (next_on n (meant_on p h))))
+fine_action (actions.read_file p n m q) h = (tt, meant_on q (next_on m (next_on n (meant_on p h))))
+fine_action (actions.write_value n p m q) h = fine_atom q (next_on m (meant_on p (next_on n h)))
+fine_action (actions.clear_context p n m) h = (tt, next_on m (next_on n (meant_on p h)))
+fine_action (actions.clear_operation p n m) h = (tt, next_on m (next_on n (meant_on p h)))
+
+fine_test : {text : Text} {i o : Input} {t : Test} → TestAt i t o → AreTokens text i → IsTest t × AreTokens text o
+fine_test (actions.context_is_some p n m) h = (tt, next_on m (next_on n (meant_on p h)))
+fine_test (actions.operation_is_some p n m) h = (tt, next_on m (next_on n (meant_on p h)))
+fine_test (actions.equal p n q) h = fine_atom q (next_on n (meant_on p h))
+fine_test (actions.less p n q) h = fine_atom q (next_on n (meant_on p h))
+fine_test (actions.is_irp n m) h = (tt, next_on m (next_on n h))
+fine_test (actions.is_draining n) h = (tt, next_on n h)
+
+pub fine_condition : {scope : Scope} {i o : Input} {c : Condition} → ConditionAt scope i c o → AreTokens scope.text i →
+    IsCondition scope.queue c × AreTokens scope.text o
+fine_condition (actions.test p) h = fine_test p h
+fine_condition (actions.succeeds p) h = fine_call p h
