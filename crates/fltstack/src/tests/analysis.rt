@@ -30,6 +30,19 @@ const OTHERS: [Example; 2] = [
     ),
 ];
 
+/// `check` accepts a text with a certificate.
+fn is_accepted(
+    rt: &impl Abort,
+    alloc: Global,
+    text: &[u8],
+    certificate: &[u8],
+) -> Result<(), Fail> {
+    let files = [("text", text), ("cert", certificate)];
+    let checked = run(alloc, &["check", "text", "cert"], &files)?;
+    assert_eq!(rt; checked.out.as_slice(), b"accepted\n".as_slice());
+    Ok(())
+}
+
 /// What `analyse` prints, with its exit status: the certificate where the text is accepted, else the line; and `check` accepts
 /// that certificate.
 fn analyses(
@@ -49,10 +62,7 @@ fn analyses(
     let least = certificate(alloc, states)?;
     assert_eq!(rt; ran.out.as_slice(), least.as_bytes(), "of {text}");
     assert_eq!(rt; ran.status, 0);
-    let files = [("text", text.as_bytes()), ("cert", ran.out.as_slice())];
-    let checked = run(alloc, &["check", "text", "cert"], &files)?;
-    assert_eq!(rt; checked.out.as_slice(), b"accepted\n".as_slice());
-    Ok(())
+    is_accepted(rt, alloc, text.as_bytes(), ran.out.as_slice())
 }
 
 fn analyses_each(rt: &impl Abort, alloc: Global, examples: &[Example]) -> Result<(), Fail> {
