@@ -1,5 +1,5 @@
 -- What a local step does to the variables doesn't depend on the statements that remain.
-use Rattle.std.proofs.Common.{◌≡◌, ℕ, ◌+◌, ◌-◌, ◌%◌, ◌^◌, Bool, true, false, List, Option, Some, None, if◌then◌else◌, option_map, refl, ap}
+use Rattle.std.proofs.Common.{◌≡◌, Bool, List, option_map, refl}
 use Rattle.flt_syntax.specs.declared.filter.Action.{Action}
 use Rattle.flt_syntax.specs.declared.filter.Action.TheVariants as action
 use Rattle.flt_syntax.specs.declared.filter.Condition.{Condition}
@@ -13,7 +13,7 @@ use Rattle.flt_syntax.specs.declared.variable.Atom.TheVariants as atom
 use Rattle.flt_syntax.specs.declared.variable.Expression.{Expression}
 use Rattle.flt_syntax.specs.declared.variable.Expression.TheVariants as expression
 use Rattle.flt_model.specs.LocalSteps.{after_action, holds_test, holds_condition, after_statement, goes_on_to}
-use Rattle.flt_model.specs.Variables.{atom_value, expression_value, with_number}
+use Rattle.flt_model.specs.Variables.{atom_value, expression_value}
 use Rattle.flt_model.specs.World.{Activation}
 
 module _ (draining : Bool) (act : Activation) (others rest : List Statement) where

@@ -1,9 +1,9 @@
 -- One part more, and one turn less.
-use Rattle.std.proofs.Common.{◌≡◌, ◌≢◌, ℕ, zero, suc, ◌-◌, ◌<◌, List, [], ◌∷◌, ◌++◌, length, refl, sym, ap, ◌∙◌, arith, sub-one}
+use Rattle.std.proofs.Common.{◌≡◌, ℕ, zero, suc, ◌-◌, ◌<◌, List, [], ◌∷◌, ◌++◌, length, refl, sym, ap, ◌∙◌, arith, sub-one}
 use Rattle.flt_model.specs.LocalSteps.{turns_left}
 use Rattle.flt_syntax.specs.declared.filter.Statement.{Statement}
 use Rattle.flt_syntax.specs.declared.filter.Statement.TheVariants as tree
-use Rattle.flt_replay.specs.Rest.{statements_of, before, remaining}
+use Rattle.flt_replay.specs.Rest.{statements_of, before, remaining, others}
 use Rattle.flt_replay.specs.declared.rest.Part.{Part}
 
 pub before_push : (others : List Statement) (parts : List Part) (p : Part) → before others (parts ++ p ∷ []) ≡ statements_of p ++ before others parts
@@ -42,3 +42,8 @@ module _ (here now : List Statement) (old new : List Part) (small : length here 
   unfolding before
   none_left o n =
       (sym is ∙ rw (nothing here small, no_part old o) refl, rw (nothing here small, no_part new n) refl)
+
+-- ---- the first statement, which stays
+
+pub first_of : (now rest : List Statement) (s : Statement) → now ≡ s ∷ rest → now ≡ s ∷ others now
+first_of now rest s e = e ∙ ap (λ (l : List Statement). s ∷ l) (sym (ap others e))

@@ -1,3 +1,5 @@
 pub mod Rest
 pub mod Coded
 pub mod Parts
+pub mod Writes
+pub mod Judging

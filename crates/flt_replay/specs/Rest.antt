@@ -23,3 +23,8 @@ before others (p ∷ parts) = before (statements_of p ++ others) parts
 -- what is left of a block, and then what the parts say
 abbrev pub remaining : List Statement → List Part → List Statement
 remaining block parts = block ++ before [] parts
+
+-- the statements after the first one
+abbrev pub others : List Statement → List Statement
+others [] = []
+others (s ∷ rest) = rest

@@ -1,10 +1,11 @@
 //! An activation: one run of a callback, with its variables and the locks that it holds.
 
-ghost use Rattle.std.specs.Prelude.{◌≡◌, ◌<◌, true, [], replicate, IfOk, OnOk, MatchOption};
+ghost use Rattle.std.specs.Prelude.{◌≡◌, ◌<◌, ◌++◌, true, [], replicate, IfOk, OnOk, MatchOption};
 ghost use Rattle.flt_model.specs.Variables as spec;
-ghost use Rattle.flt_replay.specs.Rest.{statement_of};
+ghost use Rattle.flt_replay.specs.Rest.{others};
+ghost use Rattle.flt_replay.specs.Writes.{written};
 
-use crate::rest::{Rest, Upcoming};
+use crate::rest::Rest;
 use flt_rules::LockNumber;
 use flt_syntax::{
     Atom, ContextVariable, Expression, NumberVariable, OperationVariable, RemovedVariable,
@@ -35,6 +36,21 @@ impl<'a> Model for Activation<'a> {
     ghost coded = { activation_code };
 
     ghost view = { λ a. record { rest = a.rest; numbers = a.numbers; contexts = a.contexts; operations = a.operations; locks = a.locks; ended = a.ended } };
+}
+
+/// What a step writes to an activation.
+#[derive(Clone, Copy)]
+pub(crate) enum Write {
+    Nothing,
+    Number(NumberVariable, u64),
+    /// A context or NULL, to a variable that a call need not have.
+    Output(Option<ContextVariable>, Option<usize>),
+    /// A visit and a context, as of an entry of a queue.
+    Entry(RemovedVariable, ContextVariable, Option<usize>, Option<usize>),
+    /// The lock is taken.
+    Lock(LockNumber),
+    /// The last such lock is given up.
+    Unlock(LockNumber),
 }
 
 fn number_place(variable: NumberVariable) -> usize
@@ -175,5 +191,30 @@ impl<'a> Activation<'a> {
             Expression::Sum(left, right) => self.atom(left).wrapping_add(self.atom(right)),
             Expression::Difference(left, right) => self.atom(left).wrapping_sub(self.atom(right)),
         }
+    }
+
+    fn write(&mut self, write: Write) -> Result<(), AllocError>
+        ensures { OnOk result (self.new ≡ written write self.old) }
+    {
+        match write {
+            Write::Nothing => {}
+            Write::Number(variable, value) => self.set_number(variable, value),
+            Write::Output(variable, context) => self.set_old(variable, context),
+            Write::Entry(removed, variable, visit, context) => {
+                self.set_operation(OperationVariable::Removed(removed), visit);
+                self.set_context(variable, context);
+            }
+            Write::Lock(lock) => self.locks.push(lock)?,
+            Write::Unlock(lock) => self.remove_lock(lock),
+        }
+        Ok(())
+    }
+
+    /// Goes on with a block in place of the first statement.
+    pub(crate) fn go_on(&mut self, block: &'a [Statement], write: Write) -> Result<(), AllocError>
+        ensures { OnOk result (self.new ≡ written write (record self.old { rest = block.now ++ others self.old.rest })) }
+    {
+        self.rest.replace_first(block)?;
+        self.write(write)
     }
 }

@@ -5,6 +5,7 @@
 
 mod activation;
 mod callbacks;
+mod contexts;
 mod local;
 mod lock_list;
 mod parts;

@@ -1,6 +1,6 @@
 //! The locks that an activation holds, the oldest first.
 
-ghost use Rattle.std.specs.Prelude.{◌≡◌};
+ghost use Rattle.std.specs.Prelude.{◌≡◌, ◌<◌, length, remove, is_some, IfSome, MatchOption};
 ghost use Rattle.flt_model.specs.Locks as spec;
 
 use crate::activation::Activation;
@@ -18,6 +18,22 @@ pub(crate) fn holds_lock(lock: LockNumber, locks: &[LockNumber]) -> bool
     locks.iter().any(|held| same_lock(lock, *held))
 }
 
+/// Where the last such lock stands.
+fn last_place(lock: LockNumber, locks: &[LockNumber]) -> Option<usize>
+    ensures held { spec.holds_lock lock locks.now ≡ is_some result }
+    ensures within { IfSome result (λ at. at < length locks.now) }
+    ensures last { MatchOption result (spec.without_last lock locks.now ≡ locks.now) (λ at. spec.without_last lock locks.now ≡ remove locks.now at) }
+{
+    let [first, others @ ..] = locks else {
+        return None;
+    };
+    match last_place(lock, others) {
+        Some(at) => Some(at + 1),
+        None if same_lock(lock, *first) => Some(0),
+        None => None,
+    }
+}
+
 impl<'a> Activation<'a> {
     pub(crate) fn holds_lock(&self, lock: LockNumber) -> bool
         ensures { result ≡ spec.holds_lock lock self.now.locks }
@@ -26,14 +42,10 @@ impl<'a> Activation<'a> {
     }
 
     /// Takes the last such lock out of the list.
-    pub(crate) fn remove_lock(&mut self, lock: LockNumber) {
-        let mut place = self.locks.len();
-        for (at, held) in self.locks.as_slice().iter().enumerate() {
-            if same_lock(lock, *held) {
-                place = at;
-            }
-        }
-        if place < self.locks.len() {
+    pub(crate) fn remove_lock(&mut self, lock: LockNumber)
+        ensures { self.new ≡ record self.old { locks = spec.without_last lock self.old.locks } }
+    {
+        if let Some(place) = last_place(lock, self.locks.as_slice()) {
             let _ = self.locks.remove(place);
         }
     }

@@ -130,7 +130,7 @@ impl Model for Visit {
 }
 
 /// What a context is linked to, of a filter.
-#[derive(Drop)]
+#[derive(Clone, Copy)]
 pub(crate) struct Link {
     pub(crate) filter: usize,
     pub(crate) key: Key,
@@ -142,13 +142,15 @@ impl Model for Link {
     ghost Value = { machine.Link };
 
     ghost view = { λ l. record { filter = l.filter; key = l.key } };
+
+    ghost inverse = { λ l. record { filter = l.filter; key = l.key } };
 }
 
 /// A context with the filter that allocated it; without references it is freed.
 #[derive(Drop)]
 pub(crate) struct Context {
     pub(crate) owner: usize,
-    pub(crate) references: u128,
+    pub(crate) references: u64,
     pub(crate) value: u64,
     pub(crate) link: Option<Link>,
 }

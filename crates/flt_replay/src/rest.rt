@@ -1,15 +1,15 @@
 //! What remains of a callback while it runs: places in its blocks, so that no statement is copied.
 
-ghost use Rattle.std.specs.Prelude.{◌≡◌, [], ◌∷◌, ◌++◌, MatchOption, OnOk};
+ghost use Rattle.std.specs.Prelude.{◌≡◌, [], ◌∷◌, ◌++◌, MatchOption, OnOk, IfOk};
 ghost use Rattle.flt_model.specs.LocalSteps.{turns_left};
-ghost use Rattle.flt_replay.specs.Rest.{statement_of, before};
+ghost use Rattle.flt_replay.specs.Rest.{statement_of, before, others};
 
 use flt_syntax::Statement;
 use std::alloc::{AllocError, Global};
 use std::marker::Model;
 
 /// What is gone on with where a block ends.
-#[derive(Drop)]
+#[derive(Clone, Copy)]
 pub(crate) enum Part<'a> {
     /// The statements that are left of the block round it.
     Block(&'a [Statement]),
@@ -78,6 +78,34 @@ impl<'a> Rest<'a> {
                 None => return None,
             }
         }
+    }
+
+    /// The first statement, which stays. A `repeat` that was begun is taken out and put back.
+    pub(crate) fn first(&mut self) -> Result<Option<Upcoming<'a>>, AllocError>
+        ensures same { OnOk result (self.new ≡ self.old) }
+        ensures first { IfOk result (λ f. MatchOption f (self.old ≡ []) (λ u. self.old ≡ statement_of u ∷ others self.old)) }
+    {
+        loop {
+            if let [first, ..] = self.block {
+                return Ok(Some(Upcoming::Statement(first)));
+            }
+            match self.after.pop() {
+                Some(Part::Block(block)) => self.block = block,
+                Some(Part::Repeat(line, turns, body)) => {
+                    self.after.push(Part::Repeat(line, turns, body))?;
+                    return Ok(Some(Upcoming::Repeat(line, turns, body)));
+                }
+                None => return Ok(None),
+            }
+        }
+    }
+
+    /// Goes into a block in place of the first statement, after which it goes on with the others.
+    pub(crate) fn replace_first(&mut self, block: &'a [Statement]) -> Result<(), AllocError>
+        ensures { OnOk result (self.new ≡ block.now ++ others self.old) }
+    {
+        let _ = self.next();
+        self.enter(block)
     }
 
     /// Goes into a block, after which it goes on here.

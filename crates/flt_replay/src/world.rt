@@ -1,15 +1,24 @@
 //! The world of the monitor, and what is there at a number: what isn't there has ended, is settled and counts nothing.
 
-ghost use Rattle.std.specs.Prelude.{◌≡◌, get_or};
+ghost use Rattle.std.specs.Prelude.{◌≡◌, true, get_or, set, is_some, length, Some, None, [], ◌∷◌, ◌++◌, OnOk, IfOk, MatchOption};
+ghost use Rattle.flt_model.specs.Effects.{onward};
+ghost use Rattle.flt_model.specs.Locks as locks;
+ghost use Rattle.flt_model.specs.Moves as moves;
+ghost use Rattle.flt_model.specs.Reads as reads;
+ghost use Rattle.flt_model.specs.Variables as variables;
 ghost use Rattle.flt_model.specs.World as spec;
 ghost use Rattle.flt_replay.specs.Parts.{presence_of, position_of};
+ghost use Rattle.flt_replay.specs.Writes.{written, later};
 
-use crate::activation::Activation;
+use crate::activation::{Activation, Write};
 use crate::parts::{
-    Actor, Arrival, Context, Entry, Item, Position, Presence, Route, Standing, Visit,
+    Actor, Arrival, Context, Entry, Item, Link, Position, Presence, Route, Standing, Visit,
 };
-use flt_rules::Operation;
+use flt_model::Key;
+use flt_rules::{LockNumber, Mode, Operation, Place, Stage};
+use flt_syntax::{Atom, ContextVariable, OperationVariable, Statement};
 use sqlite_items::{Items, at};
+use std::alloc::{AllocError, Global};
 use std::marker::Model;
 
 /// What activations share. Presences, queues and lock holders are by filter.
@@ -51,11 +60,25 @@ fn presence_among(presences: &[Standing], filter: usize) -> Presence
     }
 }
 
+// ---- what is there at a number
+
 impl<'a> World<'a> {
     pub(crate) fn presence(&self, filter: usize) -> Presence
         ensures { presence_of result ≡ spec.presence_at self.now.store filter }
     {
         presence_among(self.presences.as_slice(), filter)
+    }
+
+    pub(crate) fn is_attached(&self, filter: usize) -> bool
+        ensures { result ≡ spec.is_attached (spec.presence_at self.now.store filter) }
+    {
+        matches!(self.presence(filter), Presence::Attached)
+    }
+
+    pub(crate) fn is_detaching(&self, filter: usize) -> bool
+        ensures { result ≡ spec.is_detaching (spec.presence_at self.now.store filter) }
+    {
+        matches!(self.presence(filter), Presence::Detaching)
     }
 
     #[tactic(auto, using(crate::proofs::Reading::found, crate::proofs::Reading::missing))]
@@ -69,6 +92,88 @@ impl<'a> World<'a> {
     }
 
     #[tactic(auto, using(crate::proofs::Reading::found, crate::proofs::Reading::missing))]
+    pub(crate) fn mode(&self, operation: usize) -> Mode
+        ensures { result ≡ (spec.arrival_at self.now.store operation).mode }
+    {
+        match at(self.arrivals.as_slice(), operation) {
+            Some(arrival) => arrival.mode,
+            None => Mode::Irp,
+        }
+    }
+
+    #[tactic(auto, using(crate::proofs::Reading::found, crate::proofs::Reading::missing))]
+    pub(crate) fn file(&self, operation: usize) -> u32
+        ensures { result ≡ (spec.arrival_at self.now.store operation).file }
+    {
+        match at(self.arrivals.as_slice(), operation) {
+            Some(arrival) => arrival.file,
+            None => 0,
+        }
+    }
+
+    #[tactic(auto, using(crate::proofs::Reading::found, crate::proofs::Reading::missing))]
+    pub(crate) fn position(&self, operation: usize) -> Position
+        ensures { position_of result ≡ (spec.route_at self.now.store operation).position }
+    {
+        match at(self.routes.as_slice(), operation) {
+            Some(route) => route.position,
+            None => Position::Up,
+        }
+    }
+
+    #[tactic(auto, using(crate::proofs::Reading::found, crate::proofs::Reading::missing))]
+    pub(crate) fn is_cancelled(&self, operation: usize) -> bool
+        ensures { result ≡ (spec.route_at self.now.store operation).cancelled }
+    {
+        match at(self.routes.as_slice(), operation) {
+            Some(route) => route.cancelled,
+            None => true,
+        }
+    }
+
+    /// The operation that a visit is of.
+    #[tactic(auto, using(crate::proofs::Reading::found, crate::proofs::Reading::missing))]
+    pub(crate) fn operation_of(&self, visit: usize) -> usize
+        ensures { result ≡ (spec.visit_at self.now.store visit).operation }
+    {
+        match at(self.visits.as_slice(), visit) {
+            Some(visit) => visit.operation,
+            None => 0,
+        }
+    }
+
+    /// The filter that a visit is at.
+    #[tactic(auto, using(crate::proofs::Reading::found, crate::proofs::Reading::missing))]
+    pub(crate) fn filter_of(&self, visit: usize) -> usize
+        ensures { result ≡ (spec.visit_at self.now.store visit).filter }
+    {
+        match at(self.visits.as_slice(), visit) {
+            Some(visit) => visit.filter,
+            None => 0,
+        }
+    }
+
+    #[tactic(auto, using(crate::proofs::Reading::found, crate::proofs::Reading::missing))]
+    pub(crate) fn stage(&self, visit: usize) -> Stage
+        ensures { result ≡ (spec.visit_at self.now.store visit).stage }
+    {
+        match at(self.visits.as_slice(), visit) {
+            Some(visit) => visit.stage,
+            None => Stage::Post,
+        }
+    }
+
+    #[tactic(auto, using(crate::proofs::Reading::found, crate::proofs::Reading::missing))]
+    pub(crate) fn is_draining(&self, visit: usize) -> bool
+        ensures { result ≡ (spec.visit_at self.now.store visit).draining }
+    {
+        match at(self.visits.as_slice(), visit) {
+            Some(visit) => visit.draining,
+            None => true,
+        }
+    }
+
+    #[tactic(auto, using(crate::proofs::Reading::found, crate::proofs::Reading::missing))]
     pub(crate) fn is_settled(&self, visit: usize) -> bool
         ensures { result ≡ spec.is_settled self.now.store visit }
     {
@@ -78,13 +183,67 @@ impl<'a> World<'a> {
         }
     }
 
+    pub(crate) fn kind_of(&self, visit: usize) -> Operation
+        ensures { result ≡ (spec.arrival_of self.now.store visit).kind }
+    {
+        self.kind(self.operation_of(visit))
+    }
+
+    pub(crate) fn mode_of(&self, visit: usize) -> Mode
+        ensures { result ≡ (spec.arrival_of self.now.store visit).mode }
+    {
+        self.mode(self.operation_of(visit))
+    }
+
+    pub(crate) fn file_of(&self, visit: usize) -> u32
+        ensures { result ≡ (spec.arrival_of self.now.store visit).file }
+    {
+        self.file(self.operation_of(visit))
+    }
+
     #[tactic(auto, using(crate::proofs::Reading::found, crate::proofs::Reading::missing))]
-    pub(crate) fn references(&self, context: usize) -> u128
+    pub(crate) fn owner(&self, context: usize) -> usize
+        ensures { result ≡ (spec.context_at self.now.store context).owner }
+    {
+        match at(self.contexts.as_slice(), context) {
+            Some(context) => context.owner,
+            None => 0,
+        }
+    }
+
+    #[tactic(auto, using(crate::proofs::Reading::found, crate::proofs::Reading::missing))]
+    pub(crate) fn references(&self, context: usize) -> u64
         ensures { result ≡ (spec.context_at self.now.store context).references }
     {
         match at(self.contexts.as_slice(), context) {
             Some(context) => context.references,
             None => 0,
+        }
+    }
+
+    pub(crate) fn is_freed(&self, context: usize) -> bool
+        ensures { result ≡ spec.is_freed (spec.context_at self.now.store context) }
+    {
+        self.references(context) == 0
+    }
+
+    #[tactic(auto, using(crate::proofs::Reading::found, crate::proofs::Reading::missing))]
+    pub(crate) fn value(&self, context: usize) -> u64
+        ensures { result ≡ (spec.context_at self.now.store context).value }
+    {
+        match at(self.contexts.as_slice(), context) {
+            Some(context) => context.value,
+            None => 0,
+        }
+    }
+
+    #[tactic(auto, using(crate::proofs::Reading::found, crate::proofs::Reading::missing))]
+    pub(crate) fn is_linked(&self, context: usize) -> bool
+        ensures { result ≡ is_some (spec.context_at self.now.store context).link }
+    {
+        match at(self.contexts.as_slice(), context) {
+            Some(context) => context.link.is_some(),
+            None => false,
         }
     }
 
@@ -99,12 +258,302 @@ impl<'a> World<'a> {
     }
 
     #[tactic(auto, using(crate::proofs::Reading::found, crate::proofs::Reading::missing))]
-    pub(crate) fn position(&self, operation: usize) -> Position
-        ensures { position_of result ≡ (spec.route_at self.now.store operation).position }
+    pub(crate) fn place(&self, activation: usize) -> Place
+        ensures { result ≡ (spec.actor_at self.now activation).place }
     {
-        match at(self.routes.as_slice(), operation) {
-            Some(route) => route.position,
-            None => Position::Up,
+        match at(self.actors.as_slice(), activation) {
+            Some(actor) => actor.place,
+            None => Place::Generic,
         }
+    }
+
+    /// Whether the activation was called with the draining flag.
+    #[tactic(auto, using(crate::proofs::Reading::found, crate::proofs::Reading::missing))]
+    pub(crate) fn has_flag(&self, activation: usize) -> bool
+        ensures { result ≡ (spec.actor_at self.now activation).draining }
+    {
+        match at(self.actors.as_slice(), activation) {
+            Some(actor) => actor.draining,
+            None => false,
+        }
+    }
+
+    #[tactic(auto, using(crate::proofs::Reading::found, crate::proofs::Reading::missing))]
+    pub(crate) fn holder(&self, filter: usize, lock: LockNumber) -> Option<usize>
+        ensures { result ≡ locks.holder_of self.now.store filter lock }
+    {
+        match self.holders.get(filter) {
+            Some(holders) => holders[usize::from(lock.place())],
+            None => None,
+        }
+    }
+
+    #[tactic(auto, using(crate::proofs::Reading::found, crate::proofs::Reading::missing))]
+    pub(crate) fn has_ended(&self, activation: usize) -> bool
+        ensures { result ≡ (spec.activation_at self.now activation).ended }
+    {
+        match self.activations.get(activation) {
+            Some(activation) => activation.ended,
+            None => true,
+        }
+    }
+
+    pub(crate) fn context_in(&self, activation: usize, variable: ContextVariable) -> Option<usize>
+        ensures { result ≡ variables.context_in (spec.activation_at self.now activation) variable }
+    {
+        match self.activations.get(activation) {
+            Some(activation) => activation.context(variable),
+            None => None,
+        }
+    }
+
+    /// What a variable names that a call need not have.
+    pub(crate) fn named_in(
+        &self,
+        activation: usize,
+        variable: Option<ContextVariable>,
+    ) -> Option<Option<usize>>
+        ensures { result ≡ variables.named_in (spec.activation_at self.now activation) variable }
+    {
+        match variable {
+            Some(variable) => Some(self.context_in(activation, variable)),
+            None => None,
+        }
+    }
+
+    pub(crate) fn operation_in(
+        &self,
+        activation: usize,
+        variable: OperationVariable,
+    ) -> Option<usize>
+        ensures { result ≡ variables.operation_in (spec.activation_at self.now activation) variable }
+    {
+        match self.activations.get(activation) {
+            Some(activation) => activation.operation(variable),
+            None => None,
+        }
+    }
+
+    pub(crate) fn atom_in(&self, activation: usize, atom: Atom) -> u64
+        ensures { result ≡ variables.atom_value (spec.activation_at self.now activation) atom }
+    {
+        match self.activations.get(activation) {
+            Some(activation) => activation.atom(atom),
+            None => match atom {
+                Atom::Number(number) => number,
+                Atom::Variable(_) => 0,
+            },
+        }
+    }
+
+    /// The context that is linked there.
+    pub(crate) fn linked_at(&self, link: Link) -> Option<usize>
+        ensures { result ≡ spec.linked_at self.now.store link }
+    {
+        self.contexts
+            .iter()
+            .position(|c| is_linked_to(link, &c.link))
+    }
+}
+
+// ---- changes
+
+impl<'a> World<'a> {
+    /// An activation goes on with a block in place of its first statement.
+    pub(crate) fn go_on(
+        &mut self,
+        a: usize,
+        block: &'a [Statement],
+        write: Write,
+    ) -> Result<(), AllocError>
+        ensures { OnOk result (self.new ≡ record self.old { activations = set self.old.activations a (written write (onward self.old a (block.now ++ later self.old a))) }) }
+    {
+        if let Some(activation) = self.activations.get_mut(a) {
+            activation.go_on(block, write)?;
+        }
+        Ok(())
+    }
+
+    /// The filter is so from now on.
+    pub(crate) fn set_presence(&mut self, filter: usize, presence: Presence)
+        ensures { self.new ≡ record self.old { store = spec.with_presence self.old.store filter (presence_of presence) } }
+    {
+        if let Some(standing) = self.presences.get_mut(filter) {
+            standing.presence = presence;
+        }
+    }
+
+    /// The operation stands there from now on.
+    pub(crate) fn set_position(&mut self, operation: usize, position: Position)
+        ensures { self.new ≡ record self.old { store = spec.with_route self.old.store operation (record (spec.route_at self.old.store operation) { position = position_of position }) } }
+    {
+        if let Some(route) = self.routes.get_mut(operation) {
+            route.position = position;
+        }
+    }
+
+    /// The operation is cancelled.
+    pub(crate) fn set_cancelled(&mut self, operation: usize)
+        ensures { self.new ≡ record self.old { store = spec.with_route self.old.store operation (record (spec.route_at self.old.store operation) { cancelled = true }) } }
+    {
+        if let Some(route) = self.routes.get_mut(operation) {
+            route.cancelled = true;
+        }
+    }
+
+    /// Who holds a lock of a filter from now on.
+    pub(crate) fn set_holder(&mut self, filter: usize, lock: LockNumber, holder: Option<usize>)
+        ensures { self.new ≡ record self.old { store = locks.with_holder self.old.store filter lock holder } }
+    {
+        if let Some(holders) = self.holders.get_mut(filter) {
+            holders[usize::from(lock.place())] = holder;
+        }
+    }
+
+    /// A new context, with the value 0 and one reference.
+    pub(crate) fn add_context(&mut self, owner: usize) -> Result<usize, AllocError>
+        ensures { IfOk result (λ x. (x ≡ length self.old.store.contexts) × (self.new ≡ record self.old { store = record self.old.store { contexts = self.old.store.contexts ++ record { owner = owner; references = 1; value = 0; link = None } ∷ [] } })) }
+    {
+        let number = self.contexts.len();
+        self.contexts.push(Context {
+            owner,
+            references: 1,
+            value: 0,
+            link: None,
+        })?;
+        Ok(number)
+    }
+
+    /// A freed context keeps its value.
+    pub(crate) fn set_value(&mut self, context: usize, value: u64)
+        ensures { self.new ≡ record self.old { store = reads.put_value self.old.store context value } }
+    {
+        if let Some(context) = self.contexts.get_mut(context) {
+            if context.references != 0 {
+                context.value = value;
+            }
+        }
+    }
+
+    /// One reference more; a freed context stays as it is. The count is a number that no journal in memory reaches the end of.
+    pub(crate) fn add_reference(&mut self, context: usize) -> Result<(), AllocError>
+        ensures { OnOk result (self.new ≡ record self.old { store = spec.add_reference self.old.store context }) }
+    {
+        if let Some(context) = self.contexts.get_mut(context) {
+            if context.references != 0 {
+                match context.references.checked_add(1) {
+                    Some(references) => context.references = references,
+                    None => return Err(AllocError),
+                }
+            }
+        }
+        Ok(())
+    }
+
+    /// One reference less; a freed context stays as it is.
+    pub(crate) fn drop_reference(&mut self, context: usize)
+        ensures { self.new ≡ record self.old { store = spec.drop_reference self.old.store context } }
+    {
+        if let Some(context) = self.contexts.get_mut(context) {
+            if context.references != 0 {
+                context.references -= 1;
+            }
+        }
+    }
+
+    /// The context has this link from now on.
+    pub(crate) fn set_link(&mut self, context: usize, link: Link) -> Result<(), AllocError>
+        ensures { OnOk result (self.new ≡ record self.old { store = spec.with_link self.old.store context (Some link) }) }
+    {
+        if let Some(context) = self.contexts.get_mut(context) {
+            context.link = Some(link);
+        }
+        Ok(())
+    }
+
+    /// The context has no link from now on.
+    pub(crate) fn clear_link(&mut self, context: usize)
+        ensures { self.new ≡ record self.old { store = spec.with_link self.old.store context None } }
+    {
+        if let Some(context) = self.contexts.get_mut(context) {
+            context.link = None;
+        }
+    }
+
+    /// One more entry at the end of a filter's queue.
+    pub(crate) fn add_entry(&mut self, filter: usize, entry: Entry) -> Result<(), AllocError>
+        ensures { OnOk result (self.new ≡ record self.old { store = spec.with_queue self.old.store filter (spec.queue_at self.old.store filter ++ entry ∷ []) }) }
+    {
+        if let Some(queue) = self.queues.get_mut(filter) {
+            queue.push(entry)?;
+        }
+        Ok(())
+    }
+
+    /// Takes the front entry out of a filter's queue.
+    pub(crate) fn take_first(&mut self, filter: usize) -> Option<Entry>
+        ensures { MatchOption result ((spec.queue_at self.old.store filter ≡ []) × (self.new ≡ self.old)) (λ e. (spec.queue_at self.old.store filter ≡ e ∷ spec.queue_at self.new.store filter) × (self.new ≡ record self.old { store = spec.with_queue self.old.store filter (spec.queue_at self.new.store filter) })) }
+    {
+        match self.queues.get_mut(filter) {
+            Some(queue) if !queue.is_empty() => Some(queue.remove(0)),
+            _ => None,
+        }
+    }
+
+    /// One more work item.
+    pub(crate) fn add_item(&mut self, item: Item) -> Result<(), AllocError>
+        ensures { OnOk result (self.new ≡ record self.old { store = record self.old.store { items = self.old.store.items ++ Some item ∷ [] } }) }
+    {
+        self.items.push(Some(item))?;
+        Ok(())
+    }
+
+    /// Takes a work item out, whose number stays.
+    pub(crate) fn take_item(&mut self, item: usize) -> Option<Item>
+        ensures item { result ≡ spec.item_at self.old.store item }
+        ensures after { self.new ≡ record self.old { store = record self.old.store { items = set self.old.store.items item None } } }
+    {
+        match self.items.get_mut(item) {
+            Some(item) => item.take(),
+            None => None,
+        }
+    }
+
+    /// A new visit, which isn't settled.
+    pub(crate) fn add_visit(&mut self, visit: Visit) -> Result<usize, AllocError>
+        ensures { IfOk result (λ v. (v ≡ length self.old.store.visits) × (self.new ≡ record self.old { store = moves.with_visit self.old.store visit })) }
+    {
+        let number = self.visits.len();
+        self.visits.push(visit)?;
+        self.settled.push(false)?;
+        Ok(number)
+    }
+
+    /// The filter's part in the operation is over.
+    pub(crate) fn settle(&mut self, visit: usize)
+        ensures { self.new ≡ record self.old { store = record self.old.store { settled = set self.old.store.settled visit true } } }
+    {
+        if let Some(settled) = self.settled.get_mut(visit) {
+            *settled = true;
+        }
+    }
+}
+
+fn is_linked_to(link: Link, other: &Option<Link>) -> bool
+    ensures { result ≡ spec.is_linked_to link other.now }
+{
+    match other {
+        None => false,
+        Some(other) => link.filter == other.filter && is_same_key(link.key, other.key),
+    }
+}
+
+fn is_same_key(key: Key, other: Key) -> bool
+    ensures { result ≡ spec.same_key key other }
+{
+    match (key, other) {
+        (Key::Stream(file), Key::Stream(other)) => file == other,
+        (Key::Instance, Key::Instance) => true,
+        _ => false,
     }
 }

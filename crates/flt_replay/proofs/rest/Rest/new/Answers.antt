@@ -1,4 +1,3 @@
-use Rattle.std.proofs.Common.{◌≡◌, [], ◌++◌}
 use Rattle.std.proofs.lemmas.List.{append-nil}
 use Rattle.flt_replay.specs.Rest.{before}
 use Rattle.flt_replay.proofs.rest.Rest.new.Goals as goal

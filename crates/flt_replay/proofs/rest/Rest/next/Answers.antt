@@ -1,4 +1,4 @@
-use Rattle.std.proofs.Common.{◌<◌, length, arith}
+use Rattle.std.proofs.Common.{arith}
 use Rattle.flt_replay.specs.declared.rest.Part.TheVariants.{Block, Repeat}
 use Rattle.flt_replay.proofs.Remaining.{goes_on_with, turn_out, none_left}
 use Rattle.flt_replay.proofs.rest.Rest.next.Goals as goal

@@ -1,4 +1,4 @@
-use Rattle.std.proofs.Common.{◌≡◌, ℕ, length}
+use Rattle.std.proofs.Common.{◌≡◌, length}
 use Rattle.flt_replay.specs.Rest.{remaining}
 use Rattle.flt_replay.proofs.rest.Rest.next.Given as goal
 
