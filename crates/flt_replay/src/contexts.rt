@@ -3,13 +3,19 @@
 
 ghost use Rattle.std.specs.Prelude.{◌≡◌, ◌++◌, OnOk};
 ghost use Rattle.flt_model.specs.Calls as calls;
+ghost use Rattle.flt_model.specs.Effects as effects;
+ghost use Rattle.flt_model.specs.Variables as variables;
+ghost use Rattle.flt_model.specs.World as spec;
 ghost use Rattle.flt_replay.specs.Writes.{later, Happened};
+ghost use Rattle.flt_syntax.specs.declared.variable.OperationVariable.TheVariants.{Data};
 
 use crate::activation::Write;
+use crate::effects::{context, need, operation};
+use crate::parts::Link;
 use crate::world::World;
-use flt_model::{Event, Object};
-use flt_rules::Call;
-use flt_syntax::{ContextVariable, Statement};
+use flt_model::{Event, Key, Object};
+use flt_rules::{Anchor, Call, Existing};
+use flt_syntax::{ContextVariable, OperationVariable, Statement};
 use std::alloc::AllocError;
 
 /// The two blocks of a call that can fail, or of a test.
@@ -18,6 +24,94 @@ pub(crate) struct Branches<'a> {
     pub(crate) granted: &'a [Statement],
     pub(crate) refused: &'a [Statement],
 }
+
+/// How a context is set, and where.
+#[derive(Clone, Copy)]
+pub(crate) struct Setting {
+    pub(crate) on: Anchor,
+    pub(crate) existing: Existing,
+    pub(crate) context: ContextVariable,
+    /// Receives the context that was there.
+    pub(crate) old: Option<ContextVariable>,
+}
+
+// ---- links
+
+impl<'a> World<'a> {
+    /// The link that a call works on; none where it is on the stream of `data`, which is NULL.
+    fn link_of(&self, a: usize, on: Anchor) -> Option<Link>
+        ensures { result ≡ calls.link_of self.now.store (spec.actor_at self.now a).filter on (variables.operation_in (spec.activation_at self.now a) Data) }
+    {
+        let filter = self.filter(a);
+        match on {
+            Anchor::Stream => match self.operation_in(a, OperationVariable::Data) {
+                Some(visit) => Some(Link {
+                    filter,
+                    key: Key::Stream(self.file_of(visit)),
+                }),
+                None => None,
+            },
+            Anchor::Instance => Some(Link {
+                filter,
+                key: Key::Instance,
+            }),
+        }
+    }
+
+    /// A call on the stream works on the file of `data`.
+    fn need_anchor(&self, a: usize, on: Anchor, events: &mut Vec<Event>) -> Result<(), AllocError>
+        ensures { OnOk result (events.new.items ≡ events.old.items ++ (effects.uses a (calls.needs_of on (variables.operation_in (spec.activation_at self.now a) Data)) ++ effects.empties a (calls.needs_of on (variables.operation_in (spec.activation_at self.now a) Data)))) }
+    {
+        match on {
+            Anchor::Stream => {
+                let given = self.operation_in(a, OperationVariable::Data);
+                need(a, &[operation(given)], events)
+            }
+            Anchor::Instance => Ok(()),
+        }
+    }
+
+    /// The link takes a reference of its own.
+    fn put_link(&mut self, x: usize, link: Link) -> Result<(), AllocError>
+        ensures { OnOk result (self.new ≡ record self.old { store = calls.put_link self.old.store x link }) }
+    {
+        self.add_reference(x)?;
+        self.set_link(x, link)
+    }
+
+    /// Where a reference is going to be dropped.
+    fn tell_drop(&self, x: usize, events: &mut Vec<Event>) -> Result<(), AllocError>
+        ensures { OnOk result (events.new.items ≡ events.old.items ++ effects.freed_by_drop self.now.store x) }
+    {
+        if self.references(x) == 1 {
+            events.push(Event::Free(x))?;
+        }
+        Ok(())
+    }
+
+    /// The link's reference goes to the variable that receives it, or is dropped.
+    fn unlink(
+        &mut self,
+        a: usize,
+        x: usize,
+        old: Option<ContextVariable>,
+        events: &mut Vec<Event>,
+    ) -> Result<(), AllocError>
+        ensures { OnOk result ((self.new ≡ record self.old { store = effects.after_unlink self.old.store x old }) × (events.new.items ≡ events.old.items ++ effects.events_of_unlink a self.old.store x old)) }
+    {
+        match old {
+            Some(_) => events.push(Event::Gain(a, Object::Context(x)))?,
+            None => self.tell_drop(x, events)?,
+        }
+        self.clear_link(x);
+        if old.is_none() {
+            self.drop_reference(x);
+        }
+        Ok(())
+    }
+}
+
+// ---- calls
 
 impl<'a> World<'a> {
     pub(crate) fn allocate(
@@ -68,5 +162,58 @@ impl<'a> World<'a> {
                 self.go_on(a, &[], Write::Nothing)
             }
         }
+    }
+
+    /// The context is given, with one reference more; none where nothing is there.
+    fn got(
+        &mut self,
+        a: usize,
+        d: ContextVariable,
+        to: Branches<'a>,
+        x: Option<usize>,
+        events: &mut Vec<Event>,
+    ) -> Result<(), AllocError>
+        ensures { OnOk result (Happened self.new events.old.items events.new.items (calls.got self.old a d (to.entry.granted.now ++ later self.old a) (to.entry.refused.now ++ later self.old a) x)) }
+    {
+        match x {
+            None => self.go_on(a, to.refused, Write::Output(Some(d), None)),
+            Some(x) => {
+                self.go_on(a, to.granted, Write::Output(Some(d), Some(x)))?;
+                self.add_reference(x)?;
+                events.push(Event::Gain(a, Object::Context(x)))?;
+                Ok(())
+            }
+        }
+    }
+
+    fn get_by(
+        &mut self,
+        a: usize,
+        d: ContextVariable,
+        to: Branches<'a>,
+        link: Option<Link>,
+        events: &mut Vec<Event>,
+    ) -> Result<(), AllocError>
+        ensures { OnOk result (Happened self.new events.old.items events.new.items (calls.get_by self.old a d (to.entry.granted.now ++ later self.old a) (to.entry.refused.now ++ later self.old a) link)) }
+    {
+        match link {
+            None => self.go_on(a, to.refused, Write::Nothing),
+            Some(link) => self.got(a, d, to, self.linked_at(link), events),
+        }
+    }
+
+    pub(crate) fn get(
+        &mut self,
+        a: usize,
+        on: Anchor,
+        d: ContextVariable,
+        to: Branches<'a>,
+        events: &mut Vec<Event>,
+    ) -> Result<(), AllocError>
+        ensures { OnOk result (Happened self.new events.old.items events.new.items (calls.get self.old a on d (to.entry.granted.now ++ later self.old a) (to.entry.refused.now ++ later self.old a))) }
+    {
+        events.push(Event::Call(a, Call::GetContext(on)))?;
+        self.need_anchor(a, on, events)?;
+        self.get_by(a, d, to, self.link_of(a, on), events)
     }
 }
