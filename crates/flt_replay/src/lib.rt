@@ -10,5 +10,6 @@ mod effects;
 mod local;
 mod lock_list;
 mod parts;
+mod reads;
 mod rest;
 mod world;
