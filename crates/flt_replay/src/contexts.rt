@@ -79,8 +79,8 @@ impl<'a> World<'a> {
         self.set_link(x, link)
     }
 
-    /// Where a reference is going to be dropped.
-    fn tell_drop(&self, x: usize, events: &mut Vec<Event>) -> Result<(), AllocError>
+    /// Comes before a reference is dropped, which may be the last.
+    pub(crate) fn tell_drop(&self, x: usize, events: &mut Vec<Event>) -> Result<(), AllocError>
         ensures { OnOk result (events.new.items ≡ events.old.items ++ effects.freed_by_drop self.now.store x) }
     {
         if self.references(x) == 1 {
@@ -90,7 +90,7 @@ impl<'a> World<'a> {
     }
 
     /// The link's reference goes to the variable that receives it, or is dropped.
-    fn unlink(
+    pub(crate) fn unlink(
         &mut self,
         a: usize,
         x: usize,
@@ -100,12 +100,15 @@ impl<'a> World<'a> {
         ensures { OnOk result ((self.new ≡ record self.old { store = effects.after_unlink self.old.store x old }) × (events.new.items ≡ events.old.items ++ effects.events_of_unlink a self.old.store x old)) }
     {
         match old {
-            Some(_) => events.push(Event::Gain(a, Object::Context(x)))?,
-            None => self.tell_drop(x, events)?,
-        }
-        self.clear_link(x);
-        if old.is_none() {
-            self.drop_reference(x);
+            Some(_) => {
+                events.push(Event::Gain(a, Object::Context(x)))?;
+                self.clear_link(x);
+            }
+            None => {
+                self.tell_drop(x, events)?;
+                self.clear_link(x);
+                self.drop_reference(x);
+            }
         }
         Ok(())
     }
@@ -158,6 +161,7 @@ impl<'a> World<'a> {
         }
     }
 
+    /// Nothing is given where `data` was needed and is NULL.
     fn get_by(
         &mut self,
         a: usize,
@@ -240,12 +244,14 @@ impl<'a> World<'a> {
         }
     }
 
+    /// It fails where the filter is being detached, and where the context is linked or freed.
     fn cannot_set(&self, a: usize, x: usize) -> bool
         ensures { result ≡ calls.cannot_set self.now a x }
     {
         !self.is_attached(self.filter(a)) || self.is_linked(x) || self.is_freed(x)
     }
 
+    /// Nothing is set where the context or `data` is NULL.
     fn set_by(
         &mut self,
         a: usize,
@@ -303,6 +309,7 @@ impl<'a> World<'a> {
         self.set_by(a, set, to, x, self.link_of(a, set.on), events)
     }
 
+    /// The link's reference is given, or dropped.
     fn unlinked(
         &mut self,
         a: usize,
@@ -322,6 +329,7 @@ impl<'a> World<'a> {
         }
     }
 
+    /// Nothing is deleted where `data` was needed and is NULL.
     fn delete_by(
         &mut self,
         a: usize,
