@@ -10,4 +10,5 @@ mod local;
 mod lock_list;
 mod parts;
 mod rest;
+mod stack;
 mod world;
