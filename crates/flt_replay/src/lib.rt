@@ -12,4 +12,5 @@ mod lock_list;
 mod parts;
 mod rest;
 mod settling;
+mod stack;
 mod world;
