@@ -7,6 +7,7 @@ mod activation;
 mod callbacks;
 mod contexts;
 mod effects;
+mod ending;
 mod local;
 mod lock_list;
 mod parts;
