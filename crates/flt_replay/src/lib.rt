@@ -8,6 +8,7 @@ mod callbacks;
 mod contexts;
 mod local;
 mod lock_list;
+mod opening;
 mod parts;
 mod rest;
 mod stack;
