@@ -12,4 +12,5 @@ mod opening;
 mod parts;
 mod rest;
 mod stack;
+mod starting;
 mod world;
