@@ -3,3 +3,5 @@ pub mod Coded
 pub mod Parts
 pub mod Writes
 pub mod Judging
+pub mod Opening
+pub mod Starting
