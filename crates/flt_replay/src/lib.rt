@@ -10,4 +10,6 @@ mod local;
 mod lock_list;
 mod parts;
 mod rest;
+mod rules;
+mod statuses;
 mod world;
