@@ -11,5 +11,6 @@ mod lock_list;
 mod parts;
 mod rest;
 mod rules;
+mod stack;
 mod statuses;
 mod world;
