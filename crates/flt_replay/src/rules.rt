@@ -247,9 +247,7 @@ impl<'b, 'a> Scene<'b, 'a> {
     {
         match event {
             Event::Call(_, call) => {
-                row(call)
-                    .places
-                    .contains(self.world.place(self.activation))
+                row(call).places.contains(self.world.place(self.activation))
                     && (!self.world.has_flag(self.activation) || is_legal_in_draining(call))
             }
             _ => true,
