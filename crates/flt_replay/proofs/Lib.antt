@@ -1,5 +1,6 @@
 pub mod LocalLaws
 pub mod Reading
 pub mod Remaining
+pub mod Scenes
 pub mod Stacks
 pub mod Openings

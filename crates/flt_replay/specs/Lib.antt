@@ -5,3 +5,4 @@ pub mod Writes
 pub mod Judging
 pub mod Opening
 pub mod Starting
+pub mod Scenes

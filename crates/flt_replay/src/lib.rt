@@ -17,4 +17,6 @@ mod rest;
 mod settling;
 mod stack;
 mod starting;
+mod rules;
+mod statuses;
 mod world;
