@@ -1,3 +1,5 @@
+pub mod Frames
 pub mod LocalLaws
 pub mod Reading
 pub mod Remaining
+pub mod RulesAfter
