@@ -66,20 +66,20 @@ pub record Framed (w : World) (a : ℕ) (s : Step) : Type 0 where
 
 -- ---- events of an activation
 
-self_by : (a : ℕ) → (a == a) ≡ true
+pub self_by : (a : ℕ) → (a == a) ≡ true
 self_by a = eq-eqb a a refl
 
-uses_by : (a : ℕ) (needs : List (Option Object)) → list_all (is_by a) (uses a needs) ≡ true
+pub uses_by : (a : ℕ) (needs : List (Option Object)) → list_all (is_by a) (uses a needs) ≡ true
 uses_by a [] = refl
 uses_by a (None ∷ needs) = uses_by a needs
 uses_by a (Some o ∷ needs) = uses_by a needs
 
-empties_by : (a : ℕ) (needs : List (Option Object)) → list_all (is_by a) (empties a needs) ≡ true
+pub empties_by : (a : ℕ) (needs : List (Option Object)) → list_all (is_by a) (empties a needs) ≡ true
 empties_by a [] = refl
 empties_by a (None ∷ needs) = empties_by a needs
 empties_by a (Some o ∷ needs) = empties_by a needs
 
-append_by : (a : ℕ) (xs ys : List Event) → list_all (is_by a) xs ≡ true → list_all (is_by a) ys ≡ true →
+pub append_by : (a : ℕ) (xs ys : List Event) → list_all (is_by a) xs ≡ true → list_all (is_by a) ys ≡ true →
     list_all (is_by a) (xs ++ ys) ≡ true
 append_by a xs ys h k = list_all-append (is_by a) xs ys ∙ and_from (list_all (is_by a) xs) (list_all (is_by a) ys) h k
 
@@ -100,7 +100,7 @@ loses_by a (Some x) = refl
 
 -- ---- either of two
 
-if_same : {X Y : Type 0} (f : X → Y) (b : Bool) (x y : X) (u : Y) → f x ≡ u → f y ≡ u → f (if b then x else y) ≡ u
+pub if_same : {X Y : Type 0} (f : X → Y) (b : Bool) (x y : X) (u : Y) → f x ≡ u → f y ≡ u → f (if b then x else y) ≡ u
 if_same f true x y u h k = h
 if_same f false x y u h k = k
 
@@ -600,7 +600,7 @@ pub record Stepped (w : World) (a : ℕ) (s : Step) : Type 0 where
   pub goes : (activation_at w a).ended ≡ false
   pub within : a < length w.activations
 
-there_from : (acts : List Activation) (a : ℕ) → (get_or acts a nobody).ended ≡ false → a < length acts
+pub there_from : (acts : List Activation) (a : ℕ) → (get_or acts a nobody).ended ≡ false → a < length acts
 there_from acts a e =
     elim (cases_lt a (length acts)) [
       | inl h ↦ h
