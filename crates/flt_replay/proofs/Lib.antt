@@ -1,6 +1,11 @@
+pub mod Frames
+pub mod LocalFrames
 pub mod LocalLaws
+pub mod MoveCases
+pub mod MoveRules
 pub mod Reading
 pub mod Remaining
 pub mod Scenes
 pub mod Stacks
 pub mod Openings
+pub mod RulesAfter
