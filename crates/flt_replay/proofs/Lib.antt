@@ -9,3 +9,4 @@ pub mod Scenes
 pub mod Stacks
 pub mod Openings
 pub mod RulesAfter
+pub mod Judgements
