@@ -1,3 +1,4 @@
 pub mod LocalLaws
 pub mod Reading
 pub mod Remaining
+pub mod Queues

@@ -9,6 +9,8 @@ mod contexts;
 mod effects;
 mod local;
 mod lock_list;
+mod locking;
 mod parts;
+mod queueing;
 mod rest;
 mod world;
