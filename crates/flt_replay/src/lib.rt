@@ -12,5 +12,6 @@ mod lock_list;
 mod locking;
 mod parts;
 mod queueing;
+mod reads;
 mod rest;
 mod world;
