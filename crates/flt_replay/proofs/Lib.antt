@@ -2,3 +2,4 @@ pub mod LocalLaws
 pub mod Reading
 pub mod Remaining
 pub mod Queues
+pub mod Stacks
