@@ -3,3 +3,4 @@ pub mod Reading
 pub mod Remaining
 pub mod Queues
 pub mod Stacks
+pub mod Boards

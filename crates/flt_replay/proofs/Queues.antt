@@ -1,5 +1,5 @@
 -- What a queue gives is what its front entry gives where that is out of it.
-use Rattle.std.proofs.Common.{◌≡◌, ℕ, List, [], ◌∷◌, ◌++◌, Some, None, OnOk, Result, refl, append_assoc}
+use Rattle.std.proofs.Common.{◌≡◌, ℕ, List, [], ◌∷◌, ◌++◌, Some, None, OnOk, Result, append_assoc}
 use Rattle.std.proofs.lemmas.Result.{on_ok_weaker}
 use Rattle.flt_rules.specs.declared.call.Call.TheVariants.{RemoveNextIo}
 use Rattle.flt_syntax.specs.declared.filter.Statement.{Statement}

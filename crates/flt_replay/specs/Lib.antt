@@ -4,3 +4,4 @@ pub mod Parts
 pub mod Writes
 pub mod Judging
 pub mod Queueing
+pub mod Boards

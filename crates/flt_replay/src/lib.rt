@@ -4,6 +4,7 @@
 #![tactic(auto)]
 
 mod activation;
+mod board;
 mod callbacks;
 mod contexts;
 mod effects;

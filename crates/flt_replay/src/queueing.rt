@@ -13,6 +13,7 @@ use crate::activation::Write;
 use crate::contexts::Branches;
 use crate::effects::{context, need, operation};
 use crate::parts::{Entry, Item};
+use crate::settling::lose_context;
 use crate::world::World;
 use flt_model::{Event, Object};
 use flt_rules::Call;
@@ -48,15 +49,6 @@ fn need_named(
         Some(named) => need(a, &[context(named)], events),
         None => Ok(()),
     }
-}
-
-fn lose_context(a: usize, context: Option<usize>, events: &mut Vec<Event>) -> Result<(), AllocError>
-    ensures { OnOk result (events.new.items ≡ events.old.items ++ effects.loses_context a context) }
-{
-    if let Some(context) = context {
-        events.push(Event::Lose(a, Object::Context(context)))?;
-    }
-    Ok(())
 }
 
 fn gain_context(a: usize, context: Option<usize>, events: &mut Vec<Event>) -> Result<(), AllocError>
