@@ -3,3 +3,5 @@ pub mod Reading
 pub mod Remaining
 pub mod Stacks
 pub mod Openings
+pub mod Frames
+pub mod Moving

@@ -8,6 +8,7 @@ mod callbacks;
 mod contexts;
 mod local;
 mod lock_list;
+mod moves;
 mod opening;
 mod parts;
 mod rest;
