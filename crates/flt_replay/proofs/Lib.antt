@@ -4,3 +4,6 @@ pub mod Remaining
 pub mod Queues
 pub mod Stacks
 pub mod Boards
+pub mod Openings
+pub mod Frames
+pub mod Moving

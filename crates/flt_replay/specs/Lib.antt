@@ -5,3 +5,5 @@ pub mod Writes
 pub mod Judging
 pub mod Queueing
 pub mod Boards
+pub mod Opening
+pub mod Starting
