@@ -32,6 +32,7 @@ impl<'a> World<'a> {
         }
     }
 
+    /// The lock is the latest of the list, and its holder is the activation. No event is pushed.
     fn taken(&mut self, a: usize, lock: LockNumber) -> Result<(), AllocError>
         ensures { OnOk result (Happened self.new [] [] (calls.taken self.old a lock (later self.old a))) }
     {
@@ -58,6 +59,7 @@ impl<'a> World<'a> {
         self.taken(a, lock)
     }
 
+    /// The lock leaves the list, and nobody holds it. No event is pushed.
     fn given_up(&mut self, a: usize, lock: LockNumber) -> Result<(), AllocError>
         ensures { OnOk result (Happened self.new [] [] (calls.given_up self.old a lock (later self.old a))) }
     {

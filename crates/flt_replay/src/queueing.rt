@@ -5,9 +5,9 @@ ghost use Rattle.flt_model.specs.Calls as calls;
 ghost use Rattle.flt_model.specs.Effects as effects;
 ghost use Rattle.flt_model.specs.Variables as variables;
 ghost use Rattle.flt_model.specs.World as spec;
-ghost use Rattle.flt_syntax.specs.declared.variable.OperationVariable.TheVariants.{Data};
-ghost use Rattle.flt_replay.specs.Writes.{later, Happened};
 ghost use Rattle.flt_replay.specs.Queueing.{gives_entry};
+ghost use Rattle.flt_replay.specs.Writes.{later, Happened};
+ghost use Rattle.flt_syntax.specs.declared.variable.OperationVariable.TheVariants.{Data};
 
 use crate::activation::Write;
 use crate::contexts::Branches;
@@ -27,6 +27,7 @@ struct Handed {
     context: Option<Option<usize>>,
 }
 
+/// Both are used, or told where they are NULL.
 fn need_handed(a: usize, handed: Handed, events: &mut Vec<Event>) -> Result<(), AllocError>
     ensures { OnOk result (events.new.items ≡ events.old.items ++ (effects.uses a (effects.operation handed.visit ∷ effects.optional handed.context) ++ effects.empties a (effects.operation handed.visit ∷ effects.optional handed.context))) }
 {
@@ -51,6 +52,7 @@ fn need_named(
     }
 }
 
+/// A context that may be there is gained.
 fn gain_context(a: usize, context: Option<usize>, events: &mut Vec<Event>) -> Result<(), AllocError>
     ensures { OnOk result (events.new.items ≡ events.old.items ++ effects.gains_context a context) }
 {
@@ -61,6 +63,7 @@ fn gain_context(a: usize, context: Option<usize>, events: &mut Vec<Event>) -> Re
 }
 
 impl<'a> World<'a> {
+    /// What a call hands over that names this variable.
     fn handed(&self, a: usize, c: Option<ContextVariable>) -> Handed
         ensures visit { result.visit ≡ variables.operation_in (spec.activation_at self.now a) Data }
         ensures context { result.context ≡ variables.named_in (spec.activation_at self.now a) c }
@@ -75,7 +78,7 @@ impl<'a> World<'a> {
 // ---- the cancel-safe queue
 
 impl<'a> World<'a> {
-    /// The entry takes the visit and the context over.
+    /// The entry takes the visit and the context over. A queue of a filter that is being detached is disabled.
     fn enqueued(
         &mut self,
         a: usize,
@@ -97,6 +100,7 @@ impl<'a> World<'a> {
         }
     }
 
+    /// Nothing is queued where the operation or the named context is NULL.
     fn insert_by(
         &mut self,
         a: usize,
@@ -197,6 +201,7 @@ impl<'a> World<'a> {
         lose_context(a, context, events)
     }
 
+    /// Nothing is queued where the operation or the named context is NULL, or the system refuses.
     fn defer_by(
         &mut self,
         a: usize,
@@ -258,6 +263,7 @@ impl<'a> World<'a> {
         lose_context(a, context, events)
     }
 
+    /// Nothing is queued where the named context is NULL, or the system refuses.
     fn queue_by(
         &mut self,
         a: usize,
