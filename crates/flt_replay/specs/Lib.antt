@@ -3,6 +3,8 @@ pub mod Coded
 pub mod Parts
 pub mod Writes
 pub mod Judging
+pub mod Queueing
+pub mod Boards
 pub mod Opening
 pub mod Starting
 pub mod Scenes

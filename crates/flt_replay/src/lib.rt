@@ -4,14 +4,18 @@
 #![tactic(auto)]
 
 mod activation;
+mod board;
 mod callbacks;
 mod contexts;
 mod effects;
 mod ending;
 mod local;
 mod lock_list;
+mod locking;
+mod moves;
 mod opening;
 mod parts;
+mod queueing;
 mod reads;
 mod rest;
 mod settling;
