@@ -5,3 +5,4 @@ pub mod Stacks
 pub mod Openings
 pub mod Frames
 pub mod Moving
+pub mod Places

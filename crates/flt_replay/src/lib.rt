@@ -14,4 +14,5 @@ mod parts;
 mod rest;
 mod stack;
 mod starting;
+mod teardown;
 mod world;
