@@ -15,4 +15,5 @@ mod rest;
 mod stack;
 mod starting;
 mod teardown;
+mod waiting;
 mod world;
