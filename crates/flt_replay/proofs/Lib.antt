@@ -8,6 +8,7 @@ pub mod MoveCases
 pub mod MoveRules
 pub mod Moving
 pub mod Openings
+pub mod Places
 pub mod Queues
 pub mod Reading
 pub mod Remaining

@@ -9,7 +9,7 @@ ghost use Rattle.flt_replay.specs.Writes.{ComesOf};
 use crate::parts::{Arrival, Frame, Outcome, Position, Route, Visit};
 use crate::stack::Stack;
 use crate::world::World;
-use flt_model::Event;
+use flt_model::{Event, Move};
 use flt_rules::{FinalStatus, Mode, Operation};
 use sqlite_items::Items;
 use std::alloc::{AllocError, Global};
@@ -210,6 +210,45 @@ impl<'a> World<'a> {
         }
         self.set_cancelled(operation);
         true
+    }
+
+    /// Makes a move, with its events. False where it isn't enabled.
+    pub(crate) fn make(
+        &mut self,
+        alloc: Global,
+        stack: &Stack<'a>,
+        next: Move,
+        events: &mut Vec<Event>,
+    ) -> Result<bool, AllocError>
+        ensures { IfOk result (λ enabled. ComesOf (moves.make stack.now self.old next) enabled self.new events.old.items events.new.items) }
+    {
+        match next {
+            Move::Arrive {
+                operation,
+                mode,
+                file,
+            } => self.arrive(alloc, operation, mode, file),
+            Move::Pre { serial } => self.pre(alloc, stack, serial as usize, events),
+            Move::Skip { serial } => Ok(self.skip(stack, serial as usize)),
+            Move::Lower { serial } => Ok(self.lower(stack, serial as usize)),
+            Move::Post { serial } => self.post(alloc, stack, serial as usize, events),
+            Move::Cancel { serial } => Ok(self.cancel(serial as usize)),
+            Move::Canceled { altitude, serial } => {
+                let filter = stack.number_of(altitude);
+                self.canceled(alloc, stack, filter, serial as usize, events)
+            }
+            Move::Work { item } => self.work(alloc, stack, item as usize, events),
+            Move::Detach { altitude } => Ok(self.detach(stack.number_of(altitude))),
+            Move::Drain { altitude, serial } => {
+                let filter = stack.number_of(altitude);
+                self.drain(alloc, stack, filter, serial as usize, events)
+            }
+            Move::Unlink { altitude, key } => {
+                let filter = stack.number_of(altitude);
+                self.unlink(filter, key, events)
+            }
+            Move::Detached { altitude } => Ok(self.detached(stack.number_of(altitude))),
+        }
     }
 }
 
