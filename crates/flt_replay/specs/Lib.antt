@@ -4,3 +4,4 @@ pub mod Parts
 pub mod Writes
 pub mod Judging
 pub mod Scenes
+pub mod Ledger

@@ -6,6 +6,7 @@
 mod activation;
 mod callbacks;
 mod contexts;
+mod ledger;
 mod local;
 mod lock_list;
 mod parts;
