@@ -2,6 +2,7 @@ pub mod Boards
 pub mod Frames
 pub mod Judgements
 pub mod LastFrames
+pub mod Ledgers
 pub mod LocalFrames
 pub mod LocalLaws
 pub mod MoveCases

@@ -9,6 +9,7 @@ mod callbacks;
 mod contexts;
 mod effects;
 mod ending;
+mod ledger;
 mod local;
 mod lock_list;
 mod locking;
