@@ -1,3 +1,4 @@
+pub mod Apart
 pub mod Frames
 pub mod LocalFrames
 pub mod LocalLaws

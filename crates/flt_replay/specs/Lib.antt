@@ -3,3 +3,4 @@ pub mod Coded
 pub mod Parts
 pub mod Writes
 pub mod Judging
+pub mod Apart
