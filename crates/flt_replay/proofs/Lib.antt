@@ -1,9 +1,13 @@
 pub mod Apart
 pub mod Frames
+pub mod Handing
 pub mod LocalFrames
 pub mod LocalLaws
 pub mod MoveCases
 pub mod MoveRules
+pub mod Onward
+pub mod Owners
 pub mod Reading
 pub mod Remaining
 pub mod RulesAfter
+pub mod Visits
