@@ -7,7 +7,7 @@ use Rattle.std.proofs.lemmas.List.Folds.{list_all-append, find_at}
 use Rattle.std.proofs.lemmas.List.Sums.{sum_by-append, sum_by-cons, split_at_first}
 use Rattle.std.proofs.lemmas.Option.{slice_get_within, get_or_from_slice_get}
 use Rattle.std.specs.List.{list_all, before_first, after_first, position_or_len, slice_get}
-use Rattle.std.specs.Prelude.{not, ◌&&◌, ◌==◌, if◌then◌else◌, sum_by, find}
+use Rattle.std.specs.Prelude.{not, ◌&&◌, ◌==◌, sum_by, find}
 use Rattle.flt_syntax.specs.declared.filter.Filter.{Filter}
 use Rattle.flt_syntax.specs.declared.filter.Statement.{Statement}
 use Rattle.flt_model.specs.declared.event.Event.{Event}
