@@ -1,5 +1,7 @@
+pub mod Apart
 pub mod Boards
 pub mod Frames
+pub mod Handing
 pub mod Judgements
 pub mod LastFrames
 pub mod Ledgers
@@ -8,7 +10,9 @@ pub mod LocalLaws
 pub mod MoveCases
 pub mod MoveRules
 pub mod Moving
+pub mod Onward
 pub mod Openings
+pub mod Owners
 pub mod Places
 pub mod Queues
 pub mod Reading
@@ -16,3 +20,4 @@ pub mod Remaining
 pub mod RulesAfter
 pub mod Scenes
 pub mod Stacks
+pub mod Visits

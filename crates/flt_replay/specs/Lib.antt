@@ -1,3 +1,4 @@
+pub mod Apart
 pub mod Boards
 pub mod Coded
 pub mod Judging
