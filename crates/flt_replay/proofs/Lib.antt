@@ -1,5 +1,6 @@
 pub mod Apart
 pub mod Boards
+pub mod Courses
 pub mod Frames
 pub mod Handing
 pub mod Judgements

@@ -3,6 +3,7 @@ pub mod Boards
 pub mod Coded
 pub mod Judging
 pub mod Ledger
+pub mod Monitoring
 pub mod Opening
 pub mod Parts
 pub mod Queueing

@@ -298,6 +298,20 @@ impl<'a> World<'a> {
         }
     }
 
+    /// The locks that an activation holds.
+    pub(crate) fn locks_of(
+        &self,
+        alloc: Global,
+        activation: usize,
+    ) -> Result<Items<LockNumber>, AllocError>
+        ensures { IfOk result (λ locks. locks ≡ (spec.activation_at self.now activation).locks) }
+    {
+        match self.activations.get(activation) {
+            Some(activation) => Items::from_slice(alloc, activation.locks.as_slice()),
+            None => Ok(Items::new(alloc)),
+        }
+    }
+
     pub(crate) fn context_in(&self, activation: usize, variable: ContextVariable) -> Option<usize>
         ensures { result ≡ variables.context_in (spec.activation_at self.now activation) variable }
     {
