@@ -17,7 +17,9 @@ use crate::ledger::Ledger;
 use crate::rules::Scene;
 use crate::stack::Stack;
 use crate::world::World;
-use flt_model::{Event, Journal, JournalEntry, Move, Object, Verdict, Violation};
+use flt_model::{
+    Event, Journal, JournalEntry, Move, Object, Verdict, Violation, local_steps_are_quiet,
+};
 use flt_syntax::{OperationVariable, Tree};
 use std::alloc::{AllocError, Global};
 
@@ -48,11 +50,7 @@ impl<'a> Monitor<'a> {
     }
 
     /// What comes of a step that led to this world with these events, and of which the least broken rule is known.
-    fn judged(
-        &mut self,
-        events: &[Event],
-        rule: Option<Violation>,
-    ) -> Result<Course, AllocError>
+    fn judged(&mut self, events: &[Event], rule: Option<Violation>) -> Result<Course, AllocError>
         ensures { IfOk result (λ c. (p : List Filter) (m : Moment) (x : Transition) (s : Step) → Agrees m self.old.ledger → Follows p m x s self.old.world events.now → rule ≡ first_of of_rules p m s → ComesTo c self.new (spec.unless_broken (broken p m s) (spec.Reaches (after m s)))) }
     {
         match self.ledger.take(&self.world, events)?.or(rule) {
@@ -62,12 +60,7 @@ impl<'a> Monitor<'a> {
     }
 
     /// What comes of a move.
-    fn make(
-        &mut self,
-        alloc: Global,
-        stack: &Stack<'a>,
-        next: Move,
-    ) -> Result<Course, AllocError>
+    fn make(&mut self, alloc: Global, stack: &Stack<'a>, next: Move) -> Result<Course, AllocError>
         ensures { IfOk result (λ c. (m : Moment) → IsAt self.old m → ComesTo c self.new (spec.course stack.now m (Make next ∷ []))) }
     {
         let mut events = Vec::new(alloc);
@@ -113,6 +106,7 @@ impl<'a> Monitor<'a> {
     fn go_unseen(&mut self, a: usize, steps: u32) -> Result<bool, AllocError>
         ensures { IfOk result (λ unseen. (p : List Filter) (m : Moment) (xs : List Transition) → IsAt self.old m → GoesOn unseen self.new p xs (spec.course p m (replicate steps (Local a) ++ xs))) }
     {
+        local_steps_are_quiet();
         for _ in 0..steps {
             if !self.world.step_unseen(a)? {
                 return Ok(false);
