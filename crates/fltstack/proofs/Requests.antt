@@ -1,13 +1,16 @@
 -- What the matches of a command line ask for.
-use Rattle.std.proofs.Common.{◌≡◌, ◌⊎◌, inl, inr, List, [], ◌∷◌, true, false, Option, Some, None, Bor, refl, sym, ◌∙◌, ap, option_map, option_and_then, unwrap_or}
+use Rattle.std.proofs.Common.{◌≡◌, ◌⊎◌, inl, inr, List, [], ◌∷◌, true, false, Option, Some, None, Bor, refl, sym, ◌∙◌, ap, option_map, option_and_then, unwrap_or, map}
+use Rattle.std.specs.Option.{IsSomeAnd}
 use Rattle.clap.proofs.OnLiterals.{clap_on_literals}
 use Rattle.clap.specs.Faults.{fault_of, is_simple_and_free}
 use Rattle.clap.specs.Kinds.{Kinds, HasKind}
-use Rattle.clap.specs.Simple.{HasMatchesOf, app_of, is_simple, subcommand_of, subcommand_rows_of}
-use Rattle.clap.specs.Walk.{Row, Text}
+use Rattle.clap.specs.Simple.{HasMatchesOf, app_of, new_rule, is_simple, subcommand_of, subcommand_rows_of}
+use Rattle.clap.specs.Walk.{Row, Rule, Text, rule_of}
 use Rattle.clap.specs.Matches.{subcommand_name_of}
 use Rattle.clap.specs.Values.{kind_of}
+use Rattle.clap.specs.declared.builder.arg.Arg.{Arg}
 use Rattle.clap.specs.declared.builder.command.Command.{Command}
+use Rattle.clap.specs.declared.builder.range.ValueRange.{ValueRange}
 use Rattle.clap.specs.declared.error.Error.{Error}
 use Rattle.clap.specs.declared.parser.matches.ArgMatches.{ArgMatches}
 use Rattle.clap.specs.declared.parser.matches.ArgMatches.TheViews.{out-ArgMatches}
@@ -65,3 +68,23 @@ pub named : (m : ArgMatches) (name : Text) (rows : List Row) → subcommand_name
 named m name rows is matches =
     let both : subcommand_rows_of m ≡ Some (name, rows) = paired _ _ (out-ArgMatches m).subcommand name rows is matches in
     rw both refl
+
+-- an argument that must be there and takes as many values as are given
+pub many : (a b c : Arg) (id : Text) (r : ValueRange) → rule_of a ≡ new_rule id → b ≡ record a { required = true } →
+    (c ≡ record b { num_vals = c.num_vals }) × IsSomeAnd c.num_vals (λ v. v ≡ r) → rule_of c ≡ record (new_rule id) { required = true; range = Some r }
+many a b c id r new must takes =
+    let range : c.num_vals ≡ Some r = known c.num_vals r takes.1 in
+    rw (takes.0, range, must) (ap (λ (s : Rule). record s { required = true; range = Some r }) new)
+  where
+    known : (o : Option ValueRange) (r : ValueRange) → IsSomeAnd o (λ v. v ≡ r) → o ≡ Some r
+    known (Some v) r is = ap Some is
+    known None r is = absurd is
+
+-- the texts behind references, none where there are none
+pub texts_or : (o : Option (Bor (List (Bor Text)))) (xs : List (Bor Text)) (s : Bor (List (Bor Text))) → o ≡ Some s → xs ≡ s.now →
+    map (λ (v : Bor Text). v.now) xs ≡ unwrap_or (option_map (λ s. map (λ (v : Bor Text). v.now) s.now) o) []
+texts_or o xs s is copied = rw (is, copied) refl
+
+pub no_texts_or : (o : Option (Bor (List (Bor Text)))) (xs : List (Bor Text)) → o ≡ None → xs ≡ [] →
+    map (λ (v : Bor Text). v.now) xs ≡ unwrap_or (option_map (λ s. map (λ (v : Bor Text). v.now) s.now) o) []
+no_texts_or o xs is none = rw (is, none) refl
