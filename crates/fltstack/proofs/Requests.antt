@@ -1,15 +1,18 @@
 -- What the matches of a command line ask for.
-use Rattle.std.proofs.Common.{◌≡◌, ◌⊎◌, inl, inr, List, [], ◌∷◌, true, false, Option, Some, None, Bor, refl, sym, ◌∙◌, ap, option_map, option_and_then, unwrap_or, map}
+use Rattle.std.proofs.Common.{◌≡◌, ◌⊎◌, inl, inr, List, [], ◌∷◌, true, false, Option, Some, None, Bor, Result, Ok, Err, IfOk, refl, sym, ◌∙◌, ap, option_map, option_and_then, unwrap_or, map}
 use Rattle.std.specs.Option.{IsSomeAnd}
+use Rattle.std.specs.declared.alloc.AllocError.{AllocError}
 use Rattle.clap.proofs.OnLiterals.{clap_on_literals}
+use Rattle.clap.specs.Built.{AddsSubcommand}
 use Rattle.clap.specs.Faults.{fault_of, is_simple_and_free}
 use Rattle.clap.specs.Kinds.{Kinds, HasKind}
-use Rattle.clap.specs.Simple.{HasMatchesOf, app_of, new_rule, is_simple, subcommand_of, subcommand_rows_of}
+use Rattle.clap.specs.Simple.{App, HasMatchesOf, app_of, new_rule, with_subcommand, is_simple, subcommand_of, subcommand_rows_of}
 use Rattle.clap.specs.Walk.{Row, Rule, Text, rule_of}
 use Rattle.clap.specs.Matches.{subcommand_name_of}
 use Rattle.clap.specs.Values.{kind_of}
 use Rattle.clap.specs.declared.builder.arg.Arg.{Arg}
 use Rattle.clap.specs.declared.builder.command.Command.{Command}
+use Rattle.clap.specs.declared.builder.command.Command.TheViews.{out-Command as fields_of}
 use Rattle.clap.specs.declared.builder.range.ValueRange.{ValueRange}
 use Rattle.clap.specs.declared.error.Error.{Error}
 use Rattle.clap.specs.declared.parser.matches.ArgMatches.{ArgMatches}
@@ -88,3 +91,16 @@ texts_or o xs s is copied = rw (is, copied) refl
 pub no_texts_or : (o : Option (Bor (List (Bor Text)))) (xs : List (Bor Text)) → o ≡ None → xs ≡ [] →
     map (λ (v : Bor Text). v.now) xs ≡ unwrap_or (option_map (λ s. map (λ (v : Bor Text). v.now) s.now) o) []
 no_texts_or o xs is none = rw (is, none) refl
+
+-- a subcommand more
+module _ (old sub : Command) (a s : App) (one : IsCommand old a) (other : IsCommand sub s) where
+  pub with_one_more : (new : Command) → AddsSubcommand old sub new → IsCommand new (with_subcommand a s.top)
+  with_one_more new adds =
+      let shapes : app_of new ≡ with_subcommand a s.top =
+      adds.shape other.1 ∙ ap (λ (b : App). with_subcommand b (app_of sub).top) one.0 ∙ ap (λ (b : App). with_subcommand a b.top) other.0 in
+      let globals : (fields_of new).has_globals ≡ false = rw (one.1, other.1) at adds.globals in
+      (shapes, globals)
+
+  pub with_the_last : (r : Result Command AllocError) → IfOk r (λ new. AddsSubcommand old sub new) → IfOk r (λ new. IsCommand new (with_subcommand a s.top))
+  with_the_last (Ok new) adds = with_one_more new adds
+  with_the_last (Err e) adds = tt

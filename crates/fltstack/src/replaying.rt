@@ -1,6 +1,7 @@
 //! What `replay` says of the names that it is given.
 
-ghost use Rattle.std.specs.Prelude.{◌≡◌, IfOk, IfErr, MatchOption, map};
+ghost use Rattle.std.specs.Prelude.{◌≡◌, ◌==◌, IfOk, IfErr, MatchOption, map};
+ghost use Rattle.std.specs.List.{list_any};
 ghost use Rattle.flt_model.specs.JournalText.{IsJournal, spelling};
 ghost use Rattle.flt_model.specs.Program.{HasDistinctAltitudes};
 ghost use Rattle.flt_replay.specs.Judging.{filters_of};
@@ -66,13 +67,19 @@ fn parse_all<'a>(alloc: Global, texts: &[Vec<u8>]) -> Result<Vec<Tree>, Failure<
     Ok(trees)
 }
 
+/// Whether one of the filters has this altitude.
+fn has_altitude(trees: &[Tree], altitude: u64) -> bool
+    ensures { result ≡ list_any (λ tree. tree.filter.altitude == altitude) trees.now }
+{
+    trees.iter().any(|tree| tree.filter.altitude == altitude)
+}
+
 /// The first filter whose altitude an earlier one has, by its number.
 fn first_repeated(trees: &[Tree]) -> Option<usize>
     ensures { MatchOption result (HasDistinctAltitudes (filters_of trees.now)) (spec.IsRepeated (filters_of trees.now)) }
 {
     for (number, tree) in trees.iter().enumerate() {
-        let altitude = tree.filter.altitude;
-        if trees[..number].iter().any(|other| other.filter.altitude == altitude) {
+        if has_altitude(&trees[..number], tree.filter.altitude) {
             return Some(number);
         }
     }
