@@ -3,7 +3,7 @@ use Rattle.std.proofs.Common.{◌≡◌, ◌≢◌, ◌==◌, ℕ, zero, suc, �
 use Rattle.std.proofs.lemmas.List.{take-append-drop, drop_more, map-append, map_more, map_push, length-take-le, length-map, take_all}
 use Rattle.std.proofs.lemmas.List.Folds.{list_any-append}
 use Rattle.std.proofs.lemmas.List.Quantifiers.{all_pairs_push}
-use Rattle.std.proofs.lemmas.List.Sums.{sum_by_push}
+use Rattle.std.proofs.lemmas.List.Sums.{sum_by-cons, sum_by_push}
 use Rattle.std.proofs.lemmas.Slice.Zip.{all_zipped_more}
 use Rattle.std.specs.List.{list_any, AllZip}
 use Rattle.flt_model.specs.Program.{HasDistinctAltitudes}
@@ -142,7 +142,7 @@ earlier (t ∷ trees) altitude h = one (t.filter.altitude == altitude) refl h (e
 -- no filter with the altitude is among them
 apart : (trees : List Tree) (altitude : ℕ) → list_any (λ t. t.filter.altitude == altitude) trees ≡ false →
     (k : ℕ) (d : Filter) → k < length (filters_of trees) → (get_or (filters_of trees) k d).altitude ≢ altitude
-apart [] altitude h k d inside = absurd (omega arith)
+apart [] altitude h = λ k d inside. absurd (omega arith)
 apart (t ∷ trees) altitude h = one (t.filter.altitude == altitude) refl h (apart trees altitude)
   where
     one : (b : Bool) → t.filter.altitude == altitude ≡ b → (b || list_any (λ t. t.filter.altitude == altitude) trees) ≡ false →

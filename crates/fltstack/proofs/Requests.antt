@@ -17,7 +17,8 @@ use Rattle.clap.specs.declared.builder.range.ValueRange.{ValueRange}
 use Rattle.clap.specs.declared.error.Error.{Error}
 use Rattle.clap.specs.declared.parser.matches.ArgMatches.{ArgMatches}
 use Rattle.clap.specs.declared.parser.matches.ArgMatches.TheViews.{out-ArgMatches}
-use Rattle.fltstack.specs.Words.{IsCommand, asked_by, asked_words, is_memory, is_none, program_app}
+use Rattle.fltstack.specs.declared.words.Request.{Request}
+use Rattle.fltstack.specs.Words.{IsCommand, asked_by, asked_of, asked_words, is_memory, is_none, program_app}
 
 -- a name and the matches behind it
 module _ {A B C : Type 0} (f : A → B) (g : A → C) where
@@ -55,6 +56,13 @@ module _ (c : Command) (words : List Text) (is : IsCommand c program_app) where
       let none : fault_of program_app words ≡ [] = ap (λ a. fault_of a words) (sym is.0) ∙ kinds free in
       let same : subcommand_rows_of m ≡ subcommand_of program_app words = (matches plain).1 ∙ ap (λ a. subcommand_of a words) is.0 in
       rw (same, none) refl
+
+  -- the same of a request, unless memory ran out
+  pub all_taken : (m : ArgMatches) → HasMatchesOf (app_of c) words m → (is_simple_and_free (app_of c) ≡ true → fault_of (app_of c) words ≡ []) →
+      (result : Result Request AllocError) → IfOk result (λ r. asked_of r ≡ option_and_then asked_by (subcommand_rows_of m)) →
+      IfOk result (λ r. asked_of r ≡ asked_words words)
+  all_taken m matches kinds (Ok r) asks = asks ∙ taken m matches kinds
+  all_taken m matches kinds (Err e) asks = tt
 
   -- words that aren't taken ask for nothing
   pub not_taken : (e : Error) → (is_simple_and_free (app_of c) ≡ true → HasKind (fault_of (app_of c) words) e) → is_memory (kind_of e) ≡ false →

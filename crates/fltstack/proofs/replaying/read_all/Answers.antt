@@ -31,5 +31,5 @@ loop-name-preserved g c =
     record {
       given = given_more _ c.args.names.now c.loop-name.name-index name _ c.loop-name-test.true refl c.loop-name.texts.items _ c.in-Some.text
           c.loop-name.invariant.given (rw c.in-Some.is at c.in_ok-text.ensures) other c.in_ok-push-in-Some.ensures.items;
-      used = used_more _ c.args.names.now c.loop-name.name-index name _ c.loop-name-test.true refl _ _ c.loop-name.invariant.used used;
+      used = used_more (g.I.Inputs.gives c.args.inputs.now) c.args.names.now c.loop-name.name-index name _ c.loop-name-test.true refl _ _ c.loop-name.invariant.used used;
     }
