@@ -1,5 +1,5 @@
 -- What the matches of a command line ask for.
-use Rattle.std.proofs.Common.{◌≡◌, ◌⊎◌, inl, inr, List, [], ◌∷◌, true, false, Option, Some, None, Bor, Result, Ok, Err, IfOk, refl, sym, ◌∙◌, ap, option_map, option_and_then, unwrap_or, map}
+use Rattle.std.proofs.Common.{◌≡◌, inl, inr, List, [], ◌∷◌, true, false, Option, Some, None, Bor, Result, Ok, Err, IfOk, refl, sym, ◌∙◌, ap, option_map, option_and_then, unwrap_or, map}
 use Rattle.std.specs.Option.{IsSomeAnd}
 use Rattle.std.specs.declared.alloc.AllocError.{AllocError}
 use Rattle.clap.proofs.OnLiterals.{clap_on_literals}

@@ -1,5 +1,5 @@
 -- What `replay` says. This project's own program.
-use Rattle.std.specs.Prelude.{◌≡◌, ◌⊎◌, ℕ, ◌≤◌, ◌<◌, Bool, ◌&&◌, true, List, [], ◌∷◌, ◌++◌, codes, length, count_by, AllPairs, Option, Some, None, Result, Ok, Err, slice_get}
+use Rattle.std.specs.Prelude.{◌≡◌, ◌⊎◌, ℕ, ◌≤◌, ◌<◌, Bool, ◌&&◌, true, List, ◌∷◌, ◌++◌, codes, length, count_by, Some, None, Result, Ok, Err, slice_get}
 use Rattle.std.specs.List.{AllZip, list_any}
 use Rattle.std.specs.Str.{bytes_eq}
 use Rattle.flt_syntax.specs.Spelling.{Spells}

@@ -1,5 +1,5 @@
 -- What the words of a command line ask for, as `clap` takes them.
-use Rattle.std.specs.Prelude.{◌≡◌, ℕ, List, [], ◌∷◌, Bool, true, false, Option, Some, None, codes, if◌then◌else◌, unwrap_or, option_and_then, option_map, map}
+use Rattle.std.specs.Prelude.{◌≡◌, List, [], ◌∷◌, Bool, true, false, Option, Some, None, codes, if◌then◌else◌, unwrap_or, option_and_then, option_map, map}
 use Rattle.std.specs.Str.{bytes_eq}
 use Rattle.clap.specs.Faults.{fault_of}
 use Rattle.clap.specs.declared.builder.command.Command.{Command}

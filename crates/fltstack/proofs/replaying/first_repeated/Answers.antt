@@ -1,4 +1,4 @@
-use Rattle.std.proofs.Common.{◌≡◌, ◌∙◌, sym}
+use Rattle.std.proofs.Common.{◌∙◌, sym}
 use Rattle.fltstack.proofs.Firsts.{all_distinct, distinct_more, repeated}
 use Rattle.fltstack.proofs.replaying.first_repeated.Goals as goal
 

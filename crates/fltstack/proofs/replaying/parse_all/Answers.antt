@@ -1,4 +1,4 @@
-use Rattle.std.proofs.Common.{◌≡◌, Err, List, ℕ, ap, ◌∙◌}
+use Rattle.std.proofs.Common.{◌≡◌, Err}
 use Rattle.flt_syntax.specs.File.{filter_of}
 use Rattle.flt_syntax.specs.Spelling.{Spells}
 use Rattle.fltstack.proofs.Firsts.{first_fault, spelled_more}

@@ -1,4 +1,4 @@
-use Rattle.std.proofs.Common.{◌≡◌, [], inl, inr, rules, refl, get_or, take, map, Bor, true, false, ◌&&◌, ◌||◌}
+use Rattle.std.proofs.Common.{◌≡◌, [], inl, inr, refl, get_or, take, map, Bor, false, ◌&&◌, ◌||◌}
 use Rattle.std.specs.List.{list_any}
 use Rattle.fltstack.proofs.Firsts.{and_false, unreadable, given_more, used_more}
 use Rattle.fltstack.specs.Replaying.{Text, is_standard}

@@ -1,7 +1,7 @@
 use Rattle.std.proofs.Common.{◌≡◌, Err, List, ◌∷◌, ℕ, Bor, Vec, Global, map, take, drop, length, ◌-◌, refl, sym, ap, ◌∙◌, rules}
 use Rattle.std.proofs.lemmas.List.{take_rest}
 use Rattle.fltstack.proofs.Firsts.{parted}
-use Rattle.fltstack.specs.Replaying.{NamesFail, unread, given}
+use Rattle.fltstack.specs.Replaying.{unread, given}
 use Rattle.fltstack.specs.declared.failure.Failure.TheVariants.{OutOfMemory}
 use Rattle.fltstack.proofs.replaying.replay_files.Goals as goal
 

@@ -1,9 +1,8 @@
-use Rattle.std.proofs.Common.{◌≡◌, rules, codes, Bor, List, [], ℕ, Some, None, map, ◌∙◌, ap, refl, option_map, unwrap_or}
+use Rattle.std.proofs.Common.{◌≡◌, codes, Bor, List, [], ℕ, map, ◌∙◌, ap, refl, option_map, unwrap_or}
 use Rattle.clap.proofs.WalkLemmas.{first_value-rows, raw_values-rows}
 use Rattle.clap.specs.Walk.{rows_of, first_of, all_of}
 use Rattle.clap.specs.Matches.{found_of}
 use Rattle.fltstack.proofs.Requests.{text_or, texts_or, no_texts_or}
-use Rattle.fltstack.specs.Words as spec
 use Rattle.fltstack.proofs.words.asked_replay.Goals as goal
 use Rattle.fltstack.proofs.words.asked_replay.Goals.{in-Some+in_ok-files-in-Some, in-None}
 

@@ -1,7 +1,7 @@
 use Rattle.std.proofs.Common.{codes, true, rules}
 use Rattle.clap.specs.Simple.{App, new_app, with_subcommand}
 use Rattle.fltstack.proofs.Requests.{with_one_more, with_the_last}
-use Rattle.fltstack.specs.Words.{IsCommand, check_app, analyse_app, replay_app}
+use Rattle.fltstack.specs.Words.{IsCommand, check_app, analyse_app}
 use Rattle.fltstack.proofs.words.program.Goals as goal
 
 -- the program without its subcommands

@@ -1,7 +1,7 @@
-use Rattle.std.proofs.Common.{◌≡◌, true, codes, Some, ap, rules, arith}
+use Rattle.std.proofs.Common.{◌≡◌, true, codes, Some, arith}
 use Rattle.std.proofs.lemmas.Grind.{common_steps}
 use Rattle.clap.specs.Lexer.{usize_max}
-use Rattle.clap.specs.Walk.{Rule, rule_of}
+use Rattle.clap.specs.Walk.{rule_of}
 use Rattle.clap.specs.Simple.{new_rule}
 use Rattle.fltstack.proofs.Requests.{many}
 use Rattle.fltstack.proofs.words.replay_command.Goals as goal
