@@ -159,7 +159,7 @@ module _ (trees : List Tree) (i : ℕ) (tree d : Tree) (h : i < length trees) (a
   distinct_more distinct none =
       let more : filters_of (take (i + 1) trees) ≡ filters_of (take i trees) ++ tree.filter ∷ [] = one_more (λ t. t.filter) trees i tree d h at in
       rw more (all_pairs_push (λ (f g : Filter). f.altitude ≢ g.altitude) (filters_of (take i trees)) tree.filter distinct
-          (apart (take i trees) tree.filter.altitude none))
+      (apart (take i trees) tree.filter.altitude none))
 
   pub repeated : HasDistinctAltitudes (filters_of (take i trees)) → list_any (λ t. t.filter.altitude == tree.filter.altitude) (take i trees) ≡ true →
       IsRepeated (filters_of trees) i

@@ -20,13 +20,13 @@ loop-name-preserved g c =
     let name : Bor Text = get_or c.args.names.now c.loop-name.name-index (record { ref_ptr = (0, 0); now = [] }) in
     let other : is_standard name.now && list_any is_standard (map (λ (n : Bor Text). n.now) (take c.loop-name.name-index c.args.names.now)) ≡ false =
     elim c.else-is_used.branch [
-      else-is_used-via-then-is_used+else-is_standard w ↦ rw (← w.is_standard.ensures, w.if-is_standard.false) refl
-    | else-is_used-via-else-is_used w ↦ rw (← c.loop-name.invariant.used, w.if-is_used.false) (and_false _)
+      | else-is_used-via-then-is_used+else-is_standard w ↦ rw (← w.is_standard.ensures, w.if-is_standard.false) refl
+      | else-is_used-via-else-is_used w ↦ rw (← c.loop-name.invariant.used, w.if-is_used.false) (and_false _)
     ] in
     let used : c.if-is_used-2.is_used ≡ (c.loop-name.is_used || is_standard name.now) =
     elim c.if-is_used-2.branch [
-      then-is_used-2 w ↦ rw (w.is_used-is, w.if-is_used-2.true) refl
-    | else-is_used-2 w ↦ rw (w.is_used-is, w.if-is_used-2.false) w.is_standard-is_used.ensures
+      | then-is_used-2 w ↦ rw (w.is_used-is, w.if-is_used-2.true) refl
+      | else-is_used-2 w ↦ rw (w.is_used-is, w.if-is_used-2.false) w.is_standard-is_used.ensures
     ] in
     record {
       given = given_more _ c.args.names.now c.loop-name.name-index name _ c.loop-name-test.true refl c.loop-name.texts.items _ c.in-Some.text
