@@ -1,6 +1,5 @@
 -- What the commands put on the standard output, and their exit status. This project's own program.
 use Rattle.std.specs.Prelude.{◌≡◌, ◌≢◌, ◌⊎◌, ℕ, List, [], ◌∷◌, ◌++◌, Option, Some, None, Ok, Err}
-use Rattle.flt_check.specs.declared.checker.Refusal.{Refusal}
 use Rattle.flt_model.specs.declared.verdict.Verdict.{Verdict}
 use Rattle.fltstack.specs.Certify.{SaysOfText}
 use Rattle.fltstack.specs.Failures.{Giving}

@@ -1,4 +1,4 @@
-use Rattle.std.proofs.Common.{◌≡◌, ◌≢◌, sym, rules}
+use Rattle.std.proofs.Common.{◌≢◌, sym, rules}
 use Rattle.fltstack.proofs.Outputs.{failed_check, failed_analysis, failed_replay}
 use Rattle.fltstack.specs.declared.failure.Failure.TheVariants.{OutOfMemory}
 use Rattle.fltstack.proofs.command.command.Goals as goal
