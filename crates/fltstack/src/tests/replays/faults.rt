@@ -276,7 +276,7 @@ fn reads_the_standard_input(rt: HostRuntime) -> Result<(), Fail> {
     Ok(())
 }
 
-/// The bytes of a journal and the text are read before the writers are asked; each call to one of them may fail.
+/// Both writers fail at a call, counted from 0. One is called so often, if it takes a byte at a time, and the other isn't.
 fn fails_in_time(
     rt: &impl Abort,
     alloc: Global,

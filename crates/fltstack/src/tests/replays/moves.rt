@@ -38,7 +38,7 @@ const ARRIVE: [Replay; 10] = [
 ];
 
 /// Down at a filter that is attached and has the callback.
-const PRE: [Replay; 7] = [
+const PRE: [Replay; 8] = [
     ("arrive read irp 0\npre 0\n", "legal\n"),
     (
         "arrive read irp 0\narrive read fast 0\npre 1\npre 0\n",
@@ -47,6 +47,10 @@ const PRE: [Replay; 7] = [
     ("arrive read irp 0\npre 0\npre 0\n", "not a run at 2\n"),
     ("arrive write irp 0\npre 0\n", "not a run at 1\n"),
     ("arrive read irp 0\ndetach 100\npre 0\n", "not a run at 2\n"),
+    (
+        "detach 100\ndetached 100\narrive read irp 0\npre 0\n",
+        "not a run at 3\n",
+    ),
     ("arrive write irp 0\nskip 0\npre 0\n", "not a run at 2\n"),
     (
         "arrive write irp 0\nskip 0\nlower 0\npre 0\n",

@@ -315,9 +315,9 @@ fn tells_each_violation(rt: HostRuntime) -> Result<(), Fail> {
     are_broken(&rt, rt.alloc(), &NOT_IN_PLACE)
 }
 
-/// Steps that break two or more: V1 and V5, V1 and V8, V2 and V5, V2 and V7, V4 and V5, V4 and V7, V5 and V7, V5 to V8 but for
-/// V7, V6 and V7, V6 and V8.
-const SEVERAL: [Broken; 10] = [
+/// Steps that break two or more, in the order of the least: V1 and V5, V1 and V8, V1 and V2; V2 and V5, V2 and V7, V2 and V3,
+/// V2 and V4; V3 and V4; V4 and V5, V4 and V7; V5 and V7, V5 and V6 and V8; V6 and V7, V6 and V8; V7 and V8.
+const SEVERAL: [Broken; 15] = [
     (
         "filter a altitude 100\npre read {\nreturn WITH_CALLBACK context c0\n}\n",
         "arrive read irp 0\npre 0\ngo 0 1 yes\n",
@@ -329,6 +329,11 @@ const SEVERAL: [Broken; 10] = [
         "breaks V1 at 4\n",
     ),
     (
+        "filter a altitude 100\npre read {\nif FltAllocateContext c0 {\nreturn WITH_CALLBACK context c1\n}\nreturn NO_CALLBACK\n}\npost read {\nreturn FINISHED_PROCESSING\n}\n",
+        "arrive read irp 0\npre 0\ngo 0 1 yes\ngo 0 1 yes\n",
+        "breaks V1 at 3\n",
+    ),
+    (
         "filter a altitude 100\npre read {\nif FltAllocateContext c0 {\nreturn WITH_CALLBACK context c0\n}\nreturn NO_CALLBACK\n}\n",
         "arrive read irp 0\npre 0\ngo 0 1 yes\ngo 0 1 yes\n",
         "breaks V2 at 3\n",
@@ -337,6 +342,21 @@ const SEVERAL: [Broken; 10] = [
         "filter a altitude 100\nlock spin s\npre read {\nif FltAllocateContext c0 {\nKeAcquireSpinLock s\n}\nreturn NO_CALLBACK\n}\n",
         "arrive read irp 0\npre 0\ngo 0 1 yes\ngo 0 1 yes\ngo 0 1 yes\n",
         "breaks V2 at 4\n",
+    ),
+    (
+        "filter a altitude 100\npre read {\nif FltAllocateContext c0 {\n}\nif FltQueueDeferredIoWorkItem data r {\n}\nreturn NO_CALLBACK\n}\ndeferred_pre r {\nFltCompletePendedPreOperation data NO_CALLBACK\n}\n",
+        "arrive read irp 0\npre 0\ngo 0 1 yes\ngo 0 1 yes\nwork 0\ngo 1 1 yes\ngo 0 1 yes\n",
+        "breaks V2 at 6\n",
+    ),
+    (
+        "filter a altitude 100\npre read {\nif FltAllocateContext c0 {\n}\nreturn PENDING\n}\n",
+        "arrive read irp 0\npre 0\ngo 0 1 yes\ngo 0 1 yes\n",
+        "breaks V2 at 3\n",
+    ),
+    (
+        "filter a altitude 100\nqueue\npre read {\nif FltCbdqInsertIo data {\nreturn PENDING\n}\nreturn NO_CALLBACK\n}\npre write {\nif FltQueueDeferredIoWorkItem data r {\n}\nif FltCbdqRemoveNextIo o0 context c0 {\n}\nreturn NO_CALLBACK\n}\ndeferred_pre r {\nFltCompletePendedPreOperation data NO_CALLBACK\n}\ncanceled {\nFltCompletePendedPreOperation data COMPLETE STATUS_CANCELLED\n}\n",
+        "arrive read irp 0\npre 0\ngo 0 1 yes\ngo 0 1 yes\narrive write irp 0\npre 1\ngo 1 1 yes\nwork 0\ngo 2 1 yes\ngo 1 1 yes\ngo 1 1 yes\n",
+        "breaks V3 at 10\n",
     ),
     (
         "filter a altitude 100\npre read {\nreturn PENDING\n}\n",
@@ -367,6 +387,11 @@ const SEVERAL: [Broken; 10] = [
         "filter a altitude 100\nlock spin s\npre create {\nKeAcquireSpinLock s\nif FltGetStreamContext c0 {\n}\nKeReleaseSpinLock s\nreturn NO_CALLBACK\n}\n",
         "arrive create irp 0\npre 0\ngo 0 1 yes\ngo 0 1 yes\n",
         "breaks V6 at 3\n",
+    ),
+    (
+        "filter a altitude 100\nlock fast f\npre create {\nreturn WITH_CALLBACK\n}\npost create {\nExReleaseFastMutex f\nreturn FINISHED_PROCESSING\n}\n",
+        "arrive create irp 0\npre 0\ngo 0 1 yes\ndetach 100\ndrain 100 0\ngo 1 1 yes\n",
+        "breaks V7 at 5\n",
     ),
 ];
 
