@@ -1,3 +1,4 @@
+pub mod Counting
 pub mod LocalLaws
 pub mod Reading
 pub mod Remaining

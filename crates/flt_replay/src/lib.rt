@@ -6,6 +6,8 @@
 mod activation;
 mod callbacks;
 mod contexts;
+
+mod ledger;
 mod local;
 mod lock_list;
 mod parts;
