@@ -1,6 +1,6 @@
 //! How often each number was counted. Only what counts at least once is kept.
 
-ghost use Rattle.std.specs.Prelude.{◌≡◌, ◌+◌, ℕ, ◌<◌, min, OnOk, IfOk, ◌↔◌, IsTrue};
+ghost use Rattle.std.specs.Prelude.{◌≡◌, ◌+◌, ℕ, ◌<◌, [], min, OnOk, IfOk, ◌↔◌, IsTrue};
 ghost use Rattle.flt_model.specs.Trace.{one_if};
 ghost use Rattle.flt_replay.specs.Counts as spec;
 
@@ -28,7 +28,8 @@ impl Model for Counts {
 impl Counts {
     #[tactic(auto, unfolding(crate::specs::Counts::count))]
     pub(crate) fn new(alloc: Global) -> Counts
-        ensures { (n : ℕ) → spec.count result n ≡ 0 }
+        ensures none { result ≡ [] }
+        ensures no_count { (n : ℕ) → spec.count result n ≡ 0 }
     {
         Counts {
             map: BTreeMap::new(alloc),
