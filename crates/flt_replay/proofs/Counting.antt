@@ -16,6 +16,7 @@ use Rattle.std.specs.Ordering.{nat_cmp}
 use Rattle.std.specs.declared.cmp.Ordering.TheVariants.{Less}
 use Rattle.flt_model.specs.Trace.{one_if}
 use Rattle.flt_replay.specs.Counts.{count, occurs}
+use Rattle.flt_replay.proofs.Ones.{one_here, one_elsewhere}
 
 -- each count is at least one
 abbrev pub IsPositive : List (ℕ × ℕ) → Type 0
@@ -32,14 +33,6 @@ at_other k n h = grind (arith, nat_tests)
 
 at_later : (k n : ℕ) → k < n → is_at (nat_cmp k) n ≡ false
 at_later k n h = grind (arith, nat_tests)
-
-one_here : (n : ℕ) → one_if n n ≡ 1
-unfolding one_if
-one_here n = grind (arith, nat_tests)
-
-one_elsewhere : (k n : ℕ) → k ≢ n → one_if k n ≡ 0
-unfolding one_if
-one_elsewhere k n h = grind (arith, nat_tests)
 
 pub empty_from_length : (es : List (ℕ × ℕ)) → length es ≡ 0 → (n : ℕ) → count es n ≡ 0
 unfolding count

@@ -1,5 +1,8 @@
 pub mod Counting
+pub mod Holders
 pub mod LocalLaws
+pub mod Ones
 pub mod Reading
 pub mod Remaining
 pub mod Rows
+pub mod Tallies

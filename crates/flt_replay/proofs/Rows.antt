@@ -7,14 +7,7 @@ use Rattle.std.proofs.lemmas.Grind.{common_steps, get_or-set_at}
 use Rattle.std.proofs.lemmas.List.{get_or-set_other, get_or_past}
 use Rattle.flt_model.specs.Trace.{one_if, of_actor}
 use Rattle.flt_replay.specs.Counts.{count, count_of}
-
-actor_here : (a n : ℕ) → of_actor a a n ≡ n
-unfolding of_actor
-actor_here a n = grind (arith, nat_tests)
-
-actor_elsewhere : (a b n : ℕ) → a ≢ b → of_actor a b n ≡ 0
-unfolding of_actor
-actor_elsewhere a b n h = grind (arith, nat_tests)
+use Rattle.flt_replay.proofs.Ones.{actor_here, actor_elsewhere}
 
 here : (rows : List (List (ℕ × ℕ))) (a : ℕ) (counts : List (ℕ × ℕ)) → a < length rows → get_or (set rows a counts) a [] ≡ counts
 here rows a counts l = get_or-set_at rows a a counts [] refl l
