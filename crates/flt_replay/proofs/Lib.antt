@@ -1,8 +1,14 @@
+pub mod Apart
 pub mod Counting
+pub mod Frames
 pub mod Holders
+pub mod LocalFrames
 pub mod LocalLaws
+pub mod MoveCases
+pub mod MoveRules
 pub mod Ones
 pub mod Reading
 pub mod Remaining
 pub mod Rows
+pub mod RulesAfter
 pub mod Tallies

@@ -1,7 +1,6 @@
 -- What the ledger's counts say of a moment's world and trace.
-use Rattle.std.specs.Prelude.{◌≡◌, ◌<◌, ◌≤◌, ℕ, ◌+◌, min, Bool, true, false, not, ◌&&◌, ◌==◌, if◌then◌else◌, List, [], ◌∷◌, length, sum_by, map}
+use Rattle.std.specs.Prelude.{◌≡◌, ◌<◌, ◌≤◌, ℕ, ◌+◌, min, Bool, true, false, not, ◌&&◌, ◌||◌, ◌==◌, if◌then◌else◌, List, [], ◌∷◌, ◌++◌, length, sum_by, map}
 use Rattle.flt_model.specs.declared.event.Event.{Event}
-use Rattle.flt_model.specs.declared.event.Event.TheVariants.{Gain, Lose, Settle, End}
 use Rattle.flt_model.specs.declared.event.Object.{Object}
 use Rattle.flt_model.specs.declared.event.Object.TheVariants.{Context, Visit}
 use Rattle.flt_model.specs.Effects.{Step}
@@ -9,6 +8,7 @@ use Rattle.flt_model.specs.Runs.{Moment}
 use Rattle.flt_model.specs.Trace.{one_if, gains, loses, frees, settles}
 use Rattle.flt_model.specs.Violations.{in_queue, in_item, one_owner}
 use Rattle.flt_model.specs.World.{World, Store, Activation, activation_at, is_settled}
+use Rattle.flt_replay.specs.Apart.{is_apart, are_apart, ends_in}
 use Rattle.flt_replay.specs.Counts.{count, count_of, occurs}
 
 -- the counts: by activation, how often it holds each context and each visit; how often each context was freed and each visit
@@ -73,37 +73,24 @@ pub record Turned (v : ℕ) (old new : Tally) : Type 0 where
   pub counted : IsCounted old → IsCounted new
   pub kept : (u : ℕ) → one_if v u ≡ 0 → count new.holders u ≡ count old.holders u
 
+-- the counts have taken in an event after a trace, and what it names is listed
+pub record Noted (t : List Event) (e : Event) (old new : Tally) (was now : List ℕ) : Type 0 where
+  pub tells : Tells (t ++ e ∷ []) new
+  pub counted : IsCounted new
+  pub same_running : new.running ≡ old.running
+  pub changed : Changed old.holders new.holders was now
+  pub apart : (v : ℕ) → occurs v now ≡ 0 → is_apart v e ≡ true
+
 -- ---- what a step leaves as it was
-
--- how often an event changes who holds or has a visit
-abbrev pub names : ℕ → Event → ℕ
-names v (Gain a (Visit u)) = one_if u v
-names v (Lose a (Visit u)) = one_if u v
-names v (Settle u) = one_if u v
-names v _ = 0
-
--- the same of some events
-unfoldable pub named : ℕ → List Event → ℕ
-named v events = sum_by (names v) events
-
--- 1 where an event is the activation's end
-abbrev pub ends : ℕ → Event → ℕ
-ends a (End b) = one_if b a
-ends a _ = 0
-
--- how often it ends in some events
-unfoldable pub ended_in : ℕ → List Event → ℕ
-ended_in a events = sum_by (ends a) events
 
 -- how many entries and items have a visit
 abbrev pub waiting : Store → ℕ → ℕ
 waiting s v = sum_by (in_queue v) s.queues + sum_by (in_item v) s.items
 
--- what an activation or a visit is that no event of a step names
+-- an activation goes on unless an event is its end, and a visit that no event names is where it was
 pub record Leaves (w : World) (s : Step) : Type 0 where
   pub more : length w.activations ≤ length s.world.activations
-  pub ended_stay : (a : ℕ) → a < length w.activations → (activation_at w a).ended ≡ true → (activation_at s.world a).ended ≡ true
-  pub others_go_on : (a : ℕ) → a < length w.activations → (activation_at w a).ended ≡ false → ended_in a s.events ≡ 0 → (activation_at s.world a).ended ≡ false
-  pub no_new_visit : (v : ℕ) → named v s.events ≡ 0 → v < length s.world.store.visits → v < length w.store.visits
-  pub same_waiting : (v : ℕ) → named v s.events ≡ 0 → waiting s.world.store v ≡ waiting w.store v
-  pub same_settled : (v : ℕ) → named v s.events ≡ 0 → v < length w.store.visits → is_settled s.world.store v ≡ is_settled w.store v
+  pub flags : (a : ℕ) → a < length w.activations → (activation_at s.world a).ended ≡ (ends_in a s.events || (activation_at w a).ended)
+  pub no_new_visit : (v : ℕ) → are_apart v s.events ≡ true → v < length s.world.store.visits → v < length w.store.visits
+  pub same_waiting : (v : ℕ) → are_apart v s.events ≡ true → waiting s.world.store v ≡ waiting w.store v
+  pub same_settled : (v : ℕ) → are_apart v s.events ≡ true → v < length w.store.visits → is_settled s.world.store v ≡ is_settled w.store v

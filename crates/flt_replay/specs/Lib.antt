@@ -5,3 +5,4 @@ pub mod Ledger
 pub mod Parts
 pub mod Writes
 pub mod Judging
+pub mod Apart

@@ -5,6 +5,8 @@ ghost use Rattle.std.specs.Prelude.{◌≡◌, ◌+◌, ℕ, ◌<◌, true, fals
 ghost use Rattle.flt_model.specs.Runs.{Moment, start};
 ghost use Rattle.flt_model.specs.Trace.{is_held, one_if, of_actor};
 ghost use Rattle.flt_model.specs.declared.event.Event.{Event};
+ghost use Rattle.flt_model.specs.declared.event.Event.TheVariants.{Gain, Lose, Settle};
+ghost use Rattle.flt_model.specs.World.{World};
 ghost use Rattle.flt_model.specs.Violations as rules;
 ghost use Rattle.flt_replay.specs.Counts.{count, count_of, occurs};
 ghost use Rattle.flt_replay.specs.Ledger as spec;
@@ -161,5 +163,62 @@ impl Ledger {
             return;
         }
         self.holders.take(visit);
+    }
+
+    fn gain(
+        &mut self,
+        alloc: Global,
+        a: usize,
+        object: Object,
+        touched: &mut Vec<usize>,
+    ) -> Result<(), AllocError>
+        ensures { OnOk result ((t : List Event) (w : World) → spec.Tells t self.old → spec.IsCounted self.old → rules.is_fresh w t (Gain a object) ≡ true → spec.Noted t (Gain a object) self.old self.new touched.old.items touched.new.items) }
+    {
+        match object {
+            Object::Context(context) => self.contexts.add(alloc, a, context),
+            Object::Visit(visit) => {
+                touched.push(visit)?;
+                self.gain_visit(alloc, a, visit)
+            }
+        }
+    }
+
+    fn lose(&mut self, a: usize, object: Object, touched: &mut Vec<usize>) -> Result<(), AllocError>
+        ensures { OnOk result ((t : List Event) (w : World) → spec.Tells t self.old → spec.IsCounted self.old → rules.is_fresh w t (Lose a object) ≡ true → spec.Noted t (Lose a object) self.old self.new touched.old.items touched.new.items) }
+    {
+        match object {
+            Object::Context(context) => self.contexts.take(a, context),
+            Object::Visit(visit) => {
+                touched.push(visit)?;
+                self.lose_visit(a, visit);
+            }
+        }
+        Ok(())
+    }
+
+    /// Takes in that a visit was settled.
+    fn settle(&mut self, visit: usize, touched: &mut Vec<usize>) -> Result<(), AllocError>
+        ensures { OnOk result ((t : List Event) (w : World) → spec.Tells t self.old → spec.IsCounted self.old → rules.is_fresh w t (Settle visit) ≡ true → spec.Noted t (Settle visit) self.old self.new touched.old.items touched.new.items) }
+    {
+        touched.push(visit)?;
+        self.settled.add(visit)
+    }
+
+    /// Takes in an event that touches nothing stale, and lists the visit that it names.
+    fn note(
+        &mut self,
+        alloc: Global,
+        event: Event,
+        touched: &mut Vec<usize>,
+    ) -> Result<(), AllocError>
+        ensures { OnOk result ((t : List Event) (w : World) → spec.Tells t self.old → spec.IsCounted self.old → rules.is_fresh w t event ≡ true → spec.Noted t event self.old self.new touched.old.items touched.new.items) }
+    {
+        match event {
+            Event::Gain(a, object) => self.gain(alloc, a, object, touched),
+            Event::Lose(a, object) => self.lose(a, object, touched),
+            Event::Free(context) => self.freed.add(context),
+            Event::Settle(visit) => self.settle(visit, touched),
+            _ => Ok(()),
+        }
     }
 }
