@@ -6,6 +6,7 @@ pub mod LocalFrames
 pub mod LocalLaws
 pub mod MoveCases
 pub mod MoveRules
+pub mod Noting
 pub mod Ones
 pub mod Reading
 pub mod Remaining

@@ -5,8 +5,8 @@ ghost use Rattle.std.specs.Prelude.{◌≡◌, ◌+◌, ℕ, ◌<◌, true, fals
 ghost use Rattle.flt_model.specs.Runs.{Moment, start};
 ghost use Rattle.flt_model.specs.Trace.{is_held, one_if, of_actor};
 ghost use Rattle.flt_model.specs.declared.event.Event.{Event};
-ghost use Rattle.flt_model.specs.declared.event.Event.TheVariants.{Gain, Lose, Settle};
-ghost use Rattle.flt_model.specs.World.{World};
+ghost use Rattle.flt_model.specs.declared.event.Event.TheVariants.{Gain, Lose, Free, Settle};
+ghost use Rattle.flt_model.specs.World as machine;
 ghost use Rattle.flt_model.specs.Violations as rules;
 ghost use Rattle.flt_replay.specs.Counts.{count, count_of, occurs};
 ghost use Rattle.flt_replay.specs.Ledger as spec;
@@ -165,6 +165,7 @@ impl Ledger {
         self.holders.take(visit);
     }
 
+    /// Takes in that an activation gained an object, and lists the visit that it may be.
     fn gain(
         &mut self,
         alloc: Global,
@@ -172,52 +173,81 @@ impl Ledger {
         object: Object,
         touched: &mut Vec<usize>,
     ) -> Result<(), AllocError>
-        ensures { OnOk result ((t : List Event) (w : World) → spec.Tells t self.old → spec.IsCounted self.old → rules.is_fresh w t (Gain a object) ≡ true → spec.Noted t (Gain a object) self.old self.new touched.old.items touched.new.items) }
+        ensures { OnOk result ((t : List Event) → spec.Tells t self.old → spec.IsCounted self.old → spec.Noted t (Gain a object) self.old self.new touched.old.items touched.new.items) }
     {
         match object {
-            Object::Context(context) => self.contexts.add(alloc, a, context),
+            Object::Context(context) => {
+                self.contexts.add(alloc, a, context)?;
+                Ok(())
+            }
             Object::Visit(visit) => {
                 touched.push(visit)?;
-                self.gain_visit(alloc, a, visit)
+                self.gain_visit(alloc, a, visit)?;
+                Ok(())
             }
         }
     }
 
+    /// Takes in that an activation lost an object that it holds, and lists the visit that it may be.
     fn lose(&mut self, a: usize, object: Object, touched: &mut Vec<usize>) -> Result<(), AllocError>
-        ensures { OnOk result ((t : List Event) (w : World) → spec.Tells t self.old → spec.IsCounted self.old → rules.is_fresh w t (Lose a object) ≡ true → spec.Noted t (Lose a object) self.old self.new touched.old.items touched.new.items) }
+        ensures { OnOk result ((t : List Event) → spec.Tells t self.old → spec.IsCounted self.old → 0 < spec.held self.old a object → spec.Noted t (Lose a object) self.old self.new touched.old.items touched.new.items) }
     {
         match object {
-            Object::Context(context) => self.contexts.take(a, context),
+            Object::Context(context) => {
+                self.contexts.take(a, context);
+                Ok(())
+            }
             Object::Visit(visit) => {
                 touched.push(visit)?;
                 self.lose_visit(a, visit);
+                Ok(())
             }
         }
+    }
+
+    /// Takes in that a context was freed.
+    fn free(&mut self, context: usize) -> Result<(), AllocError>
+        ensures { OnOk result ((t : List Event) (was : List ℕ) → spec.Tells t self.old → spec.IsCounted self.old → spec.Noted t (Free context) self.old self.new was was) }
+    {
+        self.freed.add(context)?;
         Ok(())
     }
 
-    /// Takes in that a visit was settled.
+    /// Takes in that a visit was settled, and lists it.
     fn settle(&mut self, visit: usize, touched: &mut Vec<usize>) -> Result<(), AllocError>
-        ensures { OnOk result ((t : List Event) (w : World) → spec.Tells t self.old → spec.IsCounted self.old → rules.is_fresh w t (Settle visit) ≡ true → spec.Noted t (Settle visit) self.old self.new touched.old.items touched.new.items) }
+        ensures { OnOk result ((t : List Event) → spec.Tells t self.old → spec.IsCounted self.old → spec.Noted t (Settle visit) self.old self.new touched.old.items touched.new.items) }
     {
         touched.push(visit)?;
-        self.settled.add(visit)
+        self.settled.add(visit)?;
+        Ok(())
     }
 
-    /// Takes in an event that touches nothing stale, and lists the visit that it names.
+    /// Takes in an event that touches nothing stale, and lists the visit that it may name.
     fn note(
         &mut self,
         alloc: Global,
         event: Event,
         touched: &mut Vec<usize>,
     ) -> Result<(), AllocError>
-        ensures { OnOk result ((t : List Event) (w : World) → spec.Tells t self.old → spec.IsCounted self.old → rules.is_fresh w t event ≡ true → spec.Noted t event self.old self.new touched.old.items touched.new.items) }
+        ensures { OnOk result ((t : List Event) (w : machine.World) → spec.Tells t self.old → spec.IsCounted self.old → rules.is_fresh w t event ≡ true → spec.Noted t event self.old self.new touched.old.items touched.new.items) }
     {
         match event {
-            Event::Gain(a, object) => self.gain(alloc, a, object, touched),
-            Event::Lose(a, object) => self.lose(a, object, touched),
-            Event::Free(context) => self.freed.add(context),
-            Event::Settle(visit) => self.settle(visit, touched),
+            Event::Gain(a, object) => {
+                self.gain(alloc, a, object, touched)?;
+                Ok(())
+            }
+            Event::Lose(a, object) => {
+                self.lose(a, object, touched)?;
+                Ok(())
+            }
+            Event::Free(context) => {
+                self.free(context)?;
+                Ok(())
+            }
+            Event::Settle(visit) => {
+                self.settle(visit, touched)?;
+                Ok(())
+            }
             _ => Ok(()),
         }
     }
