@@ -2,6 +2,7 @@ pub mod Apart
 pub mod Counting
 pub mod Frames
 pub mod Holders
+pub mod Judging
 pub mod LocalFrames
 pub mod LocalLaws
 pub mod MoveCases

@@ -1,12 +1,14 @@
 -- What the ledger's counts say of a moment's world and trace.
-use Rattle.std.specs.Prelude.{◌≡◌, ◌<◌, ◌≤◌, ℕ, ◌+◌, min, Bool, true, false, not, ◌&&◌, ◌||◌, ◌==◌, if◌then◌else◌, List, [], ◌∷◌, ◌++◌, length, sum_by, map}
+use Rattle.std.specs.Prelude.{◌≡◌, ◌<◌, ◌≤◌, ℕ, ◌+◌, min, Bool, true, false, not, ◌&&◌, ◌||◌, ◌==◌, if◌then◌else◌, List, [], ◌∷◌, ◌++◌, length, sum_by, map, Option, Some, None}
 use Rattle.flt_model.specs.declared.event.Event.{Event}
 use Rattle.flt_model.specs.declared.event.Object.{Object}
 use Rattle.flt_model.specs.declared.event.Object.TheVariants.{Context, Visit}
+use Rattle.flt_model.specs.declared.verdict.Violation.{Violation}
+use Rattle.flt_model.specs.declared.verdict.Violation.TheVariants.{V1, V2, V3}
 use Rattle.flt_model.specs.Effects.{Step}
 use Rattle.flt_model.specs.Runs.{Moment}
 use Rattle.flt_model.specs.Trace.{one_if, gains, loses, frees, settles}
-use Rattle.flt_model.specs.Violations.{in_queue, in_item, one_owner}
+use Rattle.flt_model.specs.Violations.{in_queue, in_item, no_stale_use, no_leak, settled_once, one_owner}
 use Rattle.flt_model.specs.World.{World, Store, Activation, activation_at, is_settled}
 use Rattle.flt_replay.specs.Apart.{is_apart, are_apart, ends_in}
 use Rattle.flt_replay.specs.Counts.{count, count_of, occurs}
@@ -80,6 +82,22 @@ pub record Noted (t : List Event) (e : Event) (old new : Tally) (was now : List 
   pub same_running : new.running ≡ old.running
   pub changed : Changed old.holders new.holders was now
   pub apart : (v : ℕ) → occurs v now ≡ 0 → is_apart v e ≡ true
+
+-- the counts have taken in some events after a trace, of which none touches anything stale
+pub record Judged (w : World) (t es : List Event) (old new : Tally) (was now : List ℕ) (tight once : Bool) : Type 0 where
+  pub tells : Tells (t ++ es) new
+  pub counted : IsCounted new
+  pub same_running : new.running ≡ old.running
+  pub changed : Changed old.holders new.holders was now
+  pub apart : (v : ℕ) → occurs v now ≡ 0 → are_apart v es ≡ true
+  pub fresh : no_stale_use w t es ≡ true
+  pub tight_is : tight ≡ no_leak t es
+  pub once_is : once ≡ settled_once t es
+
+-- the least of the first three violations that some events break after a trace
+abbrev pub first_broken : World → List Event → List Event → Option Violation
+first_broken w t es =
+    if no_stale_use w t es then (if no_leak t es then (if settled_once t es then None else Some V3) else Some V2) else Some V1
 
 -- ---- what a step leaves as it was
 

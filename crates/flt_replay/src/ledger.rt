@@ -1,18 +1,19 @@
 //! What the events so far say, in running counts: who holds what, what is freed and what is settled. So it is told of an event
 //! whether it breaks something without a look at the events before it.
 
-ghost use Rattle.std.specs.Prelude.{◌≡◌, ◌+◌, ℕ, ◌<◌, true, false, List, [], ◌∷◌, ◌++◌, length, nat_lt, get_or, OnOk, IfOk, ◌↔◌, IsTrue};
+ghost use Rattle.std.specs.Prelude.{◌≡◌, ◌+◌, ℕ, ◌<◌, true, false, List, [], ◌∷◌, ◌++◌, length, nat_lt, ◌&&◌, if◌then◌else◌, Some, None, get_or, OnOk, IfOk, ◌↔◌, IsTrue};
 ghost use Rattle.flt_model.specs.Runs.{Moment, start};
 ghost use Rattle.flt_model.specs.Trace.{is_held, one_if, of_actor};
 ghost use Rattle.flt_model.specs.declared.event.Event.{Event};
 ghost use Rattle.flt_model.specs.declared.event.Event.TheVariants.{Gain, Lose, Free, Settle};
+ghost use Rattle.flt_model.specs.declared.verdict.Violation.TheVariants.{V1, V2, V3, V4};
 ghost use Rattle.flt_model.specs.World as machine;
 ghost use Rattle.flt_model.specs.Violations as rules;
 ghost use Rattle.flt_replay.specs.Counts.{count, count_of, occurs};
 ghost use Rattle.flt_replay.specs.Ledger as spec;
 
 use crate::world::World;
-use flt_model::{Event, Object};
+use flt_model::{Event, Object, Violation};
 use std::alloc::{AllocError, Global};
 use std::marker::Model;
 
@@ -44,6 +45,29 @@ impl Model for Ledger {
     ghost Value = { Tally };
 
     ghost view = { λ l. record { contexts = l.contexts; visits = l.visits; freed = l.freed; settled = l.settled; running = l.running.items; holders = l.holders } };
+}
+
+/// What the events of a step have kept so far.
+#[derive(Clone, Copy)]
+struct Kept {
+    /// No activation ended that still held a context.
+    tight: bool,
+    /// No visit was settled again.
+    once: bool,
+}
+
+impl Kept {
+    fn broken(self) -> Option<Violation>
+        ensures { result ≡ (if self.tight then (if self.once then None else Some V3) else Some V2) }
+    {
+        if !self.tight {
+            Some(Violation::V2)
+        } else if !self.once {
+            Some(Violation::V3)
+        } else {
+            None
+        }
+    }
 }
 
 /// Whether a context is the activation's own filter's.
@@ -250,5 +274,43 @@ impl Ledger {
             }
             _ => Ok(()),
         }
+    }
+
+    /// What an event keeps beside those before it.
+    fn also(&self, event: Event, before: Kept) -> Kept
+        ensures { (t : List Event) → spec.Tells t self.now → (result.tight ≡ (before.tight && rules.leaks_nothing t event)) × (result.once ≡ (before.once && rules.is_first_settling t event)) }
+    {
+        Kept {
+            tight: before.tight && self.leaks_nothing(event),
+            once: before.once && self.is_first_settling(event),
+        }
+    }
+
+    #[tactic(auto, using(crate::proofs::Judging::judged_all))]
+    /// Takes in events, up to one that touches something stale, and lists the visits that they name. The answer is the least of
+    /// the first three violations that they break.
+    fn take_events(
+        &mut self,
+        alloc: Global,
+        world: &World<'_>,
+        events: &[Event],
+        touched: &mut Vec<usize>,
+    ) -> Result<Option<Violation>, AllocError>
+        ensures first { IfOk result (λ found. (t : List Event) → spec.Tells t self.old → spec.IsCounted self.old → found ≡ spec.first_broken world.now t events.now) }
+        ensures taken { IfOk result (λ found. found ≡ None → (t : List Event) → spec.Tells t self.old → spec.IsCounted self.old → spec.Judged world.now t events.now self.old self.new touched.old.items touched.new.items true true) }
+    {
+        let mut kept = Kept {
+            tight: true,
+            once: true,
+        };
+        for event in events {
+            if !self.is_fresh(world, *event) {
+                return Ok(Some(Violation::V1));
+            }
+            let next = self.also(*event, kept);
+            self.note(alloc, *event, touched)?;
+            kept = next;
+        }
+        Ok(kept.broken())
     }
 }
