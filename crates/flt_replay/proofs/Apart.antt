@@ -1,18 +1,17 @@
 -- What events that leave a visit alone don't change: who holds it, and what the queues, the work items and the settled ones say of it.
-use Rattle.std.proofs.Common.{◌≡◌, ◌≢◌, ℕ, zero, suc, ◌+◌, Bool, true, false, true≢false, List, [], ◌∷◌, ◌++◌, Option, Some, None, length, ap, sym, subst, refl, ◌∙◌, arith}
+use Rattle.std.proofs.Common.{◌≡◌, ◌≢◌, ℕ, zero, suc, Bool, true, false, true≢false, List, [], ◌∷◌, ◌++◌, ap, sym, refl, ◌∙◌, arith}
 use Rattle.std.proofs.Math.ListN.{set, get_or}
 use Rattle.std.proofs.lemmas.Bool.{eq-eqb, and_parts}
-use Rattle.std.proofs.lemmas.List.{get_or-set_other}
 use Rattle.std.proofs.lemmas.List.Sums.{sum_by-append, sum_by-cons}
 use Rattle.std.specs.List.{list_all}
-use Rattle.std.specs.Prelude.{not, ◌&&◌, ◌==◌, nat_lt, if◌then◌else◌, sum_by}
+use Rattle.std.specs.Prelude.{not, ◌==◌, if◌then◌else◌, sum_by}
 use Rattle.flt_model.specs.declared.event.Event.{Event}
 use Rattle.flt_model.specs.declared.event.Event.TheVariants as event
 use Rattle.flt_model.specs.declared.event.Object.{Object}
 use Rattle.flt_model.specs.declared.event.Object.TheVariants.{Context, Visit}
 use Rattle.flt_model.specs.Trace.{one_if, of_actor, same_object, gain, lose, gains, loses, is_held}
 use Rattle.flt_model.specs.Violations.{in_queue, in_item}
-use Rattle.flt_model.specs.World.{Store, Entry, Item, is_settled}
+use Rattle.flt_model.specs.World.{Store, Entry, is_settled}
 use Rattle.flt_replay.specs.Apart.{is_apart, is_anothers}
 
 -- ---- counts

@@ -1,6 +1,7 @@
 pub mod Apart
 pub mod Counting
 pub mod Frames
+pub mod Handing
 pub mod Holders
 pub mod Judging
 pub mod LocalFrames
@@ -9,8 +10,11 @@ pub mod MoveCases
 pub mod MoveRules
 pub mod Noting
 pub mod Ones
+pub mod Onward
+pub mod Owners
 pub mod Reading
 pub mod Remaining
 pub mod Rows
 pub mod RulesAfter
 pub mod Tallies
+pub mod Visits

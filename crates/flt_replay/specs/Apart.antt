@@ -3,7 +3,7 @@ use Rattle.std.specs.Prelude.{ℕ, Bool, true, false, not, ◌==◌, List}
 use Rattle.std.specs.List.{list_all, list_any}
 use Rattle.flt_model.specs.declared.event.Event.{Event}
 use Rattle.flt_model.specs.declared.event.Event.TheVariants.{Gain, Lose, Settle, End}
-use Rattle.flt_model.specs.declared.event.Object.TheVariants.{Context, Visit}
+use Rattle.flt_model.specs.declared.event.Object.TheVariants.{Visit}
 
 -- the visit isn't gained, lost or settled
 abbrev pub is_apart : ℕ → Event → Bool
