@@ -118,36 +118,32 @@ when_false b n e = ap (λ x. one_when x n) e
 module _ (c : Tally) (a v : ℕ) (rows : List (List (ℕ × ℕ))) where
   pub gained_first : (holders : List (ℕ × ℕ)) → ((b m : ℕ) → count_of rows b m ≡ count_of c.visits b m + of_actor a b (one_if v m)) →
       is_without (get_or c.running a false) (count_of c.visits a v) ≡ true → ((m : ℕ) → count holders m ≡ count c.holders m + one_if v m) →
-      Turned v c (record c { visits = rows; holders = holders })
+      Turned c (record c { visits = rows; holders = holders })
   gained_first holders one first h = record {
     only = refl;
     counted = λ k. record { by_visit = λ m. omega (arith, h m, k.by_visit m, holders_more c.running a v c.visits rows one m, when_true (is_without (get_or c.running a false) (count_of c.visits a v)) (one_if v m) first) };
-    kept = λ u e. omega (arith, h u);
   }
 
   pub gained_again : ((b m : ℕ) → count_of rows b m ≡ count_of c.visits b m + of_actor a b (one_if v m)) →
-      is_without (get_or c.running a false) (count_of c.visits a v) ≡ false → Turned v c (record c { visits = rows })
+      is_without (get_or c.running a false) (count_of c.visits a v) ≡ false → Turned c (record c { visits = rows })
   gained_again one again = record {
     only = refl;
     counted = λ k. record { by_visit = λ m. omega (arith, k.by_visit m, holders_more c.running a v c.visits rows one m, when_false (is_without (get_or c.running a false) (count_of c.visits a v)) (one_if v m) again) };
-    kept = λ u e. refl;
   }
 
   pub lost_last : (holders : List (ℕ × ℕ)) → ((b m : ℕ) → count_of c.visits b m ≡ count_of rows b m + of_actor a b (one_if v m)) →
       is_without (get_or c.running a false) (count_of rows a v) ≡ true → ((m : ℕ) → count c.holders m ≡ count holders m + one_if v m) →
-      Turned v c (record c { visits = rows; holders = holders })
+      Turned c (record c { visits = rows; holders = holders })
   lost_last holders one last h = record {
     only = refl;
     counted = λ k. record { by_visit = λ m. omega (arith, h m, k.by_visit m, holders_more c.running a v rows c.visits one m, when_true (is_without (get_or c.running a false) (count_of rows a v)) (one_if v m) last) };
-    kept = λ u e. omega (arith, h u);
   }
 
   pub lost_one : ((b m : ℕ) → count_of c.visits b m ≡ count_of rows b m + of_actor a b (one_if v m)) →
-      is_without (get_or c.running a false) (count_of rows a v) ≡ false → Turned v c (record c { visits = rows })
+      is_without (get_or c.running a false) (count_of rows a v) ≡ false → Turned c (record c { visits = rows })
   lost_one one again = record {
     only = refl;
     counted = λ k. record { by_visit = λ m. omega (arith, k.by_visit m, holders_more c.running a v rows c.visits one m, when_false (is_without (get_or c.running a false) (count_of rows a v)) (one_if v m) again) };
-    kept = λ u e. refl;
   }
 
 -- what one holds that goes on has a holder

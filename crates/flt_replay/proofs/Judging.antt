@@ -15,7 +15,7 @@ use Rattle.flt_model.specs.Violations.{along, is_fresh, leaks_nothing, is_first_
 use Rattle.flt_model.specs.World.{World}
 use Rattle.flt_replay.specs.Apart.{is_apart, are_apart}
 use Rattle.flt_replay.specs.Counts.{count, occurs}
-use Rattle.flt_replay.specs.Ledger.{Tally, Tells, IsCounted, Changed, Noted, Judged, first_broken}
+use Rattle.flt_replay.specs.Ledger.{Tally, Tells, IsCounted, Noted, Judged, first_broken}
 
 module _ (test : List Event → Event → Bool) where
   along-append : (t xs ys : List Event) → along test t (xs ++ ys) ≡ (along test t xs && along test (t ++ xs) ys)
@@ -41,7 +41,7 @@ module _ (w : World) (t : List Event) (old : Tally) (was : List ℕ) where
     tells = subst (λ (s : List Event). Tells s old) (sym (append-nil t)) k;
     counted = counted;
     same_running = refl;
-    changed = record { kept = λ v z. refl; before = λ v z. z };
+    listed = λ v z. z;
     apart = λ v z. refl;
     fresh = refl;
     tight_is = refl;
@@ -56,11 +56,8 @@ module _ (w : World) (t : List Event) (old : Tally) (was : List ℕ) where
     tells = subst (λ (s : List Event). Tells s new) (append_assoc t es (e ∷ [])) n.tells;
     counted = n.counted;
     same_running = n.same_running ∙ j.same_running;
-    changed = record {
-      kept = λ v z. n.changed.kept v z ∙ j.changed.kept v (n.changed.before v z);
-      before = λ v z. j.changed.before v (n.changed.before v z);
-    };
-    apart = λ v z. list_all-append (is_apart v) es (e ∷ []) ∙ and_from (are_apart v es) (is_apart v e && true) (j.apart v (n.changed.before v z)) (and_from (is_apart v e) true (n.apart v z) refl);
+    listed = λ v z. j.listed v (n.listed v z);
+    apart = λ v z. list_all-append (is_apart v) es (e ∷ []) ∙ and_from (are_apart v es) (is_apart v e && true) (j.apart v (n.listed v z)) (and_from (is_apart v e) true (n.apart v z) refl);
     fresh = along_push (is_fresh w) t es e ∙ and_from (no_stale_use w t es) (is_fresh w (t ++ es) e) j.fresh fresh;
     tight_is = ap (λ b. b && leaks_nothing (t ++ es) e) j.tight_is ∙ sym (along_push leaks_nothing t es e);
     once_is = ap (λ b. b && is_first_settling (t ++ es) e) j.once_is ∙ sym (along_push is_first_settling t es e);

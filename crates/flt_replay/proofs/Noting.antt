@@ -15,7 +15,7 @@ use Rattle.flt_replay.proofs.Ones.{actor_none}
 use Rattle.flt_replay.proofs.Tallies.{held_is}
 use Rattle.flt_replay.specs.Apart.{is_apart}
 use Rattle.flt_replay.specs.Counts.{count, count_of, occurs}
-use Rattle.flt_replay.specs.Ledger.{Tally, Tells, IsCounted, Turned, Changed, Noted, held}
+use Rattle.flt_replay.specs.Ledger.{Tally, Tells, IsCounted, Turned, Noted, held}
 
 module _ (t : List Event) (e : Event) where
   gains_push : (a : ℕ) (o : Object) → gains (t ++ e ∷ []) a o ≡ gains t a o + gain a o e
@@ -44,9 +44,6 @@ module _ (t : List Event) (e : Event) where
     settles_are = λ v. omega (arith, settles_push v, k.settles_are v, s v);
   }
 
-unchanged : (holders : List (ℕ × ℕ)) (was : List ℕ) → Changed holders holders was was
-unchanged holders was = record { kept = λ v e. refl; before = λ v e. e }
-
 apart_from_one : (u v : ℕ) → one_if u v ≡ 0 → not (u == v) ≡ true
 unfolding one_if
 apart_from_one u v h = grind (arith, nat_tests)
@@ -64,7 +61,7 @@ module _ (c : Tally) (a : ℕ) where
   held_lost_context x rows h b (Context n) = omega (arith, h b n)
   held_lost_context x rows h b (Visit u) = omega (arith, actor_none a b)
 
-  module _ (v : ℕ) (new : Tally) (turned : Turned v c new) where
+  module _ (v : ℕ) (new : Tally) (turned : Turned c new) where
     contexts_same : (b n : ℕ) → count_of new.contexts b n ≡ count_of c.contexts b n
     contexts_same b n = ap (λ (d : Tally). count_of d.contexts b n) turned.only
 
@@ -99,7 +96,7 @@ module _ (t : List Event) (c : Tally) (was : List ℕ) (k : Tells t c) (counted 
     tells = told t (event.Gain a (Context x)) c (record c { contexts = rows }) (held_gained_context c a x rows h) (λ y. omega arith) (λ v. omega arith) k;
     counted = record { by_visit = counted.by_visit };
     same_running = refl;
-    changed = unchanged c.holders was;
+    listed = λ v z. z;
     apart = λ v z. refl;
   }
 
@@ -109,7 +106,7 @@ module _ (t : List Event) (c : Tally) (was : List ℕ) (k : Tells t c) (counted 
     tells = told t (event.Lose a (Context x)) c (record c { contexts = rows }) (held_lost_context c a x rows h) (λ y. omega arith) (λ v. omega arith) k;
     counted = record { by_visit = counted.by_visit };
     same_running = refl;
-    changed = unchanged c.holders was;
+    listed = λ v z. z;
     apart = λ v z. refl;
   }
 
@@ -119,7 +116,7 @@ module _ (t : List Event) (c : Tally) (was : List ℕ) (k : Tells t c) (counted 
     tells = told t (event.Free x) c (record c { freed = counts }) (held_freed c counts x) h (λ v. omega arith) k;
     counted = record { by_visit = counted.by_visit };
     same_running = refl;
-    changed = unchanged c.holders was;
+    listed = λ v z. z;
     apart = λ v z. refl;
   }
 
@@ -130,7 +127,7 @@ module _ (t : List Event) (c : Tally) (was : List ℕ) (k : Tells t c) (counted 
     tells = told t e c c (λ a o. omega (arith, h a o)) (λ x. omega (arith, f x)) (λ v. omega (arith, s v)) k;
     counted = counted;
     same_running = refl;
-    changed = unchanged c.holders was;
+    listed = λ v z. z;
     apart = λ v z. apart v;
   }
 
@@ -149,15 +146,15 @@ module _ (t : List Event) (c : Tally) (was : List ℕ) (k : Tells t c) (counted 
   noted_other (event.End a) g l f s = quiet (event.End a) (λ b o. refl) (λ x. refl) (λ v. refl) (λ v. refl)
 
   -- one visit more is listed
-  module _ (v : ℕ) (now : List ℕ) (listed : now ≡ was ++ v ∷ []) where
+  module _ (v : ℕ) (now : List ℕ) (pushed : now ≡ was ++ v ∷ []) where
     listed_more : (u : ℕ) → occurs u now ≡ occurs u was + one_if v u
-    listed_more u = ap (occurs u) listed ∙ sum_by_push (λ (n : ℕ). one_if n u) was v
+    listed_more u = ap (occurs u) pushed ∙ sum_by_push (λ (n : ℕ). one_if n u) was v
 
     not_listed : (u : ℕ) → occurs u now ≡ 0 → one_if v u ≡ 0
     not_listed u z = omega (arith, listed_more u)
 
-    changed_one : (holders : List (ℕ × ℕ)) → ((u : ℕ) → one_if v u ≡ 0 → count holders u ≡ count c.holders u) → Changed c.holders holders was now
-    changed_one holders h = record { kept = λ u z. h u (not_listed u z); before = λ u z. omega (arith, listed_more u) }
+    keeps : (u : ℕ) → occurs u now ≡ 0 → occurs u was ≡ 0
+    keeps u z = omega (arith, listed_more u)
 
     pub settled_visit : (counts : List (ℕ × ℕ)) → ((n : ℕ) → count counts n ≡ count c.settled n + one_if v n) →
         Noted t (event.Settle v) c (record c { settled = counts }) was now
@@ -165,11 +162,11 @@ module _ (t : List Event) (c : Tally) (was : List ℕ) (k : Tells t c) (counted 
       tells = told t (event.Settle v) c (record c { settled = counts }) (held_settled c counts v) (λ y. omega arith) h k;
       counted = record { by_visit = counted.by_visit };
       same_running = refl;
-      changed = changed_one c.holders (λ u z. refl);
+      listed = keeps;
       apart = λ u z. apart_from_one v u (not_listed u z);
     }
 
-    module _ (a : ℕ) (new : Tally) (turned : Turned v c new) where
+    module _ (a : ℕ) (new : Tally) (turned : Turned c new) where
       same_freed : (x : ℕ) → count new.freed x ≡ count c.freed x
       same_freed x = ap (λ (d : Tally). count d.freed x) turned.only
 
@@ -182,7 +179,7 @@ module _ (t : List Event) (c : Tally) (was : List ℕ) (k : Tells t c) (counted 
         tells = told t (event.Gain a (Visit v)) c new (held_gained_visit c a v new turned h) (λ y. omega (arith, same_freed y)) (λ u. omega (arith, same_settled u)) k;
         counted = turned.counted counted;
         same_running = ap (λ (d : Tally). d.running) turned.only;
-        changed = changed_one new.holders turned.kept;
+        listed = keeps;
         apart = λ u z. apart_from_one v u (not_listed u z);
       }
 
@@ -192,6 +189,6 @@ module _ (t : List Event) (c : Tally) (was : List ℕ) (k : Tells t c) (counted 
         tells = told t (event.Lose a (Visit v)) c new (held_lost_visit c a v new turned h) (λ y. omega (arith, same_freed y)) (λ u. omega (arith, same_settled u)) k;
         counted = turned.counted counted;
         same_running = ap (λ (d : Tally). d.running) turned.only;
-        changed = changed_one new.holders turned.kept;
+        listed = keeps;
         apart = λ u z. apart_from_one v u (not_listed u z);
       }

@@ -1,5 +1,5 @@
 -- What the ledger's counts say of a moment's world and trace.
-use Rattle.std.specs.Prelude.{◌≡◌, ◌<◌, ◌≤◌, ℕ, ◌+◌, min, Bool, true, false, not, ◌&&◌, ◌||◌, ◌==◌, if◌then◌else◌, List, [], ◌∷◌, ◌++◌, length, sum_by, map, Option, Some, None}
+use Rattle.std.specs.Prelude.{◌≡◌, ◌<◌, ◌≤◌, ℕ, ◌+◌, min, Bool, true, false, not, ◌&&◌, ◌||◌, ◌==◌, if◌then◌else◌, List, [], ◌∷◌, ◌++◌, length, sum_by, map, set, Option, Some, None}
 use Rattle.flt_model.specs.declared.event.Event.{Event}
 use Rattle.flt_model.specs.declared.event.Object.{Object}
 use Rattle.flt_model.specs.declared.event.Object.TheVariants.{Context, Visit}
@@ -64,31 +64,41 @@ pub record Agrees (m : Moment) (c : Tally) : Type 0 where
 
 -- ---- changes of the counts
 
--- only the holders of visits that are listed have changed, and what was listed is listed still
-pub record Changed (old new : List (ℕ × ℕ)) (was now : List ℕ) : Type 0 where
-  pub kept : (v : ℕ) → occurs v now ≡ 0 → count new v ≡ count old v
-  pub before : (v : ℕ) → occurs v now ≡ 0 → occurs v was ≡ 0
+-- what was listed is listed still
+abbrev pub Keeps : List ℕ → List ℕ → Type 0
+Keeps was now = (v : ℕ) → occurs v now ≡ 0 → occurs v was ≡ 0
 
--- one of the numbers that an activation holds a visit by has changed, and the holders with it
-pub record Turned (v : ℕ) (old new : Tally) : Type 0 where
+-- what the activations hold of visits has changed, and the holders with it
+pub record Turned (old new : Tally) : Type 0 where
   pub only : new ≡ record old { visits = new.visits; holders = new.holders }
   pub counted : IsCounted old → IsCounted new
-  pub kept : (u : ℕ) → one_if v u ≡ 0 → count new.holders u ≡ count old.holders u
 
 -- the counts have taken in an event after a trace, and what it names is listed
 pub record Noted (t : List Event) (e : Event) (old new : Tally) (was now : List ℕ) : Type 0 where
   pub tells : Tells (t ++ e ∷ []) new
   pub counted : IsCounted new
   pub same_running : new.running ≡ old.running
-  pub changed : Changed old.holders new.holders was now
+  pub listed : Keeps was now
   pub apart : (v : ℕ) → occurs v now ≡ 0 → is_apart v e ≡ true
+
+-- an activation goes on no more, and the visits that it holds are listed
+pub record Stopped (a : ℕ) (old new : Tally) (was now : List ℕ) : Type 0 where
+  pub only : new ≡ record old { running = set old.running a false; holders = new.holders }
+  pub counted : IsCounted old → IsCounted new
+  pub listed : Keeps was now
+  pub released : (v : ℕ) → occurs v now ≡ 0 → count_of old.visits a v ≡ 0
+
+-- one activation more is there
+pub record Started (on : Bool) (old new : Tally) : Type 0 where
+  pub only : new ≡ record old { running = old.running ++ on ∷ []; holders = new.holders }
+  pub counted : IsCounted old → IsCounted new
 
 -- the counts have taken in some events after a trace, of which none touches anything stale
 pub record Judged (w : World) (t es : List Event) (old new : Tally) (was now : List ℕ) (tight once : Bool) : Type 0 where
   pub tells : Tells (t ++ es) new
   pub counted : IsCounted new
   pub same_running : new.running ≡ old.running
-  pub changed : Changed old.holders new.holders was now
+  pub listed : Keeps was now
   pub apart : (v : ℕ) → occurs v now ≡ 0 → are_apart v es ≡ true
   pub fresh : no_stale_use w t es ≡ true
   pub tight_is : tight ≡ no_leak t es

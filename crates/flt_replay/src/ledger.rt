@@ -165,7 +165,7 @@ impl Ledger {
     #[tactic(auto, using(crate::proofs::Holders::gained_first, crate::proofs::Holders::gained_again))]
     fn gain_visit(&mut self, alloc: Global, a: usize, visit: usize) -> Result<(), AllocError>
         ensures visits { OnOk result ((b v : ℕ) → count_of self.new.visits b v ≡ count_of self.old.visits b v + of_actor a b (one_if visit v)) }
-        ensures turned { OnOk result (spec.Turned visit self.old self.new) }
+        ensures turned { OnOk result (spec.Turned self.old self.new) }
     {
         let first = self.is_without(a, visit);
         self.visits.add(alloc, a, visit)?;
@@ -180,7 +180,7 @@ impl Ledger {
     #[tactic(auto, using(crate::proofs::Holders::lost_last, crate::proofs::Holders::lost_one, crate::proofs::Holders::some_holder))]
     fn lose_visit(&mut self, a: usize, visit: usize)
         ensures visits { 0 < count_of self.old.visits a visit → (b v : ℕ) → count_of self.old.visits b v ≡ count_of self.new.visits b v + of_actor a b (one_if visit v) }
-        ensures turned { 0 < count_of self.old.visits a visit → spec.IsCounted self.old → spec.Turned visit self.old self.new }
+        ensures turned { 0 < count_of self.old.visits a visit → spec.IsCounted self.old → spec.Turned self.old self.new }
     {
         self.visits.take(a, visit);
         if !self.is_without(a, visit) {
