@@ -1,11 +1,14 @@
 -- How many of the activations that go on hold a visit, after one of them gains or loses it.
 use Rattle.std.proofs.Common.{◌≡◌, ◌≢◌, ◌⊎◌, ⊎_elim, subst, ℕ, zero, suc, ◌+◌, ◌<◌, ◌≤◌, min, Bool, true, false, List, [], ◌∷◌, ◌++◌, ap, sym, refl, ◌∙◌, arith, length, get_or}
 use Rattle.std.proofs.lemmas.Bool.{cases_eq, ne_eqb, eq-eqb, and_parts}
+use Rattle.std.proofs.lemmas.List.{set-get_or}
+use Rattle.std.proofs.lemmas.List.Sums.{sum_by-append}
+use Rattle.std.proofs.Math.ListN.{set}
 use Rattle.std.specs.Prelude.{◌==◌, ◌&&◌, nat_lt, if◌then◌else◌}
 use Rattle.flt_model.specs.Trace.{one_if, of_actor}
 use Rattle.flt_replay.proofs.Ones.{one_here, one_elsewhere, actor_here, actor_elsewhere}
-use Rattle.flt_replay.specs.Counts.{count, count_of}
-use Rattle.flt_replay.specs.Ledger.{Tally, IsCounted, Turned, is_without, share, running_with}
+use Rattle.flt_replay.specs.Counts.{count, count_of, occurs}
+use Rattle.flt_replay.specs.Ledger.{Tally, IsCounted, Turned, Stopped, Started, is_without, share, running_with}
 
 -- ---- a count of one activation changes
 
@@ -154,3 +157,88 @@ some_holder c a v k on some =
     let at : share (get_or c.running a false) (count_of c.visits (0 + a) v) ≤ running_with c.running (λ b. count_of c.visits b v) 0 = some_share c.running (λ b. count_of c.visits b v) 0 a in
     let same : share (get_or c.running a false) (count_of c.visits (0 + a) v) ≡ share (get_or c.running a false) (count_of c.visits a v) = ap (λ n. share (get_or c.running a false) (count_of c.visits n v)) (omega arith) in
     omega (arith, k.by_visit v)
+
+-- ---- an activation that goes on no more, and one more that is there
+
+running_off : (ons : List Bool) (f : ℕ → ℕ) (a k i : ℕ) → a ≡ k + i → running_with (set ons i false) f k + share (get_or ons i false) (f a) ≡ running_with ons f k
+unfolding running_with
+running_off [] f a k i e = omega (arith, share_off (f a))
+running_off (on ∷ ons) f a k zero e =
+    let here : share on (f a) ≡ share on (f k) = ap (λ n. share on (f n)) (omega arith) in
+    omega (arith, share_off (f k))
+running_off (on ∷ ons) f a k (suc i) e = omega (arith, running_off ons f a (k + 1) i (omega arith))
+
+running_push : (ons : List Bool) (on : Bool) (f : ℕ → ℕ) (a k : ℕ) → a ≡ k + length ons → running_with (ons ++ on ∷ []) f k ≡ running_with ons f k + share on (f a)
+unfolding running_with
+running_push [] on f a k e =
+    let here : share on (f a) ≡ share on (f k) = ap (λ n. share on (f n)) (omega arith) in
+    omega arith
+running_push (o ∷ ons) on f a k e = omega (arith, running_push ons on f a (k + 1) (omega arith))
+
+share_on : (goes : Bool) (n : ℕ) → goes ≡ true → share goes n ≡ min 1 n
+unfolding share
+share_on goes n e = ap (λ b. share b n) e
+
+share_none : (goes : Bool) (n : ℕ) → goes ≡ false → share goes n ≡ 0
+share_none goes n e = ap (λ b. share b n) e ∙ share_off n
+
+module _ (c : Tally) (a : ℕ) (visits was now : List ℕ) (all : (v : ℕ) → occurs v visits ≡ min 1 (count_of c.visits a v)) (listed : now ≡ was ++ visits) where
+  listed_both : (v : ℕ) → occurs v now ≡ occurs v was + occurs v visits
+  listed_both v = ap (occurs v) listed ∙ sum_by-append (λ (n : ℕ). one_if n v) was visits
+
+  listed_keeps : (v : ℕ) → occurs v now ≡ 0 → occurs v was ≡ 0
+  listed_keeps v z = omega (arith, listed_both v)
+
+  listed_none : (v : ℕ) → occurs v now ≡ 0 → count_of c.visits a v ≡ 0
+  listed_none v z = omega (arith, listed_both v, all v)
+
+  -- it went on, so that each visit that it holds has a holder
+  pub stop_fits : IsCounted c → get_or c.running a false ≡ true → (v : ℕ) → occurs v visits ≤ count c.holders v
+  stop_fits k on v =
+      let off = running_off c.running (λ b. count_of c.visits b v) a 0 a (omega arith) in
+      let one = share_on (get_or c.running a false) (count_of c.visits a v) on in
+      omega (arith, off, one, all v, k.by_visit v)
+
+  pub stopped_on : (holders : List (ℕ × ℕ)) → get_or c.running a false ≡ true →
+      (((v : ℕ) → occurs v visits ≤ count c.holders v) → (v : ℕ) → count c.holders v ≡ count holders v + occurs v visits) →
+      Stopped a c (record c { running = set c.running a false; holders = holders }) was now
+  stopped_on holders on less = record {
+    only = refl;
+    counted = λ k. record { by_visit = λ v.
+        let off = running_off c.running (λ b. count_of c.visits b v) a 0 a (omega arith) in
+        let one = share_on (get_or c.running a false) (count_of c.visits a v) on in
+        let fewer = less (stop_fits k on) v in
+        omega (arith, off, one, all v, k.by_visit v, fewer) };
+    listed = listed_keeps;
+    released = listed_none;
+  }
+
+  pub stopped_off : get_or c.running a false ≡ false → Stopped a c c was now
+  stopped_off off =
+      let same : set c.running a false ≡ c.running = ap (λ b. set c.running a b) (sym off) ∙ set-get_or c.running a false in
+      record {
+        only = ap (λ (ons : List Bool). record c { running = ons }) (sym same);
+        counted = λ k. k;
+        listed = listed_keeps;
+        released = listed_none;
+      }
+
+module _ (c : Tally) (visits : List ℕ) (all : (v : ℕ) → occurs v visits ≡ min 1 (count_of c.visits (length c.running) v)) where
+  pub started_on : (on : Bool) (holders : List (ℕ × ℕ)) → on ≡ true → ((v : ℕ) → count holders v ≡ count c.holders v + occurs v visits) →
+      Started on c (record c { running = c.running ++ on ∷ []; holders = holders })
+  started_on on holders e more = record {
+    only = refl;
+    counted = λ k. record { by_visit = λ v.
+        let pushed = running_push c.running on (λ b. count_of c.visits b v) (length c.running) 0 (omega arith) in
+        let one = share_on on (count_of c.visits (length c.running) v) e in
+        omega (arith, pushed, one, all v, k.by_visit v, more v) };
+  }
+
+pub started_off : (c : Tally) (on : Bool) → on ≡ false → Started on c (record c { running = c.running ++ on ∷ [] })
+started_off c on e = record {
+  only = refl;
+  counted = λ k. record { by_visit = λ v.
+      let pushed = running_push c.running on (λ b. count_of c.visits b v) (length c.running) 0 (omega arith) in
+      let none = share_none on (count_of c.visits (length c.running) v) e in
+      omega (arith, pushed, none, k.by_visit v) };
+}

@@ -1,7 +1,7 @@
 //! What the events so far say, in running counts: who holds what, what is freed and what is settled. So it is told of an event
 //! whether it breaks something without a look at the events before it.
 
-ghost use Rattle.std.specs.Prelude.{◌≡◌, ◌+◌, ℕ, ◌<◌, true, false, List, [], ◌∷◌, ◌++◌, length, nat_lt, ◌&&◌, if◌then◌else◌, Some, None, get_or, OnOk, IfOk, ◌↔◌, IsTrue};
+ghost use Rattle.std.specs.Prelude.{◌≡◌, ◌+◌, ℕ, ◌<◌, true, false, List, [], ◌∷◌, ◌++◌, length, nat_lt, ◌&&◌, if◌then◌else◌, Some, None, get_or, set, OnOk, IfOk, ◌↔◌, IsTrue};
 ghost use Rattle.flt_model.specs.Runs.{Moment, start};
 ghost use Rattle.flt_model.specs.Trace.{is_held, one_if, of_actor};
 ghost use Rattle.flt_model.specs.declared.event.Event.{Event};
@@ -312,5 +312,46 @@ impl Ledger {
             kept = next;
         }
         Ok(kept.broken())
+    }
+
+    fn activations(&self) -> usize
+        ensures { result ≡ length self.now.running }
+    {
+        self.running.len()
+    }
+
+    fn set_ended(&mut self, a: usize)
+        ensures { self.new ≡ record self.old { running = set self.old.running a false } }
+    {
+        if let Some(running) = self.running.get_mut(a) {
+            *running = false;
+        }
+    }
+
+    /// An activation goes on no more. The visits that it holds are listed.
+    fn stop(&mut self, alloc: Global, a: usize, touched: &mut Vec<usize>) -> Result<(), AllocError>
+        ensures { OnOk result (spec.Stopped a self.old self.new touched.old.items touched.new.items) }
+    {
+        let visits = self.visits.numbers(alloc, a)?;
+        touched.extend_from_slice(visits.as_slice())?;
+        if !self.is_running(a) {
+            return Ok(());
+        }
+        self.holders.take_each(visits.as_slice());
+        self.set_ended(a);
+        Ok(())
+    }
+
+    /// One activation more is there.
+    fn begin(&mut self, alloc: Global, on: bool) -> Result<(), AllocError>
+        ensures { OnOk result (spec.Started on self.old self.new) }
+    {
+        let visits = self.visits.numbers(alloc, self.activations())?;
+        self.running.push(on)?;
+        if !on {
+            return Ok(());
+        }
+        self.holders.add_each(visits.as_slice())?;
+        Ok(())
     }
 }

@@ -1,6 +1,6 @@
 //! How often each number was counted. Only what counts at least once is kept.
 
-ghost use Rattle.std.specs.Prelude.{◌≡◌, ◌+◌, ℕ, ◌<◌, [], min, OnOk, IfOk, ◌↔◌, IsTrue};
+ghost use Rattle.std.specs.Prelude.{◌≡◌, ◌+◌, ℕ, ◌<◌, ◌≤◌, [], min, OnOk, IfOk, ◌↔◌, IsTrue};
 ghost use Rattle.flt_model.specs.Trace.{one_if};
 ghost use Rattle.flt_replay.specs.Counts as spec;
 
@@ -88,5 +88,24 @@ impl Counts {
         ensures { IfOk result (λ ns. (n : ℕ) → spec.occurs n ns.items ≡ min 1 (spec.count self.now n)) }
     {
         self.map.keys().copied().collect(alloc)
+    }
+
+    /// Once more, each of some numbers.
+    pub(crate) fn add_each(&mut self, numbers: &[usize]) -> Result<(), AllocError>
+        ensures { OnOk result ((n : ℕ) → spec.count self.new n ≡ spec.count self.old n + spec.occurs n numbers.now) }
+    {
+        for number in numbers {
+            self.add(*number)?;
+        }
+        Ok(())
+    }
+
+    /// Once less, each of some numbers, of what counts.
+    pub(crate) fn take_each(&mut self, numbers: &[usize])
+        ensures { ((n : ℕ) → spec.occurs n numbers.now ≤ spec.count self.old n) → (n : ℕ) → spec.count self.old n ≡ spec.count self.new n + spec.occurs n numbers.now }
+    {
+        for number in numbers {
+            self.take(*number);
+        }
     }
 }
