@@ -179,9 +179,6 @@ share_on : (goes : Bool) (n : ℕ) → goes ≡ true → share goes n ≡ min 1 
 unfolding share
 share_on goes n e = ap (λ b. share b n) e
 
-share_none : (goes : Bool) (n : ℕ) → goes ≡ false → share goes n ≡ 0
-share_none goes n e = ap (λ b. share b n) e ∙ share_off n
-
 module _ (c : Tally) (a : ℕ) (visits was now : List ℕ) (all : (v : ℕ) → occurs v visits ≡ min 1 (count_of c.visits a v)) (listed : now ≡ was ++ visits) where
   listed_both : (v : ℕ) → occurs v now ≡ occurs v was + occurs v visits
   listed_both v = ap (occurs v) listed ∙ sum_by-append (λ (n : ℕ). one_if n v) was visits
@@ -223,22 +220,14 @@ module _ (c : Tally) (a : ℕ) (visits was now : List ℕ) (all : (v : ℕ) → 
         released = listed_none;
       }
 
-module _ (c : Tally) (visits : List ℕ) (all : (v : ℕ) → occurs v visits ≡ min 1 (count_of c.visits (length c.running) v)) where
-  pub started_on : (on : Bool) (holders : List (ℕ × ℕ)) → on ≡ true → ((v : ℕ) → count holders v ≡ count c.holders v + occurs v visits) →
-      Started on c (record c { running = c.running ++ on ∷ []; holders = holders })
-  started_on on holders e more = record {
-    only = refl;
-    counted = λ k. record { by_visit = λ v.
-        let pushed = running_push c.running on (λ b. count_of c.visits b v) (length c.running) 0 (omega arith) in
-        let one = share_on on (count_of c.visits (length c.running) v) e in
-        omega (arith, pushed, one, all v, k.by_visit v, more v) };
-  }
-
-pub started_off : (c : Tally) (on : Bool) → on ≡ false → Started on c (record c { running = c.running ++ on ∷ [] })
-started_off c on e = record {
+-- it holds these visits already
+pub started : (c : Tally) (visits : List ℕ) → ((v : ℕ) → occurs v visits ≡ min 1 (count_of c.visits (length c.running) v)) →
+    (holders : List (ℕ × ℕ)) → ((v : ℕ) → count holders v ≡ count c.holders v + occurs v visits) →
+    Started c (record c { running = c.running ++ true ∷ []; holders = holders })
+started c visits all holders more = record {
   only = refl;
   counted = λ k. record { by_visit = λ v.
-      let pushed = running_push c.running on (λ b. count_of c.visits b v) (length c.running) 0 (omega arith) in
-      let none = share_none on (count_of c.visits (length c.running) v) e in
-      omega (arith, pushed, none, k.by_visit v) };
+      let pushed = running_push c.running true (λ b. count_of c.visits b v) (length c.running) 0 (omega arith) in
+      let one = share_on true (count_of c.visits (length c.running) v) refl in
+      omega (arith, pushed, one, all v, k.by_visit v, more v) };
 }

@@ -1,5 +1,6 @@
 pub mod Apart
 pub mod Counting
+pub mod Courses
 pub mod Frames
 pub mod Handing
 pub mod Holders

@@ -1,15 +1,14 @@
 -- What the ledger's counts say of a moment's world and trace.
-use Rattle.std.specs.Prelude.{◌≡◌, ◌<◌, ◌≤◌, ℕ, ◌+◌, min, Bool, true, false, not, ◌&&◌, ◌||◌, ◌==◌, if◌then◌else◌, List, [], ◌∷◌, ◌++◌, length, sum_by, map, set, Option, Some, None}
+use Rattle.std.specs.Prelude.{◌≡◌, ◌<◌, ◌≤◌, ℕ, ◌+◌, min, Bool, true, false, not, ◌&&◌, ◌||◌, ◌==◌, if◌then◌else◌, List, [], ◌∷◌, ◌++◌, length, sum_by, map, get_or, set, nat_lt, Option, Some, None}
 use Rattle.flt_model.specs.declared.event.Event.{Event}
 use Rattle.flt_model.specs.declared.event.Object.{Object}
 use Rattle.flt_model.specs.declared.event.Object.TheVariants.{Context, Visit}
 use Rattle.flt_model.specs.declared.verdict.Violation.{Violation}
 use Rattle.flt_model.specs.declared.verdict.Violation.TheVariants.{V1, V2, V3}
-use Rattle.flt_model.specs.Effects.{Step}
 use Rattle.flt_model.specs.Runs.{Moment}
 use Rattle.flt_model.specs.Trace.{one_if, gains, loses, frees, settles}
 use Rattle.flt_model.specs.Violations.{in_queue, in_item, no_stale_use, no_leak, settled_once, one_owner}
-use Rattle.flt_model.specs.World.{World, Store, Activation, activation_at, is_settled}
+use Rattle.flt_model.specs.World.{World, Store, Activation, is_settled}
 use Rattle.flt_replay.specs.Apart.{is_apart, are_apart, ends_in}
 use Rattle.flt_replay.specs.Counts.{count, count_of, occurs}
 
@@ -88,9 +87,23 @@ pub record Stopped (a : ℕ) (old new : Tally) (was now : List ℕ) : Type 0 whe
   pub listed : Keeps was now
   pub released : (v : ℕ) → occurs v now ≡ 0 → count_of old.visits a v ≡ 0
 
--- one activation more is there
-pub record Started (on : Bool) (old new : Tally) : Type 0 where
-  pub only : new ≡ record old { running = old.running ++ on ∷ []; holders = new.holders }
+-- the same of those that end in some events
+pub record Halted (es : List Event) (old new : Tally) (was now : List ℕ) : Type 0 where
+  pub only : new ≡ record old { running = new.running; holders = new.holders }
+  pub counted : IsCounted old → IsCounted new
+  pub listed : Keeps was now
+  pub released : (a v : ℕ) → ends_in a es ≡ true → occurs v now ≡ 0 → count_of old.visits a v ≡ 0
+  pub size : length new.running ≡ length old.running
+  pub flags : (a : ℕ) → get_or new.running a false ≡ (get_or old.running a false && not (ends_in a es))
+
+-- one activation more is there, and goes on
+pub record Started (old new : Tally) : Type 0 where
+  pub only : new ≡ record old { running = old.running ++ true ∷ []; holders = new.holders }
+  pub counted : IsCounted old → IsCounted new
+
+-- so it is where there are more activations than were counted
+pub record Joined (activations : ℕ) (old new : Tally) : Type 0 where
+  pub only : new ≡ record old { running = (if nat_lt (length old.running) activations then old.running ++ true ∷ [] else old.running); holders = new.holders }
   pub counted : IsCounted old → IsCounted new
 
 -- the counts have taken in some events after a trace, of which none touches anything stale
@@ -109,16 +122,16 @@ abbrev pub first_broken : World → List Event → List Event → Option Violati
 first_broken w t es =
     if no_stale_use w t es then (if no_leak t es then (if settled_once t es then None else Some V3) else Some V2) else Some V1
 
--- ---- what a step leaves as it was
+-- ---- who has a visit
 
 -- how many entries and items have a visit
 abbrev pub waiting : Store → ℕ → ℕ
 waiting s v = sum_by (in_queue v) s.queues + sum_by (in_item v) s.items
 
--- an activation goes on unless an event is its end, and a visit that no event names is where it was
-pub record Leaves (w : World) (s : Step) : Type 0 where
-  pub more : length w.activations ≤ length s.world.activations
-  pub flags : (a : ℕ) → a < length w.activations → (activation_at s.world a).ended ≡ (ends_in a s.events || (activation_at w a).ended)
-  pub no_new_visit : (v : ℕ) → are_apart v s.events ≡ true → v < length s.world.store.visits → v < length w.store.visits
-  pub same_waiting : (v : ℕ) → are_apart v s.events ≡ true → waiting s.world.store v ≡ waiting w.store v
-  pub same_settled : (v : ℕ) → are_apart v s.events ≡ true → v < length w.store.visits → is_settled s.world.store v ≡ is_settled w.store v
+-- as the counts have it, an unsettled visit has one owner and a settled one none
+abbrev pub owns : Tally → World → ℕ → Bool
+owns c w v = count c.holders v + waiting w.store v == (if is_settled w.store v then 0 else 1)
+
+-- the same of a number that may be no visit's
+abbrev pub owns_any : Tally → World → ℕ → Bool
+owns_any c w v = not (nat_lt v (length w.store.visits)) || owns c w v

@@ -2,6 +2,7 @@
 //! whether it breaks something without a look at the events before it.
 
 ghost use Rattle.std.specs.Prelude.{◌≡◌, ◌+◌, ℕ, ◌<◌, true, false, List, [], ◌∷◌, ◌++◌, length, nat_lt, ◌&&◌, if◌then◌else◌, Some, None, get_or, set, OnOk, IfOk, ◌↔◌, IsTrue};
+ghost use Rattle.std.specs.List.{list_all};
 ghost use Rattle.flt_model.specs.Runs.{Moment, start};
 ghost use Rattle.flt_model.specs.Trace.{is_held, one_if, of_actor};
 ghost use Rattle.flt_model.specs.declared.event.Event.{Event};
@@ -342,16 +343,77 @@ impl Ledger {
         Ok(())
     }
 
-    /// One activation more is there.
-    fn begin(&mut self, alloc: Global, on: bool) -> Result<(), AllocError>
-        ensures { OnOk result (spec.Started on self.old self.new) }
+    /// One activation more is there, and goes on.
+    fn begin(&mut self, alloc: Global) -> Result<(), AllocError>
+        ensures { OnOk result (spec.Started self.old self.new) }
     {
         let visits = self.visits.numbers(alloc, self.activations())?;
-        self.running.push(on)?;
-        if !on {
-            return Ok(());
-        }
+        self.running.push(true)?;
         self.holders.add_each(visits.as_slice())?;
         Ok(())
+    }
+
+    /// A step makes no more than one activation.
+    #[tactic(auto, using(crate::proofs::Courses::joined_one, crate::proofs::Courses::joined_none))]
+    fn follow_new(&mut self, alloc: Global, world: &World<'_>) -> Result<(), AllocError>
+        ensures { OnOk result (spec.Joined (length world.now.activations) self.old self.new) }
+    {
+        if self.activations() >= world.activations.len() {
+            return Ok(());
+        }
+        self.begin(alloc)?;
+        Ok(())
+    }
+
+    fn follow_end(
+        &mut self,
+        alloc: Global,
+        event: Event,
+        touched: &mut Vec<usize>,
+    ) -> Result<(), AllocError>
+        ensures { OnOk result (spec.Halted (event ∷ []) self.old self.new touched.old.items touched.new.items) }
+    {
+        match event {
+            Event::End(a) => {
+                self.stop(alloc, a, touched)?;
+                Ok(())
+            }
+            _ => Ok(()),
+        }
+    }
+
+    /// Takes in which activations end, and lists the visits that they hold.
+    fn follow_ends(
+        &mut self,
+        alloc: Global,
+        events: &[Event],
+        touched: &mut Vec<usize>,
+    ) -> Result<(), AllocError>
+        ensures { OnOk result (spec.Halted events.now self.old self.new touched.old.items touched.new.items) }
+    {
+        for event in events {
+            self.follow_end(alloc, *event, touched)?;
+        }
+        Ok(())
+    }
+
+    /// Whether a visit has one owner while it is unsettled, and none after.
+    fn owns(&self, world: &World<'_>, visit: usize) -> bool
+        ensures { result ≡ spec.owns self.now world.now visit }
+    {
+        let due = if world.is_settled(visit) { 0 } else { 1 };
+        match self.holders.count(visit).checked_add(world.waiting(visit)) {
+            Some(owners) => owners == due,
+            None => false,
+        }
+    }
+
+    fn owns_each(&self, world: &World<'_>, visits: &[usize]) -> bool
+        ensures { result ≡ list_all (spec.owns_any self.now world.now) visits.now }
+    {
+        let known = world.visits.len();
+        visits
+            .iter()
+            .all(|visit| *visit >= known || self.owns(world, *visit))
     }
 }

@@ -12,4 +12,5 @@ mod local;
 mod lock_list;
 mod parts;
 mod rest;
+mod waiting;
 mod world;
