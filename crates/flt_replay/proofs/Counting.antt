@@ -75,13 +75,13 @@ keys_counted ((k, v) ∷ es) s h n =
     let first : AllByRecursion (λ y. nat_cmp k y ≡ Less) (keys_of es) = sorted_head nat_cmp k (keys_of es) s in
     let step : occurs n (keys_of ((k, v) ∷ es)) ≡ one_if k n + occurs n (keys_of es) = sum_by-cons (λ (x : ℕ). one_if x n) k (keys_of es) in
     ⊎_elim (λ (e : k ≡ n).
-        let later : occurs n (keys_of es) ≡ 0 = subst (λ (m : ℕ). occurs m (keys_of es) ≡ 0) e (not_later k es first) in
-        let one : one_if k n ≡ 1 = subst (λ (m : ℕ). one_if k m ≡ 1) e (one_here k) in
-        let positive : 0 < count ((k, v) ∷ es) n = subst (λ (m : ℕ). 0 < count ((k, v) ∷ es) m) e (some_counts k v es h) in
-        omega arith)
+    let later : occurs n (keys_of es) ≡ 0 = subst (λ (m : ℕ). occurs m (keys_of es) ≡ 0) e (not_later k es first) in
+    let one : one_if k n ≡ 1 = subst (λ (m : ℕ). one_if k m ≡ 1) e (one_here k) in
+    let positive : 0 < count ((k, v) ∷ es) n = subst (λ (m : ℕ). 0 < count ((k, v) ∷ es) m) e (some_counts k v es h) in
+    omega arith)
     (λ (ne : k ≢ n).
-        let rest : occurs n (keys_of es) ≡ min 1 (count es n) = keys_counted es (sorted_tail nat_cmp k (keys_of es) s) (others_positive k v es first h) n in
-        let here : one_if k n ≡ 0 = one_elsewhere k n ne in
-        let same : count ((k, v) ∷ es) n ≡ count es n = ap (λ (o : Option ℕ). unwrap_or o 0) (cond-false (is_at (nat_cmp n) k) (Some v) (lookup (is_at (nat_cmp n)) es) (at_other k n ne)) in
-        omega arith)
+    let rest : occurs n (keys_of es) ≡ min 1 (count es n) = keys_counted es (sorted_tail nat_cmp k (keys_of es) s) (others_positive k v es first h) n in
+    let here : one_if k n ≡ 0 = one_elsewhere k n ne in
+    let same : count ((k, v) ∷ es) n ≡ count es n = ap (λ (o : Option ℕ). unwrap_or o 0) (cond-false (is_at (nat_cmp n) k) (Some v) (lookup (is_at (nat_cmp n)) es) (at_other k n ne)) in
+    omega arith)
     (cases_eq k n)

@@ -53,11 +53,11 @@ and_still b c h = and_kept b ∙ ap (λ (d : Bool). b && not d) (sym h)
 ended_flag : (ons : List Bool) (a b : ℕ) → get_or (set ons a false) b false ≡ (get_or ons b false && not (ends_in b (event.End a ∷ [])))
 ended_flag ons a b =
     ⊎_elim (λ (e : a ≡ b).
-        subst (λ (n : ℕ). get_or (set ons a false) n false ≡ (get_or ons n false && not (ends_in n (event.End a ∷ [])))) e
-        (set_false ons a ∙ sym (and_not (get_or ons a false) (a == a || false) (or_false (a == a) ∙ eq-eqb a a refl))))
+    subst (λ (n : ℕ). get_or (set ons a false) n false ≡ (get_or ons n false && not (ends_in n (event.End a ∷ [])))) e
+    (set_false ons a ∙ sym (and_not (get_or ons a false) (a == a || false) (or_false (a == a) ∙ eq-eqb a a refl))))
     (λ (ne : a ≢ b).
-        get_or-set_other ons a b false false (λ e. ne (sym e))
-        ∙ and_still (get_or ons b false) (a == b || false) (or_false (a == b) ∙ ne_eqb a b ne))
+    get_or-set_other ons a b false false (λ e. ne (sym e))
+    ∙ and_still (get_or ons b false) (a == b || false) (or_false (a == b) ∙ ne_eqb a b ne))
     (cases_eq a b)
 
 module _ (a : ℕ) (old new : Tally) (was now : List ℕ) (s : Stopped a old new was now) where

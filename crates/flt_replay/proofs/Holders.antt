@@ -96,16 +96,16 @@ module _ (ons : List Bool) (a v : ℕ) (less more : List (List (ℕ × ℕ)))
   unfolding on of_visit
   holders_more m =
       ⊎_elim (λ (e : v ≡ m). subst (λ (u : ℕ). running_with ons (λ b. count_of more b u) 0 ≡ running_with ons (λ b. count_of less b u) 0 + one_when (is_without (get_or ons a false) (count_of less a v)) (one_if v u)) e
-          (let grows : share on (of_visit more v a) ≡ share on (of_visit less v a) + one_when (is_without (get_or ons a false) (count_of less a v)) 1 =
-               ap (share on) (at_actor v ∙ ap (λ n. of_visit less v a + n) (one_here v)) ∙ share_more on (of_visit less v a) in
-           let unit : one_when (is_without (get_or ons a false) (count_of less a v)) (one_if v v) ≡ one_when (is_without (get_or ons a false) (count_of less a v)) 1 =
-               ap (one_when (is_without (get_or ons a false) (count_of less a v))) (one_here v) in
-           omega (arith, both v)))
+      (let grows : share on (of_visit more v a) ≡ share on (of_visit less v a) + one_when (is_without (get_or ons a false) (count_of less a v)) 1 =
+      ap (share on) (at_actor v ∙ ap (λ n. of_visit less v a + n) (one_here v)) ∙ share_more on (of_visit less v a) in
+      let unit : one_when (is_without (get_or ons a false) (count_of less a v)) (one_if v v) ≡ one_when (is_without (get_or ons a false) (count_of less a v)) 1 =
+      ap (one_when (is_without (get_or ons a false) (count_of less a v))) (one_here v) in
+      omega (arith, both v)))
       (λ (ne : v ≢ m).
-          let stays : share on (of_visit more m a) ≡ share on (of_visit less m a) = ap (share on) (omega (arith, at_actor m, one_elsewhere v m ne)) in
-          let none : one_when (is_without (get_or ons a false) (count_of less a v)) (one_if v m) ≡ 0 =
-              ap (one_when (is_without (get_or ons a false) (count_of less a v))) (one_elsewhere v m ne) ∙ one_when_none (is_without (get_or ons a false) (count_of less a v)) in
-          omega (arith, both m))
+      let stays : share on (of_visit more m a) ≡ share on (of_visit less m a) = ap (share on) (omega (arith, at_actor m, one_elsewhere v m ne)) in
+      let none : one_when (is_without (get_or ons a false) (count_of less a v)) (one_if v m) ≡ 0 =
+      ap (one_when (is_without (get_or ons a false) (count_of less a v))) (one_elsewhere v m ne) ∙ one_when_none (is_without (get_or ons a false) (count_of less a v)) in
+      omega (arith, both m))
       (cases_eq v m)
 
 -- ---- what that comes to for the ledger
@@ -201,11 +201,13 @@ module _ (c : Tally) (a : ℕ) (visits was now : List ℕ) (all : (v : ℕ) → 
       Stopped a c (record c { running = set c.running a false; holders = holders }) was now
   stopped_on holders on less = record {
     only = refl;
-    counted = λ k. record { by_visit = λ v.
-        let off = running_off c.running (λ b. count_of c.visits b v) a 0 a (omega arith) in
-        let one = share_on (get_or c.running a false) (count_of c.visits a v) on in
-        let fewer = less (stop_fits k on) v in
-        omega (arith, off, one, all v, k.by_visit v, fewer) };
+    counted = λ k. record {
+      by_visit = λ v.
+          let off = running_off c.running (λ b. count_of c.visits b v) a 0 a (omega arith) in
+          let one = share_on (get_or c.running a false) (count_of c.visits a v) on in
+          let fewer = less (stop_fits k on) v in
+          omega (arith, off, one, all v, k.by_visit v, fewer);
+    };
     listed = listed_keeps;
     released = listed_none;
   }
@@ -226,8 +228,10 @@ pub started : (c : Tally) (visits : List ℕ) → ((v : ℕ) → occurs v visits
     Started c (record c { running = c.running ++ true ∷ []; holders = holders })
 started c visits all holders more = record {
   only = refl;
-  counted = λ k. record { by_visit = λ v.
-      let pushed = running_push c.running true (λ b. count_of c.visits b v) (length c.running) 0 (omega arith) in
-      let one = share_on true (count_of c.visits (length c.running) v) refl in
-      omega (arith, pushed, one, all v, k.by_visit v, more v) };
+  counted = λ k. record {
+    by_visit = λ v.
+        let pushed = running_push c.running true (λ b. count_of c.visits b v) (length c.running) 0 (omega arith) in
+        let one = share_on true (count_of c.visits (length c.running) v) refl in
+        omega (arith, pushed, one, all v, k.by_visit v, more v);
+  };
 }

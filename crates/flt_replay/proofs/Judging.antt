@@ -94,5 +94,5 @@ module _ (w : World) (t : List Event) (old : Tally) (was : List ℕ) where
       Some V1 ≡ first_broken w t events
   stale_at events i d l h =
       let split : take i events ++ (get_or events i d ∷ drop (suc i) events) ≡ events =
-          ap (λ es. take i events ++ es) (sym (drop-cons events i d l)) ∙ take-append-drop i events in
+      ap (λ es. take i events ++ es) (sym (drop-cons events i d l)) ∙ take-append-drop i events in
       subst (λ (es : List Event). Some V1 ≡ first_broken w t es) split (sym (judged_stale (take i events) (get_or events i d) (drop (suc i) events) h))

@@ -1,4 +1,5 @@
 pub mod Apart
+pub mod Concluding
 pub mod Counting
 pub mod Courses
 pub mod Frames
@@ -12,6 +13,7 @@ pub mod MoveRules
 pub mod Noting
 pub mod Ones
 pub mod Onward
+pub mod Opening
 pub mod Owners
 pub mod Reading
 pub mod Remaining

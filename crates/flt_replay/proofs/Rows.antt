@@ -20,10 +20,10 @@ pub added : (rows : List (List (ℕ × ℕ))) (a k : ℕ) (counts : List (ℕ ×
 unfolding count_of
 added rows a k counts l h b n =
     ⊎_elim (λ (e : a ≡ b). subst (λ (c : ℕ). count_of (set rows a counts) c n ≡ count_of rows c n + of_actor a c (one_if k n)) e
-        (ap (λ cs. count cs n) (here rows a counts l) ∙ h n ∙ ap (λ m. count (get_or rows a []) n + m) (sym (actor_here a (one_if k n)))))
+    (ap (λ cs. count cs n) (here rows a counts l) ∙ h n ∙ ap (λ m. count (get_or rows a []) n + m) (sym (actor_here a (one_if k n)))))
     (λ (ne : a ≢ b).
-        let other : count_of (set rows a counts) b n ≡ count_of rows b n = ap (λ cs. count cs n) (elsewhere rows a b counts ne) in
-        omega (arith, actor_elsewhere a b (one_if k n) ne))
+    let other : count_of (set rows a counts) b n ≡ count_of rows b n = ap (λ cs. count cs n) (elsewhere rows a b counts ne) in
+    omega (arith, actor_elsewhere a b (one_if k n) ne))
     (cases_eq a b)
 
 -- one number was counted once less
@@ -31,10 +31,10 @@ pub taken : (rows : List (List (ℕ × ℕ))) (a k : ℕ) (counts : List (ℕ ×
 unfolding count_of
 taken rows a k counts l h b n =
     ⊎_elim (λ (e : a ≡ b). subst (λ (c : ℕ). count_of rows c n ≡ count_of (set rows a counts) c n + of_actor a c (one_if k n)) e
-        (h n ∙ ap (λ m. count counts n + m) (sym (actor_here a (one_if k n))) ∙ ap (λ cs. count cs n + of_actor a a (one_if k n)) (sym (here rows a counts l))))
+    (h n ∙ ap (λ m. count counts n + m) (sym (actor_here a (one_if k n))) ∙ ap (λ cs. count cs n + of_actor a a (one_if k n)) (sym (here rows a counts l))))
     (λ (ne : a ≢ b).
-        let other : count_of (set rows a counts) b n ≡ count_of rows b n = ap (λ cs. count cs n) (elsewhere rows a b counts ne) in
-        omega (arith, actor_elsewhere a b (one_if k n) ne))
+    let other : count_of (set rows a counts) b n ≡ count_of rows b n = ap (λ cs. count cs n) (elsewhere rows a b counts ne) in
+    omega (arith, actor_elsewhere a b (one_if k n) ne))
     (cases_eq a b)
 
 push_empty : (rows : List (List (ℕ × ℕ))) (a : ℕ) → get_or (rows ++ [] ∷ []) a [] ≡ get_or rows a []

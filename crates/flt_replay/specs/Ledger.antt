@@ -6,7 +6,7 @@ use Rattle.flt_model.specs.declared.event.Object.TheVariants.{Context, Visit}
 use Rattle.flt_model.specs.declared.verdict.Violation.{Violation}
 use Rattle.flt_model.specs.declared.verdict.Violation.TheVariants.{V1, V2, V3}
 use Rattle.flt_model.specs.Runs.{Moment}
-use Rattle.flt_model.specs.Trace.{one_if, gains, loses, frees, settles}
+use Rattle.flt_model.specs.Trace.{one_if, gains, loses, frees, settles, is_held}
 use Rattle.flt_model.specs.Violations.{in_queue, in_item, no_stale_use, no_leak, settled_once, one_owner}
 use Rattle.flt_model.specs.World.{World, Store, Activation, is_settled}
 use Rattle.flt_replay.specs.Apart.{is_apart, are_apart, ends_in}
@@ -54,12 +54,15 @@ pub record IsCounted (c : Tally) : Type 0 where
 abbrev pub going : List Activation → List Bool
 going acts = map (λ (act : Activation). not act.ended) acts
 
--- the counts say what the moment's trace and world say, where each visit has one owner
+-- the counts say what the moment's trace and world say, where each visit has one owner, and its own mark where settled ones are
+-- marked, and nobody who isn't there holds a visit
 pub record Agrees (m : Moment) (c : Tally) : Type 0 where
   pub tells : Tells m.trace c
   pub counted : IsCounted c
   pub running_is : c.running ≡ going m.world.activations
   pub owned : one_owner m.world m.trace ≡ true
+  pub paired : length m.world.store.settled ≡ length m.world.store.visits
+  pub strangers : (a v : ℕ) → length m.world.activations ≤ a → is_held m.trace a (Visit v) ≡ false
 
 -- ---- changes of the counts
 

@@ -3,7 +3,11 @@
 
 ghost use Rattle.std.specs.Prelude.{◌≡◌, ◌+◌, ℕ, ◌<◌, true, false, List, [], ◌∷◌, ◌++◌, length, nat_lt, ◌&&◌, if◌then◌else◌, Some, None, get_or, set, OnOk, IfOk, ◌↔◌, IsTrue};
 ghost use Rattle.std.specs.List.{list_all};
-ghost use Rattle.flt_model.specs.Runs.{Moment, start};
+ghost use Rattle.flt_syntax.specs.declared.filter.Filter.{Filter};
+ghost use Rattle.flt_model.specs.Effects.{Step};
+ghost use Rattle.flt_model.specs.Runs.{Moment, start, after};
+ghost use Rattle.flt_model.specs.Steps.{Transition};
+ghost use Rattle.flt_replay.specs.Judging.{Follows, first_of, of_holding};
 ghost use Rattle.flt_model.specs.Trace.{is_held, one_if, of_actor};
 ghost use Rattle.flt_model.specs.declared.event.Event.{Event};
 ghost use Rattle.flt_model.specs.declared.event.Event.TheVariants.{Gain, Lose, Free, Settle};
@@ -315,6 +319,7 @@ impl Ledger {
         Ok(kept.broken())
     }
 
+    #[tactic(auto, using(crate::proofs::Concluding::joined_is))]
     fn activations(&self) -> usize
         ensures { result ≡ length self.now.running }
     {
@@ -415,5 +420,42 @@ impl Ledger {
         visits
             .iter()
             .all(|visit| *visit >= known || self.owns(world, *visit))
+    }
+
+    pub(crate) fn new(alloc: Global) -> Ledger
+        ensures { (p : List Filter) → spec.Agrees (start p) result }
+    {
+        Ledger {
+            contexts: Rows::new(alloc),
+            visits: Rows::new(alloc),
+            freed: Counts::new(alloc),
+            settled: Counts::new(alloc),
+            running: Vec::new(alloc),
+            holders: Counts::new(alloc),
+        }
+    }
+
+    /// Takes in the events of a step, which led to the world. The answer is the least of the first four violations that they
+    /// break; after one the counts say nothing.
+    pub(crate) fn take(
+        &mut self,
+        alloc: Global,
+        world: &World<'_>,
+        events: &[Event],
+    ) -> Result<Option<Violation>, AllocError>
+        ensures { IfOk result (λ found. (p : List Filter) (m : Moment) (x : Transition) (s : Step) → spec.Agrees m self.old → Follows p m x s world.now events.now → (found ≡ first_of of_holding p m s) × (found ≡ None → spec.Agrees (after m s) self.new)) }
+    {
+        let mut touched = Vec::new(alloc);
+        let first = self.take_events(alloc, world, events, &mut touched)?;
+        if first.is_some() {
+            return Ok(first);
+        }
+        self.follow_ends(alloc, events, &mut touched)?;
+        self.follow_new(alloc, world)?;
+        if self.owns_each(world, touched.as_slice()) {
+            Ok(None)
+        } else {
+            Ok(Some(Violation::V4))
+        }
     }
 }

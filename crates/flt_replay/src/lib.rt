@@ -6,11 +6,9 @@
 mod activation;
 mod callbacks;
 mod contexts;
-
 mod ledger;
 mod local;
 mod lock_list;
 mod parts;
 mod rest;
-mod waiting;
 mod world;

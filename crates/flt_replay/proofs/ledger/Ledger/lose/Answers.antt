@@ -21,4 +21,4 @@ returns-in_ok-push-in-Visit c = λ t k counted.
     let of : Object → Type 0 = λ o. 0 < held c.args.self.now c.args.a o → Noted t (Lose c.args.a o) c.args.self.now c.lose_visit.new.self c.args.touched.now.items c.push.new.self.items in
     subst of (sym c.in-Visit.is)
     (λ some. lost_visit t c.args.self.now c.args.touched.now.items k counted c.in-Visit.visit c.push.new.self.items c.in_ok-push-in-Visit.ensures.items
-        c.args.a c.lose_visit.new.self (c.lose_visit.ensures.turned some counted) (c.lose_visit.ensures.visits some))
+    c.args.a c.lose_visit.new.self (c.lose_visit.ensures.turned some counted) (c.lose_visit.ensures.visits some))

@@ -15,4 +15,4 @@ returns-clause-turned c =
     let turns : Tally → Type 0 = λ was. 0 < count_of was.visits c.args.a c.args.visit → IsCounted was → Turned was (record old { visits = c.take.new.self; holders = c.take-2.new.self }) in
     subst turns c.self.view_is
     (λ some k. lost_last old c.args.a c.args.visit c.take.new.self c.take-2.new.self (c.take.ensures some) last
-        (c.take-2.ensures (some_holder old c.args.a c.args.visit k on some)))
+    (c.take-2.ensures (some_holder old c.args.a c.args.visit k on some)))
