@@ -1,3 +1,4 @@
 pub mod LocalLaws
+pub mod PlaceOrder
 pub mod Reading
 pub mod Remaining

@@ -9,5 +9,6 @@ mod contexts;
 mod local;
 mod lock_list;
 mod parts;
+mod places;
 mod rest;
 mod world;
