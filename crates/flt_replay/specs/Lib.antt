@@ -1,5 +1,6 @@
 pub mod Rest
 pub mod Coded
+pub mod Links
 pub mod Parts
 pub mod Places
 pub mod Writes

@@ -7,6 +7,7 @@ mod activation;
 mod callbacks;
 mod contexts;
 mod local;
+mod linked;
 mod lock_list;
 mod parts;
 mod places;

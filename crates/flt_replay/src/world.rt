@@ -11,10 +11,10 @@ ghost use Rattle.flt_replay.specs.Parts.{presence_of, position_of};
 ghost use Rattle.flt_replay.specs.Writes.{written, later};
 
 use crate::activation::{Activation, Write};
+use crate::linked::Contexts;
 use crate::parts::{
-    Actor, Arrival, Context, Entry, Item, Link, Position, Presence, Route, Standing, Visit,
+    Actor, Arrival, Entry, Item, Link, Position, Presence, Route, Standing, Visit,
 };
-use flt_model::Key;
 use flt_rules::{LockNumber, Mode, Operation, Place, Stage};
 use flt_syntax::{Atom, ContextVariable, OperationVariable, Statement};
 use sqlite_items::{Items, at};
@@ -33,7 +33,7 @@ pub(crate) struct World<'a> {
     pub(crate) routes: Vec<Route>,
     pub(crate) visits: Vec<Visit>,
     pub(crate) settled: Vec<bool>,
-    pub(crate) contexts: Vec<Context>,
+    contexts: Contexts,
     pub(crate) items: Vec<Option<Item>>,
 }
 
@@ -47,7 +47,7 @@ impl<'a> Model for World<'a> {
 
     ghost coded = { Prim.hlevel (codes, activation_code) };
 
-    ghost view = { λ w. record { actors = w.actors.items; activations = w.activations.items; store = record { presences = w.presences.items; queues = w.queues.items; holders = w.holders.items; arrivals = w.arrivals.items; routes = w.routes.items; visits = w.visits.items; settled = w.settled.items; contexts = w.contexts.items; items = w.items.items } } };
+    ghost view = { λ w. record { actors = w.actors.items; activations = w.activations.items; store = record { presences = w.presences.items; queues = w.queues.items; holders = w.holders.items; arrivals = w.arrivals.items; routes = w.routes.items; visits = w.visits.items; settled = w.settled.items; contexts = w.contexts; items = w.items.items } } };
 }
 
 #[tactic(auto, using(crate::proofs::Reading::found, crate::proofs::Reading::missing))]
@@ -129,6 +129,13 @@ impl<'a> World<'a> {
             Some(route) => route.cancelled,
             None => true,
         }
+    }
+
+    /// How many contexts there have been.
+    pub(crate) fn context_count(&self) -> usize
+        ensures { result ≡ length self.now.store.contexts }
+    {
+        self.contexts.len()
     }
 
     /// The operation that a visit is of.
@@ -350,9 +357,7 @@ impl<'a> World<'a> {
     pub(crate) fn linked_at(&self, link: Link) -> Option<usize>
         ensures { result ≡ spec.linked_at self.now.store link }
     {
-        self.contexts
-            .iter()
-            .position(|c| is_linked_to(link, &c.link))
+        self.contexts.linked_at(link)
     }
 }
 
@@ -415,12 +420,7 @@ impl<'a> World<'a> {
         ensures { IfOk result (λ x. (x ≡ length self.old.store.contexts) × (self.new ≡ record self.old { store = record self.old.store { contexts = self.old.store.contexts ++ record { owner = owner; references = 1; value = 0; link = None } ∷ [] } })) }
     {
         let number = self.contexts.len();
-        self.contexts.push(Context {
-            owner,
-            references: 1,
-            value: 0,
-            link: None,
-        })?;
+        self.contexts.add(owner)?;
         Ok(number)
     }
 
@@ -428,56 +428,35 @@ impl<'a> World<'a> {
     pub(crate) fn set_value(&mut self, context: usize, value: u64)
         ensures { self.new ≡ record self.old { store = reads.put_value self.old.store context value } }
     {
-        if let Some(context) = self.contexts.get_mut(context) {
-            if context.references != 0 {
-                context.value = value;
-            }
-        }
+        self.contexts.set_value(context, value);
     }
 
     /// One reference more; a freed context stays as it is. The count is a number that no journal in memory reaches the end of.
     pub(crate) fn add_reference(&mut self, context: usize) -> Result<(), AllocError>
         ensures { OnOk result (self.new ≡ record self.old { store = spec.add_reference self.old.store context }) }
     {
-        if let Some(context) = self.contexts.get_mut(context) {
-            if context.references != 0 {
-                match context.references.checked_add(1) {
-                    Some(references) => context.references = references,
-                    None => return Err(AllocError),
-                }
-            }
-        }
-        Ok(())
+        self.contexts.add_reference(context)
     }
 
     /// One reference less; a freed context stays as it is.
     pub(crate) fn drop_reference(&mut self, context: usize)
         ensures { self.new ≡ record self.old { store = spec.drop_reference self.old.store context } }
     {
-        if let Some(context) = self.contexts.get_mut(context) {
-            if context.references != 0 {
-                context.references -= 1;
-            }
-        }
+        self.contexts.drop_reference(context);
     }
 
     /// The context has this link from now on.
     pub(crate) fn set_link(&mut self, context: usize, link: Link) -> Result<(), AllocError>
         ensures { OnOk result (self.new ≡ record self.old { store = spec.with_link self.old.store context (Some link) }) }
     {
-        if let Some(context) = self.contexts.get_mut(context) {
-            context.link = Some(link);
-        }
-        Ok(())
+        self.contexts.set_link(context, link)
     }
 
     /// The context has no link from now on.
     pub(crate) fn clear_link(&mut self, context: usize)
         ensures { self.new ≡ record self.old { store = spec.with_link self.old.store context None } }
     {
-        if let Some(context) = self.contexts.get_mut(context) {
-            context.link = None;
-        }
+        self.contexts.clear_link(context);
     }
 
     /// One more entry at the end of a filter's queue.
@@ -536,24 +515,5 @@ impl<'a> World<'a> {
         if let Some(settled) = self.settled.get_mut(visit) {
             *settled = true;
         }
-    }
-}
-
-fn is_linked_to(link: Link, other: &Option<Link>) -> bool
-    ensures { result ≡ spec.is_linked_to link other.now }
-{
-    match other {
-        None => false,
-        Some(other) => link.filter == other.filter && is_same_key(link.key, other.key),
-    }
-}
-
-fn is_same_key(key: Key, other: Key) -> bool
-    ensures { result ≡ spec.same_key key other }
-{
-    match (key, other) {
-        (Key::Stream(file), Key::Stream(other)) => file == other,
-        (Key::Instance, Key::Instance) => true,
-        _ => false,
     }
 }
