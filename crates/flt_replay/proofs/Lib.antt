@@ -1,6 +1,14 @@
+pub mod Frames
+pub mod LocalFrames
 pub mod LocalLaws
 pub mod First
 pub mod FirstLinked
 pub mod PlaceOrder
+pub mod MoveCases
+pub mod MoveRules
 pub mod Reading
 pub mod Remaining
+pub mod Scenes
+pub mod Stacks
+pub mod Openings
+pub mod RulesAfter

@@ -5,3 +5,6 @@ pub mod Parts
 pub mod Places
 pub mod Writes
 pub mod Judging
+pub mod Opening
+pub mod Starting
+pub mod Scenes

@@ -1,12 +1,13 @@
 //! The world of the monitor, and what is there at a number: what isn't there has ended, is settled and counts nothing.
 
-ghost use Rattle.std.specs.Prelude.{◌≡◌, true, get_or, set, is_some, length, Some, None, [], ◌∷◌, ◌++◌, OnOk, IfOk, MatchOption};
+ghost use Rattle.std.specs.Prelude.{◌≡◌, true, get_or, set, replicate, is_some, length, Some, None, [], ◌∷◌, ◌++◌, OnOk, IfOk, MatchOption};
 ghost use Rattle.flt_model.specs.Effects.{onward};
 ghost use Rattle.flt_model.specs.Locks as locks;
 ghost use Rattle.flt_model.specs.Moves as moves;
 ghost use Rattle.flt_model.specs.Reads as reads;
 ghost use Rattle.flt_model.specs.Variables as variables;
 ghost use Rattle.flt_model.specs.World as spec;
+ghost use Rattle.flt_replay.specs.Opening.{opened};
 ghost use Rattle.flt_replay.specs.Parts.{presence_of, position_of};
 ghost use Rattle.flt_replay.specs.Writes.{written, later};
 
@@ -364,6 +365,37 @@ impl<'a> World<'a> {
 // ---- changes
 
 impl<'a> World<'a> {
+    /// Nothing at all.
+    pub(crate) fn empty(alloc: Global) -> World<'a>
+        ensures { result ≡ opened 0 }
+    {
+        World {
+            actors: Vec::new(alloc),
+            activations: Vec::new(alloc),
+            presences: Vec::new(alloc),
+            queues: Vec::new(alloc),
+            holders: Vec::new(alloc),
+            arrivals: Vec::new(alloc),
+            routes: Vec::new(alloc),
+            visits: Vec::new(alloc),
+            settled: Vec::new(alloc),
+            contexts: Contexts::new(alloc),
+            items: Vec::new(alloc),
+        }
+    }
+
+    /// One more filter, which is there, has an empty queue and whose locks nobody holds.
+    pub(crate) fn add_filter(&mut self, alloc: Global) -> Result<(), AllocError>
+        ensures { OnOk result (self.new ≡ record self.old { store = record self.old.store { presences = self.old.store.presences ++ spec.Attached ∷ []; queues = self.old.store.queues ++ [] ∷ []; holders = self.old.store.holders ++ replicate 8 None ∷ [] } }) }
+    {
+        self.presences.push(Standing {
+            presence: Presence::Attached,
+        })?;
+        self.queues.push(Items::new(alloc))?;
+        self.holders.push([None; 8])?;
+        Ok(())
+    }
+
     /// An activation goes on with a block in place of its first statement.
     pub(crate) fn go_on(
         &mut self,
