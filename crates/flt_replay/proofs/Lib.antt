@@ -6,6 +6,7 @@ pub mod FirstLinked
 pub mod PlaceOrder
 pub mod MoveCases
 pub mod MoveRules
+pub mod QueueTickets
 pub mod Reading
 pub mod Remaining
 pub mod Scenes

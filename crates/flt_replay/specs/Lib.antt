@@ -3,6 +3,7 @@ pub mod Coded
 pub mod Links
 pub mod Parts
 pub mod Places
+pub mod Tickets
 pub mod Writes
 pub mod Judging
 pub mod Opening

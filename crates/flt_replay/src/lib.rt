@@ -14,6 +14,7 @@ mod lock_list;
 mod opening;
 mod parts;
 mod places;
+mod queue;
 mod reads;
 mod rest;
 mod settling;
