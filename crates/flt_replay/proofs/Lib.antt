@@ -13,3 +13,11 @@ pub mod Scenes
 pub mod Stacks
 pub mod Openings
 pub mod RulesAfter
+pub mod Counting
+pub mod Holders
+pub mod LocalLaws
+pub mod Ones
+pub mod Reading
+pub mod Remaining
+pub mod Rows
+pub mod Tallies

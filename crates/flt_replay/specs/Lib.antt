@@ -1,6 +1,8 @@
 pub mod Rest
 pub mod Coded
 pub mod Links
+pub mod Counts
+pub mod Ledger
 pub mod Parts
 pub mod Places
 pub mod Tickets

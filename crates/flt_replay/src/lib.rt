@@ -8,6 +8,8 @@ mod callbacks;
 mod contexts;
 mod effects;
 mod ending;
+
+mod ledger;
 mod local;
 mod linked;
 mod lock_list;
