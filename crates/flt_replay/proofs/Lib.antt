@@ -1,6 +1,7 @@
 pub mod Frames
 pub mod LocalFrames
 pub mod LocalLaws
+pub mod CountWaiting
 pub mod First
 pub mod FirstLinked
 pub mod PlaceOrder

@@ -6,6 +6,7 @@ pub mod Ledger
 pub mod Parts
 pub mod Places
 pub mod Tickets
+pub mod Waiting
 pub mod Writes
 pub mod Judging
 pub mod Opening

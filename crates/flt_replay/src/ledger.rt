@@ -14,7 +14,7 @@ use flt_model::{Event, Object};
 use std::alloc::{AllocError, Global};
 use std::marker::Model;
 
-mod counts;
+pub(crate) mod counts;
 mod rows;
 
 use counts::Counts;

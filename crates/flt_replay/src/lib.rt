@@ -24,4 +24,5 @@ mod stack;
 mod starting;
 mod rules;
 mod statuses;
+mod waiting_list;
 mod world;

@@ -1,6 +1,6 @@
 //! A cancel-safe queue: its front entry is taken out without a move of the others.
 
-ghost use Rattle.std.specs.Prelude.{◌≡◌, [], ◌∷◌, ◌++◌, OnOk, MatchOption, ◌↔◌, IsTrue};
+ghost use Rattle.std.specs.Prelude.{◌≡◌, [], ◌∷◌, ◌++◌, OnOk, OnErr, MatchOption, ◌↔◌, IsTrue};
 
 use crate::parts::Entry;
 use crate::places::Places;
@@ -52,7 +52,8 @@ impl Queue {
     /// One more entry at the end. Its ticket is a number that no journal in memory reaches the end of.
     #[tactic(auto, using(crate::proofs::QueueTickets::pushed, crate::proofs::QueueTickets::still_below))]
     pub(crate) fn push(&mut self, entry: Entry) -> Result<(), AllocError>
-        ensures { OnOk result (self.new ≡ self.old ++ entry ∷ []) }
+        ensures ok { OnOk result (self.new ≡ self.old ++ entry ∷ []) }
+        ensures err { OnErr result (self.new ≡ self.old) }
     {
         let ticket = self.next;
         let visit = entry.visit;

@@ -1,11 +1,12 @@
 //! The world of the monitor, and what is there at a number: what isn't there has ended, is settled and counts nothing.
 
-ghost use Rattle.std.specs.Prelude.{◌≡◌, true, get_or, set, replicate, is_some, length, Some, None, [], ◌∷◌, ◌++◌, OnOk, IfOk, MatchOption};
+ghost use Rattle.std.specs.Prelude.{◌≡◌, ◌+◌, true, get_or, set, replicate, sum_by, is_some, length, Some, None, [], ◌∷◌, ◌++◌, OnOk, IfOk, MatchOption};
 ghost use Rattle.flt_model.specs.Effects.{onward};
 ghost use Rattle.flt_model.specs.Locks as locks;
 ghost use Rattle.flt_model.specs.Moves as moves;
 ghost use Rattle.flt_model.specs.Reads as reads;
 ghost use Rattle.flt_model.specs.Variables as variables;
+ghost use Rattle.flt_model.specs.Violations.{in_queue, in_item};
 ghost use Rattle.flt_model.specs.World as spec;
 ghost use Rattle.flt_replay.specs.Opening.{opened};
 ghost use Rattle.flt_replay.specs.Parts.{presence_of, position_of};
@@ -16,9 +17,10 @@ use crate::linked::Contexts;
 use crate::parts::{
     Actor, Arrival, Entry, Item, Link, Position, Presence, Route, Standing, Visit,
 };
+use crate::waiting_list::Waiting;
 use flt_rules::{LockNumber, Mode, Operation, Place, Stage};
 use flt_syntax::{Atom, ContextVariable, OperationVariable, Statement};
-use sqlite_items::{Items, at};
+use sqlite_items::at;
 use std::alloc::{AllocError, Global};
 use std::marker::Model;
 
@@ -28,14 +30,13 @@ pub(crate) struct World<'a> {
     pub(crate) actors: Vec<Actor>,
     pub(crate) activations: Vec<Activation<'a>>,
     pub(crate) presences: Vec<Standing>,
-    pub(crate) queues: Vec<Items<Entry>>,
     pub(crate) holders: Vec<[Option<usize>; 8]>,
     pub(crate) arrivals: Vec<Arrival>,
     pub(crate) routes: Vec<Route>,
     pub(crate) visits: Vec<Visit>,
     pub(crate) settled: Vec<bool>,
     contexts: Contexts,
-    pub(crate) items: Vec<Option<Item>>,
+    waiting: Waiting,
 }
 
 impl<'a> Model for World<'a> {
@@ -48,7 +49,7 @@ impl<'a> Model for World<'a> {
 
     ghost coded = { Prim.hlevel (codes, activation_code) };
 
-    ghost view = { λ w. record { actors = w.actors.items; activations = w.activations.items; store = record { presences = w.presences.items; queues = w.queues.items; holders = w.holders.items; arrivals = w.arrivals.items; routes = w.routes.items; visits = w.visits.items; settled = w.settled.items; contexts = w.contexts; items = w.items.items } } };
+    ghost view = { λ w. record { actors = w.actors.items; activations = w.activations.items; store = record { presences = w.presences.items; queues = w.waiting.0; holders = w.holders.items; arrivals = w.arrivals.items; routes = w.routes.items; visits = w.visits.items; settled = w.settled.items; contexts = w.contexts; items = w.waiting.1 } } };
 }
 
 #[tactic(auto, using(crate::proofs::Reading::found, crate::proofs::Reading::missing))]
@@ -130,6 +131,20 @@ impl<'a> World<'a> {
             Some(route) => route.cancelled,
             None => true,
         }
+    }
+
+    /// How often a visit stands in an entry or in a work item.
+    pub(crate) fn waiting(&self, visit: usize) -> u64
+        ensures { result ≡ sum_by (in_queue visit) self.now.store.queues + sum_by (in_item visit) self.now.store.items }
+    {
+        self.waiting.count(visit)
+    }
+
+    /// Whether a filter's queue is empty.
+    pub(crate) fn is_queue_empty(&self, filter: usize) -> bool
+        ensures { result ≡ moves.is_empty (spec.queue_at self.now.store filter) }
+    {
+        self.waiting.is_empty(filter)
     }
 
     /// How many contexts there have been.
@@ -373,14 +388,13 @@ impl<'a> World<'a> {
             actors: Vec::new(alloc),
             activations: Vec::new(alloc),
             presences: Vec::new(alloc),
-            queues: Vec::new(alloc),
             holders: Vec::new(alloc),
             arrivals: Vec::new(alloc),
             routes: Vec::new(alloc),
             visits: Vec::new(alloc),
             settled: Vec::new(alloc),
             contexts: Contexts::new(alloc),
-            items: Vec::new(alloc),
+            waiting: Waiting::new(alloc),
         }
     }
 
@@ -391,7 +405,7 @@ impl<'a> World<'a> {
         self.presences.push(Standing {
             presence: Presence::Attached,
         })?;
-        self.queues.push(Items::new(alloc))?;
+        self.waiting.add_queue(alloc)?;
         self.holders.push([None; 8])?;
         Ok(())
     }
@@ -495,28 +509,21 @@ impl<'a> World<'a> {
     pub(crate) fn add_entry(&mut self, filter: usize, entry: Entry) -> Result<(), AllocError>
         ensures { OnOk result (self.new ≡ record self.old { store = spec.with_queue self.old.store filter (spec.queue_at self.old.store filter ++ entry ∷ []) }) }
     {
-        if let Some(queue) = self.queues.get_mut(filter) {
-            queue.push(entry)?;
-        }
-        Ok(())
+        self.waiting.push(filter, entry)
     }
 
     /// Takes the front entry out of a filter's queue.
     pub(crate) fn take_first(&mut self, filter: usize) -> Option<Entry>
         ensures { MatchOption result ((spec.queue_at self.old.store filter ≡ []) × (self.new ≡ self.old)) (λ e. (spec.queue_at self.old.store filter ≡ e ∷ spec.queue_at self.new.store filter) × (self.new ≡ record self.old { store = spec.with_queue self.old.store filter (spec.queue_at self.new.store filter) })) }
     {
-        match self.queues.get_mut(filter) {
-            Some(queue) if !queue.is_empty() => Some(queue.remove(0)),
-            _ => None,
-        }
+        self.waiting.take_first(filter)
     }
 
     /// One more work item.
     pub(crate) fn add_item(&mut self, item: Item) -> Result<(), AllocError>
         ensures { OnOk result (self.new ≡ record self.old { store = record self.old.store { items = self.old.store.items ++ Some item ∷ [] } }) }
     {
-        self.items.push(Some(item))?;
-        Ok(())
+        self.waiting.add_item(item)
     }
 
     /// Takes a work item out, whose number stays.
@@ -524,10 +531,7 @@ impl<'a> World<'a> {
         ensures item { result ≡ spec.item_at self.old.store item }
         ensures after { self.new ≡ record self.old { store = record self.old.store { items = set self.old.store.items item None } } }
     {
-        match self.items.get_mut(item) {
-            Some(item) => item.take(),
-            None => None,
-        }
+        self.waiting.take_item(item)
     }
 
     /// A new visit, which isn't settled.
