@@ -15,7 +15,7 @@ mod linked;
 mod lock_list;
 mod opening;
 mod parts;
-mod places;
+mod place_set;
 mod queue;
 mod reads;
 mod rest;

@@ -6,7 +6,7 @@ ghost use Rattle.flt_model.specs.World as spec;
 ghost use Rattle.flt_replay.specs.Links.{key_code};
 
 use crate::parts::{Context, Link};
-use crate::places::Places;
+use crate::place_set::Places;
 use flt_model::Key;
 use std::alloc::{AllocError, Global};
 use std::marker::Model;

@@ -1,6 +1,6 @@
 use Rattle.std.proofs.Common.{◌≡◌, ap}
 use Rattle.flt_replay.proofs.PlaceOrder.{least_here, none_past, none_left}
-use Rattle.flt_replay.proofs.places.Places.first.Goals as goal
+use Rattle.flt_replay.proofs.place_set.Places.first.Goals as goal
 
 pub returns-in-Some : goal.returns-in-Some
 returns-in-Some c =

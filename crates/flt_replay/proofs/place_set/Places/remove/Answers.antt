@@ -2,7 +2,7 @@ use Rattle.std.proofs.Common.{◌≡◌, Bool, true, false, not, ◌&&◌, cond,
 use Rattle.std.specs.Ordering.{is_eq}
 use Rattle.flt_replay.specs.Places.{place_cmp, has}
 use Rattle.flt_replay.proofs.PlaceOrder.{cmp_is}
-use Rattle.flt_replay.proofs.places.Places.remove.Goals as goal
+use Rattle.flt_replay.proofs.place_set.Places.remove.Goals as goal
 
 neither : (x y : Bool) → cond x false y ≡ (not x && y)
 neither true y = refl

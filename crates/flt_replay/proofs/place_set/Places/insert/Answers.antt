@@ -2,7 +2,7 @@ use Rattle.std.proofs.Common.{◌≡◌, Bool, true, false, ◌||◌, cond, refl
 use Rattle.std.specs.Ordering.{is_eq}
 use Rattle.flt_replay.specs.Places.{place_cmp, has}
 use Rattle.flt_replay.proofs.PlaceOrder.{cmp_is}
-use Rattle.flt_replay.proofs.places.Places.insert.Goals as goal
+use Rattle.flt_replay.proofs.place_set.Places.insert.Goals as goal
 
 either : (x y : Bool) → cond x true y ≡ (x || y)
 either true y = refl

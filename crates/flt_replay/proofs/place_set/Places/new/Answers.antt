@@ -1,6 +1,6 @@
 use Rattle.std.proofs.Common.{refl}
 use Rattle.flt_replay.specs.Places.{has}
-use Rattle.flt_replay.proofs.places.Places.new.Goals as goal
+use Rattle.flt_replay.proofs.place_set.Places.new.Goals as goal
 
 pub returns : goal.returns
 unfolding has
