@@ -1,7 +1,9 @@
 -- What the monitor's parts say of a moment and of a step, each of its share of the violations.
-use Rattle.std.specs.Prelude.{◌≡◌, ℕ, Bool, true, not, ◌==◌, List, [], ◌∷◌, Option, Some, find, set}
+use Rattle.std.specs.Prelude.{◌≡◌, ℕ, Bool, true, not, ◌==◌, List, [], ◌∷◌, Option, Some, find, map, set}
+use Rattle.std.specs.Borrow.{Bor}
 use Rattle.flt_rules.specs.declared.call.LockNumber.{LockNumber}
 use Rattle.flt_syntax.specs.declared.filter.Filter.{Filter}
+use Rattle.flt_syntax.specs.declared.tree.Tree.{Tree}
 use Rattle.flt_model.specs.declared.event.Event.{Event}
 use Rattle.flt_model.specs.declared.event.Event.TheVariants.{Call, Status, Lock, Unlock, End}
 use Rattle.flt_model.specs.declared.verdict.Violation.{Violation}
@@ -54,3 +56,13 @@ is_by a (Lock b l) = b == a
 is_by a (Unlock b l) = b == a
 is_by a (End b) = b == a
 is_by a _ = true
+
+-- ---- the filters of a run
+
+-- the filters behind some references
+abbrev pub filters_behind : List (Bor Filter) → List Filter
+filters_behind fs = map (λ f. f.now) fs
+
+-- the filters of some trees
+abbrev pub filters_of : List Tree → List Filter
+filters_of trees = map (λ t. t.filter) trees

@@ -1,4 +1,5 @@
 -- What the parts of the monitor's world stand for.
+use Rattle.flt_model.specs.Settling as settling
 use Rattle.flt_model.specs.World as world
 use Rattle.flt_replay.specs.declared.parts.Outcome.{Outcome}
 use Rattle.flt_replay.specs.declared.parts.Outcome.TheVariants as outcome
@@ -6,6 +7,8 @@ use Rattle.flt_replay.specs.declared.parts.Position.{Position}
 use Rattle.flt_replay.specs.declared.parts.Position.TheVariants as position
 use Rattle.flt_replay.specs.declared.parts.Presence.{Presence}
 use Rattle.flt_replay.specs.declared.parts.Presence.TheVariants as presence
+use Rattle.flt_replay.specs.declared.settling.Way.{Way}
+use Rattle.flt_replay.specs.declared.settling.Way.TheVariants as way
 
 abbrev pub presence_of : Presence → world.Presence
 presence_of presence.Attached = world.Attached
@@ -20,3 +23,10 @@ position_of position.Up = world.Up
 abbrev pub outcome_of : Outcome → world.Outcome
 outcome_of (outcome.Completed status) = world.Completed status
 outcome_of outcome.Disallowed = world.Disallowed
+
+abbrev pub way_meant : Way → settling.Way
+way_meant way.Passes = settling.Passes
+way_meant way.Frames = settling.Frames
+way_meant (way.Ends outcome) = settling.Ends (outcome_of outcome)
+way_meant way.Rises = settling.Rises
+way_meant way.Stays = settling.Stays

@@ -1,11 +1,11 @@
 //! The callbacks of a filter by what they are registered for, and its locks.
 
-ghost use Rattle.std.specs.Prelude.{◌≡◌};
+ghost use Rattle.std.specs.Prelude.{◌≡◌, ◌≤◌, length};
 ghost use Rattle.flt_model.specs.Levels as levels;
 ghost use Rattle.flt_model.specs.Program as spec;
 
-use flt_rules::{Level, LockKind, LockNumber, Operation, Place, raised_level};
-use flt_syntax::{Callback, Filter, Head, Statement};
+use flt_rules::{Level, LockKind, LockNumber, Operation, Place, entry_level, raised_level};
+use flt_syntax::{Callback, Filter, Head, Routine, Statement};
 
 fn same_operation(a: Operation, b: Operation) -> bool
     ensures { result ≡ spec.same_operation a b }
@@ -96,6 +96,49 @@ pub(crate) fn are_paired(callbacks: &[Callback]) -> bool
         && is_paired(callbacks, Operation::Cleanup)
 }
 
+/// The statements of the pre callback of an operation; none where it isn't there.
+pub(crate) fn pre_body(callbacks: &[Callback], kind: Operation) -> &[Statement]
+    ensures { result.now ≡ spec.body_for (spec.is_pre_of kind) callbacks.now }
+{
+    match callbacks {
+        [] => &[],
+        [first, ..] if is_pre_of(kind, &first.head) => first.body.as_slice(),
+        [_, others @ ..] => pre_body(others, kind),
+    }
+}
+
+pub(crate) fn post_body(callbacks: &[Callback], kind: Operation) -> &[Statement]
+    ensures { result.now ≡ spec.body_for (spec.is_post_of kind) callbacks.now }
+{
+    match callbacks {
+        [] => &[],
+        [first, ..] if is_post_of(kind, &first.head) => first.body.as_slice(),
+        [_, others @ ..] => post_body(others, kind),
+    }
+}
+
+pub(crate) fn canceled_body(callbacks: &[Callback]) -> &[Statement]
+    ensures { result.now ≡ spec.body_for spec.is_canceled callbacks.now }
+{
+    match callbacks {
+        [] => &[],
+        [first, ..] if is_canceled(&first.head) => first.body.as_slice(),
+        [_, others @ ..] => canceled_body(others),
+    }
+}
+
+/// The number of the routine that a call names; past all callbacks where there is none.
+pub(crate) fn routine_of(callbacks: &[Callback], routine: &Routine) -> usize
+    ensures number { result ≡ spec.routine_of callbacks.now routine.now }
+    ensures within { result ≤ length callbacks.now }
+{
+    match callbacks {
+        [] => 0,
+        [first, ..] if is_routine(routine.name.as_slice(), &first.head) => 0,
+        [_, others @ ..] => routine_of(others, routine) + 1,
+    }
+}
+
 pub(crate) fn body_at(callbacks: &[Callback], routine: usize) -> &[Statement]
     ensures { result.now ≡ spec.body_at callbacks.now routine }
 {
@@ -132,4 +175,23 @@ fn raised_by(kind: Option<LockKind>) -> Level
         Some(kind) => raised_level(kind),
         None => Level::Passive,
     }
+}
+
+fn level_with(filter: &Filter, level: Level, locks: &[LockNumber]) -> Level
+    ensures { result ≡ levels.level_with filter.now level locks.now }
+{
+    match locks {
+        [] => level,
+        [lock, others @ ..] => {
+            let raised = raised_by(kind_of_lock(filter, *lock));
+            level_with(filter, level.max(raised), others)
+        }
+    }
+}
+
+/// The level of a callback of a place that holds these locks.
+pub(crate) fn level_at(filter: &Filter, place: Place, locks: &[LockNumber]) -> Level
+    ensures { result ≡ levels.level_at filter.now place locks.now }
+{
+    level_with(filter, entry_level(place), locks)
 }

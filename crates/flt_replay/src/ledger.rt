@@ -22,7 +22,7 @@ use flt_model::{Event, Object, Violation};
 use std::alloc::{AllocError, Global};
 use std::marker::Model;
 
-mod counts;
+pub(crate) mod counts;
 mod rows;
 
 use counts::Counts;
@@ -291,7 +291,7 @@ impl Ledger {
         }
     }
 
-    #[tactic(auto, using(crate::proofs::Judging::judged_all))]
+    #[tactic(auto, using(crate::proofs::Taking::judged_all))]
     /// Takes in events, up to one that touches something stale, and lists the visits that they name. The answer is the least of
     /// the first three violations that they break.
     fn take_events(
@@ -359,7 +359,7 @@ impl Ledger {
     }
 
     /// A step makes no more than one activation.
-    #[tactic(auto, using(crate::proofs::Courses::joined_one, crate::proofs::Courses::joined_none))]
+    #[tactic(auto, using(crate::proofs::Following::joined_one, crate::proofs::Following::joined_none))]
     fn follow_new(&mut self, alloc: Global, world: &World<'_>) -> Result<(), AllocError>
         ensures { OnOk result (spec.Joined (length world.now.activations) self.old self.new) }
     {

@@ -1,6 +1,6 @@
 //! How often each number was counted. Only what counts at least once is kept.
 
-ghost use Rattle.std.specs.Prelude.{◌≡◌, ◌+◌, ℕ, ◌<◌, ◌≤◌, [], min, OnOk, IfOk, ◌↔◌, IsTrue};
+ghost use Rattle.std.specs.Prelude.{◌≡◌, ◌+◌, ℕ, ◌<◌, ◌≤◌, [], min, OnOk, OnErr, IfOk, ◌↔◌, IsTrue};
 ghost use Rattle.flt_model.specs.Trace.{one_if};
 ghost use Rattle.flt_replay.specs.Counts as spec;
 
@@ -49,7 +49,8 @@ impl Counts {
     /// Once more. The count is a number that no journal in memory reaches the end of.
     #[tactic(auto, unfolding(crate::specs::Counts::count, flt_model::specs::Trace::one_if))]
     pub(crate) fn add(&mut self, number: usize) -> Result<(), AllocError>
-        ensures { OnOk result ((n : ℕ) → spec.count self.new n ≡ spec.count self.old n + one_if number n) }
+        ensures ok { OnOk result ((n : ℕ) → spec.count self.new n ≡ spec.count self.old n + one_if number n) }
+        ensures err { OnErr result (self.new ≡ self.old) }
     {
         match self.count(number).checked_add(1) {
             Some(times) => {

@@ -18,5 +18,5 @@ returns-clause-turned c =
     let old : Tally = the_view c.self.inside in
     let turns : Tally → Type 0 = λ was. c.is_without-first.result ≡ is_without (get_or was.running c.args.a false) (count_of was.visits c.args.a c.args.visit) → Turned was (record old { visits = c.add.new.self; holders = c.add-2.new.self }) in
     subst turns c.self.view_is
-    (λ e. gained_first old c.args.a c.args.visit c.add.new.self c.add-2.new.self c.in_ok-add.ensures (sym e ∙ c.if-not-first.false) c.in_ok-add-2.ensures)
+    (λ e. gained_first old c.args.a c.args.visit c.add.new.self c.add-2.new.self c.in_ok-add.ensures (sym e ∙ c.if-not-first.false) c.in_ok-add-2.ensures.ok)
     c.is_without-first.ensures

@@ -1,0 +1,20 @@
+-- The world before the first move, by how many filters there are.
+use Rattle.std.specs.Prelude.{ℕ, [], None, replicate}
+use Rattle.flt_model.specs.World.{World, Attached}
+
+abbrev pub opened : ℕ → World
+opened n = record {
+  actors = [];
+  activations = [];
+  store = record {
+    presences = replicate n Attached;
+    queues = replicate n [];
+    holders = replicate n (replicate 8 None);
+    arrivals = [];
+    routes = [];
+    visits = [];
+    settled = [];
+    contexts = [];
+    items = [];
+  };
+}

@@ -1,0 +1,313 @@
+//! Which rules the events of a step break: of statuses, levels, lock discipline and places.
+
+ghost use Rattle.std.specs.Prelude.{◌≡◌, ℕ, true, not, ◌&&◌, ◌||◌, List, [], find};
+ghost use Rattle.std.specs.List.{list_all};
+ghost use Rattle.flt_model.specs.Levels.{level_at};
+ghost use Rattle.flt_model.specs.Locks as locks;
+ghost use Rattle.flt_model.specs.Program as program;
+ghost use Rattle.flt_model.specs.Statuses as statuses;
+ghost use Rattle.flt_model.specs.Trace.{is_held};
+ghost use Rattle.flt_model.specs.Variables.{operation_in};
+ghost use Rattle.flt_model.specs.Violations as spec;
+ghost use Rattle.flt_model.specs.World.{activation_at, actor_at, visit_at};
+ghost use Rattle.flt_model.specs.declared.event.Event.{Event};
+ghost use Rattle.flt_model.specs.declared.event.Object.TheVariants.{Visit};
+ghost use Rattle.flt_replay.specs.Judging.{is_by, keeps_rule, of_rules};
+ghost use Rattle.flt_replay.specs.Scenes.{before};
+ghost use Rattle.flt_replay.specs.Writes.{holds_visit, holds_given};
+ghost use Rattle.flt_rules.specs.Status.{status_row};
+ghost use Rattle.flt_rules.specs.declared.place.Stage.TheVariants as stage;
+ghost use Rattle.flt_syntax.specs.declared.variable.OperationVariable.TheVariants as variable;
+
+use crate::lock_list::holds_lock;
+use crate::stack::Stack;
+use crate::statuses::{
+    completes_pending, fits_stage, is_of_mode, is_possessed, is_pre_create, same_mode, same_stage,
+    word_of,
+};
+use crate::world::World;
+use flt_model::{Answer, Event, Violation};
+use flt_rules::{
+    Call, Level, LockNumber, Mode, Operation, Place, Possessed, Stage, StatusRow, StatusWord,
+    is_legal_in_draining, row, status_row,
+};
+use flt_syntax::{OperationVariable, Status};
+
+/// Whether the lock is the latest taken.
+fn is_latest(lock: LockNumber, held: &[LockNumber]) -> bool
+    ensures { result ≡ locks.is_latest lock held.now }
+{
+    match held {
+        [] => false,
+        [last] => lock.place() == last.place(),
+        [_, others @ ..] => is_latest(lock, others),
+    }
+}
+
+/// What a step's events are judged by: the world after the step, which has all that rules read as it was before but the locks.
+#[derive(Clone, Copy)]
+pub(crate) struct Scene<'b, 'a> {
+    pub(crate) stack: &'b Stack<'a>,
+    pub(crate) world: &'b World<'a>,
+    /// Whose step it was.
+    pub(crate) activation: usize,
+    /// Whether the activation held the visit that it was given, before the step.
+    pub(crate) held: bool,
+    /// The locks that it held before the step.
+    pub(crate) locks: &'b [LockNumber],
+}
+
+// ---- what is read as it was before the step
+
+impl<'b, 'a> Scene<'b, 'a> {
+    /// An activation that isn't there holds no locks.
+    #[tactic(auto, using(crate::proofs::Scenes::found_set, crate::proofs::Scenes::missing_set))]
+    fn locks(&self) -> &'b [LockNumber]
+        ensures { result.now ≡ (activation_at (before self.now) self.now.activation).locks }
+    {
+        let world = self.world;
+        match world.activations.get(self.activation) {
+            Some(_) => self.locks,
+            None => &[],
+        }
+    }
+
+    /// The visit that the activation was given.
+    #[tactic(auto, using(crate::proofs::Scenes::operations_kept))]
+    fn given(&self) -> Option<usize>
+        ensures { result ≡ operation_in (activation_at (before self.now) self.now.activation) variable.Data }
+    {
+        self.world
+            .operation_in(self.activation, OperationVariable::Data)
+    }
+
+    fn level(&self) -> Level
+        ensures { result ≡ level_at (program.filter_at self.now.stack.now (actor_at (before self.now) self.now.activation).filter) (actor_at (before self.now) self.now.activation).place (activation_at (before self.now) self.now.activation).locks }
+    {
+        self.stack.level(
+            self.world.filter(self.activation),
+            self.world.place(self.activation),
+            self.locks(),
+        )
+    }
+}
+
+// ---- statuses
+
+impl<'b, 'a> Scene<'b, 'a> {
+    /// Whether the status of a row may be returned about a visit.
+    fn fits_row(&self, row: StatusRow, visit: usize) -> bool
+        ensures { (t : List Event) → self.now.held ≡ is_held t self.now.activation (Visit visit) → result ≡ statuses.fits_row self.now.stack.now (before self.now) t self.now.activation row visit }
+    {
+        let place = self.world.place(self.activation);
+        fits_stage(place, row.stage)
+            && (!row.needs_post || self.has_post(self.world.kind_of(visit)))
+            && (row.in_create || !is_pre_create(place))
+            && is_possessed(self.held, row.data)
+            && is_of_mode(self.world.mode_of(visit), row.mode)
+            && (row.in_draining || !self.world.has_flag(self.activation))
+    }
+
+    fn has_post(&self, kind: Operation) -> bool
+        ensures { result ≡ program.has_post (program.callbacks_at self.now.stack.now (actor_at (before self.now) self.now.activation).filter) kind }
+    {
+        self.stack
+            .has_post(self.world.filter(self.activation), kind)
+    }
+
+    /// Whether the status may be returned about a visit that is there.
+    fn is_returned_legally(&self, status: Status, visit: Option<usize>) -> bool
+        ensures { (t : List Event) → self.now.held ≡ holds_visit t self.now.activation visit → result ≡ statuses.is_returned_legally self.now.stack.now (before self.now) t self.now.activation status visit }
+    {
+        match visit {
+            None => false,
+            Some(visit) => {
+                self.fits_row(status_row(word_of(status)), visit) && !completes_pending(status)
+            }
+        }
+    }
+
+    /// A status that is missing isn't legal.
+    fn may_return(&self, status: Option<Status>) -> bool
+        ensures { (t : List Event) → self.now.held ≡ holds_given t (before self.now) self.now.activation → result ≡ statuses.may_return self.now.stack.now (before self.now) t self.now.activation status }
+    {
+        match status {
+            None => false,
+            Some(status) => self.is_returned_legally(status, self.given()),
+        }
+    }
+
+    fn are_paired(&self) -> bool
+        ensures { result ≡ program.are_paired (program.callbacks_at self.now.stack.now (actor_at (before self.now) self.now.activation).filter) }
+    {
+        self.stack.are_paired(self.world.filter(self.activation))
+    }
+
+    /// In the callback of a cancelled entry only COMPLETE is for the given operation; WITH_CALLBACK needs post callbacks.
+    fn fits_word(&self, whose: Possessed, word: StatusWord) -> bool
+        ensures { (t : List Event) → result ≡ (statuses.fits_canceled self.now.stack.now (before self.now) t self.now.activation (actor_at (before self.now) self.now.activation).place whose word && (not (statuses.is_with_callback self.now.stack.now (before self.now) t self.now.activation word) || program.are_paired (program.callbacks_at self.now.stack.now (actor_at (before self.now) self.now.activation).filter))) }
+    {
+        match (self.world.place(self.activation), whose, word) {
+            (Place::Canceled, Possessed::Given, word) => matches!(word, StatusWord::Complete),
+            (_, _, StatusWord::WithCallback) => self.are_paired(),
+            _ => true,
+        }
+    }
+
+    /// Whether the status is one to hand on, and the visit is before the filters below.
+    fn is_for_handing(&self, visit: usize, status: Status) -> bool
+        ensures { result ≡ (statuses.same_stage (visit_at (before self.now).store visit).stage stage.Pre && ((status_row (statuses.word_of status)).handed && not (statuses.completes_pending status))) }
+    {
+        same_stage(self.world.stage(visit), Stage::Pre)
+            && status_row(word_of(status)).handed
+            && !completes_pending(status)
+    }
+
+    /// Whether the status may be handed on for a visit.
+    fn may_hand(&self, whose: Possessed, visit: usize, status: Status) -> bool
+        ensures { (t : List Event) → result ≡ statuses.may_hand self.now.stack.now (before self.now) t self.now.activation whose visit status }
+    {
+        self.is_for_handing(visit, status) && self.fits_word(whose, word_of(status))
+    }
+
+    fn may_answer(&self, answer: Answer) -> bool
+        ensures { (t : List Event) → self.now.held ≡ holds_given t (before self.now) self.now.activation → result ≡ statuses.may_answer self.now.stack.now (before self.now) t self.now.activation answer }
+    {
+        match answer {
+            Answer::Returned(status) => self.may_return(status),
+            Answer::CompletesPre {
+                whose,
+                visit,
+                status,
+            } => self.may_hand(whose, visit, status),
+            Answer::CompletesPost { visit } => same_stage(self.world.stage(visit), Stage::Post),
+        }
+    }
+
+    /// Whether the given operation is an I/O request packet, if there is one.
+    fn is_packet(&self) -> bool
+        ensures { (t : List Event) → result ≡ statuses.is_packet self.now.stack.now (before self.now) t self.now.activation (operation_in (activation_at (before self.now) self.now.activation) variable.Data) }
+    {
+        match self.given() {
+            None => true,
+            Some(visit) => same_mode(self.world.mode_of(visit), Mode::Irp),
+        }
+    }
+
+    /// Only an I/O request packet may be queued or deferred.
+    fn may_pend(&self, call: Call) -> bool
+        ensures { (t : List Event) → result ≡ statuses.may_pend self.now.stack.now (before self.now) t self.now.activation call }
+    {
+        match call {
+            Call::InsertIo => self.is_packet(),
+            Call::QueueDeferredIoWorkItem => self.is_packet(),
+            _ => true,
+        }
+    }
+}
+
+// ---- one event
+
+impl<'b, 'a> Scene<'b, 'a> {
+    fn is_legal(&self, event: Event) -> bool
+        ensures { (t : List Event) → self.now.held ≡ holds_given t (before self.now) self.now.activation → is_by self.now.activation event ≡ true → result ≡ spec.is_legal self.now.stack.now (before self.now) t event }
+    {
+        match event {
+            Event::Status(_, answer) => self.may_answer(answer),
+            Event::Call(_, call) => self.may_pend(call),
+            _ => true,
+        }
+    }
+
+    /// Whether a call isn't made above its greatest level.
+    fn is_low_enough(&self, event: Event) -> bool
+        ensures { (t : List Event) → is_by self.now.activation event ≡ true → result ≡ spec.is_low_enough self.now.stack.now (before self.now) t event }
+    {
+        match event {
+            Event::Call(_, call) => !self.level().is_above(row(call).greatest),
+            _ => true,
+        }
+    }
+
+    /// The latest lock is released first, none is taken twice, none is kept at the end.
+    fn is_disciplined(&self, event: Event) -> bool
+        ensures { (t : List Event) → is_by self.now.activation event ≡ true → result ≡ spec.is_disciplined self.now.stack.now (before self.now) t event }
+    {
+        match event {
+            Event::Lock(_, lock) => !holds_lock(lock, self.locks()),
+            Event::Unlock(_, lock) => is_latest(lock, self.locks()),
+            Event::End(_) => self.locks().is_empty(),
+            _ => true,
+        }
+    }
+
+    /// Each call where the table has it, and in a draining callback only what cleans up.
+    fn is_in_place(&self, event: Event) -> bool
+        ensures { (t : List Event) → is_by self.now.activation event ≡ true → result ≡ spec.is_in_place self.now.stack.now (before self.now) t event }
+    {
+        match event {
+            Event::Call(_, call) => {
+                row(call).places.contains(self.world.place(self.activation))
+                    && (!self.world.has_flag(self.activation) || is_legal_in_draining(call))
+            }
+            _ => true,
+        }
+    }
+}
+
+// ---- all events of a step
+
+impl<'b, 'a> Scene<'b, 'a> {
+    fn are_legal(&self, events: &[Event]) -> bool
+        ensures { (t : List Event) → self.now.held ≡ holds_given t (before self.now) self.now.activation → list_all (is_by self.now.activation) events.now ≡ true → result ≡ spec.legal_statuses self.now.stack.now (before self.now) t events.now }
+    {
+        match events {
+            [] => true,
+            [event, others @ ..] => self.is_legal(*event) && self.are_legal(others),
+        }
+    }
+
+    fn are_low_enough(&self, events: &[Event]) -> bool
+        ensures { (t : List Event) → list_all (is_by self.now.activation) events.now ≡ true → result ≡ spec.levels_kept self.now.stack.now (before self.now) t events.now }
+    {
+        match events {
+            [] => true,
+            [event, others @ ..] => self.is_low_enough(*event) && self.are_low_enough(others),
+        }
+    }
+
+    fn are_disciplined(&self, events: &[Event]) -> bool
+        ensures { (t : List Event) → list_all (is_by self.now.activation) events.now ≡ true → result ≡ spec.lock_discipline self.now.stack.now (before self.now) t events.now }
+    {
+        match events {
+            [] => true,
+            [event, others @ ..] => self.is_disciplined(*event) && self.are_disciplined(others),
+        }
+    }
+
+    fn are_in_place(&self, events: &[Event]) -> bool
+        ensures { (t : List Event) → list_all (is_by self.now.activation) events.now ≡ true → result ≡ spec.legal_places self.now.stack.now (before self.now) t events.now }
+    {
+        match events {
+            [] => true,
+            [event, others @ ..] => self.is_in_place(*event) && self.are_in_place(others),
+        }
+    }
+
+    /// The least of the last four violations that the events break.
+    pub(crate) fn broken_rule(&self, events: &[Event]) -> Option<Violation>
+        ensures { (t : List Event) → self.now.held ≡ holds_given t (before self.now) self.now.activation → list_all (is_by self.now.activation) events.now ≡ true → result ≡ find (λ v. not (keeps_rule self.now.stack.now (before self.now) t events.now v)) of_rules }
+    {
+        if !self.are_legal(events) {
+            Some(Violation::V5)
+        } else if !self.are_low_enough(events) {
+            Some(Violation::V6)
+        } else if !self.are_disciplined(events) {
+            Some(Violation::V7)
+        } else if !self.are_in_place(events) {
+            Some(Violation::V8)
+        } else {
+            None
+        }
+    }
+}
