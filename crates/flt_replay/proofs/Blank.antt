@@ -1,5 +1,5 @@
 -- A ledger before all events.
-use Rattle.std.proofs.Common.{◌≡◌, ℕ, ◌+◌, List, [], Bool, ap, sym, refl, ◌∙◌, arith}
+use Rattle.std.proofs.Common.{◌≡◌, ℕ, List, [], Bool, ap, sym, refl, ◌∙◌, arith}
 use Rattle.flt_syntax.specs.declared.filter.Filter.{Filter}
 use Rattle.flt_model.specs.declared.event.Object.{Object}
 use Rattle.flt_model.specs.declared.event.Object.TheVariants.{Context, Visit}
@@ -7,7 +7,7 @@ use Rattle.flt_model.specs.Runs.{start}
 use Rattle.flt_model.specs.Trace.{gains, loses, frees, settles}
 use Rattle.flt_replay.proofs.Owners.{tidy_start}
 use Rattle.flt_replay.specs.Counts.{count, count_of}
-use Rattle.flt_replay.specs.Ledger.{Tally, IsCounted, Tells, Agrees, held, running_with}
+use Rattle.flt_replay.specs.Ledger.{Tally, Tells, Agrees, held, running_with}
 
 -- nothing is counted
 pub record IsBlank (c : Tally) : Type 0 where

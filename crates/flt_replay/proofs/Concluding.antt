@@ -1,12 +1,12 @@
 -- What a ledger says of a step whose events it has taken in: the visits that it has listed are enough to look at.
-use Rattle.std.proofs.Common.{◌≡◌, ◌≢◌, ◌⊎◌, ⊎_elim, inl, inr, subst, ℕ, zero, suc, ◌+◌, ◌<◌, ◌≤◌, min, Bool, true, false, List, [], ◌∷◌, ◌++◌, Option, Some, None, ap, sym, refl, ◌∙◌, arith, length, get_or}
+use Rattle.std.proofs.Common.{◌≡◌, ◌≢◌, ◌⊎◌, ⊎_elim, inl, inr, subst, ℕ, zero, suc, ◌+◌, ◌<◌, ◌≤◌, Bool, true, false, List, [], ◌∷◌, ◌++◌, Option, Some, None, ap, sym, refl, ◌∙◌, arith, length, get_or}
 use Rattle.std.proofs.Math.ListN.{get_or-append}
 use Rattle.std.proofs.Math.Seq.{get_or-append_seam}
-use Rattle.std.proofs.lemmas.Bool.{both_ways, true≢false, cases_eq, cases_lt, cases_Bool, lt-ltb, le-ltb, ltb-true, eqb-true, eq-eqb, ne_eqb, and_from, and_parts, or_right, false_from_ne_true, not-false, not-true}
-use Rattle.std.proofs.lemmas.List.{get_or-map, length-map, ext_get_or, length-append}
+use Rattle.std.proofs.lemmas.Bool.{both_ways, true≢false, cases_eq, cases_lt, lt-ltb, le-ltb, eqb-true, eq-eqb, and_from, and_parts, or_right, false_from_ne_true, not-false, not-true}
+use Rattle.std.proofs.lemmas.List.{length-map, ext_get_or, length-append}
 use Rattle.std.proofs.lemmas.List.Sums.{sum_by-cons}
 use Rattle.std.specs.List.{list_all}
-use Rattle.std.specs.Prelude.{not, ◌&&◌, ◌||◌, ◌==◌, nat_lt, if◌then◌else◌, cond, map, is_some}
+use Rattle.std.specs.Prelude.{not, ◌&&◌, ◌||◌, ◌==◌, nat_lt, if◌then◌else◌, cond, is_some}
 use Rattle.flt_syntax.specs.declared.filter.Filter.{Filter}
 use Rattle.flt_model.specs.declared.event.Event.{Event}
 use Rattle.flt_model.specs.declared.event.Object.{Object}
@@ -16,7 +16,7 @@ use Rattle.flt_model.specs.declared.verdict.Violation.TheVariants.{V1, V2, V3, V
 use Rattle.flt_model.specs.Effects.{Step}
 use Rattle.flt_model.specs.Runs.{Moment, next, after}
 use Rattle.flt_model.specs.Steps.{Transition}
-use Rattle.flt_model.specs.Trace.{one_if, is_held}
+use Rattle.flt_model.specs.Trace.{one_if}
 use Rattle.flt_model.specs.Violations.{holding, holders_from, owners, is_owned, one_owner, no_stale_use, no_leak, settled_once}
 use Rattle.flt_model.specs.World.{World, Activation, activation_at, nobody, is_settled}
 use Rattle.flt_replay.proofs.Apart.{held_apart}
@@ -24,7 +24,7 @@ use Rattle.flt_replay.proofs.Ones.{one_elsewhere}
 use Rattle.flt_replay.proofs.Onward.{Onward, Peopled, NobodyNew, OneNew, onward}
 use Rattle.flt_replay.proofs.Owners.{Tidy, Spared, tidy_after, one_owner_after, one_owner_at}
 use Rattle.flt_replay.proofs.Tallies.{held_is}
-use Rattle.flt_replay.specs.Apart.{ends_in, are_apart}
+use Rattle.flt_replay.specs.Apart.{ends_in}
 use Rattle.flt_replay.specs.Counts.{count, count_of, occurs}
 use Rattle.flt_replay.specs.Judging.{Follows, first_of, of_holding}
 use Rattle.flt_replay.specs.Ledger.{Tally, Tells, IsCounted, Agrees, Judged, Halted, Joined, held, share, running_with, going, waiting, owns, owns_any, first_broken}

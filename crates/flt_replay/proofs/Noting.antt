@@ -1,14 +1,14 @@
 -- What a ledger's counts say of a trace with one event more.
-use Rattle.std.proofs.Common.{◌≡◌, ◌≢◌, subst, ℕ, ◌+◌, ◌<◌, Bool, true, false, List, [], ◌∷◌, ◌++◌, ap, sym, refl, ◌∙◌, arith}
+use Rattle.std.proofs.Common.{◌≡◌, ℕ, ◌+◌, ◌<◌, true, List, [], ◌∷◌, ◌++◌, ap, refl, ◌∙◌, arith}
 use Rattle.std.proofs.lemmas.List.Sums.{sum_by_push}
 use Rattle.std.proofs.lemmas.Bool.Decides.{nat_tests}
 use Rattle.std.proofs.lemmas.Bool.{and_parts, ltb-true}
-use Rattle.std.specs.Prelude.{not, ◌==◌, ◌&&◌, nat_lt}
+use Rattle.std.specs.Prelude.{not, ◌==◌, ◌&&◌}
 use Rattle.flt_model.specs.declared.event.Event.{Event}
 use Rattle.flt_model.specs.declared.event.Event.TheVariants as event
 use Rattle.flt_model.specs.declared.event.Object.{Object}
 use Rattle.flt_model.specs.declared.event.Object.TheVariants.{Context, Visit}
-use Rattle.flt_model.specs.Trace.{one_if, of_actor, same_object, gain, lose, free, settle, gains, loses, frees, settles, is_held}
+use Rattle.flt_model.specs.Trace.{one_if, of_actor, gain, lose, free, settle, gains, loses, frees, settles, is_held}
 use Rattle.flt_model.specs.Violations.{is_live, is_own, is_fresh}
 use Rattle.flt_model.specs.World.{World}
 use Rattle.flt_replay.proofs.Ones.{actor_none}

@@ -1,20 +1,17 @@
 -- Events that a ledger takes in one after another.
-use Rattle.std.proofs.Common.{◌≡◌, subst, ℕ, suc, ◌+◌, ◌<◌, Bool, true, false, List, [], ◌∷◌, ◌++◌, ap, sym, refl, ◌∙◌, arith, length, get_or, take, drop}
+use Rattle.std.proofs.Common.{◌≡◌, subst, ℕ, suc, ◌+◌, ◌<◌, Bool, true, false, List, [], ◌∷◌, ◌++◌, ap, sym, refl, ◌∙◌, length, get_or, take, drop}
 use Rattle.std.proofs.lemmas.Bool.{and_from, and_left, and_right}
 use Rattle.std.proofs.lemmas.List.{append-nil, append_assoc, take-append-drop}
 use Rattle.std.proofs.lemmas.Grind.{take_at_read}
 use Rattle.std.proofs.Math.Seq.{drop-cons}
 use Rattle.std.proofs.Math.Bool.{and_assoc, and-true}
 use Rattle.std.proofs.lemmas.List.Folds.{list_all-append}
-use Rattle.std.specs.Prelude.{◌&&◌, if◌then◌else◌, Option, Some, None}
-use Rattle.std.specs.List.{list_all}
+use Rattle.std.specs.Prelude.{◌&&◌, if◌then◌else◌, Some, None}
 use Rattle.flt_model.specs.declared.event.Event.{Event}
-use Rattle.flt_model.specs.declared.verdict.Violation.{Violation}
 use Rattle.flt_model.specs.declared.verdict.Violation.TheVariants.{V1, V2, V3}
 use Rattle.flt_model.specs.Violations.{along, is_fresh, leaks_nothing, is_first_settling, no_stale_use, no_leak, settled_once}
 use Rattle.flt_model.specs.World.{World}
 use Rattle.flt_replay.specs.Apart.{is_apart, are_apart}
-use Rattle.flt_replay.specs.Counts.{count, occurs}
 use Rattle.flt_replay.specs.Ledger.{Tally, Tells, IsCounted, Noted, Judged, first_broken}
 
 module _ (test : List Event → Event → Bool) where

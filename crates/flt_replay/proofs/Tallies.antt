@@ -1,5 +1,5 @@
 -- What a ledger's counts say of a trace: what is held, what is live, and that an activation has let everything go.
-use Rattle.std.proofs.Common.{◌≡◌, ◌≢◌, ◌⊎◌, ⊎_elim, subst, ℕ, zero, suc, ◌+◌, ◌<◌, ◌≤◌, Bool, true, false, List, [], ◌∷◌, ◌++◌, ap, sym, refl, ◌∙◌, arith, length}
+use Rattle.std.proofs.Common.{◌≡◌, ◌≢◌, ⊎_elim, subst, ℕ, ◌+◌, ◌<◌, ◌≤◌, Bool, true, false, List, [], ◌∷◌, ap, sym, refl, ◌∙◌, arith}
 use Rattle.std.proofs.lemmas.Bool.{cases_eq, cases_Bool, both_ways, and_from, and_parts, false_from_ne_true, true≢false, ltb-true, ltb-false}
 use Rattle.std.proofs.lemmas.Bool.Decides.{nat_tests}
 use Rattle.std.proofs.lemmas.List.Sums.{sum_by-cons}
@@ -9,7 +9,7 @@ use Rattle.flt_model.specs.declared.event.Event.{Event}
 use Rattle.flt_model.specs.declared.event.Event.TheVariants as event
 use Rattle.flt_model.specs.declared.event.Object.{Object}
 use Rattle.flt_model.specs.declared.event.Object.TheVariants.{Context, Visit}
-use Rattle.flt_model.specs.Trace.{one_if, of_actor, gains, loses, gain, lose, is_held, same_object, frees}
+use Rattle.flt_model.specs.Trace.{one_if, of_actor, gains, loses, gain, is_held}
 use Rattle.flt_model.specs.Violations.{is_live, is_let_go, leaks_nothing}
 use Rattle.flt_replay.proofs.Ones.{one_elsewhere, actor_none}
 use Rattle.flt_replay.specs.Counts.{count, count_of}

@@ -1,4 +1,4 @@
-use Rattle.std.proofs.Common.{List, [], ◌∷◌, ◌++◌, take, get_or, subst, sym}
+use Rattle.std.proofs.Common.{List, [], ◌∷◌, take, get_or, subst, sym}
 use Rattle.std.proofs.lemmas.Grind.{take_at_read}
 use Rattle.flt_rules.specs.declared.call.Call.TheVariants.{AllocateContext}
 use Rattle.flt_model.specs.declared.event.Event.{Event}

@@ -1,4 +1,4 @@
-use Rattle.std.proofs.Common.{◌≡◌, ℕ, false, get_or, subst, sym, ◌∙◌}
+use Rattle.std.proofs.Common.{◌≡◌, false, get_or, subst, sym, ◌∙◌}
 use Rattle.flt_replay.proofs.Holders.{gained_first, gained_again}
 use Rattle.flt_replay.specs.Counts.{count_of}
 use Rattle.flt_replay.specs.Ledger.{Tally, Turned, is_without}

@@ -1,4 +1,4 @@
-use Rattle.std.proofs.Common.{◌≡◌, ℕ, List, IsTrue, ◌↔◌, subst, sym, ap, ◌∙◌}
+use Rattle.std.proofs.Common.{◌≡◌, ℕ, IsTrue, ◌↔◌, subst, sym, ap, ◌∙◌}
 use Rattle.flt_model.specs.Violations.{leaks_nothing}
 use Rattle.flt_replay.proofs.Tallies.{leaks_nothing_is}
 use Rattle.flt_replay.specs.Counts.{count_of}

@@ -1,6 +1,5 @@
 use Rattle.std.proofs.Common.{◌≡◌, true, subst, sym}
 use Rattle.flt_model.specs.declared.event.Event.{Event}
-use Rattle.flt_model.specs.declared.event.Event.TheVariants.{Lose, Free}
 use Rattle.flt_model.specs.Violations.{is_fresh}
 use Rattle.flt_replay.proofs.Noting.{held_if_fresh, noted_other}
 use Rattle.flt_replay.specs.Ledger.{Noted}

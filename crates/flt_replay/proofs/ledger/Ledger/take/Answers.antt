@@ -1,4 +1,4 @@
-use Rattle.std.proofs.Common.{◌≡◌, List, ℕ, sym, ap, ◌∙◌}
+use Rattle.std.proofs.Common.{sym, ap, ◌∙◌}
 use Rattle.std.specs.List.{list_all}
 use Rattle.flt_replay.proofs.Concluding.{concluded, refuted}
 use Rattle.flt_replay.specs.Ledger.{owns_any}

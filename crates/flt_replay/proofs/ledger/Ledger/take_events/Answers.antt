@@ -1,4 +1,4 @@
-use Rattle.std.proofs.Common.{◌≡◌, ◌++◌, sym, ◌∙◌, take}
+use Rattle.std.proofs.Common.{◌++◌, sym, ◌∙◌, take}
 use Rattle.flt_rules.specs.declared.call.Call.TheVariants.{AllocateContext}
 use Rattle.flt_model.specs.declared.event.Event.TheVariants.{Call}
 use Rattle.flt_replay.proofs.Taking.{judged_at, stale_at}
