@@ -100,10 +100,10 @@ module _ (s : BTreeSet (ℕ × ℕ × ℕ)) (i j : ℕ) (r : List (ℕ × ℕ ×
     unfolding has
     none_past other c =
         false_where_absurd _ (λ is_in.
-        let m = to_each c is_in in
-        let n = from_start in
-        let e : p.0 ≡ i = omega (arith, m.first, n.first) in
-        other e (omega (arith, m.second e, n.second (sym e))))
+            let m = to_each c is_in in
+            let n = from_start in
+            let e : p.0 ≡ i = omega (arith, m.first, n.first) in
+            other e (omega (arith, m.second e, n.second (sym e))))
 
   pub none_left : r ≡ [] → (c : ℕ) → has s i j c ≡ false
   unfolding has

@@ -14,7 +14,9 @@ ghost use Rattle.flt_replay.specs.Writes.{written, later};
 
 use crate::activation::{Activation, Write};
 use crate::linked::Contexts;
-use crate::parts::{Actor, Arrival, Entry, Item, Link, Position, Presence, Route, Standing, Visit};
+use crate::parts::{
+    Actor, Arrival, Entry, Item, Link, Position, Presence, Route, Standing, Visit,
+};
 use crate::waiting_list::Waiting;
 use flt_rules::{LockNumber, Mode, Operation, Place, Stage};
 use flt_syntax::{Atom, ContextVariable, OperationVariable, Statement};
