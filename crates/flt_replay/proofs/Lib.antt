@@ -9,6 +9,7 @@ pub mod Following
 pub mod Frames
 pub mod Handing
 pub mod Holders
+pub mod Ledgers
 pub mod LocalFrames
 pub mod LocalLaws
 pub mod MoveCases

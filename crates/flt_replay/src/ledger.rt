@@ -291,9 +291,9 @@ impl Ledger {
         }
     }
 
-    #[tactic(auto, using(crate::proofs::Taking::judged_all))]
     /// Takes in events, up to one that touches something stale, and lists the visits that they name. The answer is the least of
     /// the first three violations that they break.
+    #[tactic(auto, using(crate::proofs::Taking::judged_all))]
     fn take_events(
         &mut self,
         alloc: Global,
@@ -319,7 +319,6 @@ impl Ledger {
         Ok(kept.broken())
     }
 
-    #[tactic(auto, using(crate::proofs::Concluding::joined_is))]
     fn activations(&self) -> usize
         ensures { result ≡ length self.now.running }
     {
