@@ -129,7 +129,7 @@ impl<'a> World<'a> {
     {
         events.push(Event::Call(a, Call::AllocateContext))?;
         if grant {
-            let number = self.contexts.len();
+            let number = self.context_count();
             self.go_on(a, to.granted, Write::Output(Some(d), Some(number)))?;
             let _ = self.add_context(self.filter(a))?;
             events.push(Event::Gain(a, Object::Context(number)))?;

@@ -1,384 +1,460 @@
-//! The ledger: all events so far, from which it is counted who holds what.
+//! What the events so far say, in running counts: who holds what, what is freed and what is settled. So it is told of an event
+//! whether it breaks something without a look at the events before it.
 
-ghost use Rattle.std.specs.Prelude.{◌≡◌, ◌≤◌, ◌&&◌, sum_by, List, None, IfOk};
+ghost use Rattle.std.specs.Prelude.{◌≡◌, ◌+◌, ℕ, ◌<◌, true, false, List, [], ◌∷◌, ◌++◌, length, nat_lt, ◌&&◌, if◌then◌else◌, Some, None, get_or, set, OnOk, IfOk, ◌↔◌, IsTrue};
 ghost use Rattle.std.specs.List.{list_all};
+ghost use Rattle.flt_syntax.specs.declared.filter.Filter.{Filter};
 ghost use Rattle.flt_model.specs.Effects.{Step};
 ghost use Rattle.flt_model.specs.Runs.{Moment, start, after};
 ghost use Rattle.flt_model.specs.Steps.{Transition};
-ghost use Rattle.flt_model.specs.Trace as trace;
-ghost use Rattle.flt_model.specs.Violations as spec;
-ghost use Rattle.flt_model.specs.World.{Activation};
 ghost use Rattle.flt_replay.specs.Judging.{Follows, first_of, of_holding};
-ghost use Rattle.flt_replay.specs.Ledger.{Agrees, PutSoFar, tally};
-ghost use Rattle.flt_syntax.specs.declared.filter.Filter.{Filter};
+ghost use Rattle.flt_model.specs.Trace.{is_held, one_if, of_actor};
+ghost use Rattle.flt_model.specs.declared.event.Event.{Event};
+ghost use Rattle.flt_model.specs.declared.event.Event.TheVariants.{Gain, Lose, Free, Settle};
+ghost use Rattle.flt_model.specs.declared.verdict.Violation.TheVariants.{V1, V2, V3, V4};
+ghost use Rattle.flt_model.specs.World as machine;
+ghost use Rattle.flt_model.specs.Violations as rules;
+ghost use Rattle.flt_replay.specs.Counts.{count, count_of, occurs};
+ghost use Rattle.flt_replay.specs.Ledger as spec;
 
-use crate::parts::{Entry, Item};
 use crate::world::World;
 use flt_model::{Event, Object, Violation};
-use sqlite_items::Items;
 use std::alloc::{AllocError, Global};
 use std::marker::Model;
 
-// ---- counts
+pub(crate) mod counts;
+mod rows;
 
-/// What is counted of a trace.
-#[derive(Clone, Copy)]
-enum Counted {
-    /// How often an activation gained an object.
-    Gains(usize, Object),
-    /// How often it lost it.
-    Losses(usize, Object),
-    /// How often a context was freed.
-    Frees(usize),
-    /// How often a visit was settled.
-    Settlings(usize),
-}
+use counts::Counts;
+use rows::Rows;
 
-#[tactic(auto, unfolding(flt_model::specs::Trace::one_if))]
-fn one_if(number: usize, other: usize) -> usize
-    ensures value { result ≡ trace.one_if number other }
-    ensures within { result ≤ 1 }
-{
-    if number == other { 1 } else { 0 }
-}
-
-fn same_object(object: Object, other: Object) -> usize
-    ensures value { result ≡ trace.same_object object other }
-    ensures within { result ≤ 1 }
-{
-    match (object, other) {
-        (Object::Context(number), Object::Context(other)) => one_if(number, other),
-        (Object::Visit(number), Object::Visit(other)) => one_if(number, other),
-        _ => 0,
-    }
-}
-
-#[tactic(auto, unfolding(flt_model::specs::Trace::of_actor))]
-fn of_actor(a: usize, b: usize, count: usize) -> usize
-    ensures value { result ≡ trace.of_actor a b count }
-    ensures within { result ≤ count }
-{
-    if a == b { count } else { 0 }
-}
-
-fn tally(counted: Counted, event: Event) -> usize
-    ensures value { result ≡ tally counted event }
-    ensures within { result ≤ 1 }
-{
-    match (counted, event) {
-        (Counted::Gains(a, object), Event::Gain(b, gained)) => {
-            of_actor(b, a, same_object(gained, object))
-        }
-        (Counted::Losses(a, object), Event::Lose(b, lost)) => {
-            of_actor(b, a, same_object(lost, object))
-        }
-        (Counted::Frees(context), Event::Free(freed)) => one_if(freed, context),
-        (Counted::Settlings(visit), Event::Settle(settled)) => one_if(settled, visit),
-        _ => 0,
-    }
-}
-
-fn count(events: &[Event], counted: Counted) -> usize
-    ensures { result ≡ sum_by (tally counted) events.now }
-{
-    let mut total: usize = 0;
-    for event in events {
-        total += tally(counted, *event);
-    }
-    total
-}
-
-/// Whether the activation gained the object more often than it lost it.
-#[tactic(auto, unfolding(flt_model::specs::Trace::gains, flt_model::specs::Trace::loses, flt_model::specs::Trace::is_held))]
-fn is_held(events: &[Event], a: usize, object: Object) -> bool
-    ensures { result ≡ trace.is_held events.now a object }
-{
-    count(events, Counted::Losses(a, object)) < count(events, Counted::Gains(a, object))
-}
-
-// ---- no stale use
-
-#[tactic(auto, unfolding(flt_model::specs::Trace::frees, flt_model::specs::Violations::is_live))]
-fn is_live(events: &[Event], object: Object) -> bool
-    ensures { result ≡ spec.is_live events.now object }
-{
-    match object {
-        Object::Context(context) => count(events, Counted::Frees(context)) == 0,
-        Object::Visit(_) => true,
-    }
-}
-
-/// Whether a context is of the activation's own filter.
-fn is_own(world: &World<'_>, a: usize, object: Object) -> bool
-    ensures { result ≡ spec.is_own world.now a object }
-{
-    match object {
-        Object::Context(context) => world.owner(context) == world.filter(a),
-        Object::Visit(_) => true,
-    }
-}
-
-/// Whether the event touches nothing stale.
-fn is_fresh(world: &World<'_>, events: &[Event], event: Event) -> bool
-    ensures { result ≡ spec.is_fresh world.now events.now event }
-{
-    match event {
-        Event::Use(a, object) => {
-            is_held(events, a, object) && (is_live(events, object) && is_own(world, a, object))
-        }
-        Event::Lose(a, object) => {
-            is_held(events, a, object) && (is_live(events, object) && is_own(world, a, object))
-        }
-        Event::Gain(a, object) => is_live(events, object) && is_own(world, a, object),
-        Event::Empty(_) => false,
-        _ => true,
-    }
-}
-
-// ---- no leak
-
-/// The context of an event, if it gained one, isn't held by the activation.
-fn is_let_go(events: &[Event], a: usize, event: Event) -> bool
-    ensures { result ≡ spec.is_let_go events.now a event }
-{
-    match event {
-        Event::Gain(_, Object::Context(context)) => !is_held(events, a, Object::Context(context)),
-        _ => true,
-    }
-}
-
-fn lets_all_go(events: &[Event], a: usize) -> bool
-    ensures { result ≡ list_all (spec.is_let_go events.now a) events.now }
-{
-    events.iter().all(|event| is_let_go(events, a, *event))
-}
-
-/// At its end an activation has let everything go.
-fn leaks_nothing(events: &[Event], event: Event) -> bool
-    ensures { result ≡ spec.leaks_nothing events.now event }
-{
-    match event {
-        Event::End(a) => lets_all_go(events, a),
-        _ => true,
-    }
-}
-
-// ---- settled once
-
-#[tactic(auto, unfolding(flt_model::specs::Trace::settles))]
-fn is_first_settling(events: &[Event], event: Event) -> bool
-    ensures { result ≡ spec.is_first_settling events.now event }
-{
-    match event {
-        Event::Settle(visit) => count(events, Counted::Settlings(visit)) == 0,
-        _ => true,
-    }
-}
-
-// ---- one owner
-
-/// 1 where the activation goes on and holds the visit.
-#[tactic(auto, unfolding(flt_model::specs::Violations::holding))]
-fn holding(events: &[Event], visit: usize, a: usize, ended: bool) -> usize
-    ensures value { (act : Activation) → ended ≡ act.ended → result ≡ spec.holding events.now visit a act }
-    ensures within { result ≤ 1 }
-{
-    if !ended && is_held(events, a, Object::Visit(visit)) {
-        1
-    } else {
-        0
-    }
-}
-
-/// How many activations hold the visit.
-#[tactic(auto, using(crate::proofs::Ledgers::holders_more))]
-fn holders(world: &World<'_>, events: &[Event], visit: usize) -> usize
-    ensures { result ≡ spec.holders_from events.now visit 0 world.now.activations }
-{
-    let mut total: usize = 0;
-    for a in 0..world.activations.len() {
-        total += holding(events, visit, a, world.has_ended(a));
-    }
-    total
-}
-
-/// How many entries of a queue have the visit.
-#[tactic(auto, unfolding(flt_model::specs::Violations::in_queue))]
-fn in_queue(visit: usize, queue: &[Entry]) -> usize
-    ensures { result ≡ spec.in_queue visit queue.now }
-{
-    let mut total: usize = 0;
-    for entry in queue {
-        total += one_if(entry.visit, visit);
-    }
-    total
-}
-
-/// How many entries of all queues have the visit, which is a number that no journal in memory reaches the end of.
-fn in_queues(visit: usize, queues: &[Items<Entry>]) -> Result<usize, AllocError>
-    ensures { IfOk result (λ n. n ≡ sum_by (spec.in_queue visit) queues.now) }
-{
-    let mut total: usize = 0;
-    for queue in queues {
-        match total.checked_add(in_queue(visit, queue.as_slice())) {
-            Some(sum) => total = sum,
-            None => return Err(AllocError),
-        }
-    }
-    Ok(total)
-}
-
-/// 1 where a work item has the visit.
-fn in_item(visit: usize, item: &Option<Item>) -> usize
-    ensures value { result ≡ spec.in_item visit item.now }
-    ensures within { result ≤ 1 }
-{
-    match item {
-        None => 0,
-        Some(item) => match item.visit {
-            None => 0,
-            Some(other) => one_if(other, visit),
-        },
-    }
-}
-
-/// How many work items have the visit.
-fn in_items(visit: usize, items: &[Option<Item>]) -> usize
-    ensures { result ≡ sum_by (spec.in_item visit) items.now }
-{
-    let mut total: usize = 0;
-    for item in items {
-        total += in_item(visit, item);
-    }
-    total
-}
-
-/// How many activations, entries and work items have the visit.
-#[tactic(auto, unfolding(flt_model::specs::Violations::owners))]
-fn owners(world: &World<'_>, events: &[Event], visit: usize) -> Result<usize, AllocError>
-    ensures { IfOk result (λ n. n ≡ spec.owners world.now events.now visit) }
-{
-    let held = holders(world, events, visit);
-    let queued = in_queues(visit, world.queues.as_slice())?;
-    let deferred = in_items(visit, world.items.as_slice());
-    match held.checked_add(queued) {
-        Some(sum) => sum.checked_add(deferred).ok_or(AllocError),
-        None => Err(AllocError),
-    }
-}
-
-/// Whether a visit has one owner while it is unsettled, and none after.
-fn is_owned(world: &World<'_>, events: &[Event], visit: usize) -> Result<bool, AllocError>
-    ensures { IfOk result (λ b. b ≡ spec.is_owned world.now events.now visit) }
-{
-    let count = owners(world, events, visit)?;
-    Ok(count == if world.is_settled(visit) { 0 } else { 1 })
-}
-
-fn one_owner(world: &World<'_>, events: &[Event]) -> Result<bool, AllocError>
-    ensures { IfOk result (λ b. b ≡ spec.one_owner world.now events.now) }
-{
-    let mut kept = true;
-    for visit in 0..world.visits.len() {
-        let here = is_owned(world, events, visit)?;
-        kept = here && kept;
-    }
-    Ok(kept)
-}
-
-// ---- the events of a step
-
-/// Whether the events so far keep the first three rules.
-#[derive(Clone, Copy)]
-struct Kept {
-    nothing_stale: bool,
-    nothing_leaked: bool,
-    settled_once: bool,
-}
-
-impl Kept {
-    /// With one event more, after a trace. The world is the one after the step.
-    fn with(self, world: &World<'_>, trace: &[Event], event: Event) -> Kept
-        ensures stale { result.nothing_stale ≡ (self.nothing_stale && spec.is_fresh world.now trace.now event) }
-        ensures leaked { result.nothing_leaked ≡ (self.nothing_leaked && spec.leaks_nothing trace.now event) }
-        ensures settled { result.settled_once ≡ (self.settled_once && spec.is_first_settling trace.now event) }
-    {
-        Kept {
-            nothing_stale: self.nothing_stale && is_fresh(world, trace, event),
-            nothing_leaked: self.nothing_leaked && leaks_nothing(trace, event),
-            settled_once: self.settled_once && is_first_settling(trace, event),
-        }
-    }
-}
-
-/// Puts the events of a step after a trace.
-fn put(trace: &mut Vec<Event>, world: &World<'_>, events: &[Event]) -> Result<Kept, AllocError>
-    ensures { IfOk result (λ k. PutSoFar world.now trace.old.items trace.new.items events.now k.nothing_stale k.nothing_leaked k.settled_once) }
-{
-    let mut kept = Kept {
-        nothing_stale: true,
-        nothing_leaked: true,
-        settled_once: true,
-    };
-    for event in events {
-        kept = kept.with(world, trace.as_slice(), *event);
-        trace.push(*event)?;
-    }
-    Ok(kept)
-}
-
-/// All events so far.
 #[derive(Drop)]
 pub(crate) struct Ledger {
-    events: Vec<Event>,
+    /// How often each activation holds each context.
+    contexts: Rows,
+    /// The same of each visit.
+    visits: Rows,
+    /// How often each context was freed.
+    freed: Counts,
+    /// How often each visit was settled.
+    settled: Counts,
+    /// By activation, whether it goes on.
+    running: Vec<bool>,
+    /// How many of those that go on hold each visit.
+    holders: Counts,
 }
 
 impl Model for Ledger {
-    ghost use Rattle.std.specs.Prelude.{List};
-    ghost use Rattle.flt_model.specs.declared.event.Event.{Event};
+    ghost use Rattle.flt_replay.specs.Ledger.{Tally};
 
-    ghost Value = { List Event };
+    ghost Value = { Tally };
 
-    ghost view = { λ l. l.events.items };
+    ghost view = { λ l. record { contexts = l.contexts; visits = l.visits; freed = l.freed; settled = l.settled; running = l.running.items; holders = l.holders } };
+}
+
+/// What the events of a step have kept so far.
+#[derive(Clone, Copy)]
+struct Kept {
+    /// No activation ended that still held a context.
+    tight: bool,
+    /// No visit was settled again.
+    once: bool,
+}
+
+impl Kept {
+    fn broken(self) -> Option<Violation>
+        ensures { result ≡ (if self.tight then (if self.once then None else Some V3) else Some V2) }
+    {
+        if !self.tight {
+            Some(Violation::V2)
+        } else if !self.once {
+            Some(Violation::V3)
+        } else {
+            None
+        }
+    }
+}
+
+/// Whether a context is the activation's own filter's.
+fn is_own(world: &World<'_>, activation: usize, object: Object) -> bool
+    ensures { result ≡ rules.is_own world.now activation object }
+{
+    match object {
+        Object::Context(context) => world.owner(context) == world.filter(activation),
+        Object::Visit(_) => true,
+    }
 }
 
 impl Ledger {
-    /// Nothing has happened.
-    pub(crate) fn new(alloc: Global) -> Ledger
-        ensures { (p : List Filter) → Agrees (start p) result }
+    fn times_held(&self, activation: usize, object: Object) -> u64
+        ensures { result ≡ spec.held self.now activation object }
     {
-        Ledger {
-            events: Vec::new(alloc),
+        match object {
+            Object::Context(context) => self.contexts.count(activation, context),
+            Object::Visit(visit) => self.visits.count(activation, visit),
         }
     }
 
     /// Whether the activation gained the object more often than it lost it.
-    pub(crate) fn holds(&self, a: usize, object: Object) -> bool
-        ensures { (m : Moment) → Agrees m self.now → result ≡ trace.is_held m.trace a object }
+    #[tactic(auto, using(crate::proofs::Tallies::held_is))]
+    pub(crate) fn holds(&self, activation: usize, object: Object) -> bool
+        ensures told { (t : List Event) → spec.Tells t self.now → result ≡ is_held t activation object }
+        ensures at_moment { (m : Moment) → spec.Agrees m self.now → result ≡ is_held m.trace activation object }
     {
-        is_held(self.events.as_slice(), a, object)
+        self.times_held(activation, object) > 0
     }
 
-    /// Takes a step in, and says which of the first four violations is the least that it breaks. The world is the one after it.
+    /// Whether the object isn't a context that was freed.
+    #[tactic(auto, using(crate::proofs::Tallies::live_is, crate::proofs::Tallies::live_visit))]
+    fn is_live(&self, object: Object) -> bool
+        ensures { (t : List Event) → spec.Tells t self.now → result ≡ rules.is_live t object }
+    {
+        match object {
+            Object::Context(context) => self.freed.count(context) == 0,
+            Object::Visit(_) => true,
+        }
+    }
+
+    /// Whether an event touches nothing stale.
+    fn is_fresh(&self, world: &World<'_>, event: Event) -> bool
+        ensures { (t : List Event) → spec.Tells t self.now → result ≡ rules.is_fresh world.now t event }
+    {
+        match event {
+            Event::Use(a, object) | Event::Lose(a, object) => {
+                self.holds(a, object) && self.is_live(object) && is_own(world, a, object)
+            }
+            Event::Gain(a, object) => self.is_live(object) && is_own(world, a, object),
+            Event::Empty(_) => false,
+            _ => true,
+        }
+    }
+
+    /// Whether no activation ends here that still holds a context.
+    #[tactic(auto, using(crate::proofs::Tallies::leaks_nothing_is))]
+    fn leaks_nothing(&self, event: Event) -> bool
+        ensures { (t : List Event) → spec.Tells t self.now → result ≡ rules.leaks_nothing t event }
+    {
+        match event {
+            Event::End(a) => self.contexts.is_empty(a),
+            _ => true,
+        }
+    }
+
+    /// Whether no visit is settled again.
+    fn is_first_settling(&self, event: Event) -> bool
+        ensures { (t : List Event) → spec.Tells t self.now → result ≡ rules.is_first_settling t event }
+    {
+        match event {
+            Event::Settle(visit) => self.settled.count(visit) == 0,
+            _ => true,
+        }
+    }
+
+    fn is_running(&self, activation: usize) -> bool
+        ensures { result ≡ get_or self.now.running activation false }
+    {
+        match self.running.get(activation) {
+            Some(running) => *running,
+            None => false,
+        }
+    }
+
+    /// Whether the activation goes on and doesn't hold the visit.
+    fn is_without(&self, activation: usize, visit: usize) -> bool
+        ensures { result ≡ spec.is_without (get_or self.now.running activation false) (count_of self.now.visits activation visit) }
+    {
+        self.visits.count(activation, visit) == 0 && self.is_running(activation)
+    }
+
+    /// An activation holds a visit once more.
+    #[tactic(auto, using(crate::proofs::Holders::gained_first, crate::proofs::Holders::gained_again))]
+    fn gain_visit(&mut self, alloc: Global, a: usize, visit: usize) -> Result<(), AllocError>
+        ensures visits { OnOk result ((b v : ℕ) → count_of self.new.visits b v ≡ count_of self.old.visits b v + of_actor a b (one_if visit v)) }
+        ensures turned { OnOk result (spec.Turned self.old self.new) }
+    {
+        let first = self.is_without(a, visit);
+        self.visits.add(alloc, a, visit)?;
+        if !first {
+            return Ok(());
+        }
+        self.holders.add(visit)?;
+        Ok(())
+    }
+
+    /// An activation holds a visit once less.
+    #[tactic(auto, using(crate::proofs::Holders::lost_last, crate::proofs::Holders::lost_one, crate::proofs::Holders::some_holder))]
+    fn lose_visit(&mut self, a: usize, visit: usize)
+        ensures visits { 0 < count_of self.old.visits a visit → (b v : ℕ) → count_of self.old.visits b v ≡ count_of self.new.visits b v + of_actor a b (one_if visit v) }
+        ensures turned { 0 < count_of self.old.visits a visit → spec.IsCounted self.old → spec.Turned self.old self.new }
+    {
+        self.visits.take(a, visit);
+        if !self.is_without(a, visit) {
+            return;
+        }
+        self.holders.take(visit);
+    }
+
+    /// Takes in that an activation gained an object, and lists the visit that it may be.
+    fn gain(
+        &mut self,
+        alloc: Global,
+        a: usize,
+        object: Object,
+        touched: &mut Vec<usize>,
+    ) -> Result<(), AllocError>
+        ensures { OnOk result ((t : List Event) → spec.Tells t self.old → spec.IsCounted self.old → spec.Noted t (Gain a object) self.old self.new touched.old.items touched.new.items) }
+    {
+        match object {
+            Object::Context(context) => {
+                self.contexts.add(alloc, a, context)?;
+                Ok(())
+            }
+            Object::Visit(visit) => {
+                touched.push(visit)?;
+                self.gain_visit(alloc, a, visit)?;
+                Ok(())
+            }
+        }
+    }
+
+    /// Takes in that an activation lost an object that it holds, and lists the visit that it may be.
+    fn lose(&mut self, a: usize, object: Object, touched: &mut Vec<usize>) -> Result<(), AllocError>
+        ensures { OnOk result ((t : List Event) → spec.Tells t self.old → spec.IsCounted self.old → 0 < spec.held self.old a object → spec.Noted t (Lose a object) self.old self.new touched.old.items touched.new.items) }
+    {
+        match object {
+            Object::Context(context) => {
+                self.contexts.take(a, context);
+                Ok(())
+            }
+            Object::Visit(visit) => {
+                touched.push(visit)?;
+                self.lose_visit(a, visit);
+                Ok(())
+            }
+        }
+    }
+
+    /// Takes in that a context was freed.
+    fn free(&mut self, context: usize) -> Result<(), AllocError>
+        ensures { OnOk result ((t : List Event) (was : List ℕ) → spec.Tells t self.old → spec.IsCounted self.old → spec.Noted t (Free context) self.old self.new was was) }
+    {
+        self.freed.add(context)?;
+        Ok(())
+    }
+
+    /// Takes in that a visit was settled, and lists it.
+    fn settle(&mut self, visit: usize, touched: &mut Vec<usize>) -> Result<(), AllocError>
+        ensures { OnOk result ((t : List Event) → spec.Tells t self.old → spec.IsCounted self.old → spec.Noted t (Settle visit) self.old self.new touched.old.items touched.new.items) }
+    {
+        touched.push(visit)?;
+        self.settled.add(visit)?;
+        Ok(())
+    }
+
+    /// Takes in an event that touches nothing stale, and lists the visit that it may name.
+    fn note(
+        &mut self,
+        alloc: Global,
+        event: Event,
+        touched: &mut Vec<usize>,
+    ) -> Result<(), AllocError>
+        ensures { OnOk result ((t : List Event) (w : machine.World) → spec.Tells t self.old → spec.IsCounted self.old → rules.is_fresh w t event ≡ true → spec.Noted t event self.old self.new touched.old.items touched.new.items) }
+    {
+        match event {
+            Event::Gain(a, object) => {
+                self.gain(alloc, a, object, touched)?;
+                Ok(())
+            }
+            Event::Lose(a, object) => {
+                self.lose(a, object, touched)?;
+                Ok(())
+            }
+            Event::Free(context) => {
+                self.free(context)?;
+                Ok(())
+            }
+            Event::Settle(visit) => {
+                self.settle(visit, touched)?;
+                Ok(())
+            }
+            _ => Ok(()),
+        }
+    }
+
+    /// What an event keeps beside those before it.
+    fn also(&self, event: Event, before: Kept) -> Kept
+        ensures { (t : List Event) → spec.Tells t self.now → (result.tight ≡ (before.tight && rules.leaks_nothing t event)) × (result.once ≡ (before.once && rules.is_first_settling t event)) }
+    {
+        Kept {
+            tight: before.tight && self.leaks_nothing(event),
+            once: before.once && self.is_first_settling(event),
+        }
+    }
+
+    /// Takes in events, up to one that touches something stale, and lists the visits that they name. The answer is the least of
+    /// the first three violations that they break.
+    #[tactic(auto, using(crate::proofs::Taking::judged_all))]
+    fn take_events(
+        &mut self,
+        alloc: Global,
+        world: &World<'_>,
+        events: &[Event],
+        touched: &mut Vec<usize>,
+    ) -> Result<Option<Violation>, AllocError>
+        ensures first { IfOk result (λ found. (t : List Event) → spec.Tells t self.old → spec.IsCounted self.old → found ≡ spec.first_broken world.now t events.now) }
+        ensures taken { IfOk result (λ found. found ≡ None → (t : List Event) → spec.Tells t self.old → spec.IsCounted self.old → spec.Judged world.now t events.now self.old self.new touched.old.items touched.new.items true true) }
+    {
+        let mut kept = Kept {
+            tight: true,
+            once: true,
+        };
+        for event in events {
+            if !self.is_fresh(world, *event) {
+                return Ok(Some(Violation::V1));
+            }
+            let next = self.also(*event, kept);
+            self.note(alloc, *event, touched)?;
+            kept = next;
+        }
+        Ok(kept.broken())
+    }
+
+    fn activations(&self) -> usize
+        ensures { result ≡ length self.now.running }
+    {
+        self.running.len()
+    }
+
+    fn set_ended(&mut self, a: usize)
+        ensures { self.new ≡ record self.old { running = set self.old.running a false } }
+    {
+        if let Some(running) = self.running.get_mut(a) {
+            *running = false;
+        }
+    }
+
+    /// An activation goes on no more. The visits that it holds are listed.
+    fn stop(&mut self, alloc: Global, a: usize, touched: &mut Vec<usize>) -> Result<(), AllocError>
+        ensures { OnOk result (spec.Stopped a self.old self.new touched.old.items touched.new.items) }
+    {
+        let visits = self.visits.numbers(alloc, a)?;
+        touched.extend_from_slice(visits.as_slice())?;
+        if !self.is_running(a) {
+            return Ok(());
+        }
+        self.holders.take_each(visits.as_slice());
+        self.set_ended(a);
+        Ok(())
+    }
+
+    /// One activation more is there, and goes on.
+    fn begin(&mut self, alloc: Global) -> Result<(), AllocError>
+        ensures { OnOk result (spec.Started self.old self.new) }
+    {
+        let visits = self.visits.numbers(alloc, self.activations())?;
+        self.running.push(true)?;
+        self.holders.add_each(visits.as_slice())?;
+        Ok(())
+    }
+
+    /// A step makes no more than one activation.
+    #[tactic(auto, using(crate::proofs::Following::joined_one, crate::proofs::Following::joined_none))]
+    fn follow_new(&mut self, alloc: Global, world: &World<'_>) -> Result<(), AllocError>
+        ensures { OnOk result (spec.Joined (length world.now.activations) self.old self.new) }
+    {
+        if self.activations() >= world.activations.len() {
+            return Ok(());
+        }
+        self.begin(alloc)?;
+        Ok(())
+    }
+
+    fn follow_end(
+        &mut self,
+        alloc: Global,
+        event: Event,
+        touched: &mut Vec<usize>,
+    ) -> Result<(), AllocError>
+        ensures { OnOk result (spec.Halted (event ∷ []) self.old self.new touched.old.items touched.new.items) }
+    {
+        match event {
+            Event::End(a) => {
+                self.stop(alloc, a, touched)?;
+                Ok(())
+            }
+            _ => Ok(()),
+        }
+    }
+
+    /// Takes in which activations end, and lists the visits that they hold.
+    fn follow_ends(
+        &mut self,
+        alloc: Global,
+        events: &[Event],
+        touched: &mut Vec<usize>,
+    ) -> Result<(), AllocError>
+        ensures { OnOk result (spec.Halted events.now self.old self.new touched.old.items touched.new.items) }
+    {
+        for event in events {
+            self.follow_end(alloc, *event, touched)?;
+        }
+        Ok(())
+    }
+
+    /// Whether a visit has one owner while it is unsettled, and none after.
+    fn owns(&self, world: &World<'_>, visit: usize) -> bool
+        ensures { result ≡ spec.owns self.now world.now visit }
+    {
+        let due = if world.is_settled(visit) { 0 } else { 1 };
+        match self.holders.count(visit).checked_add(world.waiting(visit)) {
+            Some(owners) => owners == due,
+            None => false,
+        }
+    }
+
+    fn owns_each(&self, world: &World<'_>, visits: &[usize]) -> bool
+        ensures { result ≡ list_all (spec.owns_any self.now world.now) visits.now }
+    {
+        let known = world.visits.len();
+        visits
+            .iter()
+            .all(|visit| *visit >= known || self.owns(world, *visit))
+    }
+
+    pub(crate) fn new(alloc: Global) -> Ledger
+        ensures { (p : List Filter) → spec.Agrees (start p) result }
+    {
+        Ledger {
+            contexts: Rows::new(alloc),
+            visits: Rows::new(alloc),
+            freed: Counts::new(alloc),
+            settled: Counts::new(alloc),
+            running: Vec::new(alloc),
+            holders: Counts::new(alloc),
+        }
+    }
+
+    /// Takes in the events of a step, which led to the world. The answer is the least of the first four violations that they
+    /// break; after one the counts say nothing.
     pub(crate) fn take(
         &mut self,
+        alloc: Global,
         world: &World<'_>,
         events: &[Event],
     ) -> Result<Option<Violation>, AllocError>
-        ensures { IfOk result (λ found. (p : List Filter) (m : Moment) (x : Transition) (s : Step) → Agrees m self.old → Follows p m x s world.now events.now → (found ≡ first_of of_holding p m s) × (found ≡ None → Agrees (after m s) self.new)) }
+        ensures { IfOk result (λ found. (p : List Filter) (m : Moment) (x : Transition) (s : Step) → spec.Agrees m self.old → Follows p m x s world.now events.now → (found ≡ first_of of_holding p m s) × (found ≡ None → spec.Agrees (after m s) self.new)) }
     {
-        let kept = put(&mut self.events, world, events)?;
-        let owned = one_owner(world, self.events.as_slice())?;
-        Ok(if !kept.nothing_stale {
-            Some(Violation::V1)
-        } else if !kept.nothing_leaked {
-            Some(Violation::V2)
-        } else if !kept.settled_once {
-            Some(Violation::V3)
-        } else if !owned {
-            Some(Violation::V4)
+        let mut touched = Vec::new(alloc);
+        let first = self.take_events(alloc, world, events, &mut touched)?;
+        if first.is_some() {
+            return Ok(first);
+        }
+        self.follow_ends(alloc, events, &mut touched)?;
+        self.follow_new(alloc, world)?;
+        if self.owns_each(world, touched.as_slice()) {
+            Ok(None)
         } else {
-            None
-        })
+            Ok(Some(Violation::V4))
+        }
     }
 }

@@ -1,23 +1,26 @@
 //! The world of the monitor, and what is there at a number: what isn't there has ended, is settled and counts nothing.
 
-ghost use Rattle.std.specs.Prelude.{◌≡◌, true, get_or, set, is_some, length, Some, None, [], ◌∷◌, ◌++◌, OnOk, IfOk, MatchOption};
+ghost use Rattle.std.specs.Prelude.{◌≡◌, ◌+◌, true, get_or, set, replicate, sum_by, is_some, length, Some, None, [], ◌∷◌, ◌++◌, OnOk, IfOk, MatchOption};
 ghost use Rattle.flt_model.specs.Effects.{onward};
 ghost use Rattle.flt_model.specs.Locks as locks;
 ghost use Rattle.flt_model.specs.Moves as moves;
 ghost use Rattle.flt_model.specs.Reads as reads;
 ghost use Rattle.flt_model.specs.Variables as variables;
+ghost use Rattle.flt_model.specs.Violations.{in_queue, in_item};
 ghost use Rattle.flt_model.specs.World as spec;
+ghost use Rattle.flt_replay.specs.Opening.{opened};
 ghost use Rattle.flt_replay.specs.Parts.{presence_of, position_of};
 ghost use Rattle.flt_replay.specs.Writes.{written, later};
 
 use crate::activation::{Activation, Write};
+use crate::linked::Contexts;
 use crate::parts::{
-    Actor, Arrival, Context, Entry, Item, Link, Position, Presence, Route, Standing, Visit,
+    Actor, Arrival, Entry, Item, Link, Position, Presence, Route, Standing, Visit,
 };
-use flt_model::Key;
+use crate::waiting_list::Waiting;
 use flt_rules::{LockNumber, Mode, Operation, Place, Stage};
 use flt_syntax::{Atom, ContextVariable, OperationVariable, Statement};
-use sqlite_items::{Items, at};
+use sqlite_items::at;
 use std::alloc::{AllocError, Global};
 use std::marker::Model;
 
@@ -27,14 +30,13 @@ pub(crate) struct World<'a> {
     pub(crate) actors: Vec<Actor>,
     pub(crate) activations: Vec<Activation<'a>>,
     pub(crate) presences: Vec<Standing>,
-    pub(crate) queues: Vec<Items<Entry>>,
     pub(crate) holders: Vec<[Option<usize>; 8]>,
     pub(crate) arrivals: Vec<Arrival>,
     pub(crate) routes: Vec<Route>,
     pub(crate) visits: Vec<Visit>,
     pub(crate) settled: Vec<bool>,
-    pub(crate) contexts: Vec<Context>,
-    pub(crate) items: Vec<Option<Item>>,
+    contexts: Contexts,
+    waiting: Waiting,
 }
 
 impl<'a> Model for World<'a> {
@@ -47,7 +49,7 @@ impl<'a> Model for World<'a> {
 
     ghost coded = { Prim.hlevel (codes, activation_code) };
 
-    ghost view = { λ w. record { actors = w.actors.items; activations = w.activations.items; store = record { presences = w.presences.items; queues = w.queues.items; holders = w.holders.items; arrivals = w.arrivals.items; routes = w.routes.items; visits = w.visits.items; settled = w.settled.items; contexts = w.contexts.items; items = w.items.items } } };
+    ghost view = { λ w. record { actors = w.actors.items; activations = w.activations.items; store = record { presences = w.presences.items; queues = w.waiting.0; holders = w.holders.items; arrivals = w.arrivals.items; routes = w.routes.items; visits = w.visits.items; settled = w.settled.items; contexts = w.contexts; items = w.waiting.1 } } };
 }
 
 #[tactic(auto, using(crate::proofs::Reading::found, crate::proofs::Reading::missing))]
@@ -129,6 +131,27 @@ impl<'a> World<'a> {
             Some(route) => route.cancelled,
             None => true,
         }
+    }
+
+    /// How often a visit stands in an entry or in a work item.
+    pub(crate) fn waiting(&self, visit: usize) -> u64
+        ensures { result ≡ sum_by (in_queue visit) self.now.store.queues + sum_by (in_item visit) self.now.store.items }
+    {
+        self.waiting.count(visit)
+    }
+
+    /// Whether a filter's queue is empty.
+    pub(crate) fn is_queue_empty(&self, filter: usize) -> bool
+        ensures { result ≡ moves.is_empty (spec.queue_at self.now.store filter) }
+    {
+        self.waiting.is_empty(filter)
+    }
+
+    /// How many contexts there have been.
+    pub(crate) fn context_count(&self) -> usize
+        ensures { result ≡ length self.now.store.contexts }
+    {
+        self.contexts.len()
     }
 
     /// The operation that a visit is of.
@@ -364,15 +387,43 @@ impl<'a> World<'a> {
     pub(crate) fn linked_at(&self, link: Link) -> Option<usize>
         ensures { result ≡ spec.linked_at self.now.store link }
     {
-        self.contexts
-            .iter()
-            .position(|c| is_linked_to(link, &c.link))
+        self.contexts.linked_at(link)
     }
 }
 
 // ---- changes
 
 impl<'a> World<'a> {
+    /// Nothing at all.
+    pub(crate) fn empty(alloc: Global) -> World<'a>
+        ensures { result ≡ opened 0 }
+    {
+        World {
+            actors: Vec::new(alloc),
+            activations: Vec::new(alloc),
+            presences: Vec::new(alloc),
+            holders: Vec::new(alloc),
+            arrivals: Vec::new(alloc),
+            routes: Vec::new(alloc),
+            visits: Vec::new(alloc),
+            settled: Vec::new(alloc),
+            contexts: Contexts::new(alloc),
+            waiting: Waiting::new(alloc),
+        }
+    }
+
+    /// One more filter, which is there, has an empty queue and whose locks nobody holds.
+    pub(crate) fn add_filter(&mut self, alloc: Global) -> Result<(), AllocError>
+        ensures { OnOk result (self.new ≡ record self.old { store = record self.old.store { presences = self.old.store.presences ++ spec.Attached ∷ []; queues = self.old.store.queues ++ [] ∷ []; holders = self.old.store.holders ++ replicate 8 None ∷ [] } }) }
+    {
+        self.presences.push(Standing {
+            presence: Presence::Attached,
+        })?;
+        self.waiting.add_queue(alloc)?;
+        self.holders.push([None; 8])?;
+        Ok(())
+    }
+
     /// An activation goes on with a block in place of its first statement.
     pub(crate) fn go_on(
         &mut self,
@@ -429,12 +480,7 @@ impl<'a> World<'a> {
         ensures { IfOk result (λ x. (x ≡ length self.old.store.contexts) × (self.new ≡ record self.old { store = record self.old.store { contexts = self.old.store.contexts ++ record { owner = owner; references = 1; value = 0; link = None } ∷ [] } })) }
     {
         let number = self.contexts.len();
-        self.contexts.push(Context {
-            owner,
-            references: 1,
-            value: 0,
-            link: None,
-        })?;
+        self.contexts.add(owner)?;
         Ok(number)
     }
 
@@ -442,84 +488,56 @@ impl<'a> World<'a> {
     pub(crate) fn set_value(&mut self, context: usize, value: u64)
         ensures { self.new ≡ record self.old { store = reads.put_value self.old.store context value } }
     {
-        if let Some(context) = self.contexts.get_mut(context) {
-            if context.references != 0 {
-                context.value = value;
-            }
-        }
+        self.contexts.set_value(context, value);
     }
 
     /// One reference more; a freed context stays as it is. The count is a number that no journal in memory reaches the end of.
     pub(crate) fn add_reference(&mut self, context: usize) -> Result<(), AllocError>
         ensures { OnOk result (self.new ≡ record self.old { store = spec.add_reference self.old.store context }) }
     {
-        if let Some(context) = self.contexts.get_mut(context) {
-            if context.references != 0 {
-                match context.references.checked_add(1) {
-                    Some(references) => context.references = references,
-                    None => return Err(AllocError),
-                }
-            }
-        }
-        Ok(())
+        self.contexts.add_reference(context)
     }
 
     /// One reference less; a freed context stays as it is.
     pub(crate) fn drop_reference(&mut self, context: usize)
         ensures { self.new ≡ record self.old { store = spec.drop_reference self.old.store context } }
     {
-        if let Some(context) = self.contexts.get_mut(context) {
-            if context.references != 0 {
-                context.references -= 1;
-            }
-        }
+        self.contexts.drop_reference(context);
     }
 
     /// The context has this link from now on.
     pub(crate) fn set_link(&mut self, context: usize, link: Link) -> Result<(), AllocError>
         ensures { OnOk result (self.new ≡ record self.old { store = spec.with_link self.old.store context (Some link) }) }
     {
-        if let Some(context) = self.contexts.get_mut(context) {
-            context.link = Some(link);
-        }
-        Ok(())
+        self.contexts.set_link(context, link)
     }
 
     /// The context has no link from now on.
     pub(crate) fn clear_link(&mut self, context: usize)
         ensures { self.new ≡ record self.old { store = spec.with_link self.old.store context None } }
     {
-        if let Some(context) = self.contexts.get_mut(context) {
-            context.link = None;
-        }
+        self.contexts.clear_link(context);
     }
 
     /// One more entry at the end of a filter's queue.
     pub(crate) fn add_entry(&mut self, filter: usize, entry: Entry) -> Result<(), AllocError>
         ensures { OnOk result (self.new ≡ record self.old { store = spec.with_queue self.old.store filter (spec.queue_at self.old.store filter ++ entry ∷ []) }) }
     {
-        if let Some(queue) = self.queues.get_mut(filter) {
-            queue.push(entry)?;
-        }
-        Ok(())
+        self.waiting.push(filter, entry)
     }
 
     /// Takes the front entry out of a filter's queue.
     pub(crate) fn take_first(&mut self, filter: usize) -> Option<Entry>
         ensures { MatchOption result ((spec.queue_at self.old.store filter ≡ []) × (self.new ≡ self.old)) (λ e. (spec.queue_at self.old.store filter ≡ e ∷ spec.queue_at self.new.store filter) × (self.new ≡ record self.old { store = spec.with_queue self.old.store filter (spec.queue_at self.new.store filter) })) }
     {
-        match self.queues.get_mut(filter) {
-            Some(queue) if !queue.is_empty() => Some(queue.remove(0)),
-            _ => None,
-        }
+        self.waiting.take_first(filter)
     }
 
     /// One more work item.
     pub(crate) fn add_item(&mut self, item: Item) -> Result<(), AllocError>
         ensures { OnOk result (self.new ≡ record self.old { store = record self.old.store { items = self.old.store.items ++ Some item ∷ [] } }) }
     {
-        self.items.push(Some(item))?;
-        Ok(())
+        self.waiting.add_item(item)
     }
 
     /// Takes a work item out, whose number stays.
@@ -527,10 +545,7 @@ impl<'a> World<'a> {
         ensures item { result ≡ spec.item_at self.old.store item }
         ensures after { self.new ≡ record self.old { store = record self.old.store { items = set self.old.store.items item None } } }
     {
-        match self.items.get_mut(item) {
-            Some(item) => item.take(),
-            None => None,
-        }
+        self.waiting.take_item(item)
     }
 
     /// A new visit, which isn't settled.
@@ -550,24 +565,5 @@ impl<'a> World<'a> {
         if let Some(settled) = self.settled.get_mut(visit) {
             *settled = true;
         }
-    }
-}
-
-fn is_linked_to(link: Link, other: &Option<Link>) -> bool
-    ensures { result ≡ spec.is_linked_to link other.now }
-{
-    match other {
-        None => false,
-        Some(other) => link.filter == other.filter && is_same_key(link.key, other.key),
-    }
-}
-
-fn is_same_key(key: Key, other: Key) -> bool
-    ensures { result ≡ spec.same_key key other }
-{
-    match (key, other) {
-        (Key::Stream(file), Key::Stream(other)) => file == other,
-        (Key::Instance, Key::Instance) => true,
-        _ => false,
     }
 }

@@ -1,0 +1,116 @@
+-- What waits is counted still where an entry or an item comes or goes.
+use Rattle.std.proofs.Common.{◌≡◌, ℕ, ◌+◌, ◌<◌, List, [], ◌∷◌, ◌++◌, Option, Some, None, length, get_or, set, refl, sym, ap, ◌∙◌, arith}
+use Rattle.std.specs.Prelude.{sum_by}
+use Rattle.std.proofs.lemmas.List.Sums.{sum_by-set, sum_by_push, sum_by-cons}
+use Rattle.flt_model.specs.Trace.{one_if}
+use Rattle.flt_model.specs.Violations.{in_queue, in_item, in_some}
+use Rattle.flt_model.specs.World.{Entry, Item}
+use Rattle.flt_replay.specs.Counts.{count}
+use Rattle.flt_replay.specs.Waiting.{AreWaiting}
+use Rattle.flt_replay.proofs.Ones.{one_here}
+
+pub in_none : (v : ℕ) → in_queue v [] ≡ 0
+unfolding in_queue
+in_none v = refl
+
+in_push : (v : ℕ) (q : List Entry) (e : Entry) → in_queue v (q ++ e ∷ []) ≡ in_queue v q + one_if e.visit v
+unfolding in_queue
+in_push v q e = sum_by_push (λ (x : Entry). one_if x.visit v) q e
+
+in_cons : (v : ℕ) (e : Entry) (q : List Entry) → in_queue v (e ∷ q) ≡ one_if e.visit v + in_queue v q
+unfolding in_queue
+in_cons v e q = sum_by-cons (λ (x : Entry). one_if x.visit v) e q
+
+-- as often as before, where one was counted and taken back
+pub back : (cs ds es : List (ℕ × ℕ)) (u : ℕ) → ((v : ℕ) → count ds v ≡ count cs v + one_if u v) → (0 < count ds u → (v : ℕ) → count ds v ≡ count es v + one_if u v) → (v : ℕ) → count es v ≡ count cs v
+back cs ds es u more less v =
+    let one = one_here u in
+    let here = more u in
+    let m = more v in
+    let l = less (omega arith) v in
+    omega arith
+
+module _ (queues : List (List Entry)) (items : List (Option Item)) (cs ds : List (ℕ × ℕ)) (was : AreWaiting queues items cs) where
+  module _ (f : ℕ) (l : f < length queues) (old new : List Entry) (read : old ≡ get_or queues f []) where
+    pub same_queue : new ≡ old → ((v : ℕ) → count ds v ≡ count cs v) → AreWaiting (set queues f new) items ds
+    same_queue is same = record {
+      each = λ v.
+          let s = sum_by-set (in_queue v) queues f new [] l in
+          let p = ap (in_queue v) (is ∙ read) in
+          let w = was.each v in
+          let m = same v in
+          omega arith;
+    }
+
+    pub entry_added : (e : Entry) → new ≡ old ++ e ∷ [] → ((v : ℕ) → count ds v ≡ count cs v + one_if e.visit v) → AreWaiting (set queues f new) items ds
+    entry_added e is more = record {
+      each = λ v.
+          let s = sum_by-set (in_queue v) queues f new [] l in
+          let p = ap (in_queue v) is ∙ in_push v old e in
+          let r = ap (in_queue v) read in
+          let w = was.each v in
+          let m = more v in
+          omega arith;
+    }
+
+    module _ (e : Entry) (first : old ≡ e ∷ new) where
+      pub entry_counted : 0 < count cs e.visit
+      entry_counted =
+          let s = sum_by-set (in_queue e.visit) queues f [] [] l in
+          let p = ap (in_queue e.visit) first ∙ in_cons e.visit e new in
+          let r = ap (in_queue e.visit) read in
+          let z = in_none e.visit in
+          let w = was.each e.visit in
+          let one = one_here e.visit in
+          omega arith
+
+      pub entry_taken : ((v : ℕ) → count cs v ≡ count ds v + one_if e.visit v) → AreWaiting (set queues f new) items ds
+      entry_taken less = record {
+        each = λ v.
+            let s = sum_by-set (in_queue v) queues f new [] l in
+            let p = ap (in_queue v) first ∙ in_cons v e new in
+            let r = ap (in_queue v) read in
+            let w = was.each v in
+            let m = less v in
+            omega arith;
+      }
+
+  pub same_counts : (new : List (Option Item)) → new ≡ items → ((v : ℕ) → count ds v ≡ count cs v) → AreWaiting queues new ds
+  same_counts new is same = record { each = λ v. let w = was.each v in let m = same v in rw is (omega arith) }
+
+  pub queue_added : AreWaiting (queues ++ [] ∷ []) items cs
+  queue_added = record {
+    each = λ v.
+        let s = sum_by_push (in_queue v) queues [] in
+        let z = in_none v in
+        let w = was.each v in
+        omega arith;
+  }
+
+  pub item_added : (i : Item) → ((v : ℕ) → count ds v ≡ count cs v + in_some v i.visit) → AreWaiting queues (items ++ Some i ∷ []) ds
+  item_added i more = record {
+    each = λ v.
+        let s = sum_by_push (in_item v) items (Some i) in
+        let w = was.each v in
+        let m = more v in
+        omega arith;
+  }
+
+  module _ (n : ℕ) (l : n < length items) (i : Item) (old : Option Item) (read : old ≡ get_or items n None) (is : old ≡ Some i) where
+    pub item_counted : (v : ℕ) → i.visit ≡ Some v → 0 < count cs v
+    item_counted v e =
+        let s = sum_by-set (in_item v) items n None None l in
+        let p = ap (in_item v) (sym read ∙ is) ∙ ap (in_some v) e in
+        let w = was.each v in
+        let one = one_here v in
+        omega arith
+
+    pub item_taken : ((v : ℕ) → count cs v ≡ count ds v + in_some v i.visit) → AreWaiting queues (set items n None) ds
+    item_taken less = record {
+      each = λ v.
+          let s = sum_by-set (in_item v) items n None None l in
+          let p = ap (in_item v) (sym read ∙ is) in
+          let w = was.each v in
+          let m = less v in
+          omega arith;
+    }

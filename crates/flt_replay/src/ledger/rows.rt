@@ -1,0 +1,105 @@
+//! How often each number was counted of each activation.
+
+ghost use Rattle.std.specs.Prelude.{◌≡◌, ◌+◌, ℕ, ◌<◌, length, min, OnOk, IfOk, ◌↔◌, IsTrue};
+ghost use Rattle.flt_model.specs.Trace.{one_if, of_actor};
+ghost use Rattle.flt_replay.specs.Counts as spec;
+
+use super::counts::Counts;
+use std::alloc::{AllocError, Global};
+use std::marker::Model;
+
+/// By activation; it grows as they come.
+#[derive(Drop)]
+pub(crate) struct Rows {
+    rows: Vec<Counts>,
+}
+
+impl Model for Rows {
+    ghost use Rattle.std.specs.Prelude.{ℕ, List};
+
+    ghost Value = { List (List (ℕ × ℕ)) };
+
+    ghost view = { λ r. r.rows.items };
+}
+
+impl Rows {
+    #[tactic(auto, unfolding(crate::specs::Counts::count_of, crate::specs::Counts::count))]
+    pub(crate) fn new(alloc: Global) -> Rows
+        ensures { (a n : ℕ) → spec.count_of result a n ≡ 0 }
+    {
+        Rows {
+            rows: Vec::new(alloc),
+        }
+    }
+
+    #[tactic(auto, unfolding(crate::specs::Counts::count_of, crate::specs::Counts::count))]
+    pub(crate) fn count(&self, activation: usize, number: usize) -> u64
+        ensures { result ≡ spec.count_of self.now activation number }
+    {
+        match self.rows.get(activation) {
+            Some(counts) => counts.count(number),
+            None => 0,
+        }
+    }
+
+    #[tactic(auto, unfolding(crate::specs::Counts::count_of, crate::specs::Counts::count))]
+    pub(crate) fn is_empty(&self, activation: usize) -> bool
+        ensures { IsTrue result ↔ ((n : ℕ) → spec.count_of self.now activation n ≡ 0) }
+    {
+        match self.rows.get(activation) {
+            Some(counts) => counts.is_empty(),
+            None => true,
+        }
+    }
+
+    /// The numbers that count of an activation, each once.
+    #[tactic(auto, unfolding(crate::specs::Counts::count_of, crate::specs::Counts::count))]
+    pub(crate) fn numbers(&self, alloc: Global, activation: usize) -> Result<Vec<usize>, AllocError>
+        ensures { IfOk result (λ ns. (n : ℕ) → spec.occurs n ns.items ≡ min 1 (spec.count_of self.now activation n)) }
+    {
+        match self.rows.get(activation) {
+            Some(counts) => counts.numbers(alloc),
+            None => Ok(Vec::new(alloc)),
+        }
+    }
+
+    /// Makes room for an activation.
+    #[tactic(auto, using(crate::proofs::Rows::grown))]
+    fn grow(&mut self, alloc: Global, activation: usize) -> Result<(), AllocError>
+        ensures room { OnOk result (activation < length self.new) }
+        ensures same { OnOk result ((a n : ℕ) → spec.count_of self.new a n ≡ spec.count_of self.old a n) }
+    {
+        while self.rows.len() <= activation {
+            self.rows.push(Counts::new(alloc))?;
+        }
+        Ok(())
+    }
+
+    /// Once more of an activation.
+    #[tactic(auto, using(crate::proofs::Rows::added))]
+    pub(crate) fn add(
+        &mut self,
+        alloc: Global,
+        activation: usize,
+        number: usize,
+    ) -> Result<(), AllocError>
+        ensures { OnOk result ((a n : ℕ) → spec.count_of self.new a n ≡ spec.count_of self.old a n + of_actor activation a (one_if number n)) }
+    {
+        self.grow(alloc, activation)?;
+        match self.rows.get_mut(activation) {
+            Some(counts) => counts.add(number),
+            None => Ok(()),
+        }
+    }
+
+    /// Once less of an activation, of what counts.
+    #[tactic(auto, using(crate::proofs::Rows::taken, crate::proofs::Rows::counts_no_more, crate::proofs::Rows::row_counts))]
+    pub(crate) fn take(&mut self, activation: usize, number: usize)
+        ensures { 0 < spec.count_of self.old activation number → (a n : ℕ) → spec.count_of self.old a n ≡ spec.count_of self.new a n + of_actor activation a (one_if number n) }
+    {
+        let Some(counts) = self.rows.get_mut(activation) else {
+            return;
+        };
+        counts.take(number);
+    }
+}
