@@ -1,6 +1,6 @@
 -- What a step of an activation leaves as it is: all actors, visits and arrivals, the other activations, and the variable `data`.
 -- The rules of statuses, levels, locks and places read nothing else, so they can be read after the step as well.
-use Rattle.std.proofs.Common.{◌≡◌, ◌≢◌, ◌<◌, ℕ, Bool, true, false, List, [], ◌∷◌, ◌++◌, Option, Some, None, inl, inr, true≢false, length, ap, sym, subst, refl, ◌∙◌, arith}
+use Rattle.std.proofs.Common.{◌≡◌, ◌<◌, ℕ, Bool, true, false, List, [], ◌∷◌, ◌++◌, Option, Some, None, inl, inr, true≢false, length, ap, sym, subst, refl, ◌∙◌, arith}
 use Rattle.std.proofs.Math.ListN.{set, get_or}
 use Rattle.std.proofs.lemmas.Bool.{eq-eqb, and_from, cases_lt}
 use Rattle.std.proofs.lemmas.List.{get_or-set_other, get_or_past}

@@ -58,7 +58,7 @@ gains_and_frees p w =
 
 -- ---- so each rule is kept, in any world
 
-all_pass : (test f : Event → Bool) → ((e : Event) → test e ≡ true → f e ≡ true) → (es : List Event) → list_all test es ≡ true →
+pub all_pass : (test f : Event → Bool) → ((e : Event) → test e ≡ true → f e ≡ true) → (es : List Event) → list_all test es ≡ true →
     list_all f es ≡ true
 all_pass test f h [] k = refl
 all_pass test f h (e ∷ es) k =

@@ -1,4 +1,5 @@
-pub mod Rest
+pub mod Apart
+pub mod Boards
 pub mod Coded
 pub mod Links
 pub mod Counts
@@ -6,9 +7,12 @@ pub mod Ledger
 pub mod Parts
 pub mod Places
 pub mod Tickets
+pub mod Unsettled
 pub mod Waiting
 pub mod Writes
 pub mod Judging
 pub mod Opening
-pub mod Starting
+pub mod Queueing
+pub mod Rest
 pub mod Scenes
+pub mod Starting

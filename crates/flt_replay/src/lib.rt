@@ -4,25 +4,32 @@
 #![tactic(auto)]
 
 mod activation;
+mod board;
 mod callbacks;
 mod contexts;
+mod counts;
 mod effects;
 mod ending;
-
 mod ledger;
 mod local;
 mod linked;
 mod lock_list;
+mod locking;
+mod moves;
 mod opening;
 mod parts;
 mod place_set;
 mod queue;
+mod queueing;
 mod reads;
 mod rest;
+mod rules;
 mod settling;
 mod stack;
 mod starting;
-mod rules;
 mod statuses;
+mod teardown;
+mod visit_list;
+mod waiting;
 mod waiting_list;
 mod world;

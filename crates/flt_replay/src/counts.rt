@@ -1,0 +1,78 @@
+//! How often each number was counted. Only what counts at least once is kept.
+
+ghost use Rattle.std.specs.Prelude.{◌≡◌, ◌+◌, ℕ, ◌<◌, [], OnOk, OnErr};
+ghost use Rattle.flt_model.specs.Trace.{one_if};
+ghost use Rattle.flt_replay.specs.Counts as spec;
+
+use std::alloc::{AllocError, Global};
+use std::collections::BTreeMap;
+use std::marker::Model;
+
+#[derive(Drop)]
+pub(crate) struct Counts {
+    map: BTreeMap<usize, u64>,
+}
+
+impl Model for Counts {
+    ghost use Rattle.std.specs.Prelude.{ℕ, ◌<◌, List, IfSome};
+    ghost use Rattle.std.specs.BTreeMap.{get};
+    ghost use Rattle.std.specs.Ordering.{nat_cmp};
+
+    ghost Value = { List (ℕ × ℕ) };
+
+    ghost view = { λ c. c.map.entries };
+
+    ghost invariant = { λ c. (n : ℕ) → IfSome (get nat_cmp c.map n) (λ times. 0 < times) };
+}
+
+impl Counts {
+    #[tactic(auto, unfolding(crate::specs::Counts::count))]
+    pub(crate) fn new(alloc: Global) -> Counts
+        ensures none { result ≡ [] }
+        ensures no_count { (n : ℕ) → spec.count result n ≡ 0 }
+    {
+        Counts {
+            map: BTreeMap::new(alloc),
+        }
+    }
+
+    #[tactic(auto, unfolding(crate::specs::Counts::count))]
+    pub(crate) fn count(&self, number: usize) -> u64
+        ensures { result ≡ spec.count self.now number }
+    {
+        match self.map.get(&number) {
+            Some(times) => *times,
+            None => 0,
+        }
+    }
+
+    /// Once more. The count is a number that no journal in memory reaches the end of.
+    #[tactic(auto, unfolding(crate::specs::Counts::count, flt_model::specs::Trace::one_if))]
+    pub(crate) fn add(&mut self, number: usize) -> Result<(), AllocError>
+        ensures ok { OnOk result ((n : ℕ) → spec.count self.new n ≡ spec.count self.old n + one_if number n) }
+        ensures err { OnErr result (self.new ≡ self.old) }
+    {
+        match self.count(number).checked_add(1) {
+            Some(times) => {
+                let _ = self.map.insert(number, times)?;
+                Ok(())
+            }
+            None => Err(AllocError),
+        }
+    }
+
+    /// Once less, of what counts.
+    #[tactic(auto, unfolding(crate::specs::Counts::count, flt_model::specs::Trace::one_if))]
+    pub(crate) fn take(&mut self, number: usize)
+        ensures { 0 < spec.count self.old number → (n : ℕ) → spec.count self.old n ≡ spec.count self.new n + one_if number n }
+    {
+        let times = self.count(number);
+        if times > 1 {
+            if let Some(place) = self.map.get_mut(&number) {
+                *place = times - 1;
+            }
+        } else {
+            let _ = self.map.remove(&number);
+        }
+    }
+}
