@@ -1,5 +1,5 @@
 -- The least violation of a step: first those of who holds what, then those of rules.
-use Rattle.std.proofs.Common.{◌≡◌, ℕ, Bool, true, false, List, [], ◌∷◌, Option, Some, None, cond, find, not, refl, sym, ◌∙◌, ap}
+use Rattle.std.proofs.Common.{◌≡◌, ℕ, Bool, true, false, List, ◌++◌, Some, None, cond, find, not, refl, sym}
 use Rattle.std.proofs.lemmas.List.Folds.{find-append}
 use Rattle.std.specs.Option.{option_or}
 use Rattle.flt_syntax.specs.declared.filter.Filter.{Filter}
@@ -11,7 +11,7 @@ use Rattle.flt_model.specs.Moves.{make}
 use Rattle.flt_model.specs.Runs.{Moment, keeps, broken}
 use Rattle.flt_model.specs.Steps.{board}
 use Rattle.flt_model.specs.Violations.{one_owner}
-use Rattle.flt_model.specs.World.{World, activation_at}
+use Rattle.flt_model.specs.World.{activation_at}
 use Rattle.flt_replay.specs.Judging.{first_of, of_holding, of_rules, keeps_rule, with_locks}
 use Rattle.flt_replay.proofs.Frames.{stepped}
 use Rattle.flt_replay.proofs.MoveRules.{moves_keep_rules}

@@ -1,10 +1,14 @@
 -- One activation more, and one event more.
-use Rattle.std.proofs.Common.{◌≡◌, ℕ, zero, suc, ◌+◌, ◌<◌, Bool, true, false, ◌&&◌, List, [], ◌∷◌, ◌++◌, length, get_or, take, refl, sym, arith, add-one, append_assoc, append-nil}
+use Rattle.std.proofs.Common.{◌≡◌, ℕ, zero, suc, ◌+◌, ◌<◌, Bool, true, false, ◌&&◌, List, [], ◌∷◌, ◌++◌, length, get_or, take, Some, refl, sym, ◌∙◌, arith, add-one, append_assoc, append-nil}
 use Rattle.std.proofs.lemmas.List.{take_more}
+use Rattle.flt_syntax.specs.declared.filter.Filter.{Filter}
+use Rattle.flt_model.specs.Effects.{Step}
+use Rattle.flt_model.specs.Runs.{Moment, after, next}
+use Rattle.flt_model.specs.Steps.{Local}
 use Rattle.flt_model.specs.Violations.{holders_from, holding, along, is_fresh, leaks_nothing, is_first_settling}
 use Rattle.flt_model.specs.World.{World, Activation}
 use Rattle.flt_model.specs.declared.event.Event.{Event}
-use Rattle.flt_replay.specs.Ledger.{PutSoFar}
+use Rattle.flt_replay.specs.Ledger.{Agrees, PutSoFar}
 
 holders_suc : (t : List Event) (v b k : ℕ) (acts : List Activation) (i : ℕ) (d : Activation) → k ≡ b + i → i < length acts → holders_from t v b (take (suc i) acts) ≡ holders_from t v b (take i acts) + holding t v k (get_or acts i d)
 holders_suc t v b k [] i d e h = absurd (omega arith)
@@ -41,3 +45,9 @@ module _ (w : World) (old new then events before : List Event) (i : ℕ) (d : Ev
     leaked = rw (leaked, same, s.leaked, s.trace) (sym (along_more leaks_nothing old events i d h));
     settled = rw (settled, same, s.settled, s.trace) (sym (along_more is_first_settling old events i d h));
   }
+
+-- ---- a step that nobody else sees has no events
+
+pub agrees_unseen : (p : List Filter) (m : Moment) (a : ℕ) (s : Step) (ledger : List Event) → Agrees m ledger → next p m (Local a) ≡ Some s → s.events ≡ [] →
+    Agrees (after m s) ledger
+agrees_unseen p m a s ledger agrees e none = rw none (agrees ∙ sym (append-nil m.trace))

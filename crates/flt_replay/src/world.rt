@@ -23,7 +23,7 @@ use crate::visit_list::Visits;
 use crate::waiting_list::Waiting;
 use flt_rules::{LockNumber, Mode, Operation, Place, Stage};
 use flt_syntax::{Atom, ContextVariable, OperationVariable, Statement};
-use sqlite_items::at;
+use sqlite_items::{Items, at};
 use std::alloc::{AllocError, Global};
 use std::marker::Model;
 
@@ -348,6 +348,20 @@ impl<'a> World<'a> {
         match self.activations.get(activation) {
             Some(activation) => activation.ended,
             None => true,
+        }
+    }
+
+    /// The locks that an activation holds.
+    pub(crate) fn locks_of(
+        &self,
+        alloc: Global,
+        activation: usize,
+    ) -> Result<Items<LockNumber>, AllocError>
+        ensures { IfOk result (λ locks. locks ≡ (spec.activation_at self.now activation).locks) }
+    {
+        match self.activations.get(activation) {
+            Some(activation) => Items::from_slice(alloc, activation.locks.as_slice()),
+            None => Ok(Items::new(alloc)),
         }
     }
 
