@@ -8,6 +8,7 @@ pub mod Courses
 pub mod First
 pub mod FirstLinked
 pub mod Following
+pub mod EntryVisits
 pub mod Frames
 pub mod Handing
 pub mod Holders
@@ -26,6 +27,7 @@ pub mod Openings
 pub mod Owners
 pub mod PlaceOrder
 pub mod Places
+pub mod QueueMiddle
 pub mod QueueTickets
 pub mod Queues
 pub mod Reading
@@ -36,4 +38,5 @@ pub mod Scenes
 pub mod Stacks
 pub mod Taking
 pub mod Tallies
+pub mod VisitPlaces
 pub mod Visits

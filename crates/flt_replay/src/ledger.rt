@@ -22,10 +22,9 @@ use flt_model::{Event, Object, Violation};
 use std::alloc::{AllocError, Global};
 use std::marker::Model;
 
-pub(crate) mod counts;
 mod rows;
 
-use counts::Counts;
+use crate::counts::Counts;
 use rows::Rows;
 
 #[derive(Drop)]

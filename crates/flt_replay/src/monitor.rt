@@ -50,10 +50,10 @@ impl<'a> Monitor<'a> {
     }
 
     /// What comes of a step that led to this world with these events, and of which the least broken rule is known.
-    fn judged(&mut self, events: &[Event], rule: Option<Violation>) -> Result<Course, AllocError>
+    fn judged(&mut self, alloc: Global, events: &[Event], rule: Option<Violation>) -> Result<Course, AllocError>
         ensures { IfOk result (λ c. (p : List Filter) (m : Moment) (x : Transition) (s : Step) → Agrees m self.old.ledger → Follows p m x s self.old.world events.now → rule ≡ first_of of_rules p m s → ComesTo c self.new (spec.unless_broken (broken p m s) (spec.Reaches (after m s)))) }
     {
-        match self.ledger.take(&self.world, events)?.or(rule) {
+        match self.ledger.take(alloc, &self.world, events)?.or(rule) {
             Some(violation) => Ok(Course::Fails(violation)),
             None => Ok(Course::Reaches),
         }
@@ -67,7 +67,7 @@ impl<'a> Monitor<'a> {
         if !self.world.make(alloc, stack, next, &mut events)? {
             return Ok(Course::Stops);
         }
-        self.judged(events.as_slice(), None)
+        self.judged(alloc, events.as_slice(), None)
     }
 
     /// What comes of a step that others see.
@@ -99,7 +99,7 @@ impl<'a> Monitor<'a> {
             locks: locks.as_slice(),
         };
         let rule = scene.broken_rule(events.as_slice());
-        self.judged(events.as_slice(), rule)
+        self.judged(alloc, events.as_slice(), rule)
     }
 
     /// Makes steps that nobody else sees, unless one of them isn't such a step.

@@ -6,7 +6,7 @@ ghost use Rattle.flt_model.specs.Moves as moves;
 ghost use Rattle.flt_model.specs.World as spec;
 ghost use Rattle.flt_replay.specs.Writes.{ComesOf};
 
-use crate::parts::{Arrival, Frame, Outcome, Position, Route, Visit};
+use crate::parts::{Arrival, Frame, Outcome, Position, Route};
 use crate::stack::Stack;
 use crate::world::World;
 use flt_model::{Event, Move};
@@ -198,7 +198,7 @@ impl<'a> World<'a> {
     {
         matches!(self.position(operation), Position::Up)
             && self.has_no_frame(operation)
-            && are_settled(operation, self.visits.as_slice(), self.settled.as_slice())
+            && self.are_settled(operation)
     }
 
     /// An operation is cancelled once, and not when it is done.
@@ -263,20 +263,4 @@ impl Route {
         }
         frame
     }
-}
-
-/// Whether all visits of an operation are settled.
-#[tactic(auto, using(crate::proofs::Moving::settled_past))]
-fn are_settled(operation: usize, visits: &[Visit], settled: &[bool]) -> bool
-    ensures { result ≡ moves.are_settled operation visits.now settled.now }
-{
-    let mut number = 0;
-    while number < visits.len() && number < settled.len() {
-        let visit = &visits[number];
-        if !settled[number] && visit.operation == operation {
-            return false;
-        }
-        number += 1;
-    }
-    true
 }

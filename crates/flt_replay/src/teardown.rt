@@ -143,7 +143,7 @@ impl<'a> World<'a> {
         ensures { result ≡ moves.is_drained self.now filter }
     {
         !self.has_frame(filter)
-            && self.has_no_entry(filter)
+            && self.is_queue_empty(filter)
             && !self.has_item(filter)
             && !self.has_link(filter)
             && !has_active(filter, self.actors.as_slice(), self.activations.as_slice())
@@ -158,24 +158,15 @@ impl<'a> World<'a> {
     fn has_item(&self, filter: usize) -> bool
         ensures { result ≡ list_any (moves.is_item_of filter) self.now.store.items }
     {
-        self.items.iter().any(|item| is_item_of(filter, item))
+        self.items().iter().any(|item| is_item_of(filter, item))
     }
 
     fn has_link(&self, filter: usize) -> bool
         ensures { result ≡ list_any (λ (c : spec.Context). moves.is_linked_by filter c.link) self.now.store.contexts }
     {
-        self.contexts
+        self.contexts()
             .iter()
             .any(|context| is_linked_by(filter, &context.link))
-    }
-
-    fn has_no_entry(&self, filter: usize) -> bool
-        ensures { result ≡ moves.is_empty (spec.queue_at self.now.store filter) }
-    {
-        match self.queues.get(filter) {
-            Some(queue) => matches!(queue.as_slice(), []),
-            None => true,
-        }
     }
 
     /// Teardown ends.

@@ -6,7 +6,7 @@ ghost use Rattle.flt_model.specs.Moves as moves;
 ghost use Rattle.flt_model.specs.World as spec;
 ghost use Rattle.flt_replay.specs.Writes.{ComesOf};
 
-use crate::parts::{Actor, Entry, Item};
+use crate::parts::{Actor, Item};
 use crate::stack::Stack;
 use crate::starting::Start;
 use crate::world::World;
@@ -16,36 +16,6 @@ use sqlite_items::Items;
 use std::alloc::{AllocError, Global};
 
 impl<'a> World<'a> {
-    /// Where the first entry of an operation stands in a filter's queue.
-    fn entry_place(&self, filter: usize, operation: usize) -> Option<usize>
-        ensures { result ≡ position (moves.is_entry_of self.now.store operation) (spec.queue_at self.now.store filter) }
-    {
-        match self.queues.get(filter) {
-            Some(queue) => queue
-                .as_slice()
-                .iter()
-                .position(|entry| self.is_entry_of(operation, entry)),
-            None => None,
-        }
-    }
-
-    fn is_entry_of(&self, operation: usize, entry: &Entry) -> bool
-        ensures { result ≡ moves.is_entry_of self.now.store operation entry.now }
-    {
-        self.operation_of(entry.visit) == operation
-    }
-
-    /// The first entry of an operation is taken out of a filter's queue.
-    fn take_entry(&mut self, filter: usize, operation: usize) -> Option<Entry>
-        ensures { MatchOption result (find (moves.is_entry_of self.old.store operation) (spec.queue_at self.old.store filter) ≡ None) (λ e. (find (moves.is_entry_of self.old.store operation) (spec.queue_at self.old.store filter) ≡ Some e) × (self.new ≡ record self.old { store = spec.with_queue self.old.store filter (moves.other_entries self.old.store operation (spec.queue_at self.old.store filter)) })) }
-    {
-        let place = self.entry_place(filter, operation);
-        match self.queues.get_mut(filter) {
-            Some(queue) => take_out(queue, place),
-            None => None,
-        }
-    }
-
     /// The entry is taken out, and CompleteCanceledIo starts with it.
     fn canceled_by(
         &mut self,
@@ -57,7 +27,7 @@ impl<'a> World<'a> {
     ) -> Result<bool, AllocError>
         ensures { IfOk result (λ enabled. ComesOf (moves.canceled_by stack.now self.old filter operation (find (moves.is_entry_of self.old.store operation) (spec.queue_at self.old.store filter))) enabled self.new events.old.items events.new.items) }
     {
-        match self.take_entry(filter, operation) {
+        match self.take_entry(alloc, filter, operation)? {
             Some(entry) => {
                 let start = Start {
                     actor: Actor {

@@ -3,7 +3,7 @@ use Rattle.std.proofs.lemmas.List.Sums.{sum_by_more, sum_by-take-le}
 use Rattle.flt_model.specs.Trace.{one_if}
 use Rattle.flt_replay.proofs.Ones.{one_here}
 use Rattle.flt_replay.specs.Counts.{count, occurs}
-use Rattle.flt_replay.proofs.ledger.counts.Counts.take_each.Goals as goal
+use Rattle.flt_replay.proofs.counts.Counts.take_each.Goals as goal
 
 pub loop-number-preserved : goal.loop-number-preserved
 loop-number-preserved c = λ fits n.

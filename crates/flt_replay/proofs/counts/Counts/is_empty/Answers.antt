@@ -1,7 +1,7 @@
 use Rattle.std.proofs.Common.{◌≡◌, ℕ, List, IsTrue, subst}
 use Rattle.flt_replay.proofs.Counting.{empty_from_length, length_from_empty}
 use Rattle.flt_replay.specs.Counts.{count}
-use Rattle.flt_replay.proofs.ledger.counts.Counts.is_empty.Goals as goal
+use Rattle.flt_replay.proofs.counts.Counts.is_empty.Goals as goal
 
 pub returns : goal.returns
 returns c =
