@@ -5,10 +5,10 @@ pub mod Concluding
 pub mod CountWaiting
 pub mod Counting
 pub mod Courses
+pub mod EntryVisits
 pub mod First
 pub mod FirstLinked
 pub mod Following
-pub mod EntryVisits
 pub mod Frames
 pub mod Handing
 pub mod Holders

@@ -14,9 +14,6 @@ pub mod Rest
 pub mod Scenes
 pub mod Starting
 pub mod Tickets
-<<<<<<< HEAD
-=======
 pub mod Unsettled
->>>>>>> aec7c03405b8d350f18831ceff649793071dd31b
 pub mod Waiting
 pub mod Writes

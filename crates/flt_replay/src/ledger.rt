@@ -414,7 +414,7 @@ impl Ledger {
     fn owns_each(&self, world: &World<'_>, visits: &[usize]) -> bool
         ensures { result ≡ list_all (spec.owns_any self.now world.now) visits.now }
     {
-        let known = world.visits.len();
+        let known = world.visit_count();
         visits
             .iter()
             .all(|visit| *visit >= known || self.owns(world, *visit))
