@@ -1,5 +1,5 @@
 -- What waits is counted still where an entry or an item comes or goes.
-use Rattle.std.proofs.Common.{◌≡◌, ℕ, ◌+◌, ◌<◌, List, [], ◌∷◌, ◌++◌, Option, Some, None, length, get_or, set, refl, sym, ap, ◌∙◌, arith}
+use Rattle.std.proofs.Common.{◌≡◌, ℕ, ◌+◌, ◌<◌, List, [], ◌∷◌, ◌++◌, Option, Some, None, length, get_or, set, find, Bool, true, false, refl, sym, ap, ◌∙◌, arith}
 use Rattle.std.specs.Prelude.{sum_by}
 use Rattle.std.proofs.lemmas.List.Sums.{sum_by-set, sum_by_push, sum_by-cons}
 use Rattle.flt_model.specs.Trace.{one_if}
@@ -7,7 +7,9 @@ use Rattle.flt_model.specs.Violations.{in_queue, in_item, in_some}
 use Rattle.flt_model.specs.World.{Entry, Item}
 use Rattle.flt_replay.specs.Counts.{count}
 use Rattle.flt_replay.specs.Waiting.{AreWaiting}
+use Rattle.flt_replay.specs.Tickets.{without_first}
 use Rattle.flt_replay.proofs.Ones.{one_here}
+use Rattle.flt_replay.proofs.QueueMiddle.{first_passes, first_fails}
 
 pub in_none : (v : ℕ) → in_queue v [] ≡ 0
 unfolding in_queue
@@ -17,9 +19,27 @@ in_push : (v : ℕ) (q : List Entry) (e : Entry) → in_queue v (q ++ e ∷ []) 
 unfolding in_queue
 in_push v q e = sum_by_push (λ (x : Entry). one_if x.visit v) q e
 
-in_cons : (v : ℕ) (e : Entry) (q : List Entry) → in_queue v (e ∷ q) ≡ one_if e.visit v + in_queue v q
+pub in_cons : (v : ℕ) (e : Entry) (q : List Entry) → in_queue v (e ∷ q) ≡ one_if e.visit v + in_queue v q
 unfolding in_queue
 in_cons v e q = sum_by-cons (λ (x : Entry). one_if x.visit v) e q
+
+in_without_by : (v : ℕ) (p : Entry → Bool) (x : Entry) (q : List Entry) (e : Entry) (b : Bool) → p x ≡ b → find p (x ∷ q) ≡ Some e → (find p q ≡ Some e → in_queue v q ≡ one_if e.visit v + in_queue v (without_first p q)) → in_queue v (x ∷ q) ≡ one_if e.visit v + in_queue v (without_first p (x ∷ q))
+in_without_by v p x q e true h is rest =
+    let f = first_passes p x q h in
+    let same : Some x ≡ Some e = sym f.0 ∙ is in
+    let it : x ≡ e = cc in
+    in_cons v x q ∙ ap (λ (y : Entry). one_if y.visit v + in_queue v q) it ∙ ap (λ (l : List Entry). one_if e.visit v + in_queue v l) f.1
+in_without_by v p x q e false h is rest =
+    let f = first_fails p x q h in
+    let r = rest (sym f.0 ∙ is) in
+    let a = in_cons v x q in
+    let b = ap (in_queue v) (sym f.1) ∙ in_cons v x (without_first p q) in
+    omega arith
+
+-- the entries without the first that passes
+pub in_without : (v : ℕ) (p : Entry → Bool) (q : List Entry) (e : Entry) → find p q ≡ Some e → in_queue v q ≡ one_if e.visit v + in_queue v (without_first p q)
+in_without v p [] e is = absurd (cc)
+in_without v p (x ∷ q) e is = in_without_by v p x q e (p x) refl is (in_without v p q e)
 
 -- as often as before, where one was counted and taken back
 pub back : (cs ds es : List (ℕ × ℕ)) (u : ℕ) → ((v : ℕ) → count ds v ≡ count cs v + one_if u v) → (0 < count ds u → (v : ℕ) → count ds v ≡ count es v + one_if u v) → (v : ℕ) → count es v ≡ count cs v
@@ -53,11 +73,11 @@ module _ (queues : List (List Entry)) (items : List (Option Item)) (cs ds : List
           omega arith;
     }
 
-    module _ (e : Entry) (first : old ≡ e ∷ new) where
+    module _ (e : Entry) (first : (v : ℕ) → in_queue v old ≡ one_if e.visit v + in_queue v new) where
       pub entry_counted : 0 < count cs e.visit
       entry_counted =
           let s = sum_by-set (in_queue e.visit) queues f [] [] l in
-          let p = ap (in_queue e.visit) first ∙ in_cons e.visit e new in
+          let p = first e.visit in
           let r = ap (in_queue e.visit) read in
           let z = in_none e.visit in
           let w = was.each e.visit in
@@ -68,7 +88,7 @@ module _ (queues : List (List Entry)) (items : List (Option Item)) (cs ds : List
       entry_taken less = record {
         each = λ v.
             let s = sum_by-set (in_queue v) queues f new [] l in
-            let p = ap (in_queue v) first ∙ in_cons v e new in
+            let p = first v in
             let r = ap (in_queue v) read in
             let w = was.each v in
             let m = less v in

@@ -67,10 +67,10 @@ order_from i j c a b d Equal Equal Greater p q r h = let l = nat_greater c d r i
 order_from i j c a b d Equal Greater z p q r h = let l = nat_greater j b q in let m = nat_equal i a p in absurd (omega (arith, h.second m))
 order_from i j c a b d Greater y z p q r h = let l = nat_greater i a p in absurd (omega (arith, h.first))
 
-pub from_least : (i j c : ℕ) → is_gt (place_cmp (i, j, 0) (i, j, c)) ≡ false
-from_least i j c =
-    order_from i j 0 i j c (nat_cmp i i) (nat_cmp j j) (nat_cmp 0 c) refl refl refl
-    (record { first = omega arith; second = λ e. omega arith; third = λ e f. omega arith })
+pub from_least : (i j l c : ℕ) → l ≤ c → is_gt (place_cmp (i, j, l) (i, j, c)) ≡ false
+from_least i j l c h =
+    order_from i j l i j c (nat_cmp i i) (nat_cmp j j) (nat_cmp l c) refl refl refl
+    (record { first = omega arith; second = λ e. omega arith; third = λ e f. h })
 
 -- ---- the first of the places from the least place of two numbers on
 
@@ -78,33 +78,34 @@ false_where_absurd : (b : Bool) → (b ≡ true → ⊥) → b ≡ false
 false_where_absurd true h = absurd (h refl)
 false_where_absurd false h = refl
 
-module _ (s : BTreeSet (ℕ × ℕ × ℕ)) (i j : ℕ) (r : List (ℕ × ℕ × ℕ)) (h : IsKeyRangeOf place_cmp (Included (i, j, 0)) Unbounded s r) where
+module _ (s : BTreeSet (ℕ × ℕ × ℕ)) (i j l : ℕ) (r : List (ℕ × ℕ × ℕ)) (h : IsKeyRangeOf place_cmp (Included (i, j, l)) Unbounded s r) where
   module _ (p : ℕ × ℕ × ℕ) (rest : List (ℕ × ℕ × ℕ)) (is : r ≡ p ∷ rest) where
-    from_start : NotAfter i j 0 p.0 p.1 p.2
-    from_start =
-        let first = subst (λ (l : List (ℕ × ℕ × ℕ)). IfSome (slice_get l 0) (λ (q : ℕ × ℕ × ℕ). (is_gt (place_cmp (i, j, 0) q) ≡ false × ⊤) × IsTrue (contains place_cmp s q))) is h.1 in
-        not_after i j 0 p.0 p.1 p.2 first.0.0
+    first_is : (is_gt (place_cmp (i, j, l) p) ≡ false × ⊤) × IsTrue (contains place_cmp s p)
+    first_is =
+        subst (λ (xs : List (ℕ × ℕ × ℕ)). IfSome (slice_get xs 0) (λ (q : ℕ × ℕ × ℕ). (is_gt (place_cmp (i, j, l) q) ≡ false × ⊤) × IsTrue (contains place_cmp s q))) is h.1
 
-    to_each : (c : ℕ) → contains place_cmp s (i, j, c) ≡ true → NotAfter p.0 p.1 p.2 i j c
-    to_each c is_in =
-        let upto = subst (λ (l : List (ℕ × ℕ × ℕ)). IfSome (slice_get l 0) (λ (q : ℕ × ℕ × ℕ). is_gt (place_cmp q (i, j, c)) ≡ false)) is (h.2 (i, j, c) (from_least i j c, tt) is_in) in
+    from_start : NotAfter i j l p.0 p.1 p.2
+    from_start = not_after i j l p.0 p.1 p.2 first_is.0.0
+
+    to_each : (c : ℕ) → l ≤ c → contains place_cmp s (i, j, c) ≡ true → NotAfter p.0 p.1 p.2 i j c
+    to_each c k is_in =
+        let upto = subst (λ (xs : List (ℕ × ℕ × ℕ)). IfSome (slice_get xs 0) (λ (q : ℕ × ℕ × ℕ). is_gt (place_cmp q (i, j, c)) ≡ false)) is (h.2 (i, j, c) (from_least i j l c k, tt) is_in) in
         not_after p.0 p.1 p.2 i j c upto
 
-    pub least_here : p.0 ≡ i → p.1 ≡ j → (has s i j p.2 ≡ true) × ((c : ℕ) → c < p.2 → has s i j c ≡ false)
+    pub least_here : p.0 ≡ i → p.1 ≡ j → (l ≤ p.2) × ((has s i j p.2 ≡ true) × ((c : ℕ) → l ≤ c → c < p.2 → has s i j c ≡ false))
     unfolding has
     least_here e f =
-        let first = subst (λ (l : List (ℕ × ℕ × ℕ)). IfSome (slice_get l 0) (λ (q : ℕ × ℕ × ℕ). (is_gt (place_cmp (i, j, 0) q) ≡ false × ⊤) × IsTrue (contains place_cmp s q))) is h.1 in
-        (rw (sym e, sym f) first.1, λ c less. false_where_absurd _ (λ is_in. let m = to_each c is_in in let n = m.third e f in omega arith))
+        (from_start.third (sym e) (sym f), (rw (sym e, sym f) first_is.1, λ c k less. false_where_absurd _ (λ is_in. let m = to_each c k is_in in let n = m.third e f in omega arith)))
 
-    pub none_past : (p.0 ≡ i → p.1 ≡ j → ⊥) → (c : ℕ) → has s i j c ≡ false
+    pub none_past : (p.0 ≡ i → p.1 ≡ j → ⊥) → (c : ℕ) → l ≤ c → has s i j c ≡ false
     unfolding has
-    none_past other c =
+    none_past other c k =
         false_where_absurd _ (λ is_in.
-            let m = to_each c is_in in
+            let m = to_each c k is_in in
             let n = from_start in
             let e : p.0 ≡ i = omega (arith, m.first, n.first) in
             other e (omega (arith, m.second e, n.second (sym e))))
 
-  pub none_left : r ≡ [] → (c : ℕ) → has s i j c ≡ false
+  pub none_left : r ≡ [] → (c : ℕ) → l ≤ c → has s i j c ≡ false
   unfolding has
-  none_left is c = h.5 is (i, j, c) (from_least i j c, tt)
+  none_left is c k = h.5 is (i, j, c) (from_least i j l c k, tt)

@@ -1,6 +1,7 @@
 -- What the monitor's parts say of a moment and of a step, each of its share of the violations.
-use Rattle.std.specs.Prelude.{◌≡◌, ℕ, Bool, true, not, ◌==◌, List, [], ◌∷◌, Option, Some, find, map, set}
+use Rattle.std.specs.Prelude.{◌≡◌, ℕ, Bool, true, not, ◌==◌, nat_lt, List, [], ◌∷◌, Option, Some, find, map, set}
 use Rattle.std.specs.Borrow.{Bor}
+use Rattle.std.specs.List.{position_or_len}
 use Rattle.flt_rules.specs.declared.call.LockNumber.{LockNumber}
 use Rattle.flt_syntax.specs.declared.filter.Filter.{Filter}
 use Rattle.flt_syntax.specs.declared.tree.Tree.{Tree}
@@ -66,3 +67,7 @@ filters_behind fs = map (λ f. f.now) fs
 -- the filters of some trees
 abbrev pub filters_of : List Tree → List Filter
 filters_of trees = map (λ t. t.filter) trees
+
+-- where a filter goes: before the first one that is lower
+abbrev pub first_lower : Filter → List Filter → ℕ
+first_lower f filters = position_or_len (λ (g : Filter). nat_lt g.altitude f.altitude) filters

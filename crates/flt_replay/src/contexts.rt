@@ -90,7 +90,7 @@ impl<'a> World<'a> {
     }
 
     /// The link's reference goes to the variable that receives it, or is dropped.
-    pub(crate) fn unlink(
+    pub(crate) fn drop_link(
         &mut self,
         a: usize,
         x: usize,
@@ -237,7 +237,7 @@ impl<'a> World<'a> {
                 Existing::Keep => self.kept(a, set.old, to.refused, y, events),
                 Existing::Replace => {
                     self.go_on(a, to.granted, Write::Output(set.old, Some(y)))?;
-                    self.unlink(a, y, set.old, events)?;
+                    self.drop_link(a, y, set.old, events)?;
                     self.put_link(x, link)
                 }
             },
@@ -324,7 +324,7 @@ impl<'a> World<'a> {
             None => self.go_on(a, to.refused, Write::Output(old, None)),
             Some(y) => {
                 self.go_on(a, to.granted, Write::Output(old, Some(y)))?;
-                self.unlink(a, y, old, events)
+                self.drop_link(a, y, old, events)
             }
         }
     }
@@ -373,7 +373,7 @@ impl<'a> World<'a> {
         match x {
             Some(x) if self.is_linked(x) => {
                 self.go_on(a, &[], Write::Nothing)?;
-                self.unlink(a, x, None, events)
+                self.drop_link(a, x, None, events)
             }
             _ => self.go_on(a, &[], Write::Nothing),
         }

@@ -17,15 +17,14 @@ ghost use Rattle.flt_model.specs.Violations as rules;
 ghost use Rattle.flt_replay.specs.Counts.{count, count_of, occurs};
 ghost use Rattle.flt_replay.specs.Ledger as spec;
 
+use crate::counts::Counts;
 use crate::world::World;
 use flt_model::{Event, Object, Violation};
 use std::alloc::{AllocError, Global};
 use std::marker::Model;
 
-pub(crate) mod counts;
-mod rows;
+pub(crate) mod rows;
 
-use counts::Counts;
 use rows::Rows;
 
 #[derive(Drop)]
@@ -415,7 +414,7 @@ impl Ledger {
     fn owns_each(&self, world: &World<'_>, visits: &[usize]) -> bool
         ensures { result ≡ list_all (spec.owns_any self.now world.now) visits.now }
     {
-        let known = world.visits.len();
+        let known = world.visit_count();
         visits
             .iter()
             .all(|visit| *visit >= known || self.owns(world, *visit))

@@ -1,6 +1,6 @@
 //! A set of places, which finds the least place of two numbers without a search.
 
-ghost use Rattle.std.specs.Prelude.{◌≡◌, ℕ, ◌<◌, false, true, not, ◌&&◌, ◌||◌, OnOk, OnErr, MatchOption};
+ghost use Rattle.std.specs.Prelude.{◌≡◌, ℕ, ◌<◌, ◌≤◌, false, true, not, ◌&&◌, ◌||◌, OnOk, OnErr, MatchOption};
 ghost use Rattle.flt_replay.specs.Places.{has, is_place};
 
 use std::alloc::{AllocError, Global};
@@ -37,13 +37,20 @@ impl Places {
         let _ = self.set.remove(&(i, j, k));
     }
 
+    /// The least place of two numbers, from a number on.
+    pub(crate) fn next(&self, i: usize, j: usize, from: usize) -> Option<usize>
+        ensures { MatchOption result ((c : ℕ) → from ≤ c → has self.now.set i j c ≡ false) (λ k. (from ≤ k) × ((has self.now.set i j k ≡ true) × ((c : ℕ) → from ≤ c → c < k → has self.now.set i j c ≡ false))) }
+    {
+        match self.set.range((i, j, from)..).next() {
+            Some(place) if place.0 == i && place.1 == j => Some(place.2),
+            _ => None,
+        }
+    }
+
     /// The least place of two numbers.
     pub(crate) fn first(&self, i: usize, j: usize) -> Option<usize>
         ensures { MatchOption result ((c : ℕ) → has self.now.set i j c ≡ false) (λ k. (has self.now.set i j k ≡ true) × ((c : ℕ) → c < k → has self.now.set i j c ≡ false)) }
     {
-        match self.set.range((i, j, 0)..).next() {
-            Some(place) if place.0 == i && place.1 == j => Some(place.2),
-            _ => None,
-        }
+        self.next(i, j, 0)
     }
 }

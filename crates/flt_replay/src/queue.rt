@@ -1,6 +1,8 @@
 //! A cancel-safe queue: its front entry is taken out without a move of the others.
 
-ghost use Rattle.std.specs.Prelude.{◌≡◌, [], ◌∷◌, ◌++◌, OnOk, OnErr, MatchOption, ◌↔◌, IsTrue};
+ghost use Rattle.std.specs.Prelude.{◌≡◌, [], ◌∷◌, ◌++◌, Some, None, find, map, OnOk, OnErr, IfOk, MatchOption, ◌↔◌, IsTrue};
+ghost use Rattle.flt_model.specs.World as machine;
+ghost use Rattle.flt_replay.specs.Tickets.{is_of, without_first, lesser, IsLeast};
 
 use crate::parts::Entry;
 use crate::place_set::Places;
@@ -25,7 +27,8 @@ impl Model for Queue {
     ghost Value = { List machine.Entry };
 
     ghost use Rattle.std.specs.Map.{values_of};
-    ghost use Rattle.flt_replay.specs.Tickets.{AreTickets};
+    ghost use Rattle.flt_model.specs.World as machine;
+ghost use Rattle.flt_replay.specs.Tickets.{AreTickets};
 
     ghost view = { λ q. values_of q.entries.entries };
 
@@ -47,6 +50,16 @@ impl Queue {
         ensures { IsTrue result ↔ (self.now ≡ []) }
     {
         self.entries.is_empty()
+    }
+
+    /// The visits of the entries, in order.
+    pub(crate) fn visits(&self, alloc: Global) -> Result<Vec<usize>, AllocError>
+        ensures { IfOk result (λ vs. vs.items ≡ map (λ (e : machine.Entry). e.visit) self.now) }
+    {
+        self.entries
+            .values()
+            .map(|entry| entry.visit)
+            .collect(alloc)
     }
 
     /// One more entry at the end. Its ticket is a number that no journal in memory reaches the end of.
@@ -84,5 +97,43 @@ impl Queue {
             }
             None => None,
         }
+    }
+
+    /// Takes the first entry with one of some visits out.
+    pub(crate) fn take_entry(&mut self, visits: &[usize]) -> Option<Entry>
+        ensures { MatchOption result ((find (is_of visits.now) self.old ≡ None) × (self.new ≡ self.old)) (λ e. (find (is_of visits.now) self.old ≡ Some e) × (self.new ≡ without_first (is_of visits.now) self.old)) }
+    {
+        let Some(ticket) = least_ticket(&self.tickets, visits) else {
+            return None;
+        };
+        match self.entries.remove(&ticket) {
+            Some(entry) => {
+                self.tickets.remove(0, entry.visit, ticket);
+                Some(entry)
+            }
+            None => None,
+        }
+    }
+}
+
+/// The least ticket of some visits.
+fn least_ticket(tickets: &Places, visits: &[usize]) -> Option<usize>
+    ensures { IsLeast tickets.now.set visits.now result }
+{
+    let mut least: Option<usize> = None;
+    for visit in visits {
+        least = lesser(least, tickets.first(0, *visit));
+    }
+    least
+}
+
+/// The lesser of two numbers, of which any may be missing.
+fn lesser(one: Option<usize>, other: Option<usize>) -> Option<usize>
+    ensures { result ≡ lesser one other }
+{
+    match (one, other) {
+        (Some(one), Some(other)) => Some(if one < other { one } else { other }),
+        (Some(one), None) => Some(one),
+        (None, other) => other,
     }
 }

@@ -1,6 +1,6 @@
 //! Which rules the events of a step break: of statuses, levels, lock discipline and places.
 
-ghost use Rattle.std.specs.Prelude.{◌≡◌, ℕ, true, not, ◌&&◌, ◌||◌, List, [], find};
+ghost use Rattle.std.specs.Prelude.{◌≡◌, ℕ, true, not, ◌&&◌, ◌||◌, List, find};
 ghost use Rattle.std.specs.List.{list_all};
 ghost use Rattle.flt_model.specs.Levels.{level_at};
 ghost use Rattle.flt_model.specs.Locks as locks;
@@ -9,7 +9,7 @@ ghost use Rattle.flt_model.specs.Statuses as statuses;
 ghost use Rattle.flt_model.specs.Trace.{is_held};
 ghost use Rattle.flt_model.specs.Variables.{operation_in};
 ghost use Rattle.flt_model.specs.Violations as spec;
-ghost use Rattle.flt_model.specs.World.{activation_at, actor_at, visit_at};
+ghost use Rattle.flt_model.specs.World.{activation_at, actor_at, arrival_of, visit_at};
 ghost use Rattle.flt_model.specs.declared.event.Event.{Event};
 ghost use Rattle.flt_model.specs.declared.event.Object.TheVariants.{Visit};
 ghost use Rattle.flt_replay.specs.Judging.{is_by, keeps_rule, of_rules};
@@ -95,17 +95,30 @@ impl<'b, 'a> Scene<'b, 'a> {
 // ---- statuses
 
 impl<'b, 'a> Scene<'b, 'a> {
-    /// Whether the status of a row may be returned about a visit.
-    fn fits_row(&self, row: StatusRow, visit: usize) -> bool
-        ensures { (t : List Event) → self.now.held ≡ is_held t self.now.activation (Visit visit) → result ≡ statuses.fits_row self.now.stack.now (before self.now) t self.now.activation row visit }
+    /// What a row says of the callback.
+    fn fits_callback(&self, row: StatusRow, visit: usize) -> bool
+        ensures { result ≡ (statuses.fits_stage (actor_at (before self.now) self.now.activation).place row.stage && ((not row.needs_post || program.has_post (program.callbacks_at self.now.stack.now (actor_at (before self.now) self.now.activation).filter) (arrival_of (before self.now).store visit).kind) && (row.in_create || not (statuses.is_pre_create (actor_at (before self.now) self.now.activation).place)))) }
     {
         let place = self.world.place(self.activation);
         fits_stage(place, row.stage)
             && (!row.needs_post || self.has_post(self.world.kind_of(visit)))
             && (row.in_create || !is_pre_create(place))
-            && is_possessed(self.held, row.data)
+    }
+
+    /// What a row says of the operation.
+    fn fits_operation(&self, row: StatusRow, visit: usize) -> bool
+        ensures { result ≡ (statuses.is_possessed self.now.held row.data && (statuses.is_of_mode (arrival_of (before self.now).store visit).mode row.mode && (row.in_draining || not (actor_at (before self.now) self.now.activation).draining))) }
+    {
+        is_possessed(self.held, row.data)
             && is_of_mode(self.world.mode_of(visit), row.mode)
             && (row.in_draining || !self.world.has_flag(self.activation))
+    }
+
+    /// Whether the status of a row may be returned about a visit.
+    fn fits_row(&self, row: StatusRow, visit: usize) -> bool
+        ensures { (t : List Event) → self.now.held ≡ is_held t self.now.activation (Visit visit) → result ≡ statuses.fits_row self.now.stack.now (before self.now) t self.now.activation row visit }
+    {
+        self.fits_callback(row, visit) && self.fits_operation(row, visit)
     }
 
     fn has_post(&self, kind: Operation) -> bool

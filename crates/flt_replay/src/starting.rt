@@ -1,6 +1,6 @@
 //! Callbacks that start: each is a new activation, which gains what it is given.
 
-ghost use Rattle.std.specs.Prelude.{◌≡◌, ◌++◌, OnOk};
+ghost use Rattle.std.specs.Prelude.{OnOk};
 ghost use Rattle.flt_model.specs.Moves as moves;
 ghost use Rattle.flt_replay.specs.Starting.{starts_post};
 ghost use Rattle.flt_replay.specs.Writes.{Happened};

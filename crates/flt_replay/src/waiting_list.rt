@@ -1,9 +1,11 @@
 //! What waits, in queues and in work items, with counts of its visits.
 
-ghost use Rattle.std.specs.Prelude.{◌≡◌, ◌+◌, List, [], ◌∷◌, ◌++◌, length, get_or, set, sum_by, Some, None, OnOk, MatchOption, ◌↔◌, IsTrue};
+ghost use Rattle.std.specs.Prelude.{◌≡◌, ◌+◌, List, [], ◌∷◌, ◌++◌, length, get_or, set, sum_by, find, map, Some, None, OnOk, IfOk, MatchOption, ◌↔◌, IsTrue};
 ghost use Rattle.flt_model.specs.Violations.{in_queue, in_item};
+ghost use Rattle.flt_model.specs.World as machine;
+ghost use Rattle.flt_replay.specs.Tickets.{is_of, without_first};
 
-use crate::ledger::counts::Counts;
+use crate::counts::Counts;
 use crate::parts::{Entry, Item};
 use crate::queue::Queue;
 use std::alloc::{AllocError, Global};
@@ -58,6 +60,13 @@ impl Waiting {
         Ok(())
     }
 
+    /// The work items by number.
+    pub(crate) fn items(&self) -> &[Option<Item>]
+        ensures { result.now ≡ self.now.1 }
+    {
+        self.items.as_slice()
+    }
+
     /// Whether a filter's queue is empty.
     pub(crate) fn is_empty(&self, filter: usize) -> bool
         ensures { IsTrue result ↔ (get_or self.now.0 filter [] ≡ []) }
@@ -65,6 +74,16 @@ impl Waiting {
         match self.queues.get(filter) {
             Some(queue) => queue.is_empty(),
             None => true,
+        }
+    }
+
+    /// The visits of the entries of a filter's queue, in order.
+    pub(crate) fn visits(&self, alloc: Global, filter: usize) -> Result<Vec<usize>, AllocError>
+        ensures { IfOk result (λ vs. vs.items ≡ map (λ (e : machine.Entry). e.visit) (get_or self.now.0 filter [])) }
+    {
+        match self.queues.get(filter) {
+            Some(queue) => queue.visits(alloc),
+            None => Ok(Vec::new(alloc)),
         }
     }
 
@@ -89,6 +108,19 @@ impl Waiting {
     {
         if let Some(queue) = self.queues.get_mut(filter) {
             if let Some(entry) = queue.take_first() {
+                self.counts.take(entry.visit);
+                return Some(entry);
+            }
+        }
+        None
+    }
+
+    /// Takes the first entry with one of some visits out of a filter's queue.
+    pub(crate) fn take_entry(&mut self, filter: usize, visits: &[usize]) -> Option<Entry>
+        ensures { MatchOption result ((find (is_of visits.now) (get_or self.old.0 filter []) ≡ None) × (self.new ≡ self.old)) (λ e. (find (is_of visits.now) (get_or self.old.0 filter []) ≡ Some e) × (self.new ≡ (set self.old.0 filter (without_first (is_of visits.now) (get_or self.old.0 filter [])), self.old.1))) }
+    {
+        if let Some(queue) = self.queues.get_mut(filter) {
+            if let Some(entry) = queue.take_entry(visits) {
                 self.counts.take(entry.visit);
                 return Some(entry);
             }

@@ -1,6 +1,6 @@
 //! The world of the monitor, and what is there at a number: what isn't there has ended, is settled and counts nothing.
 
-ghost use Rattle.std.specs.Prelude.{◌≡◌, ◌+◌, true, get_or, set, replicate, sum_by, is_some, length, Some, None, [], ◌∷◌, ◌++◌, OnOk, IfOk, MatchOption};
+ghost use Rattle.std.specs.Prelude.{◌≡◌, ◌+◌, true, get_or, set, replicate, sum_by, find, filter, ◌==◌, is_some, length, Some, None, [], ◌∷◌, ◌++◌, OnOk, IfOk, MatchOption};
 ghost use Rattle.flt_model.specs.Effects.{onward};
 ghost use Rattle.flt_model.specs.Locks as locks;
 ghost use Rattle.flt_model.specs.Moves as moves;
@@ -10,17 +10,20 @@ ghost use Rattle.flt_model.specs.Violations.{in_queue, in_item};
 ghost use Rattle.flt_model.specs.World as spec;
 ghost use Rattle.flt_replay.specs.Opening.{opened};
 ghost use Rattle.flt_replay.specs.Parts.{presence_of, position_of};
+ghost use Rattle.std.specs.List.{AllByRecursion};
+ghost use Rattle.flt_replay.specs.Tickets.{is_of};
 ghost use Rattle.flt_replay.specs.Writes.{written, later};
 
 use crate::activation::{Activation, Write};
 use crate::linked::Contexts;
 use crate::parts::{
-    Actor, Arrival, Entry, Item, Link, Position, Presence, Route, Standing, Visit,
+    Actor, Arrival, Context, Entry, Item, Link, Position, Presence, Route, Standing, Visit,
 };
+use crate::visit_list::Visits;
 use crate::waiting_list::Waiting;
 use flt_rules::{LockNumber, Mode, Operation, Place, Stage};
 use flt_syntax::{Atom, ContextVariable, OperationVariable, Statement};
-use sqlite_items::at;
+use sqlite_items::{Items, at};
 use std::alloc::{AllocError, Global};
 use std::marker::Model;
 
@@ -33,8 +36,7 @@ pub(crate) struct World<'a> {
     pub(crate) holders: Vec<[Option<usize>; 8]>,
     pub(crate) arrivals: Vec<Arrival>,
     pub(crate) routes: Vec<Route>,
-    pub(crate) visits: Vec<Visit>,
-    pub(crate) settled: Vec<bool>,
+    visits: Visits,
     contexts: Contexts,
     waiting: Waiting,
 }
@@ -49,7 +51,7 @@ impl<'a> Model for World<'a> {
 
     ghost coded = { Prim.hlevel (codes, activation_code) };
 
-    ghost view = { λ w. record { actors = w.actors.items; activations = w.activations.items; store = record { presences = w.presences.items; queues = w.waiting.0; holders = w.holders.items; arrivals = w.arrivals.items; routes = w.routes.items; visits = w.visits.items; settled = w.settled.items; contexts = w.contexts; items = w.waiting.1 } } };
+    ghost view = { λ w. record { actors = w.actors.items; activations = w.activations.items; store = record { presences = w.presences.items; queues = w.waiting.0; holders = w.holders.items; arrivals = w.arrivals.items; routes = w.routes.items; visits = w.visits.0; settled = w.visits.1; contexts = w.contexts; items = w.waiting.1 } } };
 }
 
 #[tactic(auto, using(crate::proofs::Reading::found, crate::proofs::Reading::missing))]
@@ -133,6 +135,34 @@ impl<'a> World<'a> {
         }
     }
 
+    /// The contexts by number.
+    pub(crate) fn contexts(&self) -> &[Context]
+        ensures { result.now ≡ self.now.store.contexts }
+    {
+        self.contexts.as_slice()
+    }
+
+    /// The work items by number.
+    pub(crate) fn items(&self) -> &[Option<Item>]
+        ensures { result.now ≡ self.now.store.items }
+    {
+        self.waiting.items()
+    }
+
+    /// How many visits there have been.
+    pub(crate) fn visit_count(&self) -> usize
+        ensures { result ≡ length self.now.store.visits }
+    {
+        self.visits.len()
+    }
+
+    /// Whether all visits of an operation are settled.
+    pub(crate) fn are_settled(&self, operation: usize) -> bool
+        ensures { result ≡ moves.are_settled operation self.now.store.visits self.now.store.settled }
+    {
+        self.visits.are_settled(operation)
+    }
+
     /// How often a visit stands in an entry or in a work item.
     pub(crate) fn waiting(&self, visit: usize) -> u64
         ensures { result ≡ sum_by (in_queue visit) self.now.store.queues + sum_by (in_item visit) self.now.store.items }
@@ -200,7 +230,7 @@ impl<'a> World<'a> {
     pub(crate) fn is_settled(&self, visit: usize) -> bool
         ensures { result ≡ spec.is_settled self.now.store visit }
     {
-        match at(self.settled.as_slice(), visit) {
+        match at(self.visits.settled(), visit) {
             Some(settled) => *settled,
             None => true,
         }
@@ -321,6 +351,20 @@ impl<'a> World<'a> {
         }
     }
 
+    /// The locks that an activation holds.
+    pub(crate) fn locks_of(
+        &self,
+        alloc: Global,
+        activation: usize,
+    ) -> Result<Items<LockNumber>, AllocError>
+        ensures { IfOk result (λ locks. locks ≡ (spec.activation_at self.now activation).locks) }
+    {
+        match self.activations.get(activation) {
+            Some(activation) => Items::from_slice(alloc, activation.locks.as_slice()),
+            None => Ok(Items::new(alloc)),
+        }
+    }
+
     pub(crate) fn context_in(&self, activation: usize, variable: ContextVariable) -> Option<usize>
         ensures { result ≡ variables.context_in (spec.activation_at self.now activation) variable }
     {
@@ -391,8 +435,7 @@ impl<'a> World<'a> {
             holders: Vec::new(alloc),
             arrivals: Vec::new(alloc),
             routes: Vec::new(alloc),
-            visits: Vec::new(alloc),
-            settled: Vec::new(alloc),
+            visits: Visits::new(alloc),
             contexts: Contexts::new(alloc),
             waiting: Waiting::new(alloc),
         }
@@ -519,6 +562,55 @@ impl<'a> World<'a> {
         self.waiting.take_first(filter)
     }
 
+    /// Those of some visits that are of an operation.
+    fn visits_among(
+        &self,
+        alloc: Global,
+        visits: &[usize],
+        operation: usize,
+    ) -> Result<Vec<usize>, AllocError>
+        ensures { IfOk result (λ vs. vs.items ≡ filter (λ v. (spec.visit_at self.now.store v).operation == operation) visits.now) }
+    {
+        let mut among = Vec::new(alloc);
+        for visit in visits {
+            if self.operation_of(*visit) == operation {
+                among.push(*visit)?;
+            }
+        }
+        Ok(among)
+    }
+
+    /// Visits that tell the entries of an operation in a filter's queue. An entry of a visit that isn't there, which no run of the
+    /// machine has, is of operation 0, so for that one the queue is looked through.
+    fn visits_for(
+        &self,
+        alloc: Global,
+        filter: usize,
+        operation: usize,
+    ) -> Result<Vec<usize>, AllocError>
+        ensures { IfOk result (λ vs. AllByRecursion (λ e. is_of vs.items e ≡ moves.is_entry_of self.now.store operation e) (spec.queue_at self.now.store filter)) }
+    {
+        if operation == 0 {
+            let visits = self.waiting.visits(alloc, filter)?;
+            self.visits_among(alloc, visits.as_slice(), operation)
+        } else {
+            self.visits.of(alloc, operation)
+        }
+    }
+
+    /// Takes the first entry of an operation out of a filter's queue.
+    pub(crate) fn take_entry(
+        &mut self,
+        alloc: Global,
+        filter: usize,
+        operation: usize,
+    ) -> Result<Option<Entry>, AllocError>
+        ensures { IfOk result (λ r. MatchOption r (find (moves.is_entry_of self.old.store operation) (spec.queue_at self.old.store filter) ≡ None) (λ e. (find (moves.is_entry_of self.old.store operation) (spec.queue_at self.old.store filter) ≡ Some e) × (self.new ≡ record self.old { store = spec.with_queue self.old.store filter (moves.other_entries self.old.store operation (spec.queue_at self.old.store filter)) }))) }
+    {
+        let visits = self.visits_for(alloc, filter, operation)?;
+        Ok(self.waiting.take_entry(filter, visits.as_slice()))
+    }
+
     /// One more work item.
     pub(crate) fn add_item(&mut self, item: Item) -> Result<(), AllocError>
         ensures { OnOk result (self.new ≡ record self.old { store = record self.old.store { items = self.old.store.items ++ Some item ∷ [] } }) }
@@ -539,8 +631,7 @@ impl<'a> World<'a> {
         ensures { IfOk result (λ v. (v ≡ length self.old.store.visits) × (self.new ≡ record self.old { store = moves.with_visit self.old.store visit })) }
     {
         let number = self.visits.len();
-        self.visits.push(visit)?;
-        self.settled.push(false)?;
+        self.visits.add(visit)?;
         Ok(number)
     }
 
@@ -548,8 +639,6 @@ impl<'a> World<'a> {
     pub(crate) fn settle(&mut self, visit: usize)
         ensures { self.new ≡ record self.old { store = record self.old.store { settled = set self.old.store.settled visit true } } }
     {
-        if let Some(settled) = self.settled.get_mut(visit) {
-            *settled = true;
-        }
+        self.visits.settle(visit);
     }
 }

@@ -1,5 +1,5 @@
 -- What `analyse` says. This project's own program.
-use Rattle.std.specs.Prelude.{◌≡◌, ℕ, List, IsTrue, Option, Some, None, Result, Ok, Err}
+use Rattle.std.specs.Prelude.{◌≡◌, ℕ, List, IsTrue, Some, None, Result, Ok, Err}
 use Rattle.flt_syntax.specs.Spelling.{Spells}
 use Rattle.flt_syntax.specs.File.{filter_of}
 use Rattle.flt_syntax.specs.declared.filter.Filter.{Filter}
@@ -13,7 +13,7 @@ use Rattle.fltstack.specs.Failures.{Giving, IsUnread}
 use Rattle.fltstack.specs.declared.answer.Analysis.{Analysis}
 use Rattle.fltstack.specs.declared.answer.Analysis.TheVariants.{Found, Refused}
 use Rattle.fltstack.specs.declared.failure.Failure.{Failure}
-use Rattle.fltstack.specs.declared.failure.Failure.TheVariants.{Syntax, CannotRead, Certificate as CertificateLine, OutOfMemory}
+use Rattle.fltstack.specs.declared.failure.Failure.TheVariants.{CannotRead, TooManyFiles, Syntax, FileSyntax, Certificate as CertificateLine, JournalLine, Altitude, OutOfMemory}
 
 -- the text spells a filter, and the bytes spell the least certificate that covers its points
 pub record IsCertified (text bytes : List ℕ) : Type 0 where
@@ -41,6 +41,10 @@ abbrev pub IsFailure : List ℕ → Failure → Type 0
 IsFailure text (Syntax f) = filter_of text ≡ Err f
 IsFailure text (CertificateLine n) = ⊥
 IsFailure text (CannotRead name) = ⊥
+IsFailure text TooManyFiles = ⊥
+IsFailure text (FileSyntax number f) = ⊥
+IsFailure text (JournalLine n) = ⊥
+IsFailure text (Altitude number) = ⊥
 IsFailure text OutOfMemory = Unit {0}
 
 -- what is said of a text

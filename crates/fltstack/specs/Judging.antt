@@ -13,7 +13,7 @@ use Rattle.fltstack.specs.Split.{IsCertificateStart}
 use Rattle.fltstack.specs.declared.answer.Answer.{Answer}
 use Rattle.fltstack.specs.declared.answer.Answer.TheVariants.{Accepted, Refused}
 use Rattle.fltstack.specs.declared.failure.Failure.{Failure}
-use Rattle.fltstack.specs.declared.failure.Failure.TheVariants.{CannotRead, Syntax, Certificate as CertificateLine, OutOfMemory}
+use Rattle.fltstack.specs.declared.failure.Failure.TheVariants.{CannotRead, TooManyFiles, Syntax, FileSyntax, Certificate as CertificateLine, JournalLine, Altitude, OutOfMemory}
 
 -- ---- of a text and a certificate
 
@@ -39,6 +39,10 @@ abbrev pub IsFailure : List ℕ → List ℕ → Failure → Type 0
 IsFailure text certificate (Syntax f) = filter_of text ≡ Err f
 IsFailure text certificate (CertificateLine n) = ((f : Filter) × Spells text f) × IsFirstFault certificate n
 IsFailure text certificate (CannotRead name) = ⊥
+IsFailure text certificate TooManyFiles = ⊥
+IsFailure text certificate (FileSyntax number f) = ⊥
+IsFailure text certificate (JournalLine n) = ⊥
+IsFailure text certificate (Altitude number) = ⊥
 IsFailure text certificate OutOfMemory = Unit {0}
 
 abbrev pub Judges : List ℕ → List ℕ → Result Answer Failure → Type 0

@@ -5,3 +5,4 @@ pub mod Lines
 pub mod Output
 pub mod Split
 pub mod Words
+pub mod Replaying

@@ -4,6 +4,10 @@ use Rattle.std.specs.Fmt.{decimal}
 use Rattle.flt_rules.specs.Rule.{number, text}
 use Rattle.flt_rules.specs.declared.rule.Rule.{Rule}
 use Rattle.flt_check.specs.declared.checker.Refusal.{Refusal}
+use Rattle.flt_model.specs.declared.verdict.Verdict.{Verdict}
+use Rattle.flt_model.specs.declared.verdict.Verdict.TheVariants.{Legal, NotARun, Breaks}
+use Rattle.flt_model.specs.declared.verdict.Violation.{Violation}
+use Rattle.flt_model.specs.declared.verdict.Violation.TheVariants.{V1, V2, V3, V4, V5, V6, V7, V8}
 use Rattle.fltstack.specs.declared.answer.Answer.{Answer}
 use Rattle.fltstack.specs.declared.answer.Answer.TheVariants.{Accepted, Refused}
 
@@ -25,3 +29,25 @@ answer_line (Refused f) = refusal_line f
 abbrev pub answer_status : Answer → ℕ
 answer_status Accepted = 0
 answer_status (Refused f) = 1
+
+-- the number of a violation
+abbrev pub violation_number : Violation → ℕ
+violation_number V1 = 1
+violation_number V2 = 2
+violation_number V3 = 3
+violation_number V4 = 4
+violation_number V5 = 5
+violation_number V6 = 6
+violation_number V7 = 7
+violation_number V8 = 8
+
+-- what is said of a journal
+abbrev pub verdict_line : Verdict → List ℕ
+verdict_line Legal = codes "legal"
+verdict_line (NotARun n) = codes "not a run at " ++ decimal n
+verdict_line (Breaks v n) = codes "breaks V" ++ decimal (violation_number v) ++ codes " at " ++ decimal n
+
+-- the exit status: 0 for a run that breaks nothing, 1 for any other
+abbrev pub verdict_status : Verdict → ℕ
+verdict_status Legal = 0
+verdict_status _ = 1

@@ -1,11 +1,12 @@
 -- What the words of a command line ask for, as `clap` takes them.
-use Rattle.std.specs.Prelude.{◌≡◌, ℕ, List, [], ◌∷◌, Bool, true, false, Option, Some, None, codes, if◌then◌else◌, unwrap_or, option_and_then, option_map}
+use Rattle.std.specs.Prelude.{◌≡◌, List, [], ◌∷◌, Bool, true, false, Option, Some, None, codes, if◌then◌else◌, unwrap_or, option_and_then, option_map, map}
 use Rattle.std.specs.Str.{bytes_eq}
 use Rattle.clap.specs.Faults.{fault_of}
 use Rattle.clap.specs.declared.builder.command.Command.{Command}
 use Rattle.clap.specs.declared.builder.command.Command.TheViews.{out-Command as fields_of}
 use Rattle.clap.specs.Simple.{App, app_of, new_app, new_rule, with_rule, with_subcommand, subcommand_of}
-use Rattle.clap.specs.Walk.{Row, Text, first_of}
+use Rattle.clap.specs.Lexer.{usize_max}
+use Rattle.clap.specs.Walk.{Row, Text, all_of, first_of}
 use Rattle.clap.specs.Kinds.{Kinds}
 use Rattle.clap.specs.declared.error.kind.ErrorKind.{ErrorKind}
 use Rattle.clap.specs.declared.error.kind.ErrorKind.TheVariants.{OutOfMemory}
@@ -16,6 +17,7 @@ use Rattle.fltstack.specs.declared.words.Request.TheVariants as request
 pub data Asked : Type 0 where
   Check : (file : Text) (cert : Option Text) → Asked
   Analyse : (file : Text) → Asked
+  Replay : (journal : Text) (files : List Text) → Asked
 
 -- `check FILE [CERT]`
 abbrev pub check_app : App
@@ -25,10 +27,16 @@ check_app = with_rule (with_rule (new_app (codes "check")) (record (new_rule (co
 abbrev pub analyse_app : App
 analyse_app = with_rule (new_app (codes "analyse")) (record (new_rule (codes "FILE")) { required = true })
 
+-- `replay JOURNAL FILE..`
+abbrev pub replay_app : App
+replay_app =
+    with_rule (with_rule (new_app (codes "replay")) (record (new_rule (codes "JOURNAL")) { required = true }))
+    (record (new_rule (codes "FILE")) { required = true; range = Some (record { start_inclusive = 1; end_inclusive = usize_max }) })
+
 -- the program: a subcommand is asked for, and the program's own name is left out
 abbrev pub program_app : App
 program_app =
-    let a = with_subcommand (with_subcommand (new_app (codes "fltstack")) check_app.top) analyse_app.top in
+    let a = with_subcommand (with_subcommand (with_subcommand (new_app (codes "fltstack")) check_app.top) analyse_app.top) replay_app.top in
     record a { top = record a.top { subcommand_required = true; no_binary_name = true } }
 
 -- a command takes words as this one does, and none of its arguments goes down to a subcommand
@@ -39,6 +47,7 @@ IsCommand c app = (app_of c ≡ app) × ((fields_of c).has_globals ≡ false)
 abbrev pub asked_of : Request → Option Asked
 asked_of (request.Check file cert) = Some (Check file.now (option_map (λ name. name.now) cert))
 asked_of (request.Analyse file) = Some (Analyse file.now)
+asked_of (request.Replay journal files) = Some (Replay journal.now (map (λ name. name.now) files.items))
 asked_of (request.Usage text) = None
 
 -- the argument FILE, which is always there
@@ -51,11 +60,16 @@ check_of rows = Check (file_of rows) (first_of (codes "CERT") rows)
 abbrev pub analyse_of : List Row → Asked
 analyse_of rows = Analyse (file_of rows)
 
+-- JOURNAL, and all of FILE
+abbrev pub replay_of : List Row → Asked
+replay_of rows = Replay (unwrap_or (first_of (codes "JOURNAL") rows) (codes "-")) (unwrap_or (all_of (codes "FILE") rows) [])
+
 -- what a subcommand with its arguments asks for
 abbrev pub asked_by : Text × List Row → Option Asked
 asked_by (name, rows) =
     if bytes_eq name (codes "check") then Some (check_of rows)
-    else (if bytes_eq name (codes "analyse") then Some (analyse_of rows) else None)
+    else (if bytes_eq name (codes "analyse") then Some (analyse_of rows)
+    else (if bytes_eq name (codes "replay") then Some (replay_of rows) else None))
 
 -- memory ran out
 abbrev pub is_memory : ErrorKind → Bool

@@ -4,6 +4,7 @@ ghost use Rattle.std.specs.Prelude.{◌≡◌, Some};
 ghost use Rattle.fltstack.specs.Lines as spec;
 
 use flt_check::Refusal;
+use flt_model::{Verdict, Violation};
 use flt_rules::{Rule, number, text};
 use std::fmt;
 
@@ -65,6 +66,52 @@ impl fmt::Display for Answer {
                     f,
                     "refused callback {callback} point {point} line {line} {rule} {words}"
                 )
+            }
+        }
+    }
+}
+
+/// A verdict, as it is printed.
+#[derive(Drop)]
+pub struct VerdictLine(pub Verdict);
+
+impl VerdictLine {
+    /// The exit status: 0 for a run that breaks nothing, 1 for any other.
+    pub fn status(&self) -> u8
+        ensures { result ≡ spec.verdict_status self.now.0 }
+    {
+        match self.0 {
+            Verdict::Legal => 0,
+            Verdict::NotARun(_) | Verdict::Breaks(_, _) => 1,
+        }
+    }
+}
+
+fn violation_number(violation: Violation) -> u8
+    ensures { result ≡ spec.violation_number violation }
+{
+    match violation {
+        Violation::V1 => 1,
+        Violation::V2 => 2,
+        Violation::V3 => 3,
+        Violation::V4 => 4,
+        Violation::V5 => 5,
+        Violation::V6 => 6,
+        Violation::V7 => 7,
+        Violation::V8 => 8,
+    }
+}
+
+impl fmt::Display for VerdictLine {
+    ghost output = { λ v. Some (spec.verdict_line v.0) };
+
+    fn fmt<W: fmt::Write>(&self, f: &mut fmt::Formatter<W>) -> fmt::Result {
+        match self.0 {
+            Verdict::Legal => write!(f, "legal"),
+            Verdict::NotARun(entry) => write!(f, "not a run at {entry}"),
+            Verdict::Breaks(violation, entry) => {
+                let number = violation_number(violation);
+                write!(f, "breaks V{number} at {entry}")
             }
         }
     }

@@ -2,14 +2,15 @@
 
 ghost use Rattle.std.specs.Io.KnownBytes.{Appends};
 ghost use Rattle.std.specs.Prelude.{◌≡◌, ◌≢◌, ◌⊎◌, ◌++◌, ◌∷◌, [], ℕ, List, IfOk, IfErr, map, string_bytes};
-ghost use Rattle.fltstack.specs.Lines.{answer_line, answer_status};
+ghost use Rattle.fltstack.specs.Lines.{answer_line, answer_status, verdict_line, verdict_status};
 ghost use Rattle.fltstack.specs.Output as spec;
 
-use crate::answer::{Analysis, Answer};
+use crate::answer::{Analysis, Answer, VerdictLine};
 use crate::certify::analyse_file;
 use crate::failure::Failure;
 use crate::inputs::Inputs;
 use crate::judging::check_files;
+use crate::replaying::replay_files;
 use crate::sink::{Sink, WriteFailed, put_all};
 use crate::words::{Request, read_words};
 use std::alloc::{AllocError, AllocFailed, Global};
@@ -67,6 +68,16 @@ fn tell<O: Sink>(alloc: Global, answer: Answer, out: &mut O) -> Result<u8, Comma
     Ok(answer.status())
 }
 
+/// Writes a verdict in one line, and gives its status.
+fn pronounce<O: Sink>(alloc: Global, verdict: VerdictLine, out: &mut O) -> Result<u8, CommandFault>
+    ensures prints { IfOk result (λ status. (status ≡ verdict_status verdict.0) × Appends (O.taken out.old) (O.taken out.new) (verdict_line verdict.0 ++ 10 ∷ [])) }
+    ensures write { IfErr result (λ e. e ≡ CommandFault.Write → O.failures out.new ≢ O.failures out.old) }
+{
+    let line = format!(in alloc; "{verdict}\n")?;
+    put_all(out, line.as_bytes())?;
+    Ok(verdict.status())
+}
+
 /// Writes in one line why there is no answer, and gives the status of that.
 fn excuse<E: Sink>(alloc: Global, failure: &Failure, err: &mut E) -> Result<u8, CommandFault>
     ensures status { IfOk result (λ status. status ≡ 2) }
@@ -108,5 +119,12 @@ pub fn command<I: Inputs, O: Sink, E: Sink>(
             Err(Failure::OutOfMemory) => Err(CommandFault::OutOfMemory),
             Err(failure) => excuse(alloc, &failure, err),
         },
+        Request::Replay { journal, files } => {
+            match replay_files(alloc, inputs, journal, files.as_slice()) {
+                Ok(verdict) => pronounce(alloc, VerdictLine(verdict), out),
+                Err(Failure::OutOfMemory) => Err(CommandFault::OutOfMemory),
+                Err(failure) => excuse(alloc, &failure, err),
+            }
+        }
     }
 }

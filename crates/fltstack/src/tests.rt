@@ -11,6 +11,7 @@ mod changes;
 mod examples;
 mod memory;
 mod refusals;
+mod replays;
 
 /// Inputs by their names.
 #[derive(Drop)]

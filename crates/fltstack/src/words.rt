@@ -22,6 +22,11 @@ pub enum Request<'a> {
     Analyse {
         file: &'a str,
     },
+    /// Say what a journal is on the texts of some files.
+    Replay {
+        journal: &'a str,
+        files: Vec<&'a str>,
+    },
     /// They can't be taken, or ask for help: the text that says so.
     Usage(String),
 }
@@ -58,6 +63,25 @@ fn analyse_command<'a>(alloc: Global) -> Result<Command<'a>, AllocError>
         .arg(file)
 }
 
+fn replay_command<'a>(alloc: Global) -> Result<Command<'a>, AllocError>
+    ensures { IfOk result (λ c. spec.IsCommand c spec.replay_app) }
+{
+    let journal = Arg::new(alloc, "JOURNAL")
+        .required(true)
+        .help("The journal; `-` is the standard input");
+    let files = Arg::new(alloc, "FILE")
+        .required(true)
+        .num_args(1..)
+        .help("The filters' texts, up to 16");
+    Command::new(alloc, "replay")
+        .about("Says whether a journal is a run of the machine on some filters that breaks nothing")
+        .after_help(
+            "Prints `legal` (exit 0), or `not a run at N` or `breaks Vk at N` for the first such entry (exit 1).\nErrors go to the standard error with exit 2.\n\nExample: fltstack replay examples/pending_reads.journal examples/pending_reads.flt",
+        )
+        .arg(journal)?
+        .arg(files)
+}
+
 fn program<'a>(alloc: Global) -> Result<Command<'a>, AllocError>
     ensures { IfOk result (λ c. spec.IsCommand c spec.program_app) }
 {
@@ -67,7 +91,8 @@ fn program<'a>(alloc: Global) -> Result<Command<'a>, AllocError>
         .subcommand_required(true)
         .no_binary_name(true)
         .subcommand(check_command(alloc)?)?
-        .subcommand(analyse_command(alloc)?)
+        .subcommand(analyse_command(alloc)?)?
+        .subcommand(replay_command(alloc)?)
 }
 
 /// What the matches of `check` ask for.
@@ -89,16 +114,33 @@ fn asked_analyse<'a>(analyse: &ArgMatches<'a>) -> Request<'a>
     }
 }
 
+/// What the matches of `replay` ask for.
+fn asked_replay<'a>(alloc: Global, replay: &ArgMatches<'a>) -> Result<Request<'a>, AllocError>
+    ensures { IfOk result (λ r. spec.asked_of r ≡ Some (spec.replay_of (rows_of (found_of replay.now)))) }
+{
+    let files = match replay.get_strs("FILE") {
+        Some(files) => Vec::from_slice(alloc, files)?,
+        None => Vec::new(alloc),
+    };
+    Ok(Request::Replay {
+        journal: replay.get_str("JOURNAL").unwrap_or("-"),
+        files,
+    })
+}
+
 /// What the matches of a command line ask for.
-fn matched<'a>(alloc: Global, matches: &ArgMatches<'a>) -> Request<'a>
-    ensures { spec.asked_of result ≡ option_and_then spec.asked_by (subcommand_rows_of matches.now) }
+fn matched<'a>(alloc: Global, matches: &ArgMatches<'a>) -> Result<Request<'a>, AllocError>
+    ensures { IfOk result (λ r. spec.asked_of r ≡ option_and_then spec.asked_by (subcommand_rows_of matches.now)) }
 {
     if let Some(check) = matches.subcommand_matches("check") {
-        return asked_check(check);
+        return Ok(asked_check(check));
     }
-    match matches.subcommand_matches("analyse") {
-        Some(analyse) => asked_analyse(analyse),
-        None => Request::Usage(String::new(alloc)),
+    if let Some(analyse) = matches.subcommand_matches("analyse") {
+        return Ok(asked_analyse(analyse));
+    }
+    match matches.subcommand_matches("replay") {
+        Some(replay) => asked_replay(alloc, replay),
+        None => Ok(Request::Usage(String::new(alloc))),
     }
 }
 
@@ -113,7 +155,7 @@ fn take_words<'a>(alloc: Global, words: &'a [String]) -> Result<Request<'a>, All
     ensures { IfOk result (λ r. spec.asked_of r ≡ spec.asked_words (map string_bytes words.entry.now)) }
 {
     match program(alloc)?.try_get_matches_from(words) {
-        Ok(matches) => Ok(matched(alloc, &matches)),
+        Ok(matches) => matched(alloc, &matches),
         Err(error) => {
             if is_memory(error.kind()) {
                 return Err(AllocError);

@@ -4,7 +4,7 @@ ghost use Rattle.std.specs.Prelude.{◌≡◌, ◌+◌, ℕ, ◌<◌, length, mi
 ghost use Rattle.flt_model.specs.Trace.{one_if, of_actor};
 ghost use Rattle.flt_replay.specs.Counts as spec;
 
-use super::counts::Counts;
+use crate::counts::Counts;
 use std::alloc::{AllocError, Global};
 use std::marker::Model;
 

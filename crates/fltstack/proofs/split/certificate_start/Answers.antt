@@ -1,4 +1,4 @@
-use Rattle.std.proofs.Common.{◌≡◌, ℕ, false, below_more, rules}
+use Rattle.std.proofs.Common.{◌≡◌, false, below_more, rules}
 use Rattle.fltstack.specs.Split as spec
 use Rattle.fltstack.proofs.split.certificate_start.Goals as goal
 

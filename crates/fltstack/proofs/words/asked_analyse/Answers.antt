@@ -1,4 +1,4 @@
-use Rattle.std.proofs.Common.{◌≡◌, rules, codes, Bor, List, ℕ, ◌∙◌, ap, refl, option_map, unwrap_or}
+use Rattle.std.proofs.Common.{◌≡◌, codes, Bor, List, ℕ, ◌∙◌, ap, refl, option_map, unwrap_or}
 use Rattle.clap.proofs.WalkLemmas.{first_value-rows}
 use Rattle.clap.specs.Walk.{rows_of, first_of}
 use Rattle.clap.specs.Matches.{found_of}

@@ -1,5 +1,0 @@
-use Rattle.std.proofs.Common.{length}
-use Rattle.flt_replay.proofs.stack.+number_among.Given as goal
-
-abbrev pub decreases-number_among : goal.decreases-number_among
-decreases-number_among l = length l.filters.now

@@ -1,0 +1,177 @@
+//! The monitor: it runs a journal entry by entry, and stops at the first that isn't a run or that breaks something.
+
+ghost use Rattle.std.specs.Prelude.{◌≡◌, List, [], ◌∷◌, ◌++◌, replicate, IfOk};
+ghost use Rattle.flt_model.specs.declared.moves.Move.{Move};
+ghost use Rattle.flt_model.specs.Effects.{Step};
+ghost use Rattle.flt_model.specs.Expansion as spec;
+ghost use Rattle.flt_model.specs.Runs.{Moment, broken, after};
+ghost use Rattle.flt_model.specs.Steps.{Transition, Make, Local, Board};
+ghost use Rattle.flt_replay.specs.Ledger.{Agrees};
+ghost use Rattle.flt_replay.specs.Judging.{Follows, first_of, of_rules, filters_of};
+ghost use Rattle.flt_replay.specs.Monitoring.{IsAt, ComesTo, GoesOn};
+ghost use Rattle.flt_replay.specs.Writes.{holds_given};
+ghost use Rattle.flt_syntax.specs.declared.filter.Filter.{Filter};
+
+use crate::board::Setup;
+use crate::ledger::Ledger;
+use crate::rules::Scene;
+use crate::stack::Stack;
+use crate::world::World;
+use flt_model::{
+    Event, Journal, JournalEntry, Move, Object, Verdict, Violation, local_steps_are_quiet,
+};
+use flt_syntax::{OperationVariable, Tree};
+use std::alloc::{AllocError, Global};
+
+/// What comes of an entry.
+#[derive(Clone, Copy)]
+pub(crate) enum Course {
+    Reaches,
+    Stops,
+    Fails(Violation),
+}
+
+/// How far a journal has come.
+#[derive(Drop)]
+pub(crate) struct Monitor<'a> {
+    world: World<'a>,
+    ledger: Ledger,
+}
+
+impl<'a> Monitor<'a> {
+    /// Whether an activation holds the visit that it was given.
+    fn holds_given(&self, a: usize) -> bool
+        ensures { (m : Moment) → IsAt self.now m → result ≡ holds_given m.trace m.world a }
+    {
+        match self.world.operation_in(a, OperationVariable::Data) {
+            Some(visit) => self.ledger.holds(a, Object::Visit(visit)),
+            None => false,
+        }
+    }
+
+    /// What comes of a step that led to this world with these events, and of which the least broken rule is known.
+    fn judged(
+        &mut self,
+        alloc: Global,
+        events: &[Event],
+        rule: Option<Violation>,
+    ) -> Result<Course, AllocError>
+        ensures { IfOk result (λ c. (p : List Filter) (m : Moment) (x : Transition) (s : Step) → Agrees m self.old.ledger → Follows p m x s self.old.world events.now → rule ≡ first_of of_rules p m s → ComesTo c self.new (spec.unless_broken (broken p m s) (spec.Reaches (after m s)))) }
+    {
+        match self.ledger.take(alloc, &self.world, events)?.or(rule) {
+            Some(violation) => Ok(Course::Fails(violation)),
+            None => Ok(Course::Reaches),
+        }
+    }
+
+    /// What comes of a move.
+    fn make(&mut self, alloc: Global, stack: &Stack<'a>, next: Move) -> Result<Course, AllocError>
+        ensures { IfOk result (λ c. (m : Moment) → IsAt self.old m → ComesTo c self.new (spec.course stack.now m (Make next ∷ []))) }
+    {
+        let mut events = Vec::new(alloc);
+        if !self.world.make(alloc, stack, next, &mut events)? {
+            return Ok(Course::Stops);
+        }
+        self.judged(alloc, events.as_slice(), None)
+    }
+
+    /// What comes of a step that others see.
+    fn go_seen(
+        &mut self,
+        alloc: Global,
+        stack: &Stack<'a>,
+        a: usize,
+        grant: bool,
+    ) -> Result<Course, AllocError>
+        ensures { IfOk result (λ c. (m : Moment) → IsAt self.old m → ComesTo c self.new (spec.course stack.now m (Board a grant ∷ []))) }
+    {
+        let setup = Setup {
+            alloc,
+            activation: a,
+            grant,
+            held: self.holds_given(a),
+        };
+        let locks = self.world.locks_of(alloc, a)?;
+        let mut events = Vec::new(alloc);
+        if !self.world.step_seen(stack, setup, &mut events)? {
+            return Ok(Course::Stops);
+        }
+        let scene = Scene {
+            stack,
+            world: &self.world,
+            activation: a,
+            held: setup.held,
+            locks: locks.as_slice(),
+        };
+        let rule = scene.broken_rule(events.as_slice());
+        self.judged(alloc, events.as_slice(), rule)
+    }
+
+    /// Makes steps that nobody else sees, unless one of them isn't such a step.
+    fn go_unseen(&mut self, a: usize, steps: u32) -> Result<bool, AllocError>
+        ensures { IfOk result (λ unseen. (p : List Filter) (m : Moment) (xs : List Transition) → IsAt self.old m → GoesOn unseen self.new p xs (spec.course p m (replicate steps (Local a) ++ xs))) }
+    {
+        local_steps_are_quiet();
+        for _ in 0..steps {
+            if !self.world.step_unseen(a)? {
+                return Ok(false);
+            }
+        }
+        Ok(true)
+    }
+
+    /// What comes of so many steps of an activation, of which exactly the last is seen.
+    fn go(
+        &mut self,
+        alloc: Global,
+        stack: &Stack<'a>,
+        a: usize,
+        steps: u32,
+        grant: bool,
+    ) -> Result<Course, AllocError>
+        ensures { IfOk result (λ c. (m : Moment) → IsAt self.old m → ComesTo c self.new (spec.entry_course stack.now m (spec.go_on a steps grant))) }
+    {
+        if steps == 0 || !self.go_unseen(a, steps - 1)? {
+            return Ok(Course::Stops);
+        }
+        self.go_seen(alloc, stack, a, grant)
+    }
+
+    /// What comes of an entry.
+    fn entry(
+        &mut self,
+        alloc: Global,
+        stack: &Stack<'a>,
+        entry: JournalEntry,
+    ) -> Result<Course, AllocError>
+        ensures { IfOk result (λ c. (m : Moment) → IsAt self.old m → ComesTo c self.new (spec.entry_course stack.now m (spec.expansion entry))) }
+    {
+        match entry {
+            JournalEntry::Move(next) => self.make(alloc, stack, next),
+            JournalEntry::Go {
+                activation,
+                steps,
+                grant,
+            } => self.go(alloc, stack, activation as usize, steps, grant),
+        }
+    }
+}
+
+/// What a journal is on some filters. Entries are numbered from 0.
+pub fn replay(alloc: Global, trees: &[Tree], journal: &Journal) -> Result<Verdict, AllocError>
+    ensures { IfOk result (λ v. v ≡ spec.verdict (filters_of trees.now) journal.now) }
+{
+    let stack = Stack::of(alloc, trees)?;
+    let mut monitor = Monitor {
+        world: World::opening(alloc, stack.len())?,
+        ledger: Ledger::new(alloc),
+    };
+    for (number, entry) in journal.entries().iter().enumerate() {
+        match monitor.entry(alloc, &stack, *entry)? {
+            Course::Reaches => {}
+            Course::Stops => return Ok(Verdict::NotARun(number)),
+            Course::Fails(violation) => return Ok(Verdict::Breaks(violation, number)),
+        }
+    }
+    Ok(Verdict::Legal)
+}
