@@ -1,5 +1,5 @@
 -- Visits by which the entries of an operation are told in a queue.
-use Rattle.std.proofs.Common.{◌≡◌, ◌≤◌, ◌<◌, ℕ, zero, suc, Bool, true, false, ◌&&◌, ◌||◌, ◌==◌, nat_eq, nat_lt, List, [], ◌∷◌, Option, Some, None, length, get_or, set, find, map, ⊎_elim, refl, sym, ap, ◌∙◌, arith}
+use Rattle.std.proofs.Common.{◌≡◌, ◌≤◌, ◌<◌, ℕ, Bool, true, false, ◌&&◌, ◌||◌, ◌==◌, nat_eq, nat_lt, List, [], ◌∷◌, Option, Some, None, length, get_or, set, find, map, ⊎_elim, refl, sym, ap, ◌∙◌, arith}
 use Rattle.std.specs.Prelude.{filter}
 use Rattle.std.specs.Option.{MatchOption}
 use Rattle.std.specs.List.{AllByRecursion, list_any}
@@ -37,9 +37,10 @@ same_number v = grind (arith, nat_tests)
 
 each_of : (f : ℕ → Bool) (xs : List ℕ) (q : List Entry) → ((v : ℕ) → list_any (nat_eq v) (visits_of q) ≡ true → list_any (nat_eq v) xs ≡ true) → AllByRecursion (λ e. is_of (filter f xs) e ≡ f e.visit) q
 each_of f xs [] h = tt
-each_of f xs (e ∷ q) h =
-    (told f e.visit xs (h e.visit (or_here (e.visit == e.visit) (list_any (nat_eq e.visit) (visits_of q)) (same_number e.visit))),
-    each_of f xs q (λ v a. h v (or_later (v == e.visit) (list_any (nat_eq v) (visits_of q)) a)))
+each_of f xs (e ∷ q) h = (
+  told f e.visit xs (h e.visit (or_here (e.visit == e.visit) (list_any (nat_eq e.visit) (visits_of q)) (same_number e.visit))),
+  each_of f xs q (λ v a. h v (or_later (v == e.visit) (list_any (nat_eq v) (visits_of q)) a)),
+)
 
 -- those among the queue's own visits
 pub among_own : (s : Store) (o : ℕ) (q : List Entry) (vs : List ℕ) → vs ≡ filter (λ (v : ℕ). (visit_at s v).operation == o) (visits_of q) → AllByRecursion (λ e. is_of vs e ≡ is_entry_of s o e) q
@@ -60,8 +61,8 @@ by_number : (visits : List Visit) (o : ℕ) → (o ≡ 0 → ⊥) → (v : ℕ) 
 by_number visits o h v =
     ⊎_elim (λ (l : v < length visits). ap (λ (b : Bool). b && ((get_or visits v no_visit).operation == o)) (lt-ltb v (length visits) l))
     (λ (l : length visits ≤ v).
-        let none : ((get_or visits v no_visit).operation == o) ≡ false = rw (get_or_past visits v no_visit l) (not_zero o h) in
-        rw none (both_false (nat_lt v (length visits))))
+    let none : ((get_or visits v no_visit).operation == o) ≡ false = rw (get_or_past visits v no_visit l) (not_zero o h) in
+    rw none (both_false (nat_lt v (length visits))))
     (cases_lt v (length visits))
 
 -- the visits of an operation, which isn't that of visits that aren't there
@@ -75,7 +76,8 @@ pub taken_out : (w : World) (f o : ℕ) (vs : List ℕ) (r : Option Entry) (new 
 taken_out w f o vs None new tells h =
     sym (same_first (is_of vs) (is_entry_of w.store o) (queue_at w.store f) tells).0 ∙ h.0
 taken_out w f o vs (Some e) new tells h =
-    let same = same_first (is_of vs) (is_entry_of w.store o) (queue_at w.store f) tells in
-    (sym same.0 ∙ h.0,
-    ap (λ (n : List (List Entry) × List (Option Item)). record w { store = record w.store { queues = n.0; items = n.1 } }) h.1
-    ∙ ap (λ (q : List Entry). record w { store = with_queue w.store f q }) same.1)
+    let same = same_first (is_of vs) (is_entry_of w.store o) (queue_at w.store f) tells in (
+      sym same.0 ∙ h.0,
+      ap (λ (n : List (List Entry) × List (Option Item)). record w { store = record w.store { queues = n.0; items = n.1 } }) h.1
+          ∙ ap (λ (q : List Entry). record w { store = with_queue w.store f q }) same.1,
+    )

@@ -1,7 +1,7 @@
 -- The first place at which a test passes.
-use Rattle.std.proofs.Common.{◌≡◌, ◌≤◌, ◌<◌, ℕ, Bool, true, false, List, [], ◌∷◌, Option, Some, None, length, get_or, ⊎_elim, refl, sym, ap, ◌∙◌, arith}
+use Rattle.std.proofs.Common.{◌≡◌, ◌<◌, ℕ, Bool, true, false, List, Option, Some, None, length, get_or, ⊎_elim, refl, sym, arith}
 use Rattle.std.specs.Option.{MatchOption}
-use Rattle.std.specs.List.{position, position_or_len}
+use Rattle.std.specs.List.{position}
 use Rattle.std.proofs.lemmas.Bool.{lt-ltb, cases_lt}
 use Rattle.std.proofs.lemmas.Bool.Decides.{nat_tests}
 use Rattle.std.proofs.lemmas.List.{get_or_past}

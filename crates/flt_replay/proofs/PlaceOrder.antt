@@ -1,5 +1,5 @@
 -- The order of places: equal places are one, and between places of two numbers there are only places of these.
-use Rattle.std.proofs.Common.{◌≡◌, ◌≤◌, ◌<◌, ℕ, zero, Bool, true, false, not, ◌&&◌, ◌||◌, ◌==◌, List, [], ◌∷◌, Some, refl, sym, ap, ◌∙◌, subst, arith}
+use Rattle.std.proofs.Common.{◌≡◌, ◌≤◌, ◌<◌, ℕ, Bool, true, false, ◌&&◌, ◌==◌, List, [], ◌∷◌, refl, sym, ◌∙◌, subst, arith}
 use Rattle.std.specs.Bool.{⊤}
 use Rattle.std.proofs.lemmas.Bool.Decides.{nat_tests}
 use Rattle.std.specs.Option.{IfSome}
@@ -9,7 +9,6 @@ use Rattle.std.specs.declared.ops.Bound.TheVariants.{Included, Unbounded}
 use Rattle.std.specs.declared.cmp.Ordering.{Ordering}
 use Rattle.std.specs.declared.cmp.Ordering.TheVariants.{Less, Equal, Greater}
 use Rattle.std.specs.Bool.{IsTrue}
-use Rattle.std.specs.Cmp.{tied_then}
 use Rattle.std.specs.Ordering.{nat_cmp, is_eq, is_gt, ordering_then}
 use Rattle.flt_replay.specs.Places.{place_cmp, has, is_place}
 
@@ -101,10 +100,10 @@ module _ (s : BTreeSet (ℕ × ℕ × ℕ)) (i j l : ℕ) (r : List (ℕ × ℕ 
     unfolding has
     none_past other c k =
         false_where_absurd _ (λ is_in.
-            let m = to_each c k is_in in
-            let n = from_start in
-            let e : p.0 ≡ i = omega (arith, m.first, n.first) in
-            other e (omega (arith, m.second e, n.second (sym e))))
+        let m = to_each c k is_in in
+        let n = from_start in
+        let e : p.0 ≡ i = omega (arith, m.first, n.first) in
+        other e (omega (arith, m.second e, n.second (sym e))))
 
   pub none_left : r ≡ [] → (c : ℕ) → l ≤ c → has s i j c ≡ false
   unfolding has

@@ -1,14 +1,14 @@
 -- The first entry that passes a test is the one of the least ticket whose entry passes.
-use Rattle.std.proofs.Common.{◌≡◌, ◌<◌, ℕ, suc, ◌+◌, Bool, true, false, not, ◌&&◌, ◌==◌, nat_eq, cond, List, [], ◌∷◌, ◌++◌, Option, Some, None, find, take, drop, ◌⊎◌, ⊎_elim, refl, sym, ap, subst, ◌∙◌, arith, add-one}
+use Rattle.std.proofs.Common.{◌≡◌, ◌<◌, ℕ, suc, ◌+◌, Bool, true, false, not, ◌&&◌, ◌==◌, cond, List, [], ◌∷◌, ◌++◌, Option, Some, None, find, take, drop, ⊎_elim, refl, sym, ap, subst, ◌∙◌, arith, add-one}
 use Rattle.std.proofs.lemmas.Bool.{eqb-true, cases_eq}
 use Rattle.std.proofs.lemmas.Bool.Decides.{nat_tests}
 use Rattle.std.proofs.lemmas.Map.Keys.{sorted_head, sorted_tail}
 use Rattle.std.specs.BTreeMap.{is_at}
 use Rattle.std.specs.BTreeSet.{BTreeSet}
-use Rattle.std.specs.List.{AllByRecursion, list_any, position_or_len}
+use Rattle.std.specs.List.{AllByRecursion, position_or_len}
 use Rattle.std.specs.List.Sorted.{IsStrictlySortedBy}
-use Rattle.std.specs.Map.{lookup, keys_of, values_of, remove_entry}
-use Rattle.std.specs.Option.{MatchOption, IfSome}
+use Rattle.std.specs.Map.{keys_of, values_of, remove_entry}
+use Rattle.std.specs.Option.{IfSome}
 use Rattle.std.specs.Ordering.{nat_cmp}
 use Rattle.std.specs.declared.cmp.Ordering.TheVariants.{Less}
 use Rattle.flt_model.specs.World.{Entry}
@@ -61,19 +61,19 @@ module _ (p : Entry → Bool) where
   taken [] t e s is h before = absurd (cc)
   taken (x ∷ es) t e s is h before =
       ⊎_elim (λ (d : x.0 ≡ t).
-          let at : is_at (nat_cmp t) x.0 ≡ true = rw d (at_self t) in
-          let same : Some x.1 ≡ Some e = ap (λ (b : Bool). cond b (Some x.1) (entry_at es t)) (sym at) ∙ is in
-          let it : x.1 ≡ e = cc in
-          let f = first_passes x.1 (values_of es) (ap p it ∙ h) in
-          (f.0 ∙ same, ap (λ (b : Bool). values_of (cond b es (x ∷ remove_entry (is_at (nat_cmp t)) es))) at ∙ f.1))
+      let at : is_at (nat_cmp t) x.0 ≡ true = rw d (at_self t) in
+      let same : Some x.1 ≡ Some e = ap (λ (b : Bool). cond b (Some x.1) (entry_at es t)) (sym at) ∙ is in
+      let it : x.1 ≡ e = cc in
+      let f = first_passes x.1 (values_of es) (ap p it ∙ h) in
+      (f.0 ∙ same, ap (λ (b : Bool). values_of (cond b es (x ∷ remove_entry (is_at (nat_cmp t)) es))) at ∙ f.1))
       (λ (d : x.0 ≡ t → ⊥).
-          let at = at_other t x.0 d in
-          let later : entry_at es t ≡ Some e = ap (λ (b : Bool). cond b (Some x.1) (entry_at es t)) (sym at) ∙ is in
-          let l = above x.0 t e es (sorted_head nat_cmp x.0 (keys_of es) s) later in
-          let here = before x.0 x.1 l (ap (λ (b : Bool). cond b (Some x.1) (entry_at es x.0)) (at_self x.0)) in
-          let f = first_fails x.1 (values_of es) here in
-          let r = taken es t e (sorted_tail nat_cmp x.0 (keys_of es) s) later h (λ k y m found. before k y m (tail_entry x es k y s found)) in
-          (f.0 ∙ r.0, ap (λ (b : Bool). values_of (cond b es (x ∷ remove_entry (is_at (nat_cmp t)) es))) at ∙ ap (λ (xs : List Entry). x.1 ∷ xs) r.1 ∙ f.1))
+      let at = at_other t x.0 d in
+      let later : entry_at es t ≡ Some e = ap (λ (b : Bool). cond b (Some x.1) (entry_at es t)) (sym at) ∙ is in
+      let l = above x.0 t e es (sorted_head nat_cmp x.0 (keys_of es) s) later in
+      let here = before x.0 x.1 l (ap (λ (b : Bool). cond b (Some x.1) (entry_at es x.0)) (at_self x.0)) in
+      let f = first_fails x.1 (values_of es) here in
+      let r = taken es t e (sorted_tail nat_cmp x.0 (keys_of es) s) later h (λ k y m found. before k y m (tail_entry x es k y s found)) in
+      (f.0 ∙ r.0, ap (λ (b : Bool). values_of (cond b es (x ∷ remove_entry (is_at (nat_cmp t)) es))) at ∙ ap (λ (xs : List Entry). x.1 ∷ xs) r.1 ∙ f.1))
       (cases_eq x.0 t)
 
 -- ---- the least ticket of some visits

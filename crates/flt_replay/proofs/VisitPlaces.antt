@@ -1,11 +1,9 @@
 -- What the places of visits say where one comes, and whether all of an operation are settled.
-use Rattle.std.proofs.Common.{◌≡◌, ◌≤◌, ◌<◌, ℕ, zero, suc, ◌+◌, Bool, true, false, not, ◌&&◌, ◌||◌, ◌==◌, nat_lt, nat_eq, List, [], ◌∷◌, ◌++◌, length, get_or, ◌⊎◌, ⊎_elim, refl, sym, ap, ◌∙◌, arith, length-append}
+use Rattle.std.proofs.Common.{◌≡◌, ◌≤◌, ◌<◌, ℕ, zero, suc, Bool, true, false, not, ◌&&◌, ◌||◌, ◌==◌, nat_lt, List, [], ◌∷◌, ◌++◌, length, get_or, ◌⊎◌, ⊎_elim, refl, sym, ap, ◌∙◌, arith, length-append}
 use Rattle.std.specs.BTreeSet.{BTreeSet}
-use Rattle.std.specs.List.{list_any}
 use Rattle.std.proofs.lemmas.Bool.{cases_order}
 use Rattle.std.proofs.lemmas.Bool.Decides.{nat_tests}
-use Rattle.std.proofs.lemmas.Grind.{common_steps}
-use Rattle.std.proofs.lemmas.List.{get_or_append_left, get_or_push, get_or_past}
+use Rattle.std.proofs.lemmas.List.{get_or_append_left, get_or_push}
 use Rattle.flt_model.specs.Moves.{are_settled}
 use Rattle.flt_model.specs.World.{Visit, no_visit}
 use Rattle.flt_replay.specs.Places.{has, is_place}
@@ -123,9 +121,9 @@ unsettled_added o visits settled x v same =
     ap (λ (z : Bool). z && not q) (visit_added o visits x v)
     ∙ ⊎_elim (λ (e : v ≡ length visits). if_here b at was q r (no_visit_there o visits v (omega arith)) (get_or_push settled false true v (omega arith)))
     (λ (d : (v < length visits) ⊎ (length visits < v)). ⊎_elim
-        (λ (l : v < length visits). if_before b at was q r (other_place (length visits) v (λ e. omega arith)) (get_or_append_left settled (false ∷ []) true v (omega arith)))
-        (λ (l : length visits < v). if_after b at was q r (other_place (length visits) v (λ e. omega arith)) (no_visit_there o visits v (omega arith)))
-        d)
+    (λ (l : v < length visits). if_before b at was q r (other_place (length visits) v (λ e. omega arith)) (get_or_append_left settled (false ∷ []) true v (omega arith)))
+    (λ (l : length visits < v). if_after b at was q r (other_place (length visits) v (λ e. omega arith)) (no_visit_there o visits v (omega arith)))
+    d)
     (cases_order v (length visits))
 
 pub added : (visits : List Visit) (settled : List Bool) (n u m t : BTreeSet (ℕ × ℕ × ℕ)) (x : Visit) → AreVisits visits settled n u → ((o v : ℕ) → has m 0 o v ≡ (is_place 0 x.operation (length visits) 0 o v || has n 0 o v)) → ((o v : ℕ) → has t 0 o v ≡ (is_place 0 x.operation (length visits) 0 o v || has u 0 o v)) → AreVisits (visits ++ x ∷ []) (settled ++ false ∷ []) m t

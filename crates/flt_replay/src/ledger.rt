@@ -17,14 +17,14 @@ ghost use Rattle.flt_model.specs.Violations as rules;
 ghost use Rattle.flt_replay.specs.Counts.{count, count_of, occurs};
 ghost use Rattle.flt_replay.specs.Ledger as spec;
 
+use crate::counts::Counts;
 use crate::world::World;
 use flt_model::{Event, Object, Violation};
 use std::alloc::{AllocError, Global};
 use std::marker::Model;
 
-mod rows;
+pub(crate) mod rows;
 
-use crate::counts::Counts;
 use rows::Rows;
 
 #[derive(Drop)]

@@ -141,8 +141,7 @@ impl Contexts {
             if let Some(old) = context.link.take() {
                 self.links.remove(old.filter, key_code(old.key), number);
             }
-            self.links
-                .insert(link.filter, key_code(link.key), number)?;
+            self.links.insert(link.filter, key_code(link.key), number)?;
             context.link = Some(link);
         }
         Ok(())

@@ -50,7 +50,12 @@ impl<'a> Monitor<'a> {
     }
 
     /// What comes of a step that led to this world with these events, and of which the least broken rule is known.
-    fn judged(&mut self, alloc: Global, events: &[Event], rule: Option<Violation>) -> Result<Course, AllocError>
+    fn judged(
+        &mut self,
+        alloc: Global,
+        events: &[Event],
+        rule: Option<Violation>,
+    ) -> Result<Course, AllocError>
         ensures { IfOk result (λ c. (p : List Filter) (m : Moment) (x : Transition) (s : Step) → Agrees m self.old.ledger → Follows p m x s self.old.world events.now → rule ≡ first_of of_rules p m s → ComesTo c self.new (spec.unless_broken (broken p m s) (spec.Reaches (after m s)))) }
     {
         match self.ledger.take(alloc, &self.world, events)?.or(rule) {

@@ -28,7 +28,7 @@ impl Model for Queue {
 
     ghost use Rattle.std.specs.Map.{values_of};
     ghost use Rattle.flt_model.specs.World as machine;
-ghost use Rattle.flt_replay.specs.Tickets.{AreTickets};
+    ghost use Rattle.flt_replay.specs.Tickets.{AreTickets};
 
     ghost view = { λ q. values_of q.entries.entries };
 

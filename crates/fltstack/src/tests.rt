@@ -1,4 +1,4 @@
-//! The command `check` on texts and certificates that are written out.
+//! The commands on texts, certificates and journals that are written out.
 
 use crate::command::{CommandFault, command};
 use crate::inputs::Inputs;

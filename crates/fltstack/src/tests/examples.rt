@@ -94,7 +94,7 @@ fn tells_how_it_is_used(rt: HostRuntime) -> Result<(), Fail> {
         &["analyse"],
         &["analyse", "a", "b"],
         &["run", "-", "-"],
-        &["replay", "-", "-"],
+        &["replay", "-"],
         &["check"],
         &["check", "a", "b", "c"],
         &["--help"],

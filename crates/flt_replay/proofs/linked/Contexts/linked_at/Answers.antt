@@ -1,4 +1,3 @@
-use Rattle.std.proofs.Common.{◌≡◌}
 use Rattle.flt_replay.proofs.FirstLinked.{linked_first}
 use Rattle.flt_replay.proofs.linked.Contexts.linked_at.Goals as goal
 

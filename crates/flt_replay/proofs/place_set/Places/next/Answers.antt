@@ -1,4 +1,3 @@
-use Rattle.std.proofs.Common.{◌≡◌, ap}
 use Rattle.flt_replay.proofs.PlaceOrder.{least_here, none_past, none_left}
 use Rattle.flt_replay.proofs.place_set.Places.next.Goals as goal
 

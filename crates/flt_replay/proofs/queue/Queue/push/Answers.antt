@@ -1,4 +1,4 @@
-use Rattle.std.proofs.Common.{◌≡◌, arith}
+use Rattle.std.proofs.Common.{arith}
 use Rattle.flt_replay.proofs.QueueTickets.{still_below, places_push}
 use Rattle.flt_replay.proofs.queue.Queue.push.Goals as goal
 

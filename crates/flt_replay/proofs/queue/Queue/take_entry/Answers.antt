@@ -1,4 +1,4 @@
-use Rattle.std.proofs.Common.{◌≡◌, Some, refl, sym, ap, ◌∙◌}
+use Rattle.std.proofs.Common.{Some, refl, sym, ap, ◌∙◌}
 use Rattle.flt_model.specs.World.{Entry}
 use Rattle.flt_replay.proofs.QueueMiddle.{none_of, taken_of, tickets_without}
 use Rattle.flt_replay.proofs.queue.Queue.take_entry.Goals as goal

@@ -1,4 +1,3 @@
-use Rattle.std.proofs.Common.{◌≡◌}
 use Rattle.flt_replay.proofs.CountWaiting.{back, same_counts}
 use Rattle.flt_replay.proofs.waiting_list.Waiting.add_item.Goals as goal
 

@@ -1,4 +1,4 @@
-use Rattle.std.proofs.Common.{◌≡◌, [], ◌∷◌, sym, ap, ◌∙◌}
+use Rattle.std.proofs.Common.{[]}
 use Rattle.flt_replay.proofs.CountWaiting.{back, same_queue, entry_added}
 use Rattle.flt_replay.proofs.waiting_list.Waiting.push.Goals as goal
 

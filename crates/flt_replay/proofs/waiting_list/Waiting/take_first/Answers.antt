@@ -1,4 +1,4 @@
-use Rattle.std.proofs.Common.{◌≡◌, [], ◌∷◌, sym, ap, ◌∙◌}
+use Rattle.std.proofs.Common.{[], ◌∷◌, sym, ap, ◌∙◌}
 use Rattle.flt_model.specs.Violations.{in_queue}
 use Rattle.flt_model.specs.World.{Entry}
 use Rattle.flt_replay.proofs.CountWaiting.{in_cons, entry_counted, entry_taken}

@@ -1,4 +1,4 @@
-use Rattle.std.proofs.Common.{◌≡◌, Some, None, sym, ap, ◌∙◌}
+use Rattle.std.proofs.Common.{Some, None, sym, ap, ◌∙◌}
 use Rattle.flt_model.specs.World.{Item}
 use Rattle.flt_replay.proofs.CountWaiting.{item_counted, item_taken}
 use Rattle.flt_replay.proofs.waiting_list.Waiting.take_item.Goals as goal

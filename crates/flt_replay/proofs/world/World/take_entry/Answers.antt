@@ -1,4 +1,3 @@
-use Rattle.std.proofs.Common.{◌≡◌}
 use Rattle.flt_model.specs.World.{World}
 use Rattle.flt_replay.proofs.EntryVisits.{taken_out}
 use Rattle.flt_replay.proofs.world.World.take_entry.Goals as goal

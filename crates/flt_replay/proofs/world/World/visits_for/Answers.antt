@@ -20,5 +20,5 @@ pub returns-else-operation-eq0 : goal.returns-else-operation-eq0
 returns-else-operation-eq0 c =
     IfOk-weaker c.of.result (λ vs. (v : ℕ) → list_any (nat_eq v) vs.items ≡ is_visit_of c.args.operation c.self.inside.visits.0 v) _
     (λ vs are. of_operation c.args.self.now.store c.args.operation (queue_at c.args.self.now.store c.args.filter) vs.items c.if-operation-eq0.false
-      (λ v. are v ∙ ap (λ (w : World). is_visit_of c.args.operation w.store.visits v) c.self.view_is))
+    (λ v. are v ∙ ap (λ (w : World). is_visit_of c.args.operation w.store.visits v) c.self.view_is))
     c.of.ensures
