@@ -88,7 +88,12 @@ impl Counts {
     pub(crate) fn numbers(&self, alloc: Global) -> Result<Vec<usize>, AllocError>
         ensures { IfOk result (λ ns. (n : ℕ) → spec.occurs n ns.items ≡ min 1 (spec.count self.now n)) }
     {
-        self.map.keys().copied().collect(alloc)
+        // No `collect`, which asks for room for all of them first, and goes on where that is refused.
+        let mut numbers = Vec::new(alloc);
+        for number in self.map.keys() {
+            numbers.push(*number)?;
+        }
+        Ok(numbers)
     }
 
     /// Once more, each of some numbers.

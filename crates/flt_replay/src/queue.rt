@@ -56,10 +56,11 @@ impl Queue {
     pub(crate) fn visits(&self, alloc: Global) -> Result<Vec<usize>, AllocError>
         ensures { IfOk result (λ vs. vs.items ≡ map (λ (e : machine.Entry). e.visit) self.now) }
     {
-        self.entries
-            .values()
-            .map(|entry| entry.visit)
-            .collect(alloc)
+        let mut visits = Vec::new(alloc);
+        for entry in self.entries.values() {
+            visits.push(entry.visit)?;
+        }
+        Ok(visits)
     }
 
     /// One more entry at the end. Its ticket is a number that no journal in memory reaches the end of.
