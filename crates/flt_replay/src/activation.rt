@@ -137,16 +137,6 @@ impl<'a> Activation<'a> {
         self.operations[operation_place(variable)]
     }
 
-    /// What a variable names that a call need not have.
-    pub(crate) fn named(&self, variable: Option<ContextVariable>) -> Option<Option<usize>>
-        ensures { result ≡ spec.named_in self.now variable }
-    {
-        match variable {
-            Some(variable) => Some(self.context(variable)),
-            None => None,
-        }
-    }
-
     pub(crate) fn set_number(&mut self, variable: NumberVariable, value: u64)
         ensures { self.new ≡ spec.with_number self.old variable value }
     {

@@ -1,6 +1,6 @@
 //! The events of variables that a call asks to be held.
 
-ghost use Rattle.std.specs.Prelude.{◌≡◌, ◌++◌, OnOk};
+ghost use Rattle.std.specs.Prelude.{◌≡◌, ◌∷◌, ◌++◌, OnOk};
 ghost use Rattle.flt_model.specs.Effects as spec;
 
 use flt_model::{Event, Object};
@@ -66,4 +66,50 @@ pub(crate) fn need(
 {
     push_uses(a, needs, events)?;
     push_empties(a, needs, events)
+}
+
+/// What a call names: an operation, and a context that the call need not have.
+#[derive(Clone, Copy)]
+pub(crate) struct Named {
+    pub(crate) visit: Option<usize>,
+    pub(crate) context: Option<Option<usize>>,
+}
+
+/// Both are used, or told where they are NULL.
+pub(crate) fn need_named(a: usize, named: Named, events: &mut Vec<Event>) -> Result<(), AllocError>
+    ensures { OnOk result (events.new.items ≡ events.old.items ++ (spec.uses a (spec.operation named.visit ∷ spec.optional named.context) ++ spec.empties a (spec.operation named.visit ∷ spec.optional named.context))) }
+{
+    let visit = operation(named.visit);
+    match named.context {
+        Some(named) => need(a, &[visit, context(named)], events),
+        None => need(a, &[visit], events),
+    }
+}
+
+/// A context that may be there is gained.
+pub(crate) fn gain_context(
+    a: usize,
+    context: Option<usize>,
+    events: &mut Vec<Event>,
+) -> Result<(), AllocError>
+    ensures { OnOk result (events.new.items ≡ events.old.items ++ spec.gains_context a context) }
+{
+    if let Some(context) = context {
+        events.push(Event::Gain(a, Object::Context(context)))?;
+    }
+    Ok(())
+}
+
+/// A context that may be there is lost.
+pub(crate) fn lose_context(
+    a: usize,
+    context: Option<usize>,
+    events: &mut Vec<Event>,
+) -> Result<(), AllocError>
+    ensures { OnOk result (events.new.items ≡ events.old.items ++ spec.loses_context a context) }
+{
+    if let Some(context) = context {
+        events.push(Event::Lose(a, Object::Context(context)))?;
+    }
+    Ok(())
 }

@@ -11,9 +11,9 @@ ghost use Rattle.flt_model.specs.World as machine;
 ghost use Rattle.flt_replay.specs.Parts.{way_meant};
 ghost use Rattle.flt_replay.specs.Writes.{holds_given, Happened};
 
-use crate::effects::{context, need};
+use crate::effects::{context, lose_context, need};
 use crate::rest::Rest;
-use crate::settling::{Way, lose_context, named_by, settles_visit};
+use crate::settling::{Way, named_by, settles_visit};
 use crate::stack::Stack;
 use crate::world::World;
 use flt_model::{Answer, Event, Object};

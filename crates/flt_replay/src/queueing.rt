@@ -11,35 +11,16 @@ ghost use Rattle.flt_syntax.specs.declared.variable.OperationVariable.TheVariant
 
 use crate::activation::Write;
 use crate::contexts::Branches;
-use crate::effects::{context, need, operation};
+use crate::effects::{Named, context, gain_context, lose_context, need, need_named};
 use crate::parts::{Entry, Item};
-use crate::settling::lose_context;
 use crate::world::World;
 use flt_model::{Event, Object};
 use flt_rules::Call;
 use flt_syntax::{ContextVariable, OperationVariable, RemovedVariable, Statement};
 use std::alloc::AllocError;
 
-/// What a call hands over: the given operation, and a context that the call need not have.
-#[derive(Clone, Copy)]
-struct Handed {
-    visit: Option<usize>,
-    context: Option<Option<usize>>,
-}
-
-/// Both are used, or told where they are NULL.
-fn need_handed(a: usize, handed: Handed, events: &mut Vec<Event>) -> Result<(), AllocError>
-    ensures { OnOk result (events.new.items ≡ events.old.items ++ (effects.uses a (effects.operation handed.visit ∷ effects.optional handed.context) ++ effects.empties a (effects.operation handed.visit ∷ effects.optional handed.context))) }
-{
-    let visit = operation(handed.visit);
-    match handed.context {
-        Some(named) => need(a, &[visit, context(named)], events),
-        None => need(a, &[visit], events),
-    }
-}
-
 /// A context that a call need not have.
-fn need_named(
+fn need_optional(
     a: usize,
     named: Option<Option<usize>>,
     events: &mut Vec<Event>,
@@ -52,23 +33,13 @@ fn need_named(
     }
 }
 
-/// A context that may be there is gained.
-fn gain_context(a: usize, context: Option<usize>, events: &mut Vec<Event>) -> Result<(), AllocError>
-    ensures { OnOk result (events.new.items ≡ events.old.items ++ effects.gains_context a context) }
-{
-    if let Some(context) = context {
-        events.push(Event::Gain(a, Object::Context(context)))?;
-    }
-    Ok(())
-}
-
 impl<'a> World<'a> {
     /// What a call hands over that names this variable.
-    fn handed(&self, a: usize, c: Option<ContextVariable>) -> Handed
+    fn handed(&self, a: usize, c: Option<ContextVariable>) -> Named
         ensures visit { result.visit ≡ variables.operation_in (spec.activation_at self.now a) Data }
         ensures context { result.context ≡ variables.named_in (spec.activation_at self.now a) c }
     {
-        Handed {
+        Named {
             visit: self.operation_in(a, OperationVariable::Data),
             context: self.named_in(a, c),
         }
@@ -104,7 +75,7 @@ impl<'a> World<'a> {
     fn insert_by(
         &mut self,
         a: usize,
-        handed: Handed,
+        handed: Named,
         to: Branches<'a>,
         events: &mut Vec<Event>,
     ) -> Result<(), AllocError>
@@ -130,7 +101,7 @@ impl<'a> World<'a> {
     {
         let handed = self.handed(a, c);
         events.push(Event::Call(a, Call::InsertIo))?;
-        need_handed(a, handed, events)?;
+        need_named(a, handed, events)?;
         self.insert_by(a, handed, to, events)
     }
 
@@ -207,7 +178,7 @@ impl<'a> World<'a> {
         a: usize,
         routine: usize,
         grant: bool,
-        handed: Handed,
+        handed: Named,
         to: Branches<'a>,
         events: &mut Vec<Event>,
     ) -> Result<(), AllocError>
@@ -237,7 +208,7 @@ impl<'a> World<'a> {
     {
         let handed = self.handed(a, c);
         events.push(Event::Call(a, Call::QueueDeferredIoWorkItem))?;
-        need_handed(a, handed, events)?;
+        need_named(a, handed, events)?;
         self.defer_by(a, routine, grant, handed, to, events)
     }
 
@@ -297,7 +268,7 @@ impl<'a> World<'a> {
     {
         let named = self.named_in(a, c);
         events.push(Event::Call(a, Call::QueueGenericWorkItem))?;
-        need_named(a, named, events)?;
+        need_optional(a, named, events)?;
         self.queue_by(a, routine, grant, named, to, events)
     }
 }

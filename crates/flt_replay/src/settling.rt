@@ -10,7 +10,7 @@ ghost use Rattle.flt_replay.specs.Parts.{position_of, way_meant};
 ghost use Rattle.flt_replay.specs.Writes.{later, Happened};
 
 use crate::activation::Write;
-use crate::effects::{context, need, operation};
+use crate::effects::{Named, lose_context, need, need_named, operation};
 use crate::parts::{Frame, Outcome, Position, Route};
 use crate::stack::Stack;
 use crate::world::World;
@@ -205,13 +205,6 @@ impl<'a> World<'a> {
 
 // ---- completion
 
-/// What a completion names: the operation, and a context where the status has one.
-#[derive(Clone, Copy)]
-struct Named {
-    visit: Option<usize>,
-    context: Option<Option<usize>>,
-}
-
 /// Whose operation a variable names.
 fn whose(variable: OperationVariable) -> Possessed
     ensures { result ≡ calls.whose variable }
@@ -231,30 +224,6 @@ fn completes_pre(variable: OperationVariable, visit: usize, status: Status) -> A
         visit,
         status,
     }
-}
-
-/// The operation is used, and the context where the status has one.
-fn need_named(a: usize, named: Named, events: &mut Vec<Event>) -> Result<(), AllocError>
-    ensures { OnOk result (events.new.items ≡ events.old.items ++ (effects.uses a (effects.operation named.visit ∷ effects.optional named.context) ++ effects.empties a (effects.operation named.visit ∷ effects.optional named.context))) }
-{
-    match named.context {
-        Some(x) => need(a, &[operation(named.visit), context(x)], events),
-        None => need(a, &[operation(named.visit)], events),
-    }
-}
-
-/// A context that may be there is lost.
-pub(crate) fn lose_context(
-    a: usize,
-    context: Option<usize>,
-    events: &mut Vec<Event>,
-) -> Result<(), AllocError>
-    ensures { OnOk result (events.new.items ≡ events.old.items ++ effects.loses_context a context) }
-{
-    if let Some(context) = context {
-        events.push(Event::Lose(a, Object::Context(context)))?;
-    }
-    Ok(())
 }
 
 impl<'a> World<'a> {
