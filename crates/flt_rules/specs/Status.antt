@@ -1,6 +1,6 @@
 -- Where a callback status is legal. Source: FLT_PREOP_CALLBACK_STATUS and FLT_POSTOP_CALLBACK_STATUS in the
 -- driver kit; that SYNCHRONIZE isn't for a create and what may be handed on are this project's own rules.
-use Rattle.std.specs.Prelude.{true, false, Some, None}
+use Rattle.std.specs.Prelude.{Bool, true, false, Some, None}
 use Rattle.flt_rules.specs.declared.place.Mode.TheVariants as mode
 use Rattle.flt_rules.specs.declared.place.Stage.TheVariants as stage
 use Rattle.flt_rules.specs.declared.status.Possession.TheVariants as possession
@@ -34,3 +34,13 @@ status_row word.MoreProcessingRequired = record plain {
   mode = Some mode.Irp;
   in_draining = false;
 }
+
+-- COMPLETE
+abbrev pub is_complete : StatusWord → Bool
+is_complete word.Complete = true
+is_complete _ = false
+
+-- WITH_CALLBACK
+abbrev pub is_with_callback : StatusWord → Bool
+is_with_callback word.WithCallback = true
+is_with_callback _ = false

@@ -12,9 +12,6 @@ use Rattle.flt_rules.specs.declared.call.Possessed.{Possessed}
 use Rattle.flt_rules.specs.declared.call.Possessed.TheVariants.{Given, Removed}
 use Rattle.flt_rules.specs.declared.place.Level.{Level}
 use Rattle.flt_rules.specs.declared.place.Level.TheVariants as level
-use Rattle.flt_rules.specs.declared.place.Operation.TheVariants as op
-use Rattle.flt_rules.specs.declared.place.Place.{Place}
-use Rattle.flt_rules.specs.declared.place.Place.TheVariants as place
 use Rattle.flt_rules.specs.declared.columns.Change.TheVariants as becomes
 use Rattle.flt_rules.specs.declared.columns.Effects.{Effects}
 use Rattle.flt_rules.specs.declared.columns.LockChange.{LockChange}

@@ -74,6 +74,82 @@ pub fn raised_level(kind: LockKind) -> Level
     }
 }
 
+/// The level to which a lock that may be declared raises its holder. One that isn't declared raises nothing.
+pub fn raised_by(kind: Option<LockKind>) -> Level
+    ensures { result ≡ spec.raised_by kind }
+{
+    match kind {
+        Some(kind) => raised_level(kind),
+        None => Level::Passive,
+    }
+}
+
+impl Operation {
+    ghost use Rattle.flt_rules.specs.Place.{same_operation};
+
+    /// Whether both are of one kind.
+    pub fn is_same(self, other: Operation) -> bool
+        ensures { result ≡ same_operation self other }
+    {
+        self == other
+    }
+}
+
+impl Mode {
+    ghost use Rattle.flt_rules.specs.Place.{is_irp, same_mode};
+
+    pub fn is_same(self, other: Mode) -> bool
+        ensures { result ≡ same_mode self other }
+    {
+        self == other
+    }
+
+    /// Whether the operation came as an I/O request packet.
+    pub fn is_irp(self) -> bool
+        ensures { result ≡ is_irp self }
+    {
+        matches!(self, Mode::Irp)
+    }
+}
+
+impl Stage {
+    ghost use Rattle.flt_rules.specs.Place.{same_stage};
+
+    pub fn is_same(self, other: Stage) -> bool
+        ensures { result ≡ same_stage self other }
+    {
+        self == other
+    }
+}
+
+impl Place {
+    ghost use Rattle.flt_rules.specs.Place.{answers, fits_stage, is_pre_create};
+
+    /// Whether a callback of this place answers for its operation, with a status: a pre or a post callback.
+    pub fn answers(self) -> bool
+        ensures { result ≡ answers self }
+    {
+        matches!(self, Place::Pre(_) | Place::Post(_))
+    }
+
+    /// Whether a callback of this place returns statuses of the stage.
+    pub fn fits(self, stage: Stage) -> bool
+        ensures { result ≡ fits_stage self stage }
+    {
+        matches!(
+            (self, stage),
+            (Place::Pre(_), Stage::Pre) | (Place::Post(_), Stage::Post)
+        )
+    }
+
+    /// Whether this is the pre callback of a create.
+    pub fn is_pre_create(self) -> bool
+        ensures { result ≡ is_pre_create self }
+    {
+        matches!(self, Place::Pre(Operation::Create))
+    }
+}
+
 impl Level {
     ghost use Rattle.flt_rules.specs.Place.{greater_level, is_above};
 

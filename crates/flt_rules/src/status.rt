@@ -107,3 +107,19 @@ pub fn status_row(word: StatusWord) -> StatusRow
         },
     }
 }
+
+impl StatusWord {
+    ghost use Rattle.flt_rules.specs.Status.{is_complete, is_with_callback};
+
+    pub fn is_complete(self) -> bool
+        ensures { result ≡ is_complete self }
+    {
+        matches!(self, StatusWord::Complete)
+    }
+
+    pub fn is_with_callback(self) -> bool
+        ensures { result ≡ is_with_callback self }
+    {
+        matches!(self, StatusWord::WithCallback)
+    }
+}
