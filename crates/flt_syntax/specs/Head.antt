@@ -1,9 +1,7 @@
 -- How the heads of callbacks are read.
 use Rattle.std.specs.Prelude.{Bool, true, false, if◌then◌else◌, nat_lt, List, length, Option, Some, None, option_map, Ok, Err}
 use Rattle.std.specs.List.{list_any}
-use Rattle.std.specs.Str.{bytes_eq}
-use denote.Enum.Bare.{sameb}
-use Rattle.flt_rules.specs.contracts.place.Operation.{the_type}
+use Rattle.flt_rules.specs.Place.{same_operation}
 use Rattle.flt_rules.specs.declared.place.Operation.{Operation}
 use Rattle.flt_syntax.specs.Cursor.{Input, Parser, and_then, ◌>>=◌, ◌>>◌, pure, ◌<$>◌, kind, next, refusal, refuse, fault_at, fail, peek, take_token, known_or}
 use Rattle.flt_syntax.specs.Lex.{Text}
@@ -15,6 +13,7 @@ use Rattle.flt_syntax.specs.declared.filter.Head.{Head}
 use Rattle.flt_syntax.specs.declared.filter.Head.TheVariants.{Pre, Post, Canceled, DeferredPre, DeferredPost, Generic}
 use Rattle.flt_syntax.specs.declared.token.Kind.{Kind}
 use Rattle.flt_syntax.specs.declared.token.Kind.TheVariants as k
+pub use Rattle.flt_syntax.specs.Filter.{is_named}
 pub use Rattle.flt_syntax.specs.Limits.{max_callbacks}
 pub use Rattle.flt_syntax.specs.Tables.{operation_of}
 
@@ -23,10 +22,6 @@ unfoldable pub operation : Parser Operation
 operation = λ i. known_or (refusal i) (operation_of (kind i)) i
 
 -- ---- what is declared
-
--- `==` on operations
-unfoldable pub same_operation : Operation → Operation → Bool
-same_operation = sameb the_type
 
 -- whether two heads are for the same event; routines are for none
 abbrev pub same_event : Head → Head → Bool
@@ -38,13 +33,6 @@ same_event _ _ = false
 -- whether one of the callbacks is for the event
 abbrev pub has_event : Head → List Callback → Bool
 has_event head = list_any (λ c. same_event c.head head)
-
--- whether a head is a routine of the name
-abbrev pub is_named : Text → Head → Bool
-is_named name (DeferredPre routine) = bytes_eq routine name
-is_named name (DeferredPost routine) = bytes_eq routine name
-is_named name (Generic routine) = bytes_eq routine name
-is_named name _ = false
 
 -- whether one of the callbacks is a routine of the name
 abbrev pub has_routine : Text → List Callback → Bool

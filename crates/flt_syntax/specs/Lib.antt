@@ -7,6 +7,7 @@ pub mod CallWords
 pub mod Condition
 pub mod Cursor
 pub mod File
+pub mod Filter
 pub mod Grammar
 pub mod Head
 pub mod Lex
@@ -22,6 +23,7 @@ pub mod Spelling
 pub mod Statement
 pub mod Status
 pub mod Tables
+pub mod Variable
 pub mod Vocabulary
 pub mod Whole
 pub mod WellFormed

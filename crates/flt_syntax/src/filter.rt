@@ -1,9 +1,14 @@
 //! What a text means: a filter, its callbacks and their statements.
 
+ghost use Rattle.std.specs.Prelude.{◌≡◌};
+ghost use Rattle.flt_syntax.specs.Filter as spec;
+
 use crate::variable::{
     Atom, ContextVariable, Expression, NumberVariable, OperationVariable, RemovedVariable,
 };
-use flt_rules::{Anchor, Existing, FinalStatus, LockKind, LockNumber, Operation};
+use flt_rules::{
+    Anchor, Existing, FinalStatus, LockKind, LockNumber, Operation, Place, StatusWord,
+};
 use sqlite_items::Items;
 
 /// A line and a column, each counted from 1.
@@ -167,4 +172,77 @@ pub struct Filter {
     pub queue: Option<Position>,
     /// In order of the text, from 1 to 16.
     pub callbacks: Items<Callback>,
+}
+
+/// The completion context that a status names, if there is one.
+pub fn named_context(status: Option<Status>) -> Option<ContextVariable>
+    ensures { result ≡ spec.named_context status }
+{
+    match status {
+        Some(status) => status.context(),
+        None => None,
+    }
+}
+
+impl Status {
+    /// The word of the status, by which the table has its row.
+    pub fn word(self) -> StatusWord
+        ensures { result ≡ spec.word_of self }
+    {
+        match self {
+            Status::WithCallback(_) => StatusWord::WithCallback,
+            Status::Synchronize(_) => StatusWord::Synchronize,
+            Status::NoCallback => StatusWord::NoCallback,
+            Status::Complete(_) => StatusWord::Complete,
+            Status::Pending => StatusWord::Pending,
+            Status::DisallowFastIo => StatusWord::DisallowFastIo,
+            Status::FinishedProcessing => StatusWord::FinishedProcessing,
+            Status::MoreProcessingRequired => StatusWord::MoreProcessingRequired,
+        }
+    }
+
+    /// Whether the status completes with STATUS_PENDING, which is never legal.
+    pub fn completes_pending(self) -> bool
+        ensures { result ≡ spec.completes_pending self }
+    {
+        matches!(self, Status::Complete(FinalStatus::Pending))
+    }
+
+    /// The completion context that the status names.
+    pub fn context(self) -> Option<ContextVariable>
+        ensures { result ≡ spec.context_of self }
+    {
+        match self {
+            Status::WithCallback(context) | Status::Synchronize(context) => context,
+            _ => None,
+        }
+    }
+}
+
+impl Head {
+    /// Where the callback runs.
+    pub fn place(&self) -> Place
+        ensures { result ≡ spec.head_place self.now }
+    {
+        match self {
+            Head::Pre(operation) => Place::Pre(*operation),
+            Head::Post(operation) => Place::Post(*operation),
+            Head::Canceled => Place::Canceled,
+            Head::DeferredPre(_) => Place::DeferredPre,
+            Head::DeferredPost(_) => Place::DeferredPost,
+            Head::Generic(_) => Place::Generic,
+        }
+    }
+
+    /// Whether the callback is the routine of the name.
+    pub fn is_named(&self, name: &[u8]) -> bool
+        ensures { result ≡ spec.is_named name.now self.now }
+    {
+        match self {
+            Head::DeferredPre(own) | Head::DeferredPost(own) | Head::Generic(own) => {
+                own.as_slice() == name
+            }
+            _ => false,
+        }
+    }
 }

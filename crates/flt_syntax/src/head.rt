@@ -41,19 +41,12 @@ fn operation(tokens: &mut Tokens<'_>) -> Result<Operation, ParseError>
     }
 }
 
-#[tactic(auto, unfolding(crate::specs::Head::same_operation))]
-fn same_operation(a: Operation, b: Operation) -> bool
-    ensures { result ≡ spec.same_operation a b }
-{
-    a == b
-}
-
 /// Whether both are for the same event. Routines are for none.
 fn same_event(a: &Head, b: &Head) -> bool
     ensures { result ≡ spec.same_event a.now b.now }
 {
     match (a, b) {
-        (Head::Pre(a), Head::Pre(b)) | (Head::Post(a), Head::Post(b)) => same_operation(*a, *b),
+        (Head::Pre(a), Head::Pre(b)) | (Head::Post(a), Head::Post(b)) => a.is_same(*b),
         (Head::Canceled, Head::Canceled) => true,
         _ => false,
     }

@@ -33,7 +33,7 @@ pub use fault::{FaultKind, ParseError, SyntaxFault};
 pub use file::{parse, spells_at_most_one};
 pub use filter::{
     Action, Callback, Condition, FallibleCall, Filter, Head, Lock, PlainCall, Position, Routine,
-    Statement, Status, Test,
+    Statement, Status, Test, named_context,
 };
 pub use printer::{parses_again, print, print_and_parse, spelled_is_well_formed};
 pub use tree::Tree;

@@ -1,5 +1,10 @@
 //! The variables of a callback, and the numbers that it computes with.
 
+ghost use Rattle.std.specs.Prelude.{◌≡◌, ◌<◌};
+ghost use Rattle.flt_syntax.specs.Variable as spec;
+
+use flt_rules::Possessed;
+
 /// A variable of numbers, `n0` to `n7`. It is 0 at entry.
 #[derive(Clone, Copy, Debug, PartialEq, Eq)]
 pub enum NumberVariable {
@@ -56,4 +61,69 @@ pub enum Expression {
     Atom(Atom),
     Sum(Atom, Atom),
     Difference(Atom, Atom),
+}
+
+impl NumberVariable {
+    /// Where the variable stands among `n0` to `n7`.
+    pub fn place(self) -> usize
+        ensures value { result ≡ spec.number_place self }
+        ensures within { result < 8 }
+    {
+        match self {
+            NumberVariable::N0 => 0,
+            NumberVariable::N1 => 1,
+            NumberVariable::N2 => 2,
+            NumberVariable::N3 => 3,
+            NumberVariable::N4 => 4,
+            NumberVariable::N5 => 5,
+            NumberVariable::N6 => 6,
+            NumberVariable::N7 => 7,
+        }
+    }
+}
+
+impl ContextVariable {
+    /// Where the variable stands among `c0` to `c7` and `arg`.
+    pub fn place(self) -> usize
+        ensures value { result ≡ spec.context_place self }
+        ensures within { result < 9 }
+    {
+        match self {
+            ContextVariable::C0 => 0,
+            ContextVariable::C1 => 1,
+            ContextVariable::C2 => 2,
+            ContextVariable::C3 => 3,
+            ContextVariable::C4 => 4,
+            ContextVariable::C5 => 5,
+            ContextVariable::C6 => 6,
+            ContextVariable::C7 => 7,
+            ContextVariable::Arg => 8,
+        }
+    }
+}
+
+impl OperationVariable {
+    /// Where the variable stands among `o0` to `o3` and `data`.
+    pub fn place(self) -> usize
+        ensures value { result ≡ spec.operation_place self }
+        ensures within { result < 5 }
+    {
+        match self {
+            OperationVariable::Removed(RemovedVariable::O0) => 0,
+            OperationVariable::Removed(RemovedVariable::O1) => 1,
+            OperationVariable::Removed(RemovedVariable::O2) => 2,
+            OperationVariable::Removed(RemovedVariable::O3) => 3,
+            OperationVariable::Data => 4,
+        }
+    }
+
+    /// Whether it names the operation that the callback was given, or one that was removed from the queue.
+    pub fn whose(self) -> Possessed
+        ensures { result ≡ spec.whose self }
+    {
+        match self {
+            OperationVariable::Data => Possessed::Given,
+            OperationVariable::Removed(_) => Possessed::Removed,
+        }
+    }
 }
