@@ -10,8 +10,8 @@ use Rattle.flt_rules.specs.declared.call.Existing.{Existing}
 use Rattle.flt_rules.specs.declared.call.Existing.TheVariants.{Keep, Replace}
 use Rattle.flt_rules.specs.declared.call.LockKind.{LockKind}
 use Rattle.flt_rules.specs.declared.call.LockNumber.{LockNumber}
-use Rattle.flt_rules.specs.declared.call.Possessed.{Possessed}
-use Rattle.flt_rules.specs.declared.call.Possessed.TheVariants.{Given, Removed as TakenOut}
+use Rattle.flt_syntax.specs.Filter.{context_of}
+use Rattle.flt_syntax.specs.Variable.{whose}
 use Rattle.flt_syntax.specs.declared.filter.Filter.{Filter}
 use Rattle.flt_syntax.specs.declared.filter.Statement.{Statement}
 use Rattle.flt_syntax.specs.declared.filter.Status.{Status}
@@ -28,14 +28,9 @@ use Rattle.flt_model.specs.declared.event.Object.TheVariants.{Context, Visit}
 use Rattle.flt_model.specs.declared.moves.Key.TheVariants.{Stream, Instance}
 use Rattle.flt_model.specs.Effects.{Step, context, operation, optional, gains_context, loses_context, freed_by_drop, after_unlink, events_of_unlink, onward, goes_on, unchanged, gives_nothing, calling}
 use Rattle.flt_model.specs.Locks.{holds_lock, without_last, with_holder}
-use Rattle.flt_model.specs.Settling.{context_of, way_of, makes_frame, settled_by}
+use Rattle.flt_model.specs.Settling.{way_of, makes_frame, settled_by}
 use Rattle.flt_model.specs.Variables.{context_in, operation_in, named_in, with_context_in, with_operation_in, with_old}
 use Rattle.flt_model.specs.World.{World, Store, Activation, Entry, Item, Link, is_attached, presence_at, queue_at, context_at, activation_at, actor_at, arrival_of, is_freed, linked_at, with_queue, add_reference, drop_reference, with_link}
-
--- whose operation a variable names: the one given, or one taken out of the queue
-abbrev pub whose : OperationVariable → Possessed
-whose Data = Given
-whose (Removed o) = TakenOut
 
 -- ---- contexts. Source: "Managing contexts", FltAllocateContext and the pages beside it
 

@@ -1,19 +1,12 @@
 -- The interrupt request level of an activation: the greatest of its entry level and those that its locks raise it to.
 -- Source: the driver kit's pages on spin locks and fast mutexes; entry levels are taken at their worst.
-use Rattle.std.specs.Prelude.{List, [], ◌∷◌, Option, Some, None}
-use Rattle.flt_rules.specs.Place.{entry_level, raised_level, greater_level}
-use Rattle.flt_rules.specs.declared.call.LockKind.{LockKind}
+use Rattle.std.specs.Prelude.{List, [], ◌∷◌}
+use Rattle.flt_rules.specs.Place.{entry_level, raised_by, greater_level}
 use Rattle.flt_rules.specs.declared.call.LockNumber.{LockNumber}
 use Rattle.flt_rules.specs.declared.place.Level.{Level}
-use Rattle.flt_rules.specs.declared.place.Level.TheVariants.{Passive}
 use Rattle.flt_rules.specs.declared.place.Place.{Place}
 use Rattle.flt_syntax.specs.declared.filter.Filter.{Filter}
 use Rattle.flt_model.specs.Program.{kind_of_lock}
-
--- a lock that isn't declared raises nothing
-abbrev pub raised_by : Option LockKind → Level
-raised_by None = Passive
-raised_by (Some kind) = raised_level kind
 
 -- the greatest of a level and those of the locks
 abbrev pub level_with : Filter → Level → List LockNumber → Level

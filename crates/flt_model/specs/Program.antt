@@ -2,14 +2,15 @@
 -- Source: the driver kit's pages on altitudes and on registering pre- and postoperation callbacks.
 use Rattle.std.specs.Prelude.{ℕ, ◌≢◌, Bool, true, false, not, ◌||◌, ◌==◌, nat_lt, if◌then◌else◌, List, [], ◌∷◌, Option, Some, None, AllPairs, find, get_or, option_map, slice_get}
 use Rattle.std.specs.List.{list_any, list_all, position_or_len}
-use Rattle.std.specs.Str.{bytes_eq}
 use Rattle.flt_rules.specs.Call.{place_of}
+use Rattle.flt_rules.specs.Place.{same_operation}
 use Rattle.flt_rules.specs.declared.call.LockKind.{LockKind}
 use Rattle.flt_rules.specs.declared.call.LockNumber.{LockNumber}
 use Rattle.flt_rules.specs.declared.place.Operation.{Operation}
 use Rattle.flt_rules.specs.declared.place.Operation.TheVariants.{Create, Read, Write, Cleanup}
 use Rattle.flt_rules.specs.declared.place.Place.{Place}
 use Rattle.flt_rules.specs.declared.place.Place.TheVariants as place
+use Rattle.flt_syntax.specs.Filter.{head_place, is_named}
 use Rattle.flt_syntax.specs.declared.filter.Callback.{Callback}
 use Rattle.flt_syntax.specs.declared.filter.Filter.{Filter}
 use Rattle.flt_syntax.specs.declared.filter.Head.{Head}
@@ -51,14 +52,6 @@ filter_of p altitude = position_or_len (λ (f : Filter). f.altitude == altitude)
 
 -- ---- callbacks by what they are registered for
 
--- whether two operations are of one kind
-abbrev pub same_operation : Operation → Operation → Bool
-same_operation Create Create = true
-same_operation Read Read = true
-same_operation Write Write = true
-same_operation Cleanup Cleanup = true
-same_operation _ _ = false
-
 -- a pre callback of the operation
 abbrev pub is_pre_of : Operation → Head → Bool
 is_pre_of kind (head.Pre own) = same_operation own kind
@@ -73,13 +66,6 @@ is_post_of kind _ = false
 abbrev pub is_canceled : Head → Bool
 is_canceled head.Canceled = true
 is_canceled _ = false
-
--- the routine of a name
-abbrev pub is_routine : List ℕ → Head → Bool
-is_routine name (head.DeferredPre own) = bytes_eq own name
-is_routine name (head.DeferredPost own) = bytes_eq own name
-is_routine name (head.Generic own) = bytes_eq own name
-is_routine name _ = false
 
 -- whether one of the callbacks has such a head
 abbrev pub has_head : (Head → Bool) → List Callback → Bool
@@ -96,25 +82,16 @@ body_for test cs = body_of (find (λ (c : Callback). test c.head) cs)
 
 -- the number of the routine that a call names; past all callbacks where there is none
 abbrev pub routine_of : List Callback → Routine → ℕ
-routine_of cs r = position_or_len (λ (c : Callback). is_routine r.name c.head) cs
+routine_of cs r = position_or_len (λ (c : Callback). is_named r.name c.head) cs
 
 -- the statements of the callback of a number
 abbrev pub body_at : List Callback → ℕ → List Statement
 body_at cs routine = body_of (slice_get cs routine)
 
--- where a callback runs, by its head
-abbrev pub place_by : Head → Place
-place_by (head.Pre kind) = place.Pre kind
-place_by (head.Post kind) = place.Post kind
-place_by head.Canceled = place.Canceled
-place_by (head.DeferredPre name) = place.DeferredPre
-place_by (head.DeferredPost name) = place.DeferredPost
-place_by (head.Generic name) = place.Generic
-
 -- the place of a callback that may not be there
 abbrev pub place_for : Option Callback → Place
 place_for None = place.Generic
-place_for (Some c) = place_by c.head
+place_for (Some c) = head_place c.head
 
 -- the place of the callback of a number
 abbrev pub place_at : List Callback → ℕ → Place

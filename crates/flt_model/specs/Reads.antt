@@ -1,8 +1,7 @@
 -- Steps that others can see and that are no calls: the value of a context, the file of an operation, and whether it is an I/O
 -- request packet (FLT_IS_IRP_OPERATION). A variable that is NULL leaves all as it is, and the test then fails.
-use Rattle.std.specs.Prelude.{ℕ, Bool, true, false, if◌then◌else◌, List, [], ◌∷◌, Option, Some, None}
-use Rattle.flt_rules.specs.declared.place.Mode.{Mode}
-use Rattle.flt_rules.specs.declared.place.Mode.TheVariants.{Irp, Fast}
+use Rattle.std.specs.Prelude.{ℕ, if◌then◌else◌, List, [], ◌∷◌, Option, Some, None}
+use Rattle.flt_rules.specs.Place.{is_irp}
 use Rattle.flt_syntax.specs.declared.filter.Statement.{Statement}
 use Rattle.flt_syntax.specs.declared.variable.Atom.{Atom}
 use Rattle.flt_syntax.specs.declared.variable.ContextVariable.{ContextVariable}
@@ -12,11 +11,6 @@ use Rattle.flt_syntax.specs.declared.variable.OperationVariable.TheVariants.{Dat
 use Rattle.flt_model.specs.Effects.{Step, context, operation, onward, goes_on, unchanged, needing}
 use Rattle.flt_model.specs.Variables.{context_in, operation_in, with_number, atom_value}
 use Rattle.flt_model.specs.World.{World, Store, context_at, activation_at, arrival_of, is_freed, with_context}
-
--- FLT_IS_IRP_OPERATION
-abbrev pub is_irp : Mode → Bool
-is_irp Irp = true
-is_irp Fast = false
 
 -- a freed context keeps its value
 abbrev pub put_value : Store → ℕ → ℕ → Store

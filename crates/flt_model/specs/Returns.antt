@@ -1,8 +1,8 @@
 -- The end of a callback, with the status that it returns. The end of a body is a `return` without one.
 -- Source: "Returning status from preoperation callback routines" and the same of postoperation ones.
 use Rattle.std.specs.Prelude.{ℕ, Bool, true, false, ◌||◌, if◌then◌else◌, List, [], ◌∷◌, ◌++◌, Option, Some, None, is_some, set}
-use Rattle.flt_rules.specs.declared.place.Place.{Place}
-use Rattle.flt_rules.specs.declared.place.Place.TheVariants as place
+use Rattle.flt_rules.specs.Place.{answers}
+use Rattle.flt_syntax.specs.Filter.{named_context}
 use Rattle.flt_syntax.specs.declared.filter.Filter.{Filter}
 use Rattle.flt_syntax.specs.declared.filter.Status.{Status}
 use Rattle.flt_syntax.specs.declared.variable.OperationVariable.TheVariants.{Data}
@@ -11,16 +11,10 @@ use Rattle.flt_model.specs.declared.event.Event.{Event}
 use Rattle.flt_model.specs.declared.event.Event.TheVariants as event
 use Rattle.flt_model.specs.declared.event.Object.TheVariants.{Visit}
 use Rattle.flt_model.specs.Effects.{Step, optional, uses, empties, loses_context}
-use Rattle.flt_model.specs.Settling.{Way, named_by, way_of, settles_visit, makes_frame, settled_by}
+use Rattle.flt_model.specs.Settling.{Way, way_of, settles_visit, makes_frame, settled_by}
 use Rattle.flt_model.specs.Trace.{is_held}
 use Rattle.flt_model.specs.Variables.{operation_in, named_in}
 use Rattle.flt_model.specs.World.{World, Store, Activation, activation_at, actor_at}
-
--- a pre or a post callback answers for its operation; what others return settles nothing
-abbrev pub answers : Place → Bool
-answers (place.Pre kind) = true
-answers (place.Post kind) = true
-answers _ = false
 
 -- a context that is named, and not NULL
 abbrev pub there : Option (Option ℕ) → Option ℕ
@@ -50,7 +44,7 @@ module _ (p : List Filter) (t : List Event) (w : World) (a : ℕ) where
 
   -- the context that goes with the status is used
   abbrev pub context_used : Option Status → List Event
-  context_used st = let needs = optional (named_in act (named_by st)) in uses a needs ++ empties a needs
+  context_used st = let needs = optional (named_in act (named_context st)) in uses a needs ++ empties a needs
 
   -- the visit is lost where it is held, and is settled either way; a frame takes the context over
   abbrev pub visit_given_back : ℕ → Option ℕ → Way → List Event
@@ -65,9 +59,9 @@ module _ (p : List Filter) (t : List Event) (w : World) (a : ℕ) where
       let way = way_of p w.store v (Returned st) in
       ends (settled_by w.store v x way) (status_given st ++ context_used st ++ visit_given_back v x way)
 
-  -- only a callback that answers for a visit settles one
+  -- only a callback that answers for its operation settles a visit; what others return settles nothing
   abbrev pub returned : Option Status → Bool → Option ℕ → Step
-  returned st true (Some v) = answered st v (there (named_in act (named_by st)))
+  returned st true (Some v) = answered st v (there (named_in act (named_context st)))
   returned st true None = ends w.store (status_given st ++ context_used st)
   returned st false given = ends w.store (status_given st ++ context_used st)
 

@@ -1,12 +1,11 @@
 -- What becomes of an operation when a filter's part in it is over. Source: FLT_PREOP_CALLBACK_STATUS and
 -- FLT_POSTOP_CALLBACK_STATUS in the driver kit; how a status goes on that isn't legal is this project's own rule.
-use Rattle.std.specs.Prelude.{ℕ, ◌+◌, Bool, true, false, not, ◌&&◌, if◌then◌else◌, List, [], ◌∷◌, ◌++◌, Option, Some, None, set}
+use Rattle.std.specs.Prelude.{ℕ, ◌+◌, Bool, true, false, not, ◌&&◌, if◌then◌else◌, List, [], ◌∷◌, ◌++◌, Option, Some, set}
 use Rattle.flt_rules.specs.declared.place.Stage.{Stage}
 use Rattle.flt_rules.specs.declared.place.Stage.TheVariants as stage
 use Rattle.flt_syntax.specs.declared.filter.Filter.{Filter}
 use Rattle.flt_syntax.specs.declared.filter.Status.{Status}
 use Rattle.flt_syntax.specs.declared.filter.Status.TheVariants as status
-use Rattle.flt_syntax.specs.declared.variable.ContextVariable.{ContextVariable}
 use Rattle.flt_model.specs.declared.event.Answer.{Answer}
 use Rattle.flt_model.specs.declared.event.Answer.TheVariants.{Returned, CompletesPre, CompletesPost}
 use Rattle.flt_model.specs.Program.{callbacks_at, has_post}
@@ -35,17 +34,6 @@ given_by (CompletesPost v) = Some status.FinishedProcessing
 abbrev pub is_returned : Answer → Bool
 is_returned (Returned st) = true
 is_returned _ = false
-
--- the completion context that a status names
-abbrev pub context_of : Status → Option ContextVariable
-context_of (status.WithCallback c) = c
-context_of (status.Synchronize c) = c
-context_of _ = None
-
--- the same of a status that may be missing
-abbrev pub named_by : Option Status → Option ContextVariable
-named_by None = None
-named_by (Some st) = context_of st
 
 -- before the filters below, where the operation has a post callback or not: what isn't a status of its own, a PENDING or
 -- DISALLOW_FASTIO that isn't returned, and a WITH_CALLBACK without a post callback go on as NO_CALLBACK

@@ -2,27 +2,24 @@
 -- Source: FLT_PREOP_CALLBACK_STATUS and FLT_POSTOP_CALLBACK_STATUS in the driver kit; what may be handed on is this project's
 -- own rule.
 use Rattle.std.specs.Prelude.{ℕ, Bool, true, false, not, ◌&&◌, ◌||◌, List, Option, Some, None}
-use Rattle.flt_rules.specs.Status.{status_row}
+use Rattle.flt_rules.specs.Place.{same_mode, same_stage, fits_stage, is_pre_create}
+use Rattle.flt_rules.specs.Status.{status_row, is_complete, is_with_callback}
 use Rattle.flt_rules.specs.declared.call.Call.{Call}
 use Rattle.flt_rules.specs.declared.call.Call.TheVariants as call
 use Rattle.flt_rules.specs.declared.call.Possessed.{Possessed}
 use Rattle.flt_rules.specs.declared.call.Possessed.TheVariants.{Given}
 use Rattle.flt_rules.specs.declared.place.Mode.{Mode}
-use Rattle.flt_rules.specs.declared.place.Mode.TheVariants.{Irp, Fast}
-use Rattle.flt_rules.specs.declared.place.Operation.TheVariants.{Create}
+use Rattle.flt_rules.specs.declared.place.Mode.TheVariants.{Irp}
 use Rattle.flt_rules.specs.declared.place.Place.{Place}
 use Rattle.flt_rules.specs.declared.place.Place.TheVariants as place
-use Rattle.flt_rules.specs.declared.place.Stage.{Stage}
 use Rattle.flt_rules.specs.declared.place.Stage.TheVariants as stage
-use Rattle.flt_rules.specs.declared.status.FinalStatus.TheVariants as final
 use Rattle.flt_rules.specs.declared.status.Possession.{Possession}
 use Rattle.flt_rules.specs.declared.status.Possession.TheVariants as possession
 use Rattle.flt_rules.specs.declared.status.StatusRow.{StatusRow}
 use Rattle.flt_rules.specs.declared.status.StatusWord.{StatusWord}
-use Rattle.flt_rules.specs.declared.status.StatusWord.TheVariants as word
+use Rattle.flt_syntax.specs.Filter.{word_of, completes_pending}
 use Rattle.flt_syntax.specs.declared.filter.Filter.{Filter}
 use Rattle.flt_syntax.specs.declared.filter.Status.{Status}
-use Rattle.flt_syntax.specs.declared.filter.Status.TheVariants as status
 use Rattle.flt_syntax.specs.declared.variable.OperationVariable.TheVariants.{Data}
 use Rattle.flt_model.specs.declared.event.Answer.{Answer}
 use Rattle.flt_model.specs.declared.event.Answer.TheVariants.{Returned, CompletesPre, CompletesPost}
@@ -33,46 +30,7 @@ use Rattle.flt_model.specs.Trace.{is_held}
 use Rattle.flt_model.specs.Variables.{operation_in}
 use Rattle.flt_model.specs.World.{World, activation_at, actor_at, arrival_of, visit_at}
 
--- the word of a status, as the table has it
-abbrev pub word_of : Status → StatusWord
-word_of (status.WithCallback c) = word.WithCallback
-word_of (status.Synchronize c) = word.Synchronize
-word_of status.NoCallback = word.NoCallback
-word_of (status.Complete f) = word.Complete
-word_of status.Pending = word.Pending
-word_of status.DisallowFastIo = word.DisallowFastIo
-word_of status.FinishedProcessing = word.FinishedProcessing
-word_of status.MoreProcessingRequired = word.MoreProcessingRequired
-
--- COMPLETE STATUS_PENDING can be written and is never legal
-abbrev pub completes_pending : Status → Bool
-completes_pending (status.Complete final.Pending) = true
-completes_pending _ = false
-
--- whether two stages are one
-abbrev pub same_stage : Stage → Stage → Bool
-same_stage stage.Pre stage.Pre = true
-same_stage stage.Post stage.Post = true
-same_stage _ _ = false
-
--- whether two modes are one
-abbrev pub same_mode : Mode → Mode → Bool
-same_mode Irp Irp = true
-same_mode Fast Fast = true
-same_mode _ _ = false
-
 -- ---- returned
-
--- only pre and post callbacks return a status, each of its own stage
-abbrev pub fits_stage : Place → Stage → Bool
-fits_stage (place.Pre kind) s = same_stage s stage.Pre
-fits_stage (place.Post kind) s = same_stage s stage.Post
-fits_stage _ s = false
-
--- the pre callback of a create
-abbrev pub is_pre_create : Place → Bool
-is_pre_create (place.Pre Create) = true
-is_pre_create _ = false
 
 -- held, or given away
 abbrev pub is_possessed : Bool → Possession → Bool
@@ -108,16 +66,6 @@ module _ (p : List Filter) (w : World) (t : List Event) (a : ℕ) where
   may_return (Some st) = is_returned_legally st (operation_in (activation_at w a) Data)
 
   -- ---- handed on by FltCompletePendedPreOperation
-
-  -- WITH_CALLBACK
-  abbrev pub is_with_callback : StatusWord → Bool
-  is_with_callback word.WithCallback = true
-  is_with_callback _ = false
-
-  -- COMPLETE
-  abbrev pub is_complete : StatusWord → Bool
-  is_complete word.Complete = true
-  is_complete _ = false
 
   -- the given operation, in the callback of a cancelled queue entry, is completed by COMPLETE alone
   abbrev pub fits_canceled : Place → Possessed → StatusWord → Bool

@@ -1,51 +1,15 @@
 -- The variables of an activation, and the numbers that it computes with.
 use Rattle.std.specs.Prelude.{ℕ, ◌+◌, ◌-◌, ◌%◌, ◌^◌, false, List, [], ◌∷◌, ◌++◌, Option, Some, None, get_or, set, replicate, option_map}
+use Rattle.flt_syntax.specs.Variable.{number_place, context_place, operation_place}
 use Rattle.flt_syntax.specs.declared.filter.Statement.{Statement}
 use Rattle.flt_syntax.specs.declared.variable.Atom.{Atom}
 use Rattle.flt_syntax.specs.declared.variable.Atom.TheVariants as atom
 use Rattle.flt_syntax.specs.declared.variable.ContextVariable.{ContextVariable}
-use Rattle.flt_syntax.specs.declared.variable.ContextVariable.TheVariants.{C0, C1, C2, C3, C4, C5, C6, C7, Arg}
 use Rattle.flt_syntax.specs.declared.variable.Expression.{Expression}
 use Rattle.flt_syntax.specs.declared.variable.Expression.TheVariants as expression
 use Rattle.flt_syntax.specs.declared.variable.NumberVariable.{NumberVariable}
-use Rattle.flt_syntax.specs.declared.variable.NumberVariable.TheVariants.{N0, N1, N2, N3, N4, N5, N6, N7}
 use Rattle.flt_syntax.specs.declared.variable.OperationVariable.{OperationVariable}
-use Rattle.flt_syntax.specs.declared.variable.OperationVariable.TheVariants.{Removed, Data}
-use Rattle.flt_syntax.specs.declared.variable.RemovedVariable.TheVariants.{O0, O1, O2, O3}
 use Rattle.flt_model.specs.World.{Activation}
-
--- ---- where a variable stands among those of its kind
-
--- `n0` to `n7`
-abbrev pub number_place : NumberVariable → ℕ
-number_place N0 = 0
-number_place N1 = 1
-number_place N2 = 2
-number_place N3 = 3
-number_place N4 = 4
-number_place N5 = 5
-number_place N6 = 6
-number_place N7 = 7
-
--- `c0` to `c7`, then `arg`
-abbrev pub context_place : ContextVariable → ℕ
-context_place C0 = 0
-context_place C1 = 1
-context_place C2 = 2
-context_place C3 = 3
-context_place C4 = 4
-context_place C5 = 5
-context_place C6 = 6
-context_place C7 = 7
-context_place Arg = 8
-
--- `o0` to `o3`, then `data`
-abbrev pub operation_place : OperationVariable → ℕ
-operation_place (Removed O0) = 0
-operation_place (Removed O1) = 1
-operation_place (Removed O2) = 2
-operation_place (Removed O3) = 3
-operation_place Data = 4
 
 -- ---- what it names; none is NULL
 

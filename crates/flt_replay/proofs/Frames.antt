@@ -7,12 +7,15 @@ use Rattle.std.proofs.lemmas.List.{get_or-set_other, get_or_past}
 use Rattle.std.proofs.lemmas.List.Folds.{list_all-append}
 use Rattle.std.specs.List.{list_all}
 use Rattle.std.specs.Prelude.{◌||◌, ◌==◌, if◌then◌else◌, is_some}
+use Rattle.flt_rules.specs.Place.{answers, is_irp}
 use Rattle.flt_rules.specs.declared.call.Anchor.{Anchor}
 use Rattle.flt_rules.specs.declared.call.Call.{Call}
 use Rattle.flt_rules.specs.declared.call.Existing.{Existing}
 use Rattle.flt_rules.specs.declared.call.Existing.TheVariants.{Keep, Replace}
 use Rattle.flt_rules.specs.declared.call.LockKind.{LockKind}
 use Rattle.flt_rules.specs.declared.call.LockNumber.{LockNumber}
+use Rattle.flt_syntax.specs.Filter.{context_of, named_context}
+use Rattle.flt_syntax.specs.Variable.{whose}
 use Rattle.flt_syntax.specs.declared.filter.Action.{Action}
 use Rattle.flt_syntax.specs.declared.filter.Action.TheVariants as action
 use Rattle.flt_syntax.specs.declared.filter.Condition.{Condition}
@@ -40,13 +43,13 @@ use Rattle.flt_model.specs.declared.event.Event.{Event}
 use Rattle.flt_model.specs.declared.event.Event.TheVariants as event
 use Rattle.flt_model.specs.declared.event.Object.{Object}
 use Rattle.flt_model.specs.declared.event.Object.TheVariants.{Visit}
-use Rattle.flt_model.specs.Calls.{whose, needs_of, link_of, set_there, set_by, cannot_set, got, kept, get_by, allocate, allocated, get, set_context, unlinked, delete_by, delete_at, deleted, delete, referenced, reference, released, release, taken, acquire, given_up, release_lock, enqueued, insert_by, insert, removed, remove_next, deferred, defer_by, queue_deferred, queued, queue_by, queue_generic, completed, status_of, complete_by, complete_pre, status_of_post, complete_post_by, complete_post}
+use Rattle.flt_model.specs.Calls.{needs_of, link_of, set_there, set_by, cannot_set, got, kept, get_by, allocate, allocated, get, set_context, unlinked, delete_by, delete_at, deleted, delete, referenced, reference, released, release, taken, acquire, given_up, release_lock, enqueued, insert_by, insert, removed, remove_next, deferred, defer_by, queue_deferred, queued, queue_by, queue_generic, completed, status_of, complete_by, complete_pre, status_of_post, complete_post_by, complete_post}
 use Rattle.flt_model.specs.Effects.{Step, context, operation, optional, uses, empties, gains_context, loses_context, freed_by_drop, after_unlink, events_of_unlink, onward, goes_on, unchanged, gives_nothing, needing, calling}
 use Rattle.flt_model.specs.Locks.{holds_lock}
 use Rattle.flt_model.specs.Program.{callbacks_at, routine_of}
-use Rattle.flt_model.specs.Reads.{is_irp, put_value, read_value_of, read_value, write_value_of, write_value, read_file_of, read_file, test_irp_of, test_irp}
-use Rattle.flt_model.specs.Returns.{ends, status_given, context_used, visit_given_back, returned, returns, answers, there}
-use Rattle.flt_model.specs.Settling.{Way, context_of, led, named_by, way_of, settles_visit, makes_frame, is_led, lead, settled_by}
+use Rattle.flt_model.specs.Reads.{put_value, read_value_of, read_value, write_value_of, write_value, read_file_of, read_file, test_irp_of, test_irp}
+use Rattle.flt_model.specs.Returns.{ends, status_given, context_used, visit_given_back, returned, returns, there}
+use Rattle.flt_model.specs.Settling.{Way, led, way_of, settles_visit, makes_frame, is_led, lead, settled_by}
 use Rattle.flt_model.specs.Steps.{act_step, plain_step, fallible_step, test_step, if_step, statement_step, list_step, board, may_go}
 use Rattle.flt_model.specs.Trace.{is_held}
 use Rattle.flt_model.specs.Variables.{operation_in, context_in, named_in, atom_value, with_number, with_old, with_operation_in}
@@ -471,7 +474,7 @@ module _ (w : World) (a : ℕ) where
 
       context_used_by : (st : Option Status) → list_all (is_by a) (context_used p t w a st) ≡ true
       context_used_by st =
-          let needs = optional (named_in here (named_by st)) in append_by a (uses a needs) (empties a needs) (uses_by a needs) (empties_by a needs)
+          let needs = optional (named_in here (named_context st)) in append_by a (uses a needs) (empties a needs) (uses_by a needs) (empties_by a needs)
 
       given_back_by : (v : ℕ) (x : Option ℕ) (way : Way) → list_all (is_by a) (visit_given_back p t w a v x way) ≡ true
       given_back_by v x way =
@@ -501,7 +504,7 @@ module _ (w : World) (a : ℕ) where
 
       returned_framed : (st : Option Status) (b : Bool) (v : Option ℕ) → Framed w a (returned p t w a st b v)
       returned_framed st true (Some v) =
-          let x = there (named_in here (named_by st)) in
+          let x = there (named_in here (named_context st)) in
           let way = way_of p w.store v (Returned st) in
           ends_framed (settled_by w.store v x way)
           (status_given p t w a st ++ context_used p t w a st ++ visit_given_back p t w a v x way) (settled_store w.store v x way)

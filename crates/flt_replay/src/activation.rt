@@ -1,6 +1,6 @@
 //! An activation: one run of a callback, with its variables and the locks that it holds.
 
-ghost use Rattle.std.specs.Prelude.{◌≡◌, ◌<◌, ◌++◌, true, [], replicate, IfOk, OnOk, MatchOption};
+ghost use Rattle.std.specs.Prelude.{◌≡◌, ◌++◌, true, [], replicate, IfOk, OnOk, MatchOption};
 ghost use Rattle.flt_model.specs.Variables as spec;
 ghost use Rattle.flt_replay.specs.Rest.{others};
 ghost use Rattle.flt_replay.specs.Writes.{written};
@@ -53,52 +53,6 @@ pub(crate) enum Write {
     Unlock(LockNumber),
 }
 
-fn number_place(variable: NumberVariable) -> usize
-    ensures value { result ≡ spec.number_place variable }
-    ensures within { result < 8 }
-{
-    match variable {
-        NumberVariable::N0 => 0,
-        NumberVariable::N1 => 1,
-        NumberVariable::N2 => 2,
-        NumberVariable::N3 => 3,
-        NumberVariable::N4 => 4,
-        NumberVariable::N5 => 5,
-        NumberVariable::N6 => 6,
-        NumberVariable::N7 => 7,
-    }
-}
-
-fn context_place(variable: ContextVariable) -> usize
-    ensures value { result ≡ spec.context_place variable }
-    ensures within { result < 9 }
-{
-    match variable {
-        ContextVariable::C0 => 0,
-        ContextVariable::C1 => 1,
-        ContextVariable::C2 => 2,
-        ContextVariable::C3 => 3,
-        ContextVariable::C4 => 4,
-        ContextVariable::C5 => 5,
-        ContextVariable::C6 => 6,
-        ContextVariable::C7 => 7,
-        ContextVariable::Arg => 8,
-    }
-}
-
-fn operation_place(variable: OperationVariable) -> usize
-    ensures value { result ≡ spec.operation_place variable }
-    ensures within { result < 5 }
-{
-    match variable {
-        OperationVariable::Removed(RemovedVariable::O0) => 0,
-        OperationVariable::Removed(RemovedVariable::O1) => 1,
-        OperationVariable::Removed(RemovedVariable::O2) => 2,
-        OperationVariable::Removed(RemovedVariable::O3) => 3,
-        OperationVariable::Data => 4,
-    }
-}
-
 impl<'a> Activation<'a> {
     /// At entry all is 0 or NULL but the given operation and the given context.
     pub(crate) fn starting(
@@ -122,37 +76,37 @@ impl<'a> Activation<'a> {
     pub(crate) fn number(&self, variable: NumberVariable) -> u64
         ensures { result ≡ spec.number_in self.now variable }
     {
-        self.numbers[number_place(variable)]
+        self.numbers[variable.place()]
     }
 
     pub(crate) fn context(&self, variable: ContextVariable) -> Option<usize>
         ensures { result ≡ spec.context_in self.now variable }
     {
-        self.contexts[context_place(variable)]
+        self.contexts[variable.place()]
     }
 
     pub(crate) fn operation(&self, variable: OperationVariable) -> Option<usize>
         ensures { result ≡ spec.operation_in self.now variable }
     {
-        self.operations[operation_place(variable)]
+        self.operations[variable.place()]
     }
 
     pub(crate) fn set_number(&mut self, variable: NumberVariable, value: u64)
         ensures { self.new ≡ spec.with_number self.old variable value }
     {
-        self.numbers[number_place(variable)] = value;
+        self.numbers[variable.place()] = value;
     }
 
     pub(crate) fn set_context(&mut self, variable: ContextVariable, context: Option<usize>)
         ensures { self.new ≡ spec.with_context_in self.old variable context }
     {
-        self.contexts[context_place(variable)] = context;
+        self.contexts[variable.place()] = context;
     }
 
     pub(crate) fn set_operation(&mut self, variable: OperationVariable, visit: Option<usize>)
         ensures { self.new ≡ spec.with_operation_in self.old variable visit }
     {
-        self.operations[operation_place(variable)] = visit;
+        self.operations[variable.place()] = visit;
     }
 
     /// Sets a variable that a call need not have.

@@ -4,26 +4,14 @@ ghost use Rattle.std.specs.Prelude.{◌≡◌, ◌≤◌, length};
 ghost use Rattle.flt_model.specs.Levels as levels;
 ghost use Rattle.flt_model.specs.Program as spec;
 
-use flt_rules::{Level, LockKind, LockNumber, Operation, Place, entry_level, raised_level};
+use flt_rules::{Level, LockKind, LockNumber, Operation, Place, entry_level, raised_by};
 use flt_syntax::{Callback, Filter, Head, Routine, Statement};
-
-fn same_operation(a: Operation, b: Operation) -> bool
-    ensures { result ≡ spec.same_operation a b }
-{
-    matches!(
-        (a, b),
-        (Operation::Create, Operation::Create)
-            | (Operation::Read, Operation::Read)
-            | (Operation::Write, Operation::Write)
-            | (Operation::Cleanup, Operation::Cleanup)
-    )
-}
 
 fn is_pre_of(kind: Operation, head: &Head) -> bool
     ensures { result ≡ spec.is_pre_of kind head.now }
 {
     match head {
-        Head::Pre(own) => same_operation(*own, kind),
+        Head::Pre(own) => own.is_same(kind),
         _ => false,
     }
 }
@@ -32,7 +20,7 @@ fn is_post_of(kind: Operation, head: &Head) -> bool
     ensures { result ≡ spec.is_post_of kind head.now }
 {
     match head {
-        Head::Post(own) => same_operation(*own, kind),
+        Head::Post(own) => own.is_same(kind),
         _ => false,
     }
 }
@@ -41,31 +29,6 @@ fn is_canceled(head: &Head) -> bool
     ensures { result ≡ spec.is_canceled head.now }
 {
     matches!(head, Head::Canceled)
-}
-
-fn is_routine(name: &[u8], head: &Head) -> bool
-    ensures { result ≡ spec.is_routine name.now head.now }
-{
-    match head {
-        Head::DeferredPre(own) => own.as_slice() == name,
-        Head::DeferredPost(own) => own.as_slice() == name,
-        Head::Generic(own) => own.as_slice() == name,
-        _ => false,
-    }
-}
-
-/// Where a callback runs, by its head.
-fn place_by(head: &Head) -> Place
-    ensures { result ≡ spec.place_by head.now }
-{
-    match head {
-        Head::Pre(kind) => Place::Pre(*kind),
-        Head::Post(kind) => Place::Post(*kind),
-        Head::Canceled => Place::Canceled,
-        Head::DeferredPre(_) => Place::DeferredPre,
-        Head::DeferredPost(_) => Place::DeferredPost,
-        Head::Generic(_) => Place::Generic,
-    }
 }
 
 pub(crate) fn has_pre(callbacks: &[Callback], kind: Operation) -> bool
@@ -134,7 +97,7 @@ pub(crate) fn routine_of(callbacks: &[Callback], routine: &Routine) -> usize
 {
     match callbacks {
         [] => 0,
-        [first, ..] if is_routine(routine.name.as_slice(), &first.head) => 0,
+        [first, ..] if first.head.is_named(routine.name.as_slice()) => 0,
         [_, others @ ..] => routine_of(others, routine) + 1,
     }
 }
@@ -152,7 +115,7 @@ pub(crate) fn place_at(callbacks: &[Callback], routine: usize) -> Place
     ensures { result ≡ spec.place_at callbacks.now routine }
 {
     match callbacks.get(routine) {
-        Some(callback) => place_by(&callback.head),
+        Some(callback) => callback.head.place(),
         None => Place::Generic,
     }
 }
@@ -164,16 +127,6 @@ fn kind_of_lock(filter: &Filter, lock: LockNumber) -> Option<LockKind>
     match filter.locks.get(usize::from(lock.place())) {
         Some(lock) => Some(lock.kind),
         None => None,
-    }
-}
-
-/// A lock that isn't declared raises nothing.
-fn raised_by(kind: Option<LockKind>) -> Level
-    ensures { result ≡ levels.raised_by kind }
-{
-    match kind {
-        Some(kind) => raised_level(kind),
-        None => Level::Passive,
     }
 }
 

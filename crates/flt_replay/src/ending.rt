@@ -4,21 +4,20 @@ ghost use Rattle.std.specs.Prelude.{◌≡◌, ◌++◌, true, List, [], set, On
 ghost use Rattle.flt_model.specs.declared.event.Event.{Event};
 ghost use Rattle.flt_model.specs.declared.event.Object.TheVariants.{Visit};
 ghost use Rattle.flt_model.specs.Returns as spec;
-ghost use Rattle.flt_model.specs.Settling.{named_by};
 ghost use Rattle.flt_model.specs.Trace.{is_held};
 ghost use Rattle.flt_model.specs.Variables.{named_in};
 ghost use Rattle.flt_model.specs.World as machine;
 ghost use Rattle.flt_replay.specs.Parts.{way_meant};
 ghost use Rattle.flt_replay.specs.Writes.{holds_given, Happened};
+ghost use Rattle.flt_syntax.specs.Filter.{named_context};
 
 use crate::effects::{context, lose_context, need};
 use crate::rest::Rest;
-use crate::settling::{Way, named_by, settles_visit};
+use crate::settling::{Way, settles_visit};
 use crate::stack::Stack;
 use crate::world::World;
 use flt_model::{Answer, Event, Object};
-use flt_rules::Place;
-use flt_syntax::{OperationVariable, Status};
+use flt_syntax::{OperationVariable, Status, named_context};
 use std::alloc::{AllocError, Global};
 
 /// The visit that an activation was given, and whether it holds it.
@@ -26,13 +25,6 @@ use std::alloc::{AllocError, Global};
 struct Given {
     visit: usize,
     held: bool,
-}
-
-/// A pre or a post callback answers for its operation; what others return settles nothing.
-fn answers(place: Place) -> bool
-    ensures { result ≡ spec.answers place }
-{
-    matches!(place, Place::Pre(_) | Place::Post(_))
 }
 
 /// A context that is named, and not NULL.
@@ -66,7 +58,7 @@ impl<'a> World<'a> {
     ) -> Result<(), AllocError>
         ensures { OnOk result (events.new.items ≡ events.old.items ++ spec.status_given [] [] self.now a status) }
     {
-        if answers(self.place(a)) || status.is_some() {
+        if self.place(a).answers() || status.is_some() {
             events.push(Event::Status(a, Answer::Returned(status)))?;
         }
         Ok(())
@@ -81,7 +73,7 @@ impl<'a> World<'a> {
     ) -> Result<(), AllocError>
         ensures { OnOk result (events.new.items ≡ events.old.items ++ spec.context_used [] [] self.now a status) }
     {
-        match self.named_in(a, named_by(status)) {
+        match self.named_in(a, named_context(status)) {
             Some(x) => need(a, &[context(x)], events),
             None => Ok(()),
         }
@@ -142,9 +134,9 @@ impl<'a> World<'a> {
         given: Given,
         events: &mut Vec<Event>,
     ) -> Result<(), AllocError>
-        ensures { OnOk result ((t : List Event) → given.held ≡ is_held t a (Visit given.visit) → Happened self.new events.old.items events.new.items (spec.answered stack.now t self.old a status given.visit (spec.there (named_in (machine.activation_at self.old a) (named_by status))))) }
+        ensures { OnOk result ((t : List Event) → given.held ≡ is_held t a (Visit given.visit) → Happened self.new events.old.items events.new.items (spec.answered stack.now t self.old a status given.visit (spec.there (named_in (machine.activation_at self.old a) (named_context status))))) }
     {
-        let context = there(self.named_in(a, named_by(status)));
+        let context = there(self.named_in(a, named_context(status)));
         let way = self.way(stack, given.visit, Answer::Returned(status));
         self.tell_status(a, status, events)?;
         self.give_visit_back(a, given, context, way, events)?;
@@ -152,7 +144,7 @@ impl<'a> World<'a> {
         self.ends(alloc, a, events)
     }
 
-    /// Only a callback that answers for a visit settles one; it may hold the visit or not.
+    /// Only a callback that answers for its operation settles a visit, held or not; what others return settles nothing.
     pub(crate) fn end(
         &mut self,
         alloc: Global,
@@ -165,7 +157,7 @@ impl<'a> World<'a> {
         ensures { OnOk result ((t : List Event) → held ≡ holds_given t self.old a → Happened self.new events.old.items events.new.items (spec.returns stack.now t self.old a status)) }
     {
         match self.operation_in(a, OperationVariable::Data) {
-            Some(visit) if answers(self.place(a)) => {
+            Some(visit) if self.place(a).answers() => {
                 self.answered(alloc, stack, a, status, Given { visit, held }, events)
             }
             _ => {

@@ -10,7 +10,6 @@ use crate::contexts::Branches;
 use crate::effects::{context, need, operation};
 use crate::world::World;
 use flt_model::Event;
-use flt_rules::Mode;
 use flt_syntax::{Atom, ContextVariable, NumberVariable, OperationVariable};
 use std::alloc::AllocError;
 
@@ -84,14 +83,12 @@ impl<'a> World<'a> {
         let visit = self.operation_in(a, OperationVariable::Data);
         need(a, &[operation(visit)], events)?;
         match visit {
-            Some(visit) if is_irp(self.mode_of(visit)) => self.go_on(a, to.granted, Write::Nothing),
+            Some(visit) if self.mode_of(visit).is_irp() => self.go_on(
+                a,
+                to.granted,
+                Write::Nothing,
+            ),
             _ => self.go_on(a, to.refused, Write::Nothing),
         }
     }
-}
-
-fn is_irp(mode: Mode) -> bool
-    ensures { result ≡ spec.is_irp mode }
-{
-    matches!(mode, Mode::Irp)
 }

@@ -15,16 +15,15 @@ ghost use Rattle.flt_model.specs.declared.event.Object.TheVariants.{Visit};
 ghost use Rattle.flt_replay.specs.Judging.{is_by, keeps_rule, of_rules};
 ghost use Rattle.flt_replay.specs.Scenes.{before};
 ghost use Rattle.flt_replay.specs.Writes.{holds_visit, holds_given};
-ghost use Rattle.flt_rules.specs.Status.{status_row};
+ghost use Rattle.flt_rules.specs.Place as places;
+ghost use Rattle.flt_rules.specs.Status.{is_with_callback, status_row};
 ghost use Rattle.flt_rules.specs.declared.place.Stage.TheVariants as stage;
+ghost use Rattle.flt_syntax.specs.Filter.{completes_pending, word_of};
 ghost use Rattle.flt_syntax.specs.declared.variable.OperationVariable.TheVariants as variable;
 
 use crate::lock_list::holds_lock;
 use crate::stack::Stack;
-use crate::statuses::{
-    completes_pending, fits_stage, is_of_mode, is_possessed, is_pre_create, same_mode, same_stage,
-    word_of,
-};
+use crate::statuses::{is_of_mode, is_possessed};
 use crate::world::World;
 use flt_model::{Answer, Event, Violation};
 use flt_rules::{
@@ -97,12 +96,12 @@ impl<'b, 'a> Scene<'b, 'a> {
 impl<'b, 'a> Scene<'b, 'a> {
     /// What a row says of the callback.
     fn fits_callback(&self, row: StatusRow, visit: usize) -> bool
-        ensures { result ≡ (statuses.fits_stage (actor_at (before self.now) self.now.activation).place row.stage && ((not row.needs_post || program.has_post (program.callbacks_at self.now.stack.now (actor_at (before self.now) self.now.activation).filter) (arrival_of (before self.now).store visit).kind) && (row.in_create || not (statuses.is_pre_create (actor_at (before self.now) self.now.activation).place)))) }
+        ensures { result ≡ (places.fits_stage (actor_at (before self.now) self.now.activation).place row.stage && ((not row.needs_post || program.has_post (program.callbacks_at self.now.stack.now (actor_at (before self.now) self.now.activation).filter) (arrival_of (before self.now).store visit).kind) && (row.in_create || not (places.is_pre_create (actor_at (before self.now) self.now.activation).place)))) }
     {
         let place = self.world.place(self.activation);
-        fits_stage(place, row.stage)
+        place.fits(row.stage)
             && (!row.needs_post || self.has_post(self.world.kind_of(visit)))
-            && (row.in_create || !is_pre_create(place))
+            && (row.in_create || !place.is_pre_create())
     }
 
     /// What a row says of the operation.
@@ -135,7 +134,7 @@ impl<'b, 'a> Scene<'b, 'a> {
         match visit {
             None => false,
             Some(visit) => {
-                self.fits_row(status_row(word_of(status)), visit) && !completes_pending(status)
+                self.fits_row(status_row(status.word()), visit) && !status.completes_pending()
             }
         }
     }
@@ -158,29 +157,30 @@ impl<'b, 'a> Scene<'b, 'a> {
 
     /// In the callback of a cancelled entry only COMPLETE is for the given operation; WITH_CALLBACK needs post callbacks.
     fn fits_word(&self, whose: Possessed, word: StatusWord) -> bool
-        ensures { (t : List Event) → result ≡ (statuses.fits_canceled self.now.stack.now (before self.now) t self.now.activation (actor_at (before self.now) self.now.activation).place whose word && (not (statuses.is_with_callback self.now.stack.now (before self.now) t self.now.activation word) || program.are_paired (program.callbacks_at self.now.stack.now (actor_at (before self.now) self.now.activation).filter))) }
+        ensures { (t : List Event) → result ≡ (statuses.fits_canceled self.now.stack.now (before self.now) t self.now.activation (actor_at (before self.now) self.now.activation).place whose word && (not (is_with_callback word) || program.are_paired (program.callbacks_at self.now.stack.now (actor_at (before self.now) self.now.activation).filter))) }
     {
-        match (self.world.place(self.activation), whose, word) {
-            (Place::Canceled, Possessed::Given, word) => matches!(word, StatusWord::Complete),
-            (_, _, StatusWord::WithCallback) => self.are_paired(),
-            _ => true,
-        }
+        let given_in_canceled = matches!(
+            (self.world.place(self.activation), whose),
+            (Place::Canceled, Possessed::Given)
+        );
+        (!given_in_canceled || word.is_complete())
+            && (!word.is_with_callback() || self.are_paired())
     }
 
     /// Whether the status is one to hand on, and the visit is before the filters below.
     fn is_for_handing(&self, visit: usize, status: Status) -> bool
-        ensures { result ≡ (statuses.same_stage (visit_at (before self.now).store visit).stage stage.Pre && ((status_row (statuses.word_of status)).handed && not (statuses.completes_pending status))) }
+        ensures { result ≡ (places.same_stage (visit_at (before self.now).store visit).stage stage.Pre && ((status_row (word_of status)).handed && not (completes_pending status))) }
     {
-        same_stage(self.world.stage(visit), Stage::Pre)
-            && status_row(word_of(status)).handed
-            && !completes_pending(status)
+        self.world.stage(visit).is_same(Stage::Pre)
+            && status_row(status.word()).handed
+            && !status.completes_pending()
     }
 
     /// Whether the status may be handed on for a visit.
     fn may_hand(&self, whose: Possessed, visit: usize, status: Status) -> bool
         ensures { (t : List Event) → result ≡ statuses.may_hand self.now.stack.now (before self.now) t self.now.activation whose visit status }
     {
-        self.is_for_handing(visit, status) && self.fits_word(whose, word_of(status))
+        self.is_for_handing(visit, status) && self.fits_word(whose, status.word())
     }
 
     fn may_answer(&self, answer: Answer) -> bool
@@ -193,7 +193,7 @@ impl<'b, 'a> Scene<'b, 'a> {
                 visit,
                 status,
             } => self.may_hand(whose, visit, status),
-            Answer::CompletesPost { visit } => same_stage(self.world.stage(visit), Stage::Post),
+            Answer::CompletesPost { visit } => self.world.stage(visit).is_same(Stage::Post),
         }
     }
 
@@ -203,7 +203,7 @@ impl<'b, 'a> Scene<'b, 'a> {
     {
         match self.given() {
             None => true,
-            Some(visit) => same_mode(self.world.mode_of(visit), Mode::Irp),
+            Some(visit) => self.world.mode_of(visit).is_same(Mode::Irp),
         }
     }
 

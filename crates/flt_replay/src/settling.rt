@@ -8,6 +8,7 @@ ghost use Rattle.flt_model.specs.World as machine;
 ghost use Rattle.flt_model.specs.declared.event.Answer.TheVariants.{CompletesPre};
 ghost use Rattle.flt_replay.specs.Parts.{position_of, way_meant};
 ghost use Rattle.flt_replay.specs.Writes.{later, Happened};
+ghost use Rattle.flt_syntax.specs.Variable.{whose};
 
 use crate::activation::Write;
 use crate::effects::{Named, lose_context, need, need_named, operation};
@@ -15,7 +16,7 @@ use crate::parts::{Frame, Outcome, Position, Route};
 use crate::stack::Stack;
 use crate::world::World;
 use flt_model::{Answer, Event, Object};
-use flt_rules::{Call, Possessed, Stage};
+use flt_rules::{Call, Stage};
 use flt_syntax::{ContextVariable, OperationVariable, Status};
 use std::alloc::AllocError;
 
@@ -50,27 +51,6 @@ fn is_returned(answer: Answer) -> bool
     ensures { result ≡ spec.is_returned answer }
 {
     matches!(answer, Answer::Returned(_))
-}
-
-/// The completion context that a status names.
-pub(crate) fn context_of(status: Status) -> Option<ContextVariable>
-    ensures { result ≡ spec.context_of status }
-{
-    match status {
-        Status::WithCallback(context) => context,
-        Status::Synchronize(context) => context,
-        _ => None,
-    }
-}
-
-/// The same of a status that may be missing.
-pub(crate) fn named_by(status: Option<Status>) -> Option<ContextVariable>
-    ensures { result ≡ spec.named_by status }
-{
-    match status {
-        Some(status) => context_of(status),
-        None => None,
-    }
 }
 
 /// Before the filters below. What isn't a status of its own there goes on as NO_CALLBACK.
@@ -205,22 +185,12 @@ impl<'a> World<'a> {
 
 // ---- completion
 
-/// Whose operation a variable names.
-fn whose(variable: OperationVariable) -> Possessed
-    ensures { result ≡ calls.whose variable }
-{
-    match variable {
-        OperationVariable::Data => Possessed::Given,
-        OperationVariable::Removed(_) => Possessed::Removed,
-    }
-}
-
 /// The answer that FltCompletePendedPreOperation hands on.
 fn completes_pre(variable: OperationVariable, visit: usize, status: Status) -> Answer
-    ensures { result ≡ CompletesPre (calls.whose variable) visit status }
+    ensures { result ≡ CompletesPre (whose variable) visit status }
 {
     Answer::CompletesPre {
-        whose: whose(variable),
+        whose: variable.whose(),
         visit,
         status,
     }
@@ -287,9 +257,9 @@ impl<'a> World<'a> {
     {
         let named = Named {
             visit: self.operation_in(a, d),
-            context: self.named_in(a, context_of(status)),
+            context: self.named_in(a, status.context()),
         };
-        events.push(Event::Call(a, Call::CompletePendedPreOperation(whose(d))))?;
+        events.push(Event::Call(a, Call::CompletePendedPreOperation(d.whose())))?;
         if let Some(visit) = named.visit {
             events.push(Event::Status(a, completes_pre(d, visit, status)))?;
         }
