@@ -5,8 +5,8 @@ use Rattle.std.specs.Prelude.{ℕ, Bool, true, false, not, ◌&&◌, ◌||◌, L
 use Rattle.std.specs.List.{list_any}
 use Rattle.flt_rules.specs.Call.{is_legal_in_draining, place_of}
 use Rattle.flt_rules.specs.Columns.{has_place}
-use Rattle.flt_rules.specs.Place.{is_above}
-use Rattle.flt_rules.specs.Status.{status_row}
+use Rattle.flt_rules.specs.Place.{is_above, answers, fits_stage, is_pre_create}
+use Rattle.flt_rules.specs.Status.{status_row, is_complete, is_with_callback}
 use Rattle.flt_rules.specs.Table.{row}
 use Rattle.flt_rules.specs.declared.call.LockNumber.{LockNumber}
 use Rattle.flt_rules.specs.declared.columns.LockNeed.{LockNeed}
@@ -16,36 +16,30 @@ use Rattle.flt_rules.specs.declared.columns.Need.TheVariants as need
 use Rattle.flt_rules.specs.declared.columns.Row.{Row}
 use Rattle.flt_rules.specs.declared.place.Mode.{Mode}
 use Rattle.flt_rules.specs.declared.place.Mode.TheVariants.{Irp, Fast}
-use Rattle.flt_rules.specs.declared.place.Operation.TheVariants as op
 use Rattle.flt_rules.specs.declared.place.Place.{Place}
 use Rattle.flt_rules.specs.declared.place.Place.TheVariants as place
-use Rattle.flt_rules.specs.declared.place.Stage.{Stage}
-use Rattle.flt_rules.specs.declared.place.Stage.TheVariants as stage
 use Rattle.flt_rules.specs.declared.rule.Rule.{Rule}
 use Rattle.flt_rules.specs.declared.rule.Rule.TheVariants.{R01, R02, R03, R04, R05, R06, R07, R08, R09, R10, R11, R13, R15}
-use Rattle.flt_rules.specs.declared.status.FinalStatus.TheVariants as final
 use Rattle.flt_rules.specs.declared.status.Possession.{Possession}
 use Rattle.flt_rules.specs.declared.status.Possession.TheVariants as possession
 use Rattle.flt_rules.specs.declared.status.StatusRow.{StatusRow}
-use Rattle.flt_rules.specs.declared.status.StatusWord.{StatusWord}
-use Rattle.flt_rules.specs.declared.status.StatusWord.TheVariants as word
+use Rattle.flt_syntax.specs.Filter.{word_of, completes_pending, named_context}
+use Rattle.flt_syntax.specs.Variable.{context_place}
 use Rattle.flt_syntax.specs.declared.filter.Action.{Action}
 use Rattle.flt_syntax.specs.declared.filter.Action.TheVariants as action
 use Rattle.flt_syntax.specs.declared.filter.Status.{Status}
-use Rattle.flt_syntax.specs.declared.filter.Status.TheVariants as status
 use Rattle.flt_syntax.specs.declared.filter.Test.{Test}
 use Rattle.flt_syntax.specs.declared.filter.Test.TheVariants as test
 use Rattle.flt_syntax.specs.declared.variable.ContextVariable.{ContextVariable}
 use Rattle.flt_syntax.specs.declared.variable.OperationVariable.{OperationVariable}
 use Rattle.flt_syntax.specs.declared.variable.OperationVariable.TheVariants.{Removed, Data}
-use Rattle.flt_graph.specs.Instruction.{context_of}
 use Rattle.flt_graph.specs.declared.instruction.Instruction.{Instruction}
 use Rattle.flt_graph.specs.declared.instruction.Instruction.TheVariants as instruction
 use Rattle.flt_graph.specs.declared.instruction.Invocation.{Invocation}
 use Rattle.flt_abs.specs.Locks.{holds_lock, is_latest}
 use Rattle.flt_abs.specs.Sets.{StatusSet, ModeSet, null_alone, is_held, is_stale}
 use Rattle.flt_abs.specs.State.{State}
-use Rattle.flt_abs.specs.Variables.{context_in, operation_in, context_place}
+use Rattle.flt_abs.specs.Variables.{context_in, operation_in}
 use Rattle.flt_abs.specs.declared.setting.Setting.{Setting}
 
 abbrev pub is_empty : List ℕ → Bool
@@ -98,32 +92,10 @@ test_breaks s x _ _ = false
 
 -- ---- statuses that a call hands on
 
-abbrev pub word_of : Status → StatusWord
-word_of (status.WithCallback c) = word.WithCallback
-word_of (status.Synchronize c) = word.Synchronize
-word_of status.NoCallback = word.NoCallback
-word_of (status.Complete f) = word.Complete
-word_of status.Pending = word.Pending
-word_of status.DisallowFastIo = word.DisallowFastIo
-word_of status.FinishedProcessing = word.FinishedProcessing
-word_of status.MoreProcessingRequired = word.MoreProcessingRequired
-
-abbrev pub completes_pending : Status → Bool
-completes_pending (status.Complete final.Pending) = true
-completes_pending _ = false
-
 -- the given operation, in the callback of a cancelled queue entry
 abbrev pub is_given_in_canceled : Place → Option OperationVariable → Bool
 is_given_in_canceled place.Canceled (Some Data) = true
 is_given_in_canceled _ _ = false
-
-abbrev pub is_complete : StatusWord → Bool
-is_complete word.Complete = true
-is_complete _ = false
-
-abbrev pub is_with_callback : StatusWord → Bool
-is_with_callback word.WithCallback = true
-is_with_callback _ = false
 
 -- in that callback COMPLETE alone may be handed on, and WITH_CALLBACK where every operation has its post callback
 abbrev pub is_handed_legally : Setting → Invocation → Status → Bool
@@ -188,11 +160,6 @@ call_breaks s x c = row_breaks (row c.call) s x c
 
 -- ---- returns and ends
 
-abbrev pub fits_stage : Place → Stage → Bool
-fits_stage (place.Pre o) stage.Pre = true
-fits_stage (place.Post o) stage.Post = true
-fits_stage _ _ = false
-
 -- surely held, or surely given away
 abbrev pub is_possessed : StatusSet → Possession → Bool
 is_possessed s possession.Held = is_held s
@@ -201,10 +168,6 @@ is_possessed s possession.GivenAway = is_stale s
 abbrev pub is_of_mode : ModeSet → Option Mode → Bool
 is_of_mode s (Some m) = is_mode_alone s m
 is_of_mode s None = true
-
-abbrev pub is_pre_create : Place → Bool
-is_pre_create (place.Pre op.Create) = true
-is_pre_create _ = false
 
 -- a callback may return the status of a row at all
 abbrev pub fits_setting : StatusRow → Setting → Bool
@@ -222,10 +185,6 @@ is_returned_legally s x st =
 abbrev pub returns_illegally : Setting → State → Option Status → Bool
 returns_illegally s x (Some st) = not (is_returned_legally s x st)
 returns_illegally s x None = false
-
-abbrev pub named_context : Option Status → Option ContextVariable
-named_context (Some st) = context_of st
-named_context None = None
 
 -- the variables but the one that goes with the status
 abbrev pub contexts_without : List StatusSet → Option ContextVariable → List StatusSet
@@ -250,18 +209,13 @@ abbrev pub keeps_operation : Setting → State → Bool
 keeps_operation s x =
     is_any_held (take 4 x.operations) || (owes_data s.place && may_hold_operation x (Some Data))
 
-abbrev pub wants_status : Place → Bool
-wants_status (place.Pre o) = true
-wants_status (place.Post o) = true
-wants_status _ = false
-
 abbrev pub return_breaks : Setting → State → Option Status → Rule → Bool
 return_breaks s x st R02 = keeps_context x (named_context st)
 return_breaks s x st R05 = keeps_operation s x
 return_breaks s x st R06 = returns_illegally s x st
 return_breaks s x st R10 = not (is_empty x.locks)
 return_breaks s x st R13 = lacks_context x (named_context st)
-return_breaks s x st R15 = is_none st && wants_status s.place
+return_breaks s x st R15 = is_none st && answers s.place
 return_breaks s x st _ = false
 
 -- ---- instructions

@@ -1,14 +1,14 @@
 -- What an instruction makes of a situation, by its outcome: that a call succeeds, that a test holds, that a turn is left.
 -- Numbers aren't traced, so a test of numbers may come out either way. Read from the call table; this project's own.
 use Rattle.std.specs.Prelude.{◌≡◌, ℕ, Bool, true, false, not, Option, Some, None, slice_index_or, slice_set}
+use Rattle.flt_rules.specs.Place.{is_irp}
 use Rattle.flt_rules.specs.Table.{row}
 use Rattle.flt_rules.specs.declared.call.LockNumber.{LockNumber}
 use Rattle.flt_rules.specs.declared.columns.Change.{Change}
 use Rattle.flt_rules.specs.declared.columns.Change.TheVariants as becomes
 use Rattle.flt_rules.specs.declared.columns.Effects.{Effects}
 use Rattle.flt_rules.specs.declared.columns.LockChange.{LockChange}
-use Rattle.flt_rules.specs.declared.place.Mode.{Mode}
-use Rattle.flt_rules.specs.declared.place.Mode.TheVariants.{Irp, Fast}
+use Rattle.flt_syntax.specs.Variable.{context_place, operation_place}
 use Rattle.flt_syntax.specs.declared.filter.Action.{Action}
 use Rattle.flt_syntax.specs.declared.filter.Action.TheVariants as action
 use Rattle.flt_syntax.specs.declared.filter.Test.{Test}
@@ -21,7 +21,6 @@ use Rattle.flt_graph.specs.declared.instruction.Instruction.TheVariants as instr
 use Rattle.flt_graph.specs.declared.instruction.Invocation.{Invocation}
 use Rattle.flt_abs.specs.State.{Status, Null, Held, Stale, Situation, Means}
 use Rattle.flt_abs.specs.Step.{changed_locks}
-use Rattle.flt_abs.specs.Variables.{context_place, operation_place}
 use Rattle.flt_abs.specs.declared.step.Successor.{Successor}
 use Rattle.flt_abs.specs.declared.step.Successors.{Successors}
 
@@ -88,10 +87,6 @@ abbrev pub is_null : Status → Bool
 is_null Null = true
 is_null Held = false
 is_null Stale = false
-
-abbrev pub is_irp : Mode → Bool
-is_irp Irp = true
-is_irp Fast = false
 
 -- what a test finds, by what it finds where it holds
 abbrev pub agrees : Bool → Bool → Bool

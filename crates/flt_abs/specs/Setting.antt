@@ -1,12 +1,10 @@
 -- Where a point stands, and at which level it is reached.
-use Rattle.std.specs.Prelude.{ℕ, Bool, true, false, List, [], ◌∷◌, Option, Some, None, slice_get}
+use Rattle.std.specs.Prelude.{ℕ, Bool, true, false, List, [], ◌∷◌, slice_get}
 use Rattle.std.specs.List.{list_any, list_all}
-use Rattle.flt_rules.specs.Place.{entry_level, raised_level, greater_level}
+use Rattle.flt_rules.specs.Place.{entry_level, raised_by, greater_level, same_operation}
 use Rattle.flt_rules.specs.declared.call.LockKind.{LockKind}
 use Rattle.flt_rules.specs.declared.place.Level.{Level}
-use Rattle.flt_rules.specs.declared.place.Level.TheVariants.{Passive}
 use Rattle.flt_rules.specs.declared.place.Operation.{Operation}
-use Rattle.flt_rules.specs.declared.place.Operation.TheVariants.{Create, Read, Write, Cleanup}
 use Rattle.flt_rules.specs.declared.place.Place.{Place}
 use Rattle.flt_rules.specs.declared.place.Place.TheVariants.{Pre, Post}
 use Rattle.flt_graph.specs.Graph.{place_at}
@@ -14,13 +12,6 @@ use Rattle.flt_graph.specs.declared.graph.CallbackGraph.{CallbackGraph}
 use Rattle.flt_graph.specs.declared.graph.Graph.{Graph}
 use Rattle.flt_abs.specs.State.{State}
 use Rattle.flt_abs.specs.declared.setting.Setting.{Setting}
-
-abbrev pub same_operation : Operation → Operation → Bool
-same_operation Create Create = true
-same_operation Read Read = true
-same_operation Write Write = true
-same_operation Cleanup Cleanup = true
-same_operation _ _ = false
 
 abbrev pub is_post_at : Operation → Place → Bool
 is_post_at operation (Post own) = same_operation own operation
@@ -50,11 +41,7 @@ is_paired cs c = is_paired_at cs c.place
 abbrev pub are_paired : List CallbackGraph → Bool
 are_paired cs = list_all (is_paired cs) cs
 
-abbrev pub raised_by : Option LockKind → Level
-raised_by (Some kind) = raised_level kind
-raised_by None = Passive
-
--- the level to which the lock of a place raises; one that isn't declared raises nothing
+-- the level to which the lock of a place raises
 abbrev pub raised_at : List LockKind → ℕ → Level
 raised_at kinds place = raised_by (slice_get kinds place)
 

@@ -6,15 +6,14 @@ ghost use Rattle.flt_abs.specs.Breaks as spec;
 use crate::sets::{Modes, Statuses};
 use crate::setting::Setting;
 use crate::state::Abs;
-use crate::variables::context_place;
 use flt_graph::{
     Action, ContextVariable, Instruction, Invocation, LockNumber, OperationVariable, Place, Status,
-    Test, context_of,
+    Test,
 };
 use flt_rules::{
-    FinalStatus, LockNeed, Mode, Need, Operation, Possession, Rule, Stage, StatusRow, StatusWord,
-    is_legal_in_draining, row, status_row,
+    LockNeed, Mode, Need, Possession, Rule, StatusRow, is_legal_in_draining, row, status_row,
 };
+use flt_syntax::named_context;
 
 /// Whether a context is named that isn't surely held.
 fn lacks_context(state: &Abs, variable: Option<ContextVariable>) -> bool
@@ -94,41 +93,18 @@ pub(crate) fn test_breaks(setting: &Setting, state: &Abs, test: Test, rule: Rule
     }
 }
 
-/// The word of a status.
-pub(crate) fn word_of(status: Status) -> StatusWord
-    ensures { result ≡ spec.word_of status }
-{
-    match status {
-        Status::WithCallback(_) => StatusWord::WithCallback,
-        Status::Synchronize(_) => StatusWord::Synchronize,
-        Status::NoCallback => StatusWord::NoCallback,
-        Status::Complete(_) => StatusWord::Complete,
-        Status::Pending => StatusWord::Pending,
-        Status::DisallowFastIo => StatusWord::DisallowFastIo,
-        Status::FinishedProcessing => StatusWord::FinishedProcessing,
-        Status::MoreProcessingRequired => StatusWord::MoreProcessingRequired,
-    }
-}
-
-/// Whether a status completes with STATUS_PENDING, which is never legal.
-fn completes_pending(status: Status) -> bool
-    ensures { result ≡ spec.completes_pending status }
-{
-    matches!(status, Status::Complete(FinalStatus::Pending))
-}
-
 /// Whether a status may be handed to a pended operation.
 fn is_handed_legally(setting: &Setting, call: &Invocation, status: Status) -> bool
     ensures { result ≡ spec.is_handed_legally setting.now call.now status }
 {
-    let word = word_of(status);
+    let word = status.word();
     let given_in_canceled = matches!(
         (setting.place, call.operation),
         (Place::Canceled, Some(OperationVariable::Data))
     );
-    let only_complete = !given_in_canceled || matches!(word, StatusWord::Complete);
-    let paired = setting.all_registered || !matches!(word, StatusWord::WithCallback);
-    status_row(word).handed && !completes_pending(status) && only_complete && paired
+    let only_complete = !given_in_canceled || word.is_complete();
+    let paired = setting.all_registered || !word.is_with_callback();
+    status_row(word).handed && !status.completes_pending() && only_complete && paired
 }
 
 fn hands_illegally(setting: &Setting, call: &Invocation) -> bool
@@ -193,16 +169,6 @@ pub(crate) fn call_breaks(setting: &Setting, state: &Abs, call: &Invocation, rul
     }
 }
 
-/// Whether a callback of the place may return a status of the stage.
-fn fits_stage(place: Place, stage: Stage) -> bool
-    ensures { result ≡ spec.fits_stage place stage }
-{
-    matches!(
-        (place, stage),
-        (Place::Pre(_), Stage::Pre) | (Place::Post(_), Stage::Post)
-    )
-}
-
 /// Whether the operation is surely what a status asks of it.
 fn is_possessed(operation: Statuses, possession: Possession) -> bool
     ensures { result ≡ spec.is_possessed operation possession }
@@ -226,10 +192,9 @@ fn has_mode(modes: Modes, mode: Option<Mode>) -> bool
 fn fits_setting(row: StatusRow, setting: &Setting) -> bool
     ensures { result ≡ spec.fits_setting row setting.now }
 {
-    let in_create = matches!(setting.place, Place::Pre(Operation::Create));
-    fits_stage(setting.place, row.stage)
+    setting.place.fits(row.stage)
         && (setting.registered || !row.needs_post)
-        && (row.in_create || !in_create)
+        && (row.in_create || !setting.place.is_pre_create())
 }
 
 /// Whether the operation is surely as the row of a status asks.
@@ -245,8 +210,8 @@ fn fits_state(row: StatusRow, state: &Abs) -> bool
 fn is_returned_legally(setting: &Setting, state: &Abs, status: Status) -> bool
     ensures { result ≡ spec.is_returned_legally setting.now state.now status }
 {
-    let row = status_row(word_of(status));
-    fits_setting(row, setting) && fits_state(row, state) && !completes_pending(status)
+    let row = status_row(status.word());
+    fits_setting(row, setting) && fits_state(row, state) && !status.completes_pending()
 }
 
 /// Whether a status is returned, or none is, where that breaks the rule on statuses.
@@ -259,23 +224,13 @@ fn returns_illegally(setting: &Setting, state: &Abs, status: Option<Status>) -> 
     }
 }
 
-/// The context that goes with a returned status.
-fn named_context(status: Option<Status>) -> Option<ContextVariable>
-    ensures { result ≡ spec.named_context status }
-{
-    match status {
-        Some(status) => context_of(status),
-        None => None,
-    }
-}
-
 /// Whether a context may be held that doesn't go with the returned status.
 fn keeps_context(state: &Abs, named: Option<ContextVariable>) -> bool
     ensures { result ≡ spec.keeps_context state.now named }
 {
     let mut contexts = state.contexts;
     if let Some(variable) = named {
-        contexts[context_place(variable)] = Statuses::null();
+        contexts[variable.place()] = Statuses::null();
     }
     is_any_held(&contexts)
 }
@@ -305,12 +260,6 @@ fn keeps_operation(setting: &Setting, state: &Abs) -> bool
     removed || (owes_data(setting.place) && given)
 }
 
-fn wants_status(place: Place) -> bool
-    ensures { result ≡ spec.wants_status place }
-{
-    matches!(place, Place::Pre(_) | Place::Post(_))
-}
-
 /// Whether a return, or the end of the body, breaks a rule.
 pub(crate) fn return_breaks(
     setting: &Setting,
@@ -326,7 +275,7 @@ pub(crate) fn return_breaks(
         Rule::R06 => returns_illegally(setting, state, status),
         Rule::R10 => !state.locks.is_empty(),
         Rule::R13 => lacks_context(state, named_context(status)),
-        Rule::R15 => status.is_none() && wants_status(setting.place),
+        Rule::R15 => status.is_none() && setting.place.answers(),
         _ => false,
     }
 }

@@ -5,7 +5,7 @@ ghost use Rattle.flt_abs.specs.Setting as spec;
 
 use crate::state::Abs;
 use flt_graph::{CallbackGraph, Graph, LockKind, Operation, Place};
-use flt_rules::{Level, entry_level, raised_level};
+use flt_rules::{Level, entry_level, raised_by};
 
 /// Where a point stands.
 #[derive(Clone, Copy, Debug)]
@@ -19,23 +19,11 @@ pub struct Setting {
     pub all_registered: bool,
 }
 
-fn same_operation(a: Operation, b: Operation) -> bool
-    ensures { result ≡ spec.same_operation a b }
-{
-    matches!(
-        (a, b),
-        (Operation::Create, Operation::Create)
-            | (Operation::Read, Operation::Read)
-            | (Operation::Write, Operation::Write)
-            | (Operation::Cleanup, Operation::Cleanup)
-    )
-}
-
 fn is_post_of(operation: Operation, callback: &CallbackGraph) -> bool
     ensures { result ≡ spec.is_post_of operation callback.now }
 {
     match callback.place {
-        Place::Post(own) => same_operation(own, operation),
+        Place::Post(own) => own.is_same(operation),
         _ => false,
     }
 }
@@ -71,14 +59,11 @@ fn are_paired(callbacks: &[CallbackGraph]) -> bool
     callbacks.iter().all(|c| is_paired(callbacks, c))
 }
 
-/// The level to which the lock of a place raises. One that isn't declared raises nothing.
+/// The level to which the lock of a place raises.
 fn raised_at(kinds: &[LockKind], place: u8) -> Level
     ensures { result ≡ spec.raised_at kinds.now place }
 {
-    match kinds.get(usize::from(place)) {
-        Some(kind) => raised_level(*kind),
-        None => Level::Passive,
-    }
+    raised_by(kinds.get(usize::from(place)).copied())
 }
 
 fn level_with(kinds: &[LockKind], locks: &[u8], entry: Level) -> Level

@@ -1,6 +1,7 @@
 -- What a block adds stands where the text has it.
 use Rattle.std.proofs.Common.{◌≡◌, ℕ, ◌+◌, List, [], ◌∷◌, ◌++◌, ◌∙◌, length, get_or, ap, subst, refl, arith}
 use Rattle.std.proofs.lemmas.List.{length-append, get_or_push}
+use Rattle.flt_syntax.specs.Filter.{head_place}
 use Rattle.flt_syntax.specs.Measures.{points_of, points}
 use Rattle.flt_syntax.specs.declared.filter.Callback.{Callback}
 use Rattle.flt_syntax.specs.declared.filter.Statement.{Statement, out-Statement}
@@ -9,7 +10,7 @@ use Rattle.flt_graph.proofs.Codes.{block_cons, inner_code, out_code, code_length
 use Rattle.flt_graph.proofs.Segments.{IsAt, at_first, at_second, at_tail, at_head}
 use Rattle.flt_graph.specs.Codes.{statement_code, block_code}
 use Rattle.flt_graph.specs.Graph.{no_point}
-use Rattle.flt_graph.specs.Lowering.{IsGraphOf, end_of, place_of}
+use Rattle.flt_graph.specs.Lowering.{IsGraphOf, end_of}
 use Rattle.flt_graph.specs.Points.{entry, point_of, In, top, later, granted_block, refused_block, turn}
 use Rattle.flt_graph.specs.declared.graph.CallbackGraph.{CallbackGraph}
 use Rattle.flt_graph.specs.declared.graph.Point.{Point}
@@ -49,7 +50,7 @@ module _ (all : List Callback) (whole : List Point) where
       at_inner s (Statement-F.Repeat l k b) n (entry rest (n + points_of s) q) o (at_statement s rest n q (places h i))
 
 -- what a callback's points are
-pub graph_made : (all : List Callback) (c : Callback) (g : CallbackGraph) → g.place ≡ place_of c.head →
+pub graph_made : (all : List Callback) (c : Callback) (g : CallbackGraph) → g.place ≡ head_place c.head →
     g.points ≡ block_code all c.body 0 (points c.body) ++ end_of c ∷ [] → IsGraphOf all c g
 graph_made all c g place same = record {
   place = place;

@@ -1,38 +1,21 @@
 -- Calls with their operands by what they are to the call. This project's own form of the call pages.
-use Rattle.std.specs.Prelude.{ℕ, Bool, false, List, Option, Some, None, position}
-use Rattle.std.specs.Str.{bytes_eq}
+use Rattle.std.specs.Prelude.{ℕ, List, Option, Some, None, position}
 use Rattle.flt_rules.specs.declared.call.Call.{Call}
 use Rattle.flt_rules.specs.declared.call.Call.TheVariants as call
-use Rattle.flt_rules.specs.declared.call.Possessed.{Possessed}
-use Rattle.flt_rules.specs.declared.call.Possessed.TheVariants.{Given, Removed}
+use Rattle.flt_syntax.specs.Filter.{context_of, is_named}
+use Rattle.flt_syntax.specs.Variable.{whose}
 use Rattle.flt_syntax.specs.declared.filter.Callback.{Callback}
 use Rattle.flt_syntax.specs.declared.filter.FallibleCall.{FallibleCall}
 use Rattle.flt_syntax.specs.declared.filter.FallibleCall.TheVariants as fallible_call
-use Rattle.flt_syntax.specs.declared.filter.Head.{Head}
-use Rattle.flt_syntax.specs.declared.filter.Head.TheVariants as head
 use Rattle.flt_syntax.specs.declared.filter.PlainCall.{PlainCall}
 use Rattle.flt_syntax.specs.declared.filter.PlainCall.TheVariants as plain_call
 use Rattle.flt_syntax.specs.declared.filter.Routine.{Routine}
-use Rattle.flt_syntax.specs.declared.filter.Status.{Status}
-use Rattle.flt_syntax.specs.declared.filter.Status.TheVariants as status
-use Rattle.flt_syntax.specs.declared.variable.ContextVariable.{ContextVariable}
-use Rattle.flt_syntax.specs.declared.variable.OperationVariable.{OperationVariable}
 use Rattle.flt_syntax.specs.declared.variable.OperationVariable.TheVariants as operation
 use Rattle.flt_graph.specs.declared.instruction.Invocation.{Invocation}
 
 -- an invocation that names no operand
 abbrev pub bare : Call → Invocation
 bare c = record { call = c; context = None; output = None; operation = None; status = None; lock = None; routine = None }
-
--- the completion context that a status names
-abbrev pub context_of : Status → Option ContextVariable
-context_of (status.WithCallback c) = c
-context_of (status.Synchronize c) = c
-context_of _ = None
-
-abbrev pub possessed : OperationVariable → Possessed
-possessed operation.Data = Given
-possessed (operation.Removed o) = Removed
 
 abbrev pub plain : PlainCall → Invocation
 plain (plain_call.DeleteContext c) = record (bare call.DeleteContext) { context = Some c }
@@ -41,15 +24,8 @@ plain (plain_call.ReleaseContext c) = record (bare call.ReleaseContext) { contex
 plain (plain_call.AcquireLock k l) = record (bare (call.AcquireLock k)) { lock = Some l }
 plain (plain_call.ReleaseLock k l) = record (bare (call.ReleaseLock k)) { lock = Some l }
 plain (plain_call.CompletePendedPreOperation d st) =
-    record (bare (call.CompletePendedPreOperation (possessed d))) { operation = Some d; context = context_of st; status = Some st }
+    record (bare (call.CompletePendedPreOperation (whose d))) { operation = Some d; context = context_of st; status = Some st }
 plain plain_call.CompletePendedPostOperation = record (bare call.CompletePendedPostOperation) { operation = Some operation.Data }
-
--- whether a head is that of the routine of a name
-abbrev pub is_named : List ℕ → Head → Bool
-is_named name (head.DeferredPre own) = bytes_eq own name
-is_named name (head.DeferredPost own) = bytes_eq own name
-is_named name (head.Generic own) = bytes_eq own name
-is_named name _ = false
 
 -- the callback that is the routine of a name, from 0
 abbrev pub routine_at : List Callback → Routine → Option ℕ

@@ -1,12 +1,9 @@
 -- From a tree to its points.
 use Rattle.std.specs.Prelude.{◌≡◌, ℕ, ◌+◌, List, [], ◌∷◌, length, map}
-use Rattle.flt_rules.specs.declared.place.Place.{Place}
-use Rattle.flt_rules.specs.declared.place.Place.TheVariants as place
+use Rattle.flt_syntax.specs.Filter.{head_place}
 use Rattle.flt_syntax.specs.Measures.{points_of, points}
 use Rattle.flt_syntax.specs.declared.filter.Callback.{Callback}
 use Rattle.flt_syntax.specs.declared.filter.Filter.{Filter}
-use Rattle.flt_syntax.specs.declared.filter.Head.{Head}
-use Rattle.flt_syntax.specs.declared.filter.Head.TheVariants as head
 use Rattle.flt_syntax.specs.declared.filter.Lock.{Lock}
 use Rattle.flt_syntax.specs.declared.filter.Statement.{Statement, out-Statement}
 use Rattle.flt_graph.specs.Graph.{point_in}
@@ -16,22 +13,13 @@ use Rattle.flt_graph.specs.declared.graph.Graph.{Graph}
 use Rattle.flt_graph.specs.declared.graph.Point.{Point}
 use Rattle.flt_graph.specs.declared.instruction.Instruction.TheVariants as instruction
 
--- the place of a callback by its head
-abbrev pub place_of : Head → Place
-place_of (head.Pre o) = place.Pre o
-place_of (head.Post o) = place.Post o
-place_of head.Canceled = place.Canceled
-place_of (head.DeferredPre name) = place.DeferredPre
-place_of (head.DeferredPost name) = place.DeferredPost
-place_of (head.Generic name) = place.Generic
-
 -- the end of a callback's body, which has the line of the closing brace
 abbrev pub end_of : Callback → Point
 end_of c = record { line = c.end_line; instruction = instruction.End }
 
 -- a callback has the point of each of its statements, whose next one is where the text goes on, and one for its end
 pub record IsGraphOf (all : List Callback) (c : Callback) (g : CallbackGraph) : Type 0 where
-  pub place : g.place ≡ place_of c.head
+  pub place : g.place ≡ head_place c.head
   pub count : length g.points ≡ points c.body + 1
   pub statements : (s : Statement) (rest follows : List Statement) (n q : ℕ) → In c.body (s ∷ rest) n q follows →
       point_in g n ≡ point_of all (out-Statement s) n (entry rest (n + points_of s) q)

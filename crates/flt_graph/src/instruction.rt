@@ -3,10 +3,10 @@
 ghost use Rattle.std.specs.Prelude.{◌≡◌};
 ghost use Rattle.flt_graph.specs.Instruction as spec;
 
-use flt_rules::{Call, LockNumber, Possessed};
+use flt_rules::{Call, LockNumber};
 use flt_syntax::{
-    Action, Callback, ContextVariable, FallibleCall, Head, OperationVariable, PlainCall,
-    RemovedVariable, Routine, Status, Test,
+    Action, Callback, ContextVariable, FallibleCall, OperationVariable, PlainCall, RemovedVariable,
+    Routine, Status, Test,
 };
 
 /// A call with its operands by what they are to it.
@@ -57,25 +57,6 @@ fn bare(call: Call) -> Invocation
     }
 }
 
-/// The context that a status names.
-pub fn context_of(status: Status) -> Option<ContextVariable>
-    ensures { result ≡ spec.context_of status }
-{
-    match status {
-        Status::WithCallback(context) | Status::Synchronize(context) => context,
-        _ => None,
-    }
-}
-
-fn possessed(operation: OperationVariable) -> Possessed
-    ensures { result ≡ spec.possessed operation }
-{
-    match operation {
-        OperationVariable::Data => Possessed::Given,
-        OperationVariable::Removed(_) => Possessed::Removed,
-    }
-}
-
 /// A plain call with its operands by role.
 pub fn plain(call: PlainCall) -> Invocation
     ensures { result ≡ spec.plain call }
@@ -104,25 +85,14 @@ pub fn plain(call: PlainCall) -> Invocation
         },
         PlainCall::CompletePendedPreOperation(operation, status) => Invocation {
             operation: Some(operation),
-            context: context_of(status),
+            context: status.context(),
             status: Some(status),
-            ..bare(Call::CompletePendedPreOperation(possessed(operation)))
+            ..bare(Call::CompletePendedPreOperation(operation.whose()))
         },
         PlainCall::CompletePendedPostOperation => Invocation {
             operation: Some(OperationVariable::Data),
             ..bare(Call::CompletePendedPostOperation)
         },
-    }
-}
-
-fn is_named(head: &Head, name: &[u8]) -> bool
-    ensures { result ≡ spec.is_named name.now head.now }
-{
-    match head {
-        Head::DeferredPre(own) | Head::DeferredPost(own) | Head::Generic(own) => {
-            own.as_slice() == name
-        }
-        _ => false,
     }
 }
 
@@ -132,7 +102,7 @@ fn routine_at(callbacks: &[Callback], routine: &Routine) -> Option<usize>
 {
     callbacks
         .iter()
-        .position(|c| is_named(&c.head, routine.name.as_slice()))
+        .position(|c| c.head.is_named(routine.name.as_slice()))
 }
 
 /// A call that can fail, with its operands by role.

@@ -11,6 +11,6 @@ pub use flt_syntax::{
     Action, ContextVariable, NumberVariable, OperationVariable, RemovedVariable, Status, Test, Tree,
 };
 pub use graph::{CallbackGraph, Graph, Point};
-pub use instruction::{Instruction, Invocation, context_of};
+pub use instruction::{Instruction, Invocation};
 pub use lowering::lower;
 pub use points::{callbacks_have_graphs, lists_have_points};

@@ -9,8 +9,7 @@ ghost use Rattle.flt_graph.specs.Points.{entry as entry_of, line_of, instruction
 
 use crate::graph::{CallbackGraph, Graph, Point};
 use crate::instruction::{Instruction, fallible, plain};
-use flt_rules::Place;
-use flt_syntax::{Callback, Condition, Head, Statement, Tree};
+use flt_syntax::{Callback, Condition, Statement, Tree};
 use sqlite_items::Items;
 use std::alloc::{AllocError, Global};
 
@@ -143,19 +142,6 @@ fn add_statement(
     }
 }
 
-fn place(head: &Head) -> Place
-    ensures { result ≡ spec.place_of head.now }
-{
-    match head {
-        Head::Pre(operation) => Place::Pre(*operation),
-        Head::Post(operation) => Place::Post(*operation),
-        Head::Canceled => Place::Canceled,
-        Head::DeferredPre(_) => Place::DeferredPre,
-        Head::DeferredPost(_) => Place::DeferredPost,
-        Head::Generic(_) => Place::Generic,
-    }
-}
-
 /// The points of a callback, the last of which is its end.
 fn callback_graph(
     alloc: Global,
@@ -173,7 +159,7 @@ fn callback_graph(
         instruction: Instruction::End,
     })?;
     Ok(CallbackGraph {
-        place: place(&callback.head),
+        place: callback.head.place(),
         points: found,
     })
 }
