@@ -1,64 +1,51 @@
 -- What a writer has taken, after one part and another.
-use Rattle.std.proofs.Common.{◌≡◌, ◌<◌, ◌≤◌, ◌+◌, ◌-◌, ℕ, zero, suc, [], ◌∷◌, ◌++◌, length, take, drop, get_or, refl, sym, ap, arith, ◌∙◌, append_assoc, append-nil}
-use Rattle.std.specs.Prelude.{Option, Some, None}
+use Rattle.std.proofs.Common.{◌≡◌, ◌<◌, ◌≤◌, ◌+◌, ◌-◌, ℕ, [], ◌++◌, length, take, drop, get_or, subst, sym, ap, ◌∙◌, append_assoc}
+use Rattle.std.proofs.KnownBytes.{Appends-nil, Appends-trans}
+use Rattle.std.proofs.Math.Seq.{take-add}
+use Rattle.std.proofs.lemmas.List.{flat_map_more, take_all, take_more, take_rest}
+use Rattle.std.specs.Io.KnownBytes.{Appends}
 use Rattle.std.specs.List.{flat_map}
-use Rattle.std.proofs.lemmas.List.{take_rest}
-use Rattle.std.proofs.Math.Seq.{take-add, drop-cons}
-use Rattle.flt_model.specs.Streams.{Text, with_bytes}
-use Rattle.flt_model.specs.JournalText.{Entries, entry_line}
+use Rattle.std.specs.Prelude.{Option, Result, Ok, Err, OnOk}
+use Rattle.flt_model.specs.JournalText.{Entries, entry_line, first_line}
+use Rattle.flt_model.specs.Streams.{Text}
 use Rattle.flt_model.specs.declared.moves.JournalEntry.{JournalEntry}
 
-pub with_none : (taken : Option Text) → with_bytes taken [] ≡ taken
-with_none None = refl
-with_none (Some text) = ap Some (append-nil text)
+-- nothing was written yet
+pub none_taken : (old : Option Text) (bytes : Text) → Appends old old (take 0 bytes)
+none_taken old bytes = Appends-nil old
 
-pub with_both : (taken : Option Text) (a b : Text) → with_bytes (with_bytes taken a) b ≡ with_bytes taken (a ++ b)
-with_both None a b = refl
-with_both (Some text) a b = ap Some (append_assoc text a b)
+-- a part, and then some of the rest
+pub more_taken : (old between new : Option Text) (at n : ℕ) (bytes : Text) → Appends old between (take at bytes) →
+    Appends between new (take n (take (length bytes - at) (drop at bytes))) → Appends old new (take (at + n) bytes)
+more_taken old between new at n bytes first second =
+    let rest : Appends between new (take n (drop at bytes)) = rw (take_rest bytes at) at second in
+    subst (Appends old new) (sym (take-add at n bytes)) (Appends-trans old between new (take at bytes) (take n (drop at bytes)) first rest)
 
-pub two_parts : (one two three : Option Text) (a b : Text) → two ≡ with_bytes one a → three ≡ with_bytes two b → three ≡ with_bytes one (a ++ b)
-two_parts one two three a b h k = k ∙ ap (λ o. with_bytes o b) h ∙ with_both one a b
+pub two_parts : (one two three : Option Text) (a b : Text) → Appends one two a → Appends two three b → Appends one three (a ++ b)
+two_parts = Appends-trans
 
-pub three_parts : (one two three four : Option Text) (a b c : Text) → two ≡ with_bytes one a → three ≡ with_bytes two b → four ≡ with_bytes three c →
-    four ≡ with_bytes one (a ++ (b ++ c))
-three_parts one two three four a b c h k l = two_parts one two four a (b ++ c) h (two_parts two three four b c k l)
+pub three_parts : (one two three four : Option Text) (a b c : Text) → Appends one two a → Appends two three b → Appends three four c → Appends one four (a ++ (b ++ c))
+three_parts one two three four a b c first second third = Appends-trans one two four a (b ++ c) first (Appends-trans two three four b c second third)
 
-pub four_parts : (one two three four five : Option Text) (a b c d : Text) → two ≡ with_bytes one a → three ≡ with_bytes two b → four ≡ with_bytes three c →
-    five ≡ with_bytes four d → five ≡ with_bytes one (a ++ (b ++ (c ++ d)))
-four_parts one two three four five a b c d h k l m = two_parts one two five a (b ++ (c ++ d)) h (three_parts two three four five b c d k l m)
-
--- so many bytes more
-pub put_step : (one two three : Option Text) (bytes : Text) (at n : ℕ) → two ≡ with_bytes one (take at bytes) →
-    three ≡ with_bytes two (take n (take (length bytes - at) (drop at bytes))) → three ≡ with_bytes one (take (at + n) bytes)
-put_step one two three bytes at n h k =
-    let k = rw (take_rest bytes at) at k in
-    two_parts one two three (take at bytes) (take n (drop at bytes)) h k ∙ ap (λ z. with_bytes one z) (sym (take-add at n bytes))
-
--- the entries behind the first line
-pub entries_begin : (one two : Option Text) (front rest : Text) → two ≡ with_bytes one front → with_bytes two rest ≡ with_bytes one (front ++ rest)
-entries_begin one two front rest h = ap (λ o. with_bytes o rest) h ∙ with_both one front rest
+-- the first line, before the entries
+pub no_entry_taken : (old new : Option Text) (entries : Entries) → Appends old new first_line → Appends old new (first_line ++ flat_map entry_line (take 0 entries))
+no_entry_taken old new entries first = Appends-trans old new new first_line [] first (Appends-nil new)
 
 -- one entry more
-pub entry_step : (whole two three : Option Text) (entries : Entries) (at : ℕ) (d : JournalEntry) → at < length entries →
-    three ≡ with_bytes two (entry_line (get_or entries at d)) → with_bytes two (flat_map entry_line (drop at entries)) ≡ whole →
-    with_bytes three (flat_map entry_line (drop (at + 1) entries)) ≡ whole
-entry_step whole two three entries at d low h k =
-    let rest : drop at entries ≡ get_or entries at d ∷ drop (suc at) entries = drop-cons entries at d low in
-    let next : at + 1 ≡ suc at = omega arith in
-    rw next (ap (λ o. with_bytes o (flat_map entry_line (drop (suc at) entries))) h ∙ with_both two (entry_line (get_or entries at d)) (flat_map entry_line (drop (suc at) entries))
-    ∙ ap (λ z. with_bytes two (flat_map entry_line z)) (sym rest) ∙ k)
+pub entry_taken : (old between new : Option Text) (entries : Entries) (at : ℕ) (d : JournalEntry) → at < length entries →
+    Appends old between (first_line ++ flat_map entry_line (take at entries)) → Appends between new (entry_line (get_or entries at d)) →
+    Appends old new (first_line ++ flat_map entry_line (take (at + 1) entries))
+entry_taken old between new entries at d low before entry =
+    let before_it = take at entries in
+    let more : (first_line ++ flat_map entry_line before_it) ++ entry_line (get_or entries at d) ≡ first_line ++ flat_map entry_line (take (at + 1) entries) =
+    flat_map_more entry_line first_line before_it (get_or entries at d) ∙ ap (λ es. first_line ++ flat_map entry_line es) (sym (take_more entries at d low)) in
+    subst (Appends old new) more (Appends-trans old between new _ _ before entry)
 
--- the last line behind the entries
-pub entries_end : (one two three : Option Text) (front last : Text) (entries : Entries) (at : ℕ) → length entries ≤ at →
-    with_bytes two (flat_map entry_line (drop at entries)) ≡ with_bytes one (front ++ flat_map entry_line entries) → three ≡ with_bytes two last →
-    three ≡ with_bytes one (front ++ (flat_map entry_line entries ++ last))
-entries_end one two three front last entries at all h k =
-    let none : drop at entries ≡ [] = drop-nil at entries all in
-    let done : two ≡ with_bytes one (front ++ flat_map entry_line entries) = sym (with_none two) ∙ ap (λ z. with_bytes two (flat_map entry_line z)) (sym none) ∙ h in
-    two_parts one two three (front ++ flat_map entry_line entries) last done k ∙ ap (λ z. with_bytes one z) (append_assoc front (flat_map entry_line entries) last)
-  where
-    drop-nil : (at : ℕ) (entries : Entries) → length entries ≤ at → drop at entries ≡ []
-    drop-nil zero [] h = refl
-    drop-nil (suc at) [] h = refl
-    drop-nil zero (e ∷ entries) h = absurd (omega arith)
-    drop-nil (suc at) (e ∷ entries) h = drop-nil at entries (omega arith)
+-- the last line behind the entries, unless that write failed
+pub end_taken : {X E : Type 0} (result : Result X E) (old between new : Option Text) (last : Text) (entries : Entries) (at : ℕ) → length entries ≤ at →
+    Appends old between (first_line ++ flat_map entry_line (take at entries)) → OnOk result (Appends between new last) →
+    OnOk result (Appends old new (first_line ++ (flat_map entry_line entries ++ last)))
+end_taken (Ok x) old between new last entries at all before end =
+    let before : Appends old between (first_line ++ flat_map entry_line entries) = rw (take_all at entries all) at before in
+    subst (Appends old new) (append_assoc first_line (flat_map entry_line entries) last) (Appends-trans old between new _ last before end)
+end_taken (Err e) old between new last entries at all before end = tt

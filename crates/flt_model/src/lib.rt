@@ -20,9 +20,9 @@ pub use journal::Journal;
 pub use laws::{legal_journals_are_clean_runs, local_steps_are_quiet};
 pub use moves::{JournalEntry, Key, Move};
 pub use reader::{MAX_ENTRIES, read};
-pub use streams::{ReadFault, Sink, Source, WriteFault};
+pub use streams::{ReadFault, Sink, Source, WriteFault, put_all};
 pub use verdict::{Verdict, Violation};
-pub use writer::{put_all, write};
+pub use writer::write;
 
 #[cfg(test)]
 mod tests;

@@ -1,6 +1,7 @@
-//! Streams of bytes, as journals are read from them and written to them.
+//! Streams of bytes, as journals are read from them, and journals and answers written to them.
 
-ghost use Rattle.flt_model.specs.Streams.{Gives, with_bytes};
+ghost use Rattle.flt_model.specs.Streams.{Gives};
+ghost use Rattle.std.specs.Io.KnownBytes.{Appends};
 ghost use Rattle.std.specs.Prelude.{◌≡◌, ◌≢◌, ℕ, ◌+◌, ◌≤◌, ◌<◌, List, Option, length, take, OnOk, OnErr, IfOk};
 
 /// A read failed.
@@ -42,7 +43,21 @@ pub trait Sink {
     fn put(&mut self, bytes: &[u8]) -> Result<usize, WriteFault>
         ensures within { IfOk result (λ n. n ≤ length bytes.now) }
         ensures moves { IfOk result (λ n. 0 < length bytes.now → 0 < n) }
-        ensures ok { IfOk result (λ n. taken self.new ≡ with_bytes (taken self.old) (take n bytes.now)) }
+        ensures ok { IfOk result (λ n. Appends (taken self.old) (taken self.new) (take n bytes.now)) }
         ensures fine { OnOk result (failures self.new ≡ failures self.old) }
         ensures err { OnErr result (failures self.new ≢ failures self.old) };
+}
+
+/// Writes all of the bytes.
+#[tactic(auto, using(crate::proofs::WritingSteps::none_taken, crate::proofs::WritingSteps::more_taken))]
+pub fn put_all<W: Sink>(writer: &mut W, bytes: &[u8]) -> Result<(), WriteFault>
+    ensures ok { OnOk result (Appends (W.taken writer.old) (W.taken writer.new) bytes.now) }
+    ensures fine { OnOk result (W.failures writer.new ≡ W.failures writer.old) }
+    ensures err { OnErr result (W.failures writer.new ≢ W.failures writer.old) }
+{
+    let mut at = 0;
+    while at < bytes.len() {
+        at += writer.put(&bytes[at..])?;
+    }
+    Ok(())
 }

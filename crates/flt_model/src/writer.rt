@@ -1,31 +1,18 @@
 //! The text of journals.
 
-ghost use Rattle.std.specs.Prelude.{◌≡◌, ◌≢◌, ◌<◌, ◌++◌, OnOk, OnErr};
+ghost use Rattle.std.specs.Prelude.{◌≡◌, ◌≢◌, ◌++◌, OnOk, OnErr};
 ghost use Rattle.std.specs.Fmt.{decimal};
-ghost use Rattle.flt_model.specs.Streams.{with_bytes};
+ghost use Rattle.std.specs.Io.KnownBytes.{Appends};
 ghost use Rattle.flt_model.specs.JournalText as spec;
 
 use crate::journal::Journal;
 use crate::moves::{JournalEntry, Key, Move};
-use crate::streams::{Sink, WriteFault};
+use crate::streams::{Sink, WriteFault, put_all};
 use flt_rules::{Mode, Operation};
-
-/// Writes all of the bytes.
-pub fn put_all<W: Sink>(writer: &mut W, bytes: &[u8]) -> Result<(), WriteFault>
-    ensures ok { OnOk result (W.taken writer.new ≡ with_bytes (W.taken writer.old) bytes.now) }
-    ensures fine { OnOk result (W.failures writer.new ≡ W.failures writer.old) }
-    ensures err { OnErr result (W.failures writer.new ≢ W.failures writer.old) }
-{
-    let mut at = 0;
-    while at < bytes.len() {
-        at += writer.put(&bytes[at..])?;
-    }
-    Ok(())
-}
 
 #[tactic(auto, using(std::proofs::lemmas::Fmt::decimal_digit, std::proofs::lemmas::Fmt::decimal_step, crate::proofs::WritingSteps::two_parts))]
 fn put_decimal<W: Sink>(writer: &mut W, number: u32) -> Result<(), WriteFault>
-    ensures ok { OnOk result (W.taken writer.new ≡ with_bytes (W.taken writer.old) (decimal number)) }
+    ensures ok { OnOk result (Appends (W.taken writer.old) (W.taken writer.new) (decimal number)) }
     ensures fine { OnOk result (W.failures writer.new ≡ W.failures writer.old) }
     ensures err { OnErr result (W.failures writer.new ≢ W.failures writer.old) }
 {
@@ -40,7 +27,7 @@ fn put_decimal<W: Sink>(writer: &mut W, number: u32) -> Result<(), WriteFault>
 /// A number, and a byte behind it.
 #[tactic(auto, using(crate::proofs::WritingSteps::two_parts))]
 fn put_number<W: Sink>(writer: &mut W, number: u32, end: u8) -> Result<(), WriteFault>
-    ensures ok { OnOk result (W.taken writer.new ≡ with_bytes (W.taken writer.old) (spec.number_text number end)) }
+    ensures ok { OnOk result (Appends (W.taken writer.old) (W.taken writer.new) (spec.number_text number end)) }
     ensures fine { OnOk result (W.failures writer.new ≡ W.failures writer.old) }
     ensures err { OnErr result (W.failures writer.new ≢ W.failures writer.old) }
 {
@@ -51,7 +38,7 @@ fn put_number<W: Sink>(writer: &mut W, number: u32, end: u8) -> Result<(), Write
 /// A word, a number and a byte behind it.
 #[tactic(auto, using(crate::proofs::WritingSteps::two_parts))]
 fn put_named<W: Sink>(writer: &mut W, word: &[u8], number: u32, end: u8) -> Result<(), WriteFault>
-    ensures ok { OnOk result (W.taken writer.new ≡ with_bytes (W.taken writer.old) (word.now ++ spec.number_text number end)) }
+    ensures ok { OnOk result (Appends (W.taken writer.old) (W.taken writer.new) (word.now ++ spec.number_text number end)) }
     ensures fine { OnOk result (W.failures writer.new ≡ W.failures writer.old) }
     ensures err { OnErr result (W.failures writer.new ≢ W.failures writer.old) }
 {
@@ -92,7 +79,7 @@ fn put_arrive<W: Sink>(
     mode: Mode,
     file: u32,
 ) -> Result<(), WriteFault>
-    ensures ok { OnOk result (W.taken writer.new ≡ with_bytes (W.taken writer.old) (spec.move_line (Move.Arrive operation mode file))) }
+    ensures ok { OnOk result (Appends (W.taken writer.old) (W.taken writer.new) (spec.move_line (Move.Arrive operation mode file))) }
     ensures fine { OnOk result (W.failures writer.new ≡ W.failures writer.old) }
     ensures err { OnErr result (W.failures writer.new ≢ W.failures writer.old) }
 {
@@ -109,7 +96,7 @@ fn put_two<W: Sink>(
     altitude: u32,
     serial: u32,
 ) -> Result<(), WriteFault>
-    ensures ok { OnOk result (W.taken writer.new ≡ with_bytes (W.taken writer.old) (word.now ++ (spec.number_text altitude 32 ++ spec.number_text serial 10))) }
+    ensures ok { OnOk result (Appends (W.taken writer.old) (W.taken writer.new) (word.now ++ (spec.number_text altitude 32 ++ spec.number_text serial 10))) }
     ensures fine { OnOk result (W.failures writer.new ≡ W.failures writer.old) }
     ensures err { OnErr result (W.failures writer.new ≢ W.failures writer.old) }
 {
@@ -119,7 +106,7 @@ fn put_two<W: Sink>(
 }
 
 fn put_key<W: Sink>(writer: &mut W, key: Key) -> Result<(), WriteFault>
-    ensures ok { OnOk result (W.taken writer.new ≡ with_bytes (W.taken writer.old) (spec.key_text key)) }
+    ensures ok { OnOk result (Appends (W.taken writer.old) (W.taken writer.new) (spec.key_text key)) }
     ensures fine { OnOk result (W.failures writer.new ≡ W.failures writer.old) }
     ensures err { OnErr result (W.failures writer.new ≢ W.failures writer.old) }
 {
@@ -131,7 +118,7 @@ fn put_key<W: Sink>(writer: &mut W, key: Key) -> Result<(), WriteFault>
 
 #[tactic(auto, using(crate::proofs::WritingSteps::three_parts))]
 fn put_unlink<W: Sink>(writer: &mut W, altitude: u32, key: Key) -> Result<(), WriteFault>
-    ensures ok { OnOk result (W.taken writer.new ≡ with_bytes (W.taken writer.old) (spec.move_line (Move.Unlink altitude key))) }
+    ensures ok { OnOk result (Appends (W.taken writer.old) (W.taken writer.new) (spec.move_line (Move.Unlink altitude key))) }
     ensures fine { OnOk result (W.failures writer.new ≡ W.failures writer.old) }
     ensures err { OnErr result (W.failures writer.new ≢ W.failures writer.old) }
 {
@@ -141,7 +128,7 @@ fn put_unlink<W: Sink>(writer: &mut W, altitude: u32, key: Key) -> Result<(), Wr
 }
 
 fn put_move<W: Sink>(writer: &mut W, made: Move) -> Result<(), WriteFault>
-    ensures ok { OnOk result (W.taken writer.new ≡ with_bytes (W.taken writer.old) (spec.move_line made)) }
+    ensures ok { OnOk result (Appends (W.taken writer.old) (W.taken writer.new) (spec.move_line made)) }
     ensures fine { OnOk result (W.failures writer.new ≡ W.failures writer.old) }
     ensures err { OnErr result (W.failures writer.new ≢ W.failures writer.old) }
 {
@@ -172,7 +159,7 @@ fn put_go<W: Sink>(
     steps: u32,
     grant: bool,
 ) -> Result<(), WriteFault>
-    ensures ok { OnOk result (W.taken writer.new ≡ with_bytes (W.taken writer.old) (spec.entry_line (JournalEntry.Go activation steps grant))) }
+    ensures ok { OnOk result (Appends (W.taken writer.old) (W.taken writer.new) (spec.entry_line (JournalEntry.Go activation steps grant))) }
     ensures fine { OnOk result (W.failures writer.new ≡ W.failures writer.old) }
     ensures err { OnErr result (W.failures writer.new ≢ W.failures writer.old) }
 {
@@ -182,7 +169,7 @@ fn put_go<W: Sink>(
 }
 
 fn put_entry<W: Sink>(writer: &mut W, entry: JournalEntry) -> Result<(), WriteFault>
-    ensures ok { OnOk result (W.taken writer.new ≡ with_bytes (W.taken writer.old) (spec.entry_line entry)) }
+    ensures ok { OnOk result (Appends (W.taken writer.old) (W.taken writer.new) (spec.entry_line entry)) }
     ensures fine { OnOk result (W.failures writer.new ≡ W.failures writer.old) }
     ensures err { OnErr result (W.failures writer.new ≢ W.failures writer.old) }
 {
@@ -197,9 +184,9 @@ fn put_entry<W: Sink>(writer: &mut W, entry: JournalEntry) -> Result<(), WriteFa
 }
 
 /// Writes the one spelling of a journal.
-#[tactic(auto, using(crate::proofs::WritingSteps::entries_begin, crate::proofs::WritingSteps::entries_end))]
+#[tactic(auto, using(crate::proofs::WritingSteps::no_entry_taken))]
 pub fn write<W: Sink>(journal: &Journal, writer: &mut W) -> Result<(), WriteFault>
-    ensures ok { OnOk result (W.taken writer.new ≡ with_bytes (W.taken writer.old) (spec.spelling journal.now)) }
+    ensures ok { OnOk result (Appends (W.taken writer.old) (W.taken writer.new) (spec.spelling journal.now)) }
     ensures fine { OnOk result (W.failures writer.new ≡ W.failures writer.old) }
     ensures err { OnErr result (W.failures writer.new ≢ W.failures writer.old) }
 {

@@ -1,11 +1,11 @@
 use Rattle.std.proofs.Common.{◌≡◌, ◌≤◌, ◌-◌, length, take}
-use Rattle.flt_model.specs.Streams.{with_bytes}
-use Rattle.flt_model.proofs.writer.put_all.Given as goal
+use Rattle.std.specs.Io.KnownBytes.{Appends}
+use Rattle.flt_model.proofs.streams.put_all.Given as goal
 
 abbrev pub invariant-loop-at : goal.invariant-loop-at
 invariant-loop-at g l = record {
   within : l.at ≤ length l.bytes;
-  taken : g.W.Sink.taken l.writer ≡ with_bytes (g.W.Sink.taken l.fn.writer) (take l.at l.bytes);
+  taken : Appends (g.W.Sink.taken l.fn.writer) (g.W.Sink.taken l.writer) (take l.at l.bytes);
   fine : g.W.Sink.failures l.writer ≡ g.W.Sink.failures l.fn.writer;
 }
 
