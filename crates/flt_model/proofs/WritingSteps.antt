@@ -23,10 +23,6 @@ pub three_parts : (one two three four : Option Text) (a b c : Text) → two ≡ 
     four ≡ with_bytes one (a ++ (b ++ c))
 three_parts one two three four a b c h k l = two_parts one two four a (b ++ c) h (two_parts two three four b c k l)
 
-pub four_parts : (one two three four five : Option Text) (a b c d : Text) → two ≡ with_bytes one a → three ≡ with_bytes two b → four ≡ with_bytes three c →
-    five ≡ with_bytes four d → five ≡ with_bytes one (a ++ (b ++ (c ++ d)))
-four_parts one two three four five a b c d h k l m = two_parts one two five a (b ++ (c ++ d)) h (three_parts two three four five b c d k l m)
-
 -- so many bytes more
 pub put_step : (one two three : Option Text) (bytes : Text) (at n : ℕ) → two ≡ with_bytes one (take at bytes) →
     three ≡ with_bytes two (take n (take (length bytes - at) (drop at bytes))) → three ≡ with_bytes one (take (at + n) bytes)
