@@ -73,12 +73,6 @@ are_locks_take (suc n) (q ∷ ps) h =
     fewer q (suc n) [] h = refl
     fewer q (suc n) (r ∷ ps) h = let parts = or_parts (r == q) (holds_lock q ps) h in or_from _ _ parts.0 (fewer q n ps parts.1)
 
--- the last of a list is its latest lock
-pub is_latest-last : (place q : ℕ) (ps : List ℕ) → is_latest place (ps ++ q ∷ []) ≡ (q == place)
-is_latest-last place q [] = refl
-is_latest-last place q (p ∷ []) = refl
-is_latest-last place q (p ∷ r ∷ ps) = is_latest-last place q (r ∷ ps)
-
 -- the place of a lock is below eight
 pub place_low : (lock : LockNumber) → place_of lock < 8
 place_low L0 = lit< tt

@@ -1,11 +1,12 @@
 -- What follows from a state follows from each state above it: rules that are broken, and successors.
-use Rattle.std.proofs.Common.{◌≡◌, ℕ, zero, suc, Bool, true, false, List, [], ◌∷◌, length, take, get_or, Option, Some, None, Result, Ok, Err, refl, sym, ap, ◌∙◌, cond}
+use Rattle.std.proofs.Common.{◌≡◌, ℕ, zero, suc, Bool, true, false, List, [], ◌∷◌, take, get_or, Option, Some, None, refl, sym, ap, ◌∙◌, cond}
 use Rattle.std.proofs.Math.ListN.{set}
-use Rattle.std.specs.Prelude.{not, ◌||◌, ◌&&◌, if◌then◌else◌, find, IsTrue}
-use Rattle.std.specs.List.{list_any, list_all}
+use Rattle.std.specs.Prelude.{not, ◌||◌, ◌&&◌, if◌then◌else◌, find}
+use Rattle.std.specs.List.{list_all}
 use Rattle.std.specs.Str.{bytes_eq}
 use Rattle.std.proofs.lemmas.Bool.{and_parts, and_from}
 use Rattle.std.proofs.lemmas.Slice.Eq.{bytes_eq-Decides}
+use Rattle.std.proofs.lemmas.Option.{none-some}
 use Rattle.flt_rules.specs.Call.{place_of, is_legal_in_draining}
 use Rattle.flt_rules.specs.Columns.{has_place}
 use Rattle.flt_rules.specs.Table.{row}
@@ -40,13 +41,12 @@ use Rattle.flt_abs.specs.Breaks.{is_empty, lacks_context, lacks_operation, may_h
 use Rattle.flt_abs.specs.Sets.{StatusSet, ModeSet, null_alone, is_held, is_stale, statuses_within, modes_within, drainings_within, without_null, is_possible, is_mode_possible, irp_alone, fast_alone, no_alone, yes_alone}
 use Rattle.flt_abs.specs.Locks.{holds_lock, is_latest}
 use Rattle.flt_abs.specs.Setting.{setting_of}
-use Rattle.flt_abs.specs.State.{State, is_below, is_proper, all_within}
+use Rattle.flt_abs.specs.State.{Null, Held, Stale, State, is_below, is_proper, all_within}
 use Rattle.flt_abs.specs.Step.{changed, set_context, set_operation, changed_locks, set_locks, change_context, change_output, change_operation, change_locks, after_call, after_action, if_possible, where_true, where_false, at, after_failure, call_successors, leads_to, unless_broken, transfer, IsSuccessorBelow, AreBelow, IsOutcomeBelow}
 use Rattle.flt_abs.specs.Variables.{context_in, operation_in, with_context, with_operation}
 use Rattle.flt_abs.specs.declared.setting.Setting.{Setting}
-use Rattle.flt_abs.specs.declared.step.Successor.{Successor}
 use Rattle.flt_abs.specs.declared.step.Successors.{Successors}
-use Rattle.flt_abs.proofs.Order.{Proper, proper_parts}
+use Rattle.flt_abs.proofs.Order.{implies, status_within, set_itself, Proper, proper_parts}
 
 -- ---- tests that grow
 
@@ -68,26 +68,6 @@ same : (a : Bool) → a ≡ true → a ≡ true
 same a e = e
 
 -- ---- one set
-
-implies : (a b : Bool) → (not a || b) ≡ true → a ≡ true → b ≡ true
-implies true b h e = h
-implies false b h e = cc
-
-implies-from : (a b : Bool) → (a ≡ true → b ≡ true) → (not a || b) ≡ true
-implies-from true b f = f refl
-implies-from false b f = refl
-
-within_null : (a b : StatusSet) → statuses_within a b ≡ true → a.null ≡ true → b.null ≡ true
-within_null a b h = implies a.null b.null (and_parts _ _ h).0
-
-within_held : (a b : StatusSet) → statuses_within a b ≡ true → a.held ≡ true → b.held ≡ true
-within_held a b h = implies a.held b.held (and_parts _ _ (and_parts _ _ h).1).0
-
-within_stale : (a b : StatusSet) → statuses_within a b ≡ true → a.stale ≡ true → b.stale ≡ true
-within_stale a b h = implies a.stale b.stale (and_parts _ _ (and_parts _ _ h).1).1
-
-within_same : (a : StatusSet) → statuses_within a a ≡ true
-within_same a = and_from _ _ (implies-from _ _ (same a.null)) (and_from _ _ (implies-from _ _ (same a.held)) (implies-from _ _ (same a.stale)))
 
 -- where some of three holds and the last two do not, the first one does
 only : (a b c : Bool) → (a || (b || c)) ≡ true → not b ≡ true → not c ≡ true → a ≡ true
@@ -112,16 +92,16 @@ surely_held : (a b : StatusSet) → statuses_within a b ≡ true → is_possible
 surely_held a b h p e =
     let parts = and_parts b.held (not b.null && not b.stale) e in
     let others = and_parts (not b.null) (not b.stale) parts.1 in
-    let null = grows-not b.null a.null (within_null a b h) others.0 in
-    let stale = grows-not b.stale a.stale (within_stale a b h) others.1 in
+    let null = grows-not b.null a.null (status_within a b Null h) others.0 in
+    let stale = grows-not b.stale a.stale (status_within a b Stale h) others.1 in
     and_from _ _ (only a.held a.null a.stale (swapped a.null a.held a.stale p) null stale) (and_from _ _ null stale)
 
 surely_stale : (a b : StatusSet) → statuses_within a b ≡ true → is_possible a ≡ true → is_stale b ≡ true → is_stale a ≡ true
 surely_stale a b h p e =
     let parts = and_parts b.stale (not b.null && not b.held) e in
     let others = and_parts (not b.null) (not b.held) parts.1 in
-    let null = grows-not b.null a.null (within_null a b h) others.0 in
-    let held = grows-not b.held a.held (within_held a b h) others.1 in
+    let null = grows-not b.null a.null (status_within a b Null h) others.0 in
+    let held = grows-not b.held a.held (status_within a b Held h) others.1 in
     and_from _ _ (only a.stale a.null a.held (last a.null a.held a.stale p) null held) (and_from _ _ null held)
 
 some_other : (a b : Bool) → (a || b) ≡ true → not b ≡ true → a ≡ true
@@ -187,7 +167,7 @@ any_held [] ys h e = cc
 any_held (a ∷ xs) [] h e = cc
 any_held (a ∷ xs) (b ∷ ys) h e =
     let parts = and_parts (statuses_within a b) (all_within xs ys) h in
-    grows-or a.held (is_any_held xs) b.held (is_any_held ys) (within_held a b parts.0) (any_held xs ys parts.1) e
+    grows-or a.held (is_any_held xs) b.held (is_any_held ys) (status_within a b Held parts.0) (any_held xs ys parts.1) e
 
 -- ---- states
 
@@ -229,11 +209,11 @@ grows-lacks_operation x y (Some d) b p = grows-not _ _ (surely_held (operation_i
 grows-lacks_operation x y None b p = same false
 
 grows-may_hold_context : (x y : State) (c : Option ContextVariable) → Below x y → may_hold_context x c ≡ true → may_hold_context y c ≡ true
-grows-may_hold_context x y (Some c) b = within_held (context_in x c) (context_in y c) (context_within x y c b)
+grows-may_hold_context x y (Some c) b = status_within (context_in x c) (context_in y c) Held (context_within x y c b)
 grows-may_hold_context x y None b = same false
 
 grows-may_hold_operation : (x y : State) (d : Option OperationVariable) → Below x y → may_hold_operation x d ≡ true → may_hold_operation y d ≡ true
-grows-may_hold_operation x y (Some d) b = within_held (operation_in x d) (operation_in y d) (operation_within x y d b)
+grows-may_hold_operation x y (Some d) b = status_within (operation_in x d) (operation_in y d) Held (operation_within x y d b)
 grows-may_hold_operation x y None b = same false
 
 -- ---- rules
@@ -298,7 +278,7 @@ grows-returns s x y (Some st) b p =
 grows-returns s x y None b p = λ e. e
 
 within_without : (xs ys : List StatusSet) (c : Option ContextVariable) → all_within xs ys ≡ true → all_within (contexts_without xs c) (contexts_without ys c) ≡ true
-within_without xs ys (Some c) h = within_set xs ys (context_place c) null_alone null_alone h (within_same null_alone)
+within_without xs ys (Some c) h = within_set xs ys (context_place c) null_alone null_alone h (set_itself null_alone)
 within_without xs ys None h = h
 
 grows-return : (s : Setting) (x y : State) (st : Option Status) (r : Rule) → Below x y → Proper x → return_breaks s x st r ≡ true → return_breaks s y st r ≡ true
@@ -320,9 +300,6 @@ grows-breaks s x y (instruction.Repeat turns body next) r b p = λ e. e
 grows-breaks s x y (instruction.Return st) r b p = grows-return s x y st r b p
 grows-breaks s x y instruction.End r b p = grows-return s x y None r b p
 
-some_not_none : (r : Rule) → Some r ≡ None → ⊥
-some_not_none r e = cc
-
 none_then : (p q : Rule → Bool) (rs : List Rule) → ((r : Rule) → p r ≡ true → q r ≡ true) → find q rs ≡ None → find p rs ≡ None
 none_then p q [] f e = refl
 none_then p q (r ∷ rs) f e =
@@ -330,7 +307,7 @@ none_then p q (r ∷ rs) f e =
     first_of (p r) r (find p rs) (λ h. f r h) none.0 (none_then p q rs f none.1)
   where
     neither : (b : Bool) (r : Rule) (o : Option Rule) → cond b (Some r) o ≡ None → (b ≡ false) × (o ≡ None)
-    neither true r o e = elim (some_not_none r e) [ ]
+    neither true r o e = absurd (none-some r (sym e))
     neither false r o e = (refl, e)
 
     first_of : {c : Bool} (b : Bool) (r : Rule) (o : Option Rule) → (b ≡ true → c ≡ true) → c ≡ false → o ≡ None → cond b (Some r) o ≡ None
@@ -356,11 +333,11 @@ below_operation : (x y : State) (d : OperationVariable) (s t : StatusSet) → Be
 below_operation x y d s t b h = record { locks = b.locks; modes = b.modes; draining = b.draining; contexts = b.contexts; operations = within_set x.operations y.operations (operation_place d) s t b.operations h }
 
 below-set_context : (x y : State) (c : Option ContextVariable) (s : Option StatusSet) → Below x y → Below (set_context c s x) (set_context c s y)
-below-set_context x y (Some c) (Some s) b = below_context x y c s s b (within_same s)
+below-set_context x y (Some c) (Some s) b = below_context x y c s s b (set_itself s)
 below-set_context x y c s b = b
 
 below-set_operation : (x y : State) (d : Option OperationVariable) (s : Option StatusSet) → Below x y → Below (set_operation d s x) (set_operation d s y)
-below-set_operation x y (Some d) (Some s) b = below_operation x y d s s b (within_same s)
+below-set_operation x y (Some d) (Some s) b = below_operation x y d s s b (set_itself s)
 below-set_operation x y d s b = b
 
 below-set_locks : (x y : State) (l : Option LockNumber) (change : LockChange) → Below x y → Below (set_locks l change x) (set_locks l change y)
@@ -375,8 +352,8 @@ below-after_call x y c e b =
     (below-set_context _ _ c.context (changed e.context) b)))
 
 below-after_action : (x y : State) (a : Action) → Below x y → Below (after_action x a) (after_action y a)
-below-after_action x y (action.ClearContext c) b = below_context x y c null_alone null_alone b (within_same null_alone)
-below-after_action x y (action.ClearOperation o) b = below_operation x y (Removed o) null_alone null_alone b (within_same null_alone)
+below-after_action x y (action.ClearContext c) b = below_context x y c null_alone null_alone b (set_itself null_alone)
+below-after_action x y (action.ClearOperation o) b = below_operation x y (Removed o) null_alone null_alone b (set_itself null_alone)
 below-after_action x y a b = b
 
 if_below : (p : ℕ) (a b : Bool) (x y : State) → (a ≡ true → b ≡ true) → Below x y → IsSuccessorBelow (at p (if a then Some x else None)) (at p (if b then Some y else None))
@@ -389,7 +366,7 @@ without_within : (a b : StatusSet) → statuses_within a b ≡ true → statuses
 without_within a b h = (and_parts _ _ h).1
 
 possible_grows : (a b : StatusSet) → statuses_within a b ≡ true → is_possible a ≡ true → is_possible b ≡ true
-possible_grows a b h = grows-or _ _ _ _ (within_null a b h) (grows-or _ _ _ _ (within_held a b h) (within_stale a b h))
+possible_grows a b h = grows-or _ _ _ _ (status_within a b Null h) (grows-or _ _ _ _ (status_within a b Held h) (status_within a b Stale h))
 
 below-where_true : (p : ℕ) (x y : State) (t : Test) → Below x y → IsSuccessorBelow (at p (where_true x t)) (at p (where_true y t))
 below-where_true p x y (test.ContextIsSome c) b =
@@ -410,9 +387,9 @@ below-where_true p x y t b = (refl, from_below x y b)
 
 below-where_false : (p : ℕ) (x y : State) (t : Test) → Below x y → IsSuccessorBelow (at p (where_false x t)) (at p (where_false y t))
 below-where_false p x y (test.ContextIsSome c) b =
-    if_below p _ _ _ _ (within_null (context_in x c) (context_in y c) (context_within x y c b)) (below_context x y c null_alone null_alone b (within_same null_alone))
+    if_below p _ _ _ _ (status_within (context_in x c) (context_in y c) Null (context_within x y c b)) (below_context x y c null_alone null_alone b (set_itself null_alone))
 below-where_false p x y (test.OperationIsSome o) b =
-    if_below p _ _ _ _ (within_null (operation_in x (Removed o)) (operation_in y (Removed o)) (operation_within x y (Removed o) b)) (below_operation x y (Removed o) null_alone null_alone b (within_same null_alone))
+    if_below p _ _ _ _ (status_within (operation_in x (Removed o)) (operation_in y (Removed o)) Null (operation_within x y (Removed o) b)) (below_operation x y (Removed o) null_alone null_alone b (set_itself null_alone))
 below-where_false p x y test.IsIrp b =
     if_below p _ _ _ _ (implies _ _ (and_parts _ _ b.modes).1) (record { locks = b.locks; modes = refl; draining = b.draining; contexts = b.contexts; operations = b.operations })
 below-where_false p x y test.IsDraining b =
@@ -436,7 +413,7 @@ outcome_below : (a b : Option Rule) (m n : Successors) → (b ≡ None → a ≡
 outcome_below None None m n f h = h
 outcome_below None (Some r) m n f h = tt
 outcome_below (Some q) (Some r) m n f h = tt
-outcome_below (Some q) None m n f h = elim (some_not_none q (f refl)) [ ]
+outcome_below (Some q) None m n f h = absurd (none-some q (sym (f refl)))
 
 pub transfer_below : (g : Graph) (callback point : ℕ) (x y : State) → is_proper x ≡ true → is_below x y ≡ true →
     IsOutcomeBelow (transfer g callback point x) (transfer g callback point y)

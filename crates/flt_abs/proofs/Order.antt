@@ -14,36 +14,36 @@ use Rattle.flt_abs.specs.Locks.{are_locks}
 
 -- ---- one set
 
-holds : (a b : Bool) → (not a || b) ≡ true → a ≡ true → b ≡ true
-holds true b h e = h
-holds false b h e = cc
+pub implies : (a b : Bool) → (not a || b) ≡ true → a ≡ true → b ≡ true
+implies true b h e = h
+implies false b h e = cc
 
-from_holds : (a b : Bool) → (a ≡ true → b ≡ true) → (not a || b) ≡ true
-from_holds true b h = h refl
-from_holds false b h = refl
+implies_from : (a b : Bool) → (a ≡ true → b ≡ true) → (not a || b) ≡ true
+implies_from true b h = h refl
+implies_from false b h = refl
 
-status_within : (a b : StatusSet) (x : Status) → statuses_within a b ≡ true → has_status a x ≡ true → has_status b x ≡ true
+pub status_within : (a b : StatusSet) (x : Status) → statuses_within a b ≡ true → has_status a x ≡ true → has_status b x ≡ true
 status_within a b x h =
     let parts = and_parts _ _ h in
     let later = and_parts _ _ parts.1 in
-    elim x as (λ x. has_status a x ≡ true → has_status b x ≡ true) [ Null ↦ holds _ _ parts.0 | Held ↦ holds _ _ later.0 | Stale ↦ holds _ _ later.1 ]
+    elim x as (λ x. has_status a x ≡ true → has_status b x ≡ true) [ Null ↦ implies _ _ parts.0 | Held ↦ implies _ _ later.0 | Stale ↦ implies _ _ later.1 ]
 
 status_within_from : (a b : StatusSet) → ((x : Status) → has_status a x ≡ true → has_status b x ≡ true) → statuses_within a b ≡ true
-status_within_from a b h = and_from _ _ (from_holds _ _ (h Null)) (and_from _ _ (from_holds _ _ (h Held)) (from_holds _ _ (h Stale)))
+status_within_from a b h = and_from _ _ (implies_from _ _ (h Null)) (and_from _ _ (implies_from _ _ (h Held)) (implies_from _ _ (h Stale)))
 
 mode_within : (a b : ModeSet) (x : Mode) → modes_within a b ≡ true → has_mode a x ≡ true → has_mode b x ≡ true
-mode_within a b Irp h = holds _ _ (and_parts _ _ h).0
-mode_within a b Fast h = holds _ _ (and_parts _ _ h).1
+mode_within a b Irp h = implies _ _ (and_parts _ _ h).0
+mode_within a b Fast h = implies _ _ (and_parts _ _ h).1
 
 mode_within_from : (a b : ModeSet) → ((x : Mode) → has_mode a x ≡ true → has_mode b x ≡ true) → modes_within a b ≡ true
-mode_within_from a b h = and_from _ _ (from_holds _ _ (h Irp)) (from_holds _ _ (h Fast))
+mode_within_from a b h = and_from _ _ (implies_from _ _ (h Irp)) (implies_from _ _ (h Fast))
 
 draining_within : (a b : DrainingSet) (x : Bool) → drainings_within a b ≡ true → has_draining a x ≡ true → has_draining b x ≡ true
-draining_within a b true h = holds _ _ (and_parts _ _ h).1
-draining_within a b false h = holds _ _ (and_parts _ _ h).0
+draining_within a b true h = implies _ _ (and_parts _ _ h).1
+draining_within a b false h = implies _ _ (and_parts _ _ h).0
 
 draining_within_from : (a b : DrainingSet) → ((x : Bool) → has_draining a x ≡ true → has_draining b x ≡ true) → drainings_within a b ≡ true
-draining_within_from a b h = and_from _ _ (from_holds _ _ (h false)) (from_holds _ _ (h true))
+draining_within_from a b h = and_from _ _ (implies_from _ _ (h false)) (implies_from _ _ (h true))
 
 -- ---- some situation
 
@@ -174,32 +174,32 @@ below_meaning a b p = (below_means a b, below_from a b p)
 
 -- ---- joins
 
-or_holds_left : (a b : Bool) → (not a || (a || b)) ≡ true
-or_holds_left true b = refl
-or_holds_left false b = refl
+implies_or_left : (a b : Bool) → (not a || (a || b)) ≡ true
+implies_or_left true b = refl
+implies_or_left false b = refl
 
-or_holds_right : (a b : Bool) → (not b || (a || b)) ≡ true
-or_holds_right true true = refl
-or_holds_right true false = refl
-or_holds_right false true = refl
-or_holds_right false false = refl
+implies_or_right : (a b : Bool) → (not b || (a || b)) ≡ true
+implies_or_right true true = refl
+implies_or_right true false = refl
+implies_or_right false true = refl
+implies_or_right false false = refl
 
-or_holds : (a b d : Bool) → (not a || d) ≡ true → (not b || d) ≡ true → (not (a || b) || d) ≡ true
-or_holds true b d h e = h
-or_holds false b d h e = e
+or_implies : (a b d : Bool) → (not a || d) ≡ true → (not b || d) ≡ true → (not (a || b) || d) ≡ true
+or_implies true b d h e = h
+or_implies false b d h e = e
 
 all_within_left : (xs ys : List StatusSet) → length xs ≡ length ys → all_within xs (either_all xs ys) ≡ true
 all_within_left [] ys h = refl
 all_within_left (a ∷ xs) [] h = cc
 all_within_left (a ∷ xs) (b ∷ ys) h =
-    and_from _ _ (and_from _ _ (or_holds_left a.null b.null) (and_from _ _ (or_holds_left a.held b.held) (or_holds_left a.stale b.stale))) (all_within_left xs ys (omega arith))
+    and_from _ _ (and_from _ _ (implies_or_left a.null b.null) (and_from _ _ (implies_or_left a.held b.held) (implies_or_left a.stale b.stale))) (all_within_left xs ys (omega arith))
 
 all_within_right : (xs ys : List StatusSet) → length xs ≡ length ys → all_within ys (either_all xs ys) ≡ true
 all_within_right [] [] h = refl
 all_within_right [] (b ∷ ys) h = cc
 all_within_right (a ∷ xs) [] h = cc
 all_within_right (a ∷ xs) (b ∷ ys) h =
-    and_from _ _ (and_from _ _ (or_holds_right a.null b.null) (and_from _ _ (or_holds_right a.held b.held) (or_holds_right a.stale b.stale))) (all_within_right xs ys (omega arith))
+    and_from _ _ (and_from _ _ (implies_or_right a.null b.null) (and_from _ _ (implies_or_right a.held b.held) (implies_or_right a.stale b.stale))) (all_within_right xs ys (omega arith))
 
 union_within : (a b d : StatusSet) → statuses_within a d ≡ true → statuses_within b d ≡ true → statuses_within (either_status a b) d ≡ true
 union_within a b d h e =
@@ -207,8 +207,8 @@ union_within a b d h e =
     let later_left = and_parts (not a.held || d.held) _ left.1 in
     let right = and_parts (not b.null || d.null) _ e in
     let later_right = and_parts (not b.held || d.held) _ right.1 in
-    and_from _ _ (or_holds a.null b.null d.null left.0 right.0)
-    (and_from _ _ (or_holds a.held b.held d.held later_left.0 later_right.0) (or_holds a.stale b.stale d.stale later_left.1 later_right.1))
+    and_from _ _ (or_implies a.null b.null d.null left.0 right.0)
+    (and_from _ _ (or_implies a.held b.held d.held later_left.0 later_right.0) (or_implies a.stale b.stale d.stale later_left.1 later_right.1))
 
 all_union_within : (xs ys zs : List StatusSet) → all_within xs zs ≡ true → all_within ys zs ≡ true → all_within (either_all xs ys) zs ≡ true
 all_union_within [] ys zs h e = h
@@ -225,15 +225,15 @@ same_places xs ys h = (bytes_eq-Decides xs ys).1 h
 join_left : (a b : State) → Proper a → Proper b → is_below a (join_of a b) ≡ true
 join_left a b p q =
     and_from _ _ (same_places a.locks a.locks refl)
-    (and_from _ _ (and_from _ _ (or_holds_left a.modes.irp b.modes.irp) (or_holds_left a.modes.fast b.modes.fast))
-    (and_from _ _ (and_from _ _ (or_holds_left a.draining.no b.draining.no) (or_holds_left a.draining.yes b.draining.yes))
+    (and_from _ _ (and_from _ _ (implies_or_left a.modes.irp b.modes.irp) (implies_or_left a.modes.fast b.modes.fast))
+    (and_from _ _ (and_from _ _ (implies_or_left a.draining.no b.draining.no) (implies_or_left a.draining.yes b.draining.yes))
     (and_from _ _ (all_within_left a.contexts b.contexts (p.nine ∙ sym q.nine)) (all_within_left a.operations b.operations (p.five ∙ sym q.five)))))
 
 join_right : (a b : State) → Proper a → Proper b → a.locks ≡ b.locks → is_below b (join_of a b) ≡ true
 join_right a b p q same =
     and_from _ _ (same_places b.locks a.locks (sym same))
-    (and_from _ _ (and_from _ _ (or_holds_right a.modes.irp b.modes.irp) (or_holds_right a.modes.fast b.modes.fast))
-    (and_from _ _ (and_from _ _ (or_holds_right a.draining.no b.draining.no) (or_holds_right a.draining.yes b.draining.yes))
+    (and_from _ _ (and_from _ _ (implies_or_right a.modes.irp b.modes.irp) (implies_or_right a.modes.fast b.modes.fast))
+    (and_from _ _ (and_from _ _ (implies_or_right a.draining.no b.draining.no) (implies_or_right a.draining.yes b.draining.yes))
     (and_from _ _ (all_within_right a.contexts b.contexts (p.nine ∙ sym q.nine)) (all_within_right a.operations b.operations (p.five ∙ sym q.five)))))
 
 pub join_within : (a b d : State) → is_below a d ≡ true → is_below b d ≡ true → is_below (join_of a b) d ≡ true
@@ -251,8 +251,8 @@ join_within a b d h e =
     let irp-2 = and_parts (not b.modes.irp || d.modes.irp) _ modes-2.0 in
     let no-2 = and_parts (not b.draining.no || d.draining.no) _ draining-2.0 in
     and_from _ _ locks.0
-    (and_from _ _ (and_from _ _ (or_holds a.modes.irp b.modes.irp d.modes.irp irp.0 irp-2.0) (or_holds a.modes.fast b.modes.fast d.modes.fast irp.1 irp-2.1))
-    (and_from _ _ (and_from _ _ (or_holds a.draining.no b.draining.no d.draining.no no.0 no-2.0) (or_holds a.draining.yes b.draining.yes d.draining.yes no.1 no-2.1))
+    (and_from _ _ (and_from _ _ (or_implies a.modes.irp b.modes.irp d.modes.irp irp.0 irp-2.0) (or_implies a.modes.fast b.modes.fast d.modes.fast irp.1 irp-2.1))
+    (and_from _ _ (and_from _ _ (or_implies a.draining.no b.draining.no d.draining.no no.0 no-2.0) (or_implies a.draining.yes b.draining.yes d.draining.yes no.1 no-2.1))
     (and_from _ _ (all_union_within a.contexts b.contexts d.contexts lists.0 lists-2.0) (all_union_within a.operations b.operations d.operations lists.1 lists-2.1))))
 
 pub join_means : (a b : State) → is_proper a ≡ true → is_proper b ≡ true → a.locks ≡ b.locks → IsJoin a b (join_of a b)
@@ -384,9 +384,9 @@ chain true true c h e = e
 chain true false c h e = cc
 chain false b c h e = refl
 
-same_holds : (a : Bool) → (not a || a) ≡ true
-same_holds true = refl
-same_holds false = refl
+implies_itself : (a : Bool) → (not a || a) ≡ true
+implies_itself true = refl
+implies_itself false = refl
 
 set_chain : (a b c : StatusSet) → statuses_within a b ≡ true → statuses_within b c ≡ true → statuses_within a c ≡ true
 set_chain a b c h e =
@@ -406,8 +406,8 @@ sets_chain (a ∷ xs) (b ∷ ys) (c ∷ zs) h e =
     let right = and_parts (statuses_within b c) (all_within ys zs) e in
     and_from _ _ (set_chain a b c left.0 right.0) (sets_chain xs ys zs left.1 right.1)
 
-set_itself : (a : StatusSet) → statuses_within a a ≡ true
-set_itself a = and_from _ _ (same_holds a.null) (and_from _ _ (same_holds a.held) (same_holds a.stale))
+pub set_itself : (a : StatusSet) → statuses_within a a ≡ true
+set_itself a = and_from _ _ (implies_itself a.null) (and_from _ _ (implies_itself a.held) (implies_itself a.stale))
 
 sets_themselves : (xs : List StatusSet) → all_within xs xs ≡ true
 sets_themselves [] = refl
@@ -416,8 +416,8 @@ sets_themselves (a ∷ xs) = and_from _ _ (set_itself a) (sets_themselves xs)
 pub below_itself : (a : State) → is_below a a ≡ true
 below_itself a =
     and_from _ _ (same_places a.locks a.locks refl)
-    (and_from _ _ (and_from _ _ (same_holds a.modes.irp) (same_holds a.modes.fast))
-    (and_from _ _ (and_from _ _ (same_holds a.draining.no) (same_holds a.draining.yes))
+    (and_from _ _ (and_from _ _ (implies_itself a.modes.irp) (implies_itself a.modes.fast))
+    (and_from _ _ (and_from _ _ (implies_itself a.draining.no) (implies_itself a.draining.yes))
     (and_from _ _ (sets_themselves a.contexts) (sets_themselves a.operations))))
 
 pub below_chain : (a b c : State) → is_below a b ≡ true → is_below b c ≡ true → is_below a c ≡ true

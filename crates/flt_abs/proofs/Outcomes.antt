@@ -1,7 +1,7 @@
 -- What an instruction makes of a situation lies where it leads.
 use Rattle.std.proofs.Common.{◌≡◌, ℕ, zero, suc, Bool, true, false, List, [], ◌∷◌, Option, Some, None, Ok, slice_index_or, ap, sym, subst, refl}
 use Rattle.std.specs.Prelude.{slice_set, not, ◌||◌, if◌then◌else◌}
-use Rattle.std.proofs.lemmas.Bool.{and_parts, and_from}
+use Rattle.std.proofs.lemmas.Bool.{and_parts, and_from, not-true}
 use Rattle.flt_rules.specs.Place.{is_irp}
 use Rattle.flt_rules.specs.Table.{row}
 use Rattle.flt_rules.specs.declared.call.LockNumber.{LockNumber}
@@ -147,10 +147,6 @@ fast_from : (k : Mode) → not (is_irp k) ≡ true → k ≡ Fast
 fast_from Irp h = cc
 fast_from Fast h = refl
 
-false_from : (b : Bool) → not b ≡ true → b ≡ false
-false_from true h = cc
-false_from false h = refl
-
 not_not : (b : Bool) → not (not b) ≡ true → b ≡ true
 not_not true h = refl
 not_not false h = cc
@@ -202,7 +198,7 @@ false_reaches test.IsIrp x p t m h =
     answer_reaches x.modes.fast _ p t may
     (record { contexts = m.contexts; operations = m.operations; mode = subst (λ k. has_mode fast_alone k ≡ true) (sym fast) refl; draining = m.draining; locks = m.locks })
 false_reaches test.IsDraining x p t m h =
-    let unset : t.draining ≡ false = false_from t.draining h in
+    let unset : t.draining ≡ false = not-true t.draining h in
     let may : x.draining.no ≡ true = subst (λ k. has_draining x.draining k ≡ true) unset m.draining in
     answer_reaches x.draining.no _ p t may
     (record { contexts = m.contexts; operations = m.operations; mode = m.mode; draining = subst (λ k. has_draining no_alone k ≡ true) (sym unset) refl; locks = m.locks })

@@ -3,7 +3,7 @@
 use Rattle.std.specs.Prelude.{List, [], ◌∷◌}
 use Rattle.flt_rules.specs.declared.place.Operation.TheVariants.{Read, Write}
 use Rattle.flt_rules.specs.declared.place.Place.{Place}
-use Rattle.flt_rules.specs.declared.place.Place.TheVariants.{Pre, Post, Canceled, DeferredPre, DeferredPost, Generic}
+use Rattle.flt_rules.specs.declared.place.Place.TheVariants.{Pre, Post, Generic}
 use Rattle.flt_abs.specs.Sets.{StatusSet, ModeSet, DrainingSet, null_alone, held_alone, null_or_held, irp_alone, fast_alone, no_alone, yes_alone, either_mode, either_draining}
 use Rattle.flt_abs.specs.State.{State, state_of}
 

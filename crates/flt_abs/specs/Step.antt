@@ -1,5 +1,5 @@
 -- What an instruction makes of a state, and where it leads. Numbers aren't traced.
-use Rattle.std.specs.Prelude.{◌≡◌, ℕ, List, Bool, true, false, ◌++◌, [], ◌∷◌, if◌then◌else◌, Option, Some, None, option_map, Result, Ok, Err, IsTrue}
+use Rattle.std.specs.Prelude.{◌≡◌, ℕ, List, ◌++◌, [], ◌∷◌, if◌then◌else◌, Option, Some, None, Result, Ok, Err, IsTrue}
 use Rattle.flt_rules.specs.Call.{place_of}
 use Rattle.flt_rules.specs.Table.{row}
 use Rattle.flt_rules.specs.declared.call.LockNumber.{LockNumber}

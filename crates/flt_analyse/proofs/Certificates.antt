@@ -18,9 +18,6 @@ pub record Columns (g : Graph) (n : ℕ) (k : Certificate) : Type 0 where
   pub count : length k ≡ n
   pub each : (c : ℕ) → c < n → Column g c (get_or k c [])
 
-pub no_columns : (g : Graph) → Columns g 0 []
-no_columns g = record { count = refl; each = λ c below. absurd (omega arith) }
-
 pub one_more : (g : Graph) (n : ℕ) (k : Certificate) (points : List Point) → Columns g n k → Column g n points → Columns g (n + 1) (k ++ points ∷ [])
 one_more g n k points h one = record {
   count = (let a = length-append k (points ∷ []) in let b = h.count in omega arith);

@@ -3,6 +3,7 @@ use Rattle.std.proofs.Common.{◌≡◌, ◌<◌, ◌≤◌, ℕ, zero, suc, Boo
 use Rattle.std.proofs.Math.Path.{subst}
 use Rattle.std.specs.Prelude.{◌⊎◌}
 use Rattle.std.proofs.lemmas.Bool.{cases_order, cases_lt, true≢false}
+use Rattle.std.proofs.lemmas.Option.{same_Some}
 use Rattle.flt_rules.specs.declared.rule.Rule.{Rule}
 use Rattle.flt_graph.specs.Graph.{line_at}
 use Rattle.flt_graph.specs.declared.graph.Graph.{Graph}
@@ -11,9 +12,6 @@ use Rattle.flt_analyse.specs.Least.{LacksRoom, IsNamed}
 use Rattle.flt_analyse.specs.Pending.{least}
 use Rattle.flt_analyse.specs.Walk.{look, taken, opening, Leads, Stops, Ends, IsFirstFault}
 use Rattle.flt_analyse.specs.declared.walk.Walk.{Walk}
-
-some_point : (p q : ℕ) → Some p ≡ Some q → p ≡ q
-some_point p q e = cc
 
 abbrev walk_or : Walk → Result Walk Rule → Walk
 walk_or d (Ok w) = w
@@ -41,7 +39,7 @@ not_none p o e h = let s : Some p ≡ None = sym e ∙ h in cc
 
 -- the least pending point of a stage is one
 point_same : (v w : Walk) (p q : ℕ) → v ≡ w → least v.pending ≡ Some p → least w.pending ≡ Some q → p ≡ q
-point_same v w p q e h k = some_point p q (sym h ∙ (ap (λ (i : Walk). least i.pending) e ∙ k))
+point_same v w p q e h k = same_Some p q (sym h ∙ (ap (λ (i : Walk). least i.pending) e ∙ k))
 
 moved : (g : Graph) (callback : ℕ) (v w : Walk) (p q : ℕ) (m : Result Walk Rule) → v ≡ w → p ≡ q → look g callback p (taken v p) ≡ m → look g callback q (taken w q) ≡ m
 moved g callback v w p q m e h k = subst (λ i. look g callback i (taken w i) ≡ m) h (subst (λ i. look g callback p (taken i p) ≡ m) e k)

@@ -4,9 +4,10 @@ use Rattle.std.proofs.Math.Path.{subst}
 use Rattle.std.proofs.Math.ListN.{get_or-eq_default}
 use Rattle.std.specs.Prelude.{◌⊎◌, if◌then◌else◌}
 use Rattle.std.specs.Str.{bytes_eq}
-use Rattle.std.proofs.lemmas.Bool.{and_parts, cases_eq, ltb-true, ltb-false}
+use Rattle.std.proofs.lemmas.Bool.{and_parts, cases_eq, ltb-true, ltb-false, true≢false}
 use Rattle.std.proofs.lemmas.List.{get_or-set_same, get_or-set_other, length-set}
 use Rattle.std.proofs.lemmas.Slice.Eq.{bytes_eq-Decides}
+use Rattle.std.proofs.lemmas.Option.{none-some, same_Some}
 use Rattle.flt_rules.specs.declared.rule.Rule.{Rule}
 use Rattle.flt_rules.specs.declared.rule.Rule.TheVariants.{R12, R14}
 use Rattle.flt_graph.specs.Graph.{points_at}
@@ -61,12 +62,6 @@ pub record Kept (w v : Walk) : Type 0 where
   pub flags : length v.pending ≡ length w.pending
   pub cheaper : AllProper w → (q : ℕ) → due v q ≤ due w q
 
-pub some_same : (x y : State) → Some x ≡ Some y → x ≡ y
-some_same x y e = cc
-
-none_some : (x : State) → None ≡ Some x → ⊥
-none_some x e = cc
-
 kept_same : Laws → (w : Walk) → Kept w w
 kept_same laws w = record {
   grown = λ q y e. (y, e, laws.reflexive y);
@@ -113,10 +108,6 @@ pub record Improves (old : Option State) (x : State) : Type 0 where
   pub proper : is_proper x ≡ true
   pub less : left (Some x) + 1 ≤ left old
 
-pub true_not_false : (b : Bool) {P : Type 0} → b ≡ true → b ≡ false → P
-true_not_false true e h = cc
-true_not_false false e h = cc
-
 kept_arrived : Laws → (w : Walk) (p : ℕ) (x : State) → p < length w.points → p < length w.pending → (AllProper w → Improves (found w p) x) → ((y : State) → found w p ≡ Some y → is_below y x ≡ true) →
     (is_proper x ≡ true) → Kept w (arrived w p x)
 kept_arrived laws w p x h k better above good = record {
@@ -134,11 +125,11 @@ kept_arrived laws w p x h k better above good = record {
     grown q y e (inr s) = (y, found_other w p q x s ∙ e, laws.reflexive y)
 
     quiet : (q : ℕ) → flagged (arrived w p x) q ≡ false → ((q ≡ p) ⊎ (q ≡ p → ⊥)) → (found (arrived w p x) q ≡ found w q) × (flagged w q ≡ false)
-    quiet q e (inl s) = true_not_false (flagged (arrived w p x) p) (flagged_same w p x k) (sym (ap (λ i. flagged (arrived w p x) i) s) ∙ e)
+    quiet q e (inl s) = absurd (true≢false (sym (flagged_same w p x k) ∙ (sym (ap (λ i. flagged (arrived w p x) i) s) ∙ e)))
     quiet q e (inr s) = (found_other w p q x s, sym (flagged_other w p q x s) ∙ e)
 
     proper : AllProper w → (q : ℕ) (y : State) → found (arrived w p x) q ≡ Some y → ((q ≡ p) ⊎ (q ≡ p → ⊥)) → is_proper y ≡ true
-    proper all q y e (inl s) = sym (ap is_proper (some_same x y (sym (found_same w p x h) ∙ (sym (ap (λ i. found (arrived w p x) i) s) ∙ e)))) ∙ good
+    proper all q y e (inl s) = sym (ap is_proper (same_Some x y (sym (found_same w p x h) ∙ (sym (ap (λ i. found (arrived w p x) i) s) ∙ e)))) ∙ good
     proper all q y e (inr s) = all q y (sym (found_other w p q x s) ∙ e)
 
     awake : IsAwake w → (q : ℕ) → flagged (arrived w p x) q ≡ true → ((q ≡ p) ⊎ (q ≡ p → ⊥)) → (y : State) × (found (arrived w p x) q ≡ Some y)
@@ -176,7 +167,7 @@ below_arrived laws w p x ys h all one q z e = by_point (cases_eq q p)
   where
     by_point : ((q ≡ p) ⊎ (q ≡ p → ⊥)) → (y : State) × (get_or ys q None ≡ Some y) × (is_below z y ≡ true)
     by_point (inl s) =
-        let same : x ≡ z = some_same x z (sym (found_same w p x h) ∙ (sym (ap (λ i. found (arrived w p x) i) s) ∙ e)) in
+        let same : x ≡ z = same_Some x z (sym (found_same w p x h) ∙ (sym (ap (λ i. found (arrived w p x) i) s) ∙ e)) in
         (one.0, ap (λ i. get_or ys i None) s ∙ one.1, sym (ap (λ k. is_below k one.0) same) ∙ one.2)
     by_point (inr s) = all q z (sym (found_other w p q x s) ∙ e)
 
@@ -200,8 +191,8 @@ lead_at : Laws → (w : Walk) (next : Successor) (old : Option State) → found 
     Leading w (Some next) (reach_at w next old)
 lead_at laws w next None e h k all good = record {
   kept = kept_arrived laws w next.point next.state h (omega arith)
-      (λ p. record { above = λ y s. elim (none_some y (sym e ∙ s)) [ ]; proper = good; less = subst (λ o. left (Some next.state) + 1 ≤ left o) (sym e) (less_first next.state good) })
-      (λ y s. elim (none_some y (sym e ∙ s)) [ ]) good;
+      (λ p. record { above = λ y s. absurd (none-some y (sym e ∙ s)); proper = good; less = subst (λ o. left (Some next.state) + 1 ≤ left o) (sym e) (less_first next.state good) })
+      (λ y s. absurd (none-some y (sym e ∙ s))) good;
   led = (next.state, found_same w next.point next.state h, laws.reflexive next.state);
   below = λ ys b one. below_arrived laws w next.point next.state ys h b one;
 }
@@ -220,12 +211,12 @@ lead_at laws w next (Some y) e h k all good =
         let less = less_join next.state y good both proper t s in
         record {
           kept = kept_arrived laws w next.point (join_of y next.state) h (omega arith)
-              (λ p. record { above = λ z m. ap (λ i. is_below i (join_of y next.state)) (some_same z y (sym m ∙ e)) ∙ above; proper = both; less = subst (λ o. left (Some (join_of y next.state)) + 1 ≤ left o) (sym e) less })
-              (λ z m. ap (λ i. is_below i (join_of y next.state)) (some_same z y (sym m ∙ e)) ∙ above) both;
+              (λ p. record { above = λ z m. ap (λ i. is_below i (join_of y next.state)) (same_Some z y (sym m ∙ e)) ∙ above; proper = both; less = subst (λ o. left (Some (join_of y next.state)) + 1 ≤ left o) (sym e) less })
+              (λ z m. ap (λ i. is_below i (join_of y next.state)) (same_Some z y (sym m ∙ e)) ∙ above) both;
           led = (join_of y next.state, found_same w next.point (join_of y next.state) h, laws.right y next.state proper good same);
           below = λ ys b one.
               let mine = b next.point y e in
-              let there : one.0 ≡ mine.0 = some_same one.0 mine.0 (sym one.1 ∙ mine.1) in
+              let there : one.0 ≡ mine.0 = same_Some one.0 mine.0 (sym one.1 ∙ mine.1) in
               let own : is_below next.state mine.0 ≡ true = sym (ap (λ i. is_below next.state i) there) ∙ one.2 in
               below_arrived laws w next.point (join_of y next.state) ys h b (mine.0, mine.1, laws.least y next.state mine.0 mine.2 own);
         }
@@ -233,11 +224,11 @@ lead_at laws w next (Some y) e h k all good =
     parted : bytes_eq y.locks next.state.locks ≡ false → (ys : List Point) → Below w ys → IsLedIn ys (Some next) → ⊥
     parted t ys b one =
         let mine = b next.point y e in
-        let there : one.0 ≡ mine.0 = some_same one.0 mine.0 (sym one.1 ∙ mine.1) in
+        let there : one.0 ≡ mine.0 = same_Some one.0 mine.0 (sym one.1 ∙ mine.1) in
         let first : y.locks ≡ mine.0.locks = (bytes_eq-Decides y.locks mine.0.locks).0 (and_parts (bytes_eq y.locks mine.0.locks) _ mine.2).0 in
         let second : next.state.locks ≡ one.0.locks = (bytes_eq-Decides next.state.locks one.0.locks).0 (and_parts (bytes_eq next.state.locks one.0.locks) _ one.2).0 in
         let same : y.locks ≡ next.state.locks = first ∙ (sym (ap (λ (i : State). i.locks) there) ∙ sym second) in
-        true_not_false (bytes_eq y.locks next.state.locks) ((bytes_eq-Decides y.locks next.state.locks).1 same) t
+        true≢false (sym ((bytes_eq-Decides y.locks next.state.locks).1 same) ∙ t)
 
 pub lead : Laws → (w : Walk) (s : Option Successor) → length w.points ≤ length w.pending → AllProper w → ProperNext s → Leading w s (reach w s)
 lead laws w None k all good = record { kept = kept_same laws w; led = tt; below = λ ys b one. b }
@@ -246,7 +237,7 @@ lead laws w (Some next) k all good =
     (λ e. lead_at laws w next (found w next.point) refl (ltb-true _ _ e) k all good)
     (λ e. λ ys count b one.
     let past : length ys ≤ next.point = (let l = ltb-false next.point (length w.points) e in omega arith) in
-    none_some one.0 (sym (get_or-eq_default ys None past) ∙ one.1))
+    none-some one.0 (sym (get_or-eq_default ys None past) ∙ one.1))
 
 -- ---- a point is looked at
 

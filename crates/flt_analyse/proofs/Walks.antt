@@ -4,8 +4,9 @@ use Rattle.std.proofs.Math.Path.{subst}
 use Rattle.std.proofs.Math.ListN.{set, get_or-eq_default}
 use Rattle.std.specs.Prelude.{◌⊎◌}
 use Rattle.std.specs.List.{list_all}
-use Rattle.std.proofs.lemmas.Bool.{and_from, cases_eq, cases_lt}
+use Rattle.std.proofs.lemmas.Bool.{and_from, cases_eq, cases_lt, true≢false}
 use Rattle.std.proofs.lemmas.List.{get_or-set_same, get_or-set_other, length-set}
+use Rattle.std.proofs.lemmas.Option.{same_Some, none-some}
 use Rattle.flt_rules.specs.declared.rule.Rule.{Rule}
 use Rattle.flt_rules.specs.declared.place.Operation.TheVariants.{Read, Write}
 use Rattle.flt_rules.specs.declared.place.Place.{Place}
@@ -23,7 +24,7 @@ use Rattle.flt_analyse.specs.Walk.{look, taken, nones, opening, outcome_at, spre
 use Rattle.flt_analyse.specs.declared.walk.Walk.{Walk}
 use Rattle.flt_analyse.proofs.Order.{Laws}
 use Rattle.flt_analyse.proofs.Sizes.{bit, bit_one, bit_none}
-use Rattle.flt_analyse.proofs.Stages.{found, flagged, left, due, AllProper, IsAwake, Below, Kept, Looked, Looking, spread_looking, led_later, some_same, true_not_false, left_none, left_some}
+use Rattle.flt_analyse.proofs.Stages.{found, flagged, left, due, AllProper, IsAwake, Below, Kept, Looked, Looking, spread_looking, led_later, left_none, left_some}
 
 -- ---- the least flag
 
@@ -96,9 +97,6 @@ entry_proper (Post o) = refl
 entry_proper Generic = refl
 entry_proper place = refl
 
-none_not_some : (x : State) {P : Type 0} → None ≡ Some x → P
-none_not_some x e = cc
-
 opening_first : (g : Graph) (callback : ℕ) → 0 < points_at g callback → found (opening g callback) 0 ≡ Some (entry (place_at g callback))
 opening_first g callback h = get_or-set_same (nones (points_at g callback)) 0 (Some (entry (place_at g callback))) None (let a = length-nones (points_at g callback) in omega arith)
 
@@ -124,25 +122,25 @@ begins laws g callback some few = record {
 }
   where
     first_is : (q : ℕ) (x : State) → found (opening g callback) q ≡ Some x → q ≡ 0 → entry (place_at g callback) ≡ x
-    first_is q x e s = some_same _ x (sym (opening_first g callback some) ∙ (sym (ap (λ i. found (opening g callback) i) s) ∙ e))
+    first_is q x e s = same_Some _ x (sym (opening_first g callback some) ∙ (sym (ap (λ i. found (opening g callback) i) s) ∙ e))
 
     proper : (q : ℕ) (x : State) → found (opening g callback) q ≡ Some x → ((q ≡ 0) ⊎ (q ≡ 0 → ⊥)) → is_proper x ≡ true
     proper q x e (inl s) = sym (ap is_proper (first_is q x e s)) ∙ entry_proper (place_at g callback)
-    proper q x e (inr s) = none_not_some x (sym (opening_later g callback q s) ∙ e)
+    proper q x e (inr s) = absurd (none-some x (sym (opening_later g callback q s) ∙ e))
 
     awake : (q : ℕ) → flagged (opening g callback) q ≡ true → ((q ≡ 0) ⊎ (q ≡ 0 → ⊥)) → (x : State) × (found (opening g callback) q ≡ Some x)
     awake q e (inl s) = (entry (place_at g callback), ap (λ i. found (opening g callback) i) s ∙ opening_first g callback some)
-    awake q e (inr s) = true_not_false (flagged (opening g callback) q) e (opening_flags g callback q s)
+    awake q e (inr s) = absurd (true≢false (sym e ∙ opening_flags g callback q s))
 
     settled : (q : ℕ) (x : State) → found (opening g callback) q ≡ Some x → flagged (opening g callback) q ≡ false → ((q ≡ 0) ⊎ (q ≡ 0 → ⊥)) → StepsIn g callback q x (opening g callback).points
-    settled q x e f (inl s) = true_not_false (flagged (opening g callback) q) (ap (λ i. flagged (opening g callback) i) s ∙ opening_flag g callback) f
-    settled q x e f (inr s) = none_not_some x (sym (opening_later g callback q s) ∙ e)
+    settled q x e f (inl s) = absurd (true≢false (sym (ap (λ i. flagged (opening g callback) i) s ∙ opening_flag g callback) ∙ f))
+    settled q x e f (inr s) = absurd (none-some x (sym (opening_later g callback q s) ∙ e))
 
     below : (ys : List Point) → IsCovered g callback ys → (q : ℕ) (x : State) → found (opening g callback) q ≡ Some x → ((q ≡ 0) ⊎ (q ≡ 0 → ⊥)) → (y : State) × (get_or ys q None ≡ Some y) × (is_below x y ≡ true)
     below ys c q x e (inl s) =
         let one = c.entered in
         (one.0, ap (λ i. get_or ys i None) s ∙ one.1, sym (ap (λ i. is_below i one.0) (first_is q x e s)) ∙ one.2)
-    below ys c q x e (inr s) = none_not_some x (sym (opening_later g callback q s) ∙ e)
+    below ys c q x e (inr s) = absurd (none-some x (sym (opening_later g callback q s) ∙ e))
 
 -- ---- a point is taken
 
@@ -164,7 +162,7 @@ taken_within g callback w p s e = by_length (cases_lt p (length w.points))
 
     by_length : ((p < length w.points) ⊎ (length w.points ≤ p)) → p < points_at g callback
     by_length (inl l) = let a = s.count in omega arith
-    by_length (inr l) = none_not_some one.0 (sym (get_or-eq_default w.points None l) ∙ one.1)
+    by_length (inr l) = absurd (none-some one.0 (sym (get_or-eq_default w.points None l) ∙ one.1))
 
 -- what a look makes of a stage
 pub looking : Laws → (g : Graph) (callback : ℕ) (w : Walk) (p : ℕ) → Stage g callback w → least w.pending ≡ Some p → ProperSteps (outcome_at g callback p (found w p)) →
@@ -196,12 +194,12 @@ kept_stage laws g callback w v p x s e at l = record {
     here = (least_is w.pending p e).1
 
     awake : (q : ℕ) → flagged (taken w p) q ≡ true → ((q ≡ p) ⊎ (q ≡ p → ⊥)) → (y : State) × (found w q ≡ Some y)
-    awake q f (inl k) = true_not_false (flagged (taken w p) q) f (ap (λ i. flagged (taken w p) i) k ∙ taken_flag w p here)
+    awake q f (inl k) = absurd (true≢false (sym f ∙ (ap (λ i. flagged (taken w p) i) k ∙ taken_flag w p here)))
     awake q f (inr k) = s.awake q (sym (taken_flags w p q k) ∙ f)
 
     settled : (q : ℕ) (y : State) → found v q ≡ Some y → flagged v q ≡ false → ((q ≡ p) ⊎ (q ≡ p → ⊥)) → StepsIn g callback q y v.points
     settled q y f h (inl k) =
-        let same : x ≡ y = some_same x y (sym at ∙ (sym (ap (λ i. found w i) k) ∙ (sym (l.kept.quiet q h).0 ∙ f))) in
+        let same : x ≡ y = same_Some x y (sym at ∙ (sym (ap (λ i. found w i) k) ∙ (sym (l.kept.quiet q h).0 ∙ f))) in
         let steps = l.steps in
         (steps.0, ap (λ i. transfer g callback i y) k ∙ (sym (ap (λ i. transfer g callback p i) same) ∙ steps.1), steps.2, steps.3)
     settled q y f h (inr k) =
@@ -260,8 +258,8 @@ pub below_all : (g : Graph) (callback : ℕ) (w : Walk) → Stage g callback w �
 below_all g callback w s ys c q = by_state (found w q) refl
   where
     by_other : (x : State) (o : Option State) → ((y : State) × (o ≡ Some y) × (is_below x y ≡ true)) → IsPointBelow (Some x) o
-    by_other x (Some z) h = ap (λ i. is_below x i) (some_same z h.0 h.1) ∙ h.2
-    by_other x None h = none_not_some h.0 h.1
+    by_other x (Some z) h = ap (λ i. is_below x i) (same_Some z h.0 h.1) ∙ h.2
+    by_other x None h = absurd (none-some h.0 h.1)
 
     by_state : (o : Option State) → found w q ≡ o → IsPointBelow o (get_or ys q None)
     by_state (Some x) e = by_other x (get_or ys q None) (s.below ys c q x e)

@@ -3,8 +3,7 @@ use Rattle.std.proofs.Common.{◌≡◌, ℕ, zero, suc, ◌<◌, ◌≤◌, ◌
 use Rattle.std.specs.Prelude.{not, ◌||◌, ◌==◌, if◌then◌else◌, nat_le}
 use Rattle.std.specs.List.{list_all}
 use Rattle.std.specs.Str.{bytes_eq}
-use Rattle.std.proofs.lemmas.Bool.{and_parts, eqb-true, eq-eqb, leb-false, lt-leb}
-use borrow.Author.Tests.{ltb-true}
+use Rattle.std.proofs.lemmas.Bool.{and_parts, eqb-true, eq-eqb, leb-false, lt-leb, or_parts, not-false, true≢false, false≢true, ltb-true}
 use Rattle.flt_rules.specs.Rule.{number}
 use Rattle.flt_rules.specs.declared.rule.Rule.{Rule}
 use Rattle.flt_rules.specs.declared.rule.Rule.TheVariants.{R12, R14}
@@ -18,36 +17,31 @@ use Rattle.flt_abs.specs.declared.step.Successors.{Successors}
 use Rattle.flt_cert.specs.Format.{Certificate, Point, is_callback, is_certificate}
 use Rattle.std.specs.Prelude.{◌⊎◌, ◌↔◌, OnOk, IfErr, IsOk}
 use Rattle.std.proofs.Common.{inl, inr}
+use Rattle.std.proofs.lemmas.Option.{none-some}
 use Rattle.flt_check.specs.declared.checker.Refusal.{Refusal}
 use Rattle.flt_check.specs.Checker.{IsCountFault, IsCountRefusal, IsPointRefusal, IsLeastFault, state_at, count_at, lead_fault, successor_fault, lesser, leads_fault, result_fault, state_fault, own_fault, entry_by, entry_fault, point_fault, differs, AgreeOnCounts, IsFaultless, NoneIn, IsLed, Steps, IsEntered, Covers}
 
 -- ---- options of rules
 
-some_none : (r : Rule) → Some r ≡ None → ⊥
-some_none r e = cc
-
-none_some : (x : State) → None ≡ Some x → ⊥
-none_some x e = cc
-
 picked : (b : Bool) (x y : Rule) → (if b then Some y else Some x) ≡ None → ⊥
-picked true x y e = some_none y e
-picked false x y e = some_none x e
+picked true x y e = none-some y (sym e)
+picked false x y e = none-some x (sym e)
 
 lesser_none : (a b : Option Rule) → lesser a b ≡ None → (a ≡ None) × (b ≡ None)
 lesser_none None b e = (refl, e)
-lesser_none (Some x) None e = elim (some_none x e) [ ]
+lesser_none (Some x) None e = absurd (none-some x (sym e))
 lesser_none (Some x) (Some y) e = elim (picked (nat_lt (number y) (number x)) x y e) [ ]
 
 none_lesser : (a b : Option Rule) → a ≡ None → b ≡ None → lesser a b ≡ None
 none_lesser None b e h = h
-none_lesser (Some x) b e h = elim (some_none x e) [ ]
+none_lesser (Some x) b e h = absurd (none-some x (sym e))
 
 -- ---- where a state leads
 
 lead_by : (b c : Bool) → (if not b then Some R12 else (if not c then Some R14 else None)) ≡ None → c ≡ true
 lead_by true true e = refl
-lead_by true false e = elim (some_none R14 e) [ ]
-lead_by false c e = elim (some_none R12 e) [ ]
+lead_by true false e = absurd (none-some R14 (sym e))
+lead_by false c e = absurd (none-some R12 (sym e))
 
 by_lead : (b c : Bool) → b ≡ true → c ≡ true → (if not b then Some R12 else (if not c then Some R14 else None)) ≡ None
 by_lead true true e h = refl
@@ -56,13 +50,13 @@ by_lead false c e h = cc
 
 leads : (x : State) (o : Option State) → lead_fault x o ≡ None → (y : State) × (o ≡ Some y) × (is_below x y ≡ true)
 leads x (Some y) e = (y, refl, lead_by (bytes_eq x.locks y.locks) (is_below x y) e)
-leads x None e = elim (some_none R14 e) [ ]
+leads x None e = absurd (none-some R14 (sym e))
 
 led : (x y : State) (o : Option State) → o ≡ Some y → is_below x y ≡ true → lead_fault x o ≡ None
 led x y (Some z) e h =
     let same : is_below x z ≡ true = cc in
     by_lead (bytes_eq x.locks z.locks) (is_below x z) (and_parts _ _ same).0 same
-led x y None e h = elim (none_some y e) [ ]
+led x y None e h = absurd (none-some y e)
 
 is_led : (k : Certificate) (callback : ℕ) (o : Option Successor) → successor_fault k callback o ≡ None → IsLed k callback o
 is_led k callback (Some next) e = leads next.state (state_at k callback next.point) e
@@ -77,7 +71,7 @@ steps_by : (k : Certificate) (callback : ℕ) (r : Result Successors Rule) → r
 steps_by k callback (Ok next) e =
     let both = lesser_none _ _ e in
     (next, refl, is_led k callback next.first both.0, is_led k callback next.second both.1)
-steps_by k callback (Err r) e = elim (some_none r e) [ ]
+steps_by k callback (Err r) e = absurd (none-some r (sym e))
 
 by_steps : (k : Certificate) (callback : ℕ) (r : Result Successors Rule) (next : Successors) → r ≡ Ok next → IsLed k callback next.first → IsLed k callback next.second →
     result_fault k callback r ≡ None
@@ -96,7 +90,7 @@ steps_own g k callback point None h = refl
 
 entered_if : (b : Bool) → (if b then None else Some R14) ≡ None → b ≡ true
 entered_if true e = refl
-entered_if false e = elim (some_none R14 e) [ ]
+entered_if false e = absurd (none-some R14 (sym e))
 
 if_entered : (b : Bool) → b ≡ true → (if b then None else Some R14) ≡ None
 if_entered true e = refl
@@ -104,13 +98,13 @@ if_entered false e = cc
 
 entered : (g : Graph) (callback : ℕ) (o : Option State) → entry_by (place_at g callback) o ≡ None → (y : State) × (o ≡ Some y) × (is_below (entry (place_at g callback)) y ≡ true)
 entered g callback (Some y) e = (y, refl, entered_if (is_below (entry (place_at g callback)) y) e)
-entered g callback None e = elim (some_none R14 e) [ ]
+entered g callback None e = absurd (none-some R14 (sym e))
 
 from_entered : (g : Graph) (callback : ℕ) (y : State) (o : Option State) → o ≡ Some y → is_below (entry (place_at g callback)) y ≡ true → entry_by (place_at g callback) o ≡ None
 from_entered g callback y (Some z) e h =
     let same : is_below (entry (place_at g callback)) z ≡ true = cc in
     if_entered (is_below (entry (place_at g callback)) z) same
-from_entered g callback y None e h = elim (none_some y e) [ ]
+from_entered g callback y None e h = absurd (none-some y e)
 
 -- ---- points
 
@@ -133,14 +127,6 @@ entry_of g k callback e = (lesser_none _ _ e).1
 
 -- ---- counts
 
-not_either : (a b : Bool) → (a || b) ≡ false → (a ≡ false) × (b ≡ false)
-not_either false b e = (refl, e)
-not_either true b e = cc
-
-not_not : (b : Bool) → not b ≡ false → b ≡ true
-not_not true e = refl
-not_not false e = cc
-
 last_below : (n m : ℕ) → ((c : ℕ) → c < n → c < m) → n ≤ m
 last_below zero m h = omega arith
 last_below (suc n) m h = let e = h n (omega arith) in omega arith
@@ -150,8 +136,8 @@ same_length g k h each = let e = last_below (length g.callbacks) (length k) each
 
 counted : (g : Graph) (k : Certificate) (callback : ℕ) → differs g k callback ≡ false → (callback < length k) × (points_at g callback ≡ count_at k callback)
 counted g k callback e =
-    let parts = not_either _ _ e in
-    (leb-false _ _ parts.0, eqb-true _ _ (not_not _ parts.1))
+    let parts = or_parts _ _ e in
+    (leb-false _ _ parts.0, eqb-true _ _ (not-false _ parts.1))
 
 same_count : (n m : ℕ) → n ≡ m → not (n == m) ≡ false
 same_count n m e = ap not (eq-eqb n m e)
@@ -192,23 +178,14 @@ faultless_of g k h = record {
       (let e = h.entries c below in from_entered g c e.0 (state_at k c 0) e.1 e.2);
 }
 
-absurd_test : (b : Bool) → b ≡ true → b ≡ false → ⊥
-absurd_test b e h = cc
-
-absurd_rule : (o : Option Rule) (r : Rule) → o ≡ Some r → o ≡ None → ⊥
-absurd_rule o r e h = cc
-
 count_fault_not : (g : Graph) (k : Certificate) (callback : ℕ) → IsCountFault g k callback → AgreeOnCounts g k → ⊥
-count_fault_not g k callback (inl first) h = absurd_test (differs g k callback) first.here (h.points callback first.within)
+count_fault_not g k callback (inl first) h = true≢false (sym first.here ∙ h.points callback first.within)
 count_fault_not g k callback (inr more) h = let e = more.more in let l = h.callbacks in absurd (omega arith)
 
 least_not : (g : Graph) (k : Certificate) (f : Refusal) → IsLeastFault g k f → IsFaultless g k → ⊥
 least_not g k f (inl count) h = count_fault_not g k f.callback count.callback h.counts
-least_not g k f (inr point) h = absurd_rule (point_fault g k f.callback f.point) f.rule point.point.broken (h.points f.callback point.callback f.point point.point.within)
-
-not_true : false ≡ true → ⊥
-not_true e = cc
+least_not g k f (inr point) h = none-some f.rule (sym (h.points f.callback point.callback f.point point.point.within) ∙ point.point.broken)
 
 pub accepted_iff : (g : Graph) (k : Certificate) (r : Result (Unit {0}) Refusal) → is_certificate k ≡ true → OnOk r (IsFaultless g k) → IfErr r (IsLeastFault g k) → IsOk r ↔ Covers g k
 accepted_iff g k (Ok u) good h e = (λ _. covers_of g k good h, λ _. refl)
-accepted_iff g k (Err f) good h e = (λ no. absurd (not_true no), λ c. absurd (least_not g k f e (faultless_of g k c)))
+accepted_iff g k (Err f) good h e = (λ no. absurd (false≢true no), λ c. absurd (least_not g k f e (faultless_of g k c)))

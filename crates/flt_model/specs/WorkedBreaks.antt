@@ -1,5 +1,5 @@
 -- The shortest runs that break each rule, and some that aren't runs.
-use Rattle.std.specs.Prelude.{◌≡◌, refl, ℕ, false, List, [], ◌∷◌, None}
+use Rattle.std.specs.Prelude.{◌≡◌, refl, false, List, [], ◌∷◌, None}
 use Rattle.flt_rules.specs.declared.call.Anchor.TheVariants.{Stream, Instance}
 use Rattle.flt_rules.specs.declared.call.LockKind.TheVariants.{Spin}
 use Rattle.flt_rules.specs.declared.call.LockNumber.TheVariants.{L0, L1}
@@ -13,7 +13,6 @@ use Rattle.flt_syntax.specs.declared.filter.Statement.{Statement}
 use Rattle.flt_syntax.specs.declared.filter.Status.TheVariants as status
 use Rattle.flt_syntax.specs.declared.variable.ContextVariable.TheVariants.{C0}
 use Rattle.flt_syntax.specs.declared.variable.OperationVariable.TheVariants.{Data}
-use Rattle.flt_model.specs.declared.moves.JournalEntry.{JournalEntry}
 use Rattle.flt_model.specs.declared.moves.JournalEntry.TheVariants.{Move, Go}
 use Rattle.flt_model.specs.declared.moves.Move.TheVariants as move
 use Rattle.flt_model.specs.declared.verdict.Verdict.TheVariants.{Legal, NotARun, Breaks}
@@ -24,10 +23,6 @@ use Rattle.flt_model.specs.WorkedParts.{computed, call, return, if_call, on, fil
 -- a filter of one pre callback
 abbrev pub reading : List Statement → List Filter
 reading body = filter 100 (on (head.Pre Read) body ∷ []) ∷ []
-
--- a read starts, and the callback makes so many steps that others see
-abbrev pub steps : ℕ → List JournalEntry
-steps n = arrive Read ∷ pre 0 ∷ go 0 n ∷ []
 
 abbrev pub no_callback : Statement
 no_callback = return status.NoCallback

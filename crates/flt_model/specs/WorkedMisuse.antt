@@ -1,8 +1,7 @@
 -- What the machine does where callbacks use it wrongly: the violation, and how the run goes on.
 use Rattle.std.specs.Prelude.{◌≡◌, refl, List, [], ◌∷◌, ◌++◌, Some, None}
 use Rattle.flt_rules.specs.declared.call.Anchor.TheVariants.{Instance}
-use Rattle.flt_rules.specs.declared.call.LockKind.TheVariants.{Spin}
-use Rattle.flt_rules.specs.declared.call.LockNumber.TheVariants.{L0, L1}
+use Rattle.flt_rules.specs.declared.call.LockNumber.TheVariants.{L1}
 use Rattle.flt_rules.specs.declared.place.Operation.TheVariants.{Create, Read, Write}
 use Rattle.flt_rules.specs.declared.status.FinalStatus.TheVariants as final
 use Rattle.flt_syntax.specs.declared.filter.FallibleCall.TheVariants as fallible
@@ -21,7 +20,7 @@ use Rattle.flt_model.specs.declared.verdict.Verdict.TheVariants.{Legal, Breaks}
 use Rattle.flt_model.specs.declared.verdict.Violation.TheVariants.{V1, V2, V4, V5, V8}
 use Rattle.flt_model.specs.Expansion.{verdict}
 use Rattle.flt_model.specs.World.{Completed, Down, Up}
-use Rattle.flt_model.specs.WorkedParts.{computed, played, references_after, outcomes_after, positions_after, locks_after, call, return, if_call, on, filter, locking, lock, routine, passes, arrive, pre, lower, go}
+use Rattle.flt_model.specs.WorkedParts.{computed, played, references_after, outcomes_after, positions_after, locks_after, call, return, if_call, on, filter, routine, passes, arrive, pre, lower, go}
 use Rattle.flt_model.specs.WorkedBreaks.{reading, makes_one, no_callback, with_locks, takes_first, takes_second, gives_first}
 use Rattle.flt_model.specs.WorkedContexts.{sets}
 

@@ -5,6 +5,7 @@ use Rattle.std.proofs.lemmas.List.{ext_get_or, get_or_read, length-set, length-m
 use Rattle.std.specs.Ordering.{nat_cmp}
 use Rattle.std.specs.FinSet as finite
 use Rattle.std.proofs.lemmas.List.Elements.{Contains-append_right}
+use Rattle.std.proofs.lemmas.Option.{none-some, same_Some}
 use Rattle.slab.proofs.SlabLemmas.{Contains-cons}
 use Rattle.slab.specs.Slab.{Slab, get, ContainsKey, with_value, Updates}
 use Rattle.ilist_core.specs.declared.rows.Row.{Row}
@@ -18,9 +19,6 @@ use Rattle.ilist_core.proofs.Mended.{list_in, with_value-same, with_value-other,
 use Rattle.ilist_core.proofs.NodeSet.{contains-nodes_in, nodes_in-kept, nodes_in-insert, nodes_in-remove}
 use Rattle.ilist_core.proofs.Linked.{lists_of-sound}
 use Rattle.ilist_core.proofs.Changes.{first_of-Contains, there-named, named, one_list, last_within, nodes_of-without, pushed_rows, pushed_ends, IsSound-push, pushed-there, previous, next, row-named, previous-there, next-there_still, mended_rows, node-there, unlinked_rows, unlinked_ends, list-within, IsSound-unlink, unlinked-there, unlinked-none, mended-keeps, IsSound-same, IsSound-add, IsSound-remove, IsSound-new_list}
-
-some_same : {X : Type 0} (a b : X) → Some a ≡ Some b → a ≡ b
-some_same a b e = cc
 
 -- what a contract sees of a table and its ends
 abbrev pub seen : Slab Row → List Ends → Sequences
@@ -43,11 +41,8 @@ empty-sound rows ends no_rows no_ends_there =
       ends_meet = λ list. ap (λ es. ends_at es list) no_ends_there;
       spelled = λ list. tt;
       none_twice = λ list i j d below within. absurd (omega arith);
-      listed = λ list node names. absurd (no list (sym (ap (λ slots. (row_in (get_or slots node None)).list) no_rows) ∙ names));
+      listed = λ list node names. absurd (none-some list (sym (ap (λ slots. (row_in (get_or slots node None)).list) no_rows) ∙ names));
     }
-  where
-    no : (list : ℕ) → None ≡ Some list → ⊥
-    no list e = cc
 
 pub empty-nodes : (rows : Slab Row) → rows.slots ≡ [] → nodes_in rows ≡ finite.empty
 unfolding nodes_in
@@ -65,10 +60,7 @@ if_some s node None exact = tt
 if_some s node (Some list) exact = (exact list).0 refl
 
 pub if_none : (s : Sequences) (node : ℕ) (answer : Option ℕ) → ((list : ℕ) → (answer ≡ Some list) ↔ Contains (nodes_of s.lists list) node) → IfNone answer (IsUnlinked s node)
-if_none s node None exact = λ list found. no list ((exact list).1 found)
-  where
-    no : (list : ℕ) → None ≡ Some list → ⊥
-    no list e = cc
+if_none s node None exact = λ list found. none-some list ((exact list).1 found)
 if_none s node (Some list) exact = tt
 
 -- the same nodes and next number, with other lists
@@ -92,7 +84,7 @@ without_first s list node apart within first =
     headed : (nodes : List ℕ) → NoneTwice nodes → first_of nodes None ≡ Some node → without node nodes ≡ drop 1 nodes
     headed [] once first = refl
     headed (x ∷ xs) once first =
-        let same : x ≡ node = some_same x node first in
+        let same : x ≡ node = same_Some x node first in
         subst (λ n. without n (x ∷ xs) ≡ xs) same (without-cut x [] xs (λ none. absurd (omega (arith, none.1))) (apart_first x xs once))
 
 module _ (rows : Slab Row) (ends : List Ends) (now : Sequences) (inner : IsSound rows ends (lists_of rows ends)) (view : seen rows ends ≡ now) where
@@ -134,7 +126,7 @@ module _ (rows : Slab Row) (ends : List Ends) (now : Sequences) (inner : IsSound
   pub next-exact : (node key : ℕ) (row : Row) → key ≡ node → get rows key ≡ Some row → (list : ℕ) (before after : List ℕ) → nodes_of now.lists list ≡ before ++ node ∷ after → row.next ≡ first_of after None
   next-exact node key row is read list before after cut =
       let right = Spells-right rows list None before (node ∷ after) None (subst (λ ns. Spells rows list None ns None) cut (sound.spelled list)) in
-      let same : row ≡ linked_row list (last_of None before) (first_of after None) = some_same _ _ (sym read ∙ ap (get rows) is ∙ right.0) in
+      let same : row ≡ linked_row list (last_of None before) (first_of after None) = same_Some _ _ (sym read ∙ ap (get rows) is ∙ right.0) in
       ap (λ (r : Row). r.next) same
 
   pub next-linked : (node key : ℕ) (row : Row) → key ≡ node → get rows key ≡ Some row → IsLinked now node → IfSome row.next (IsLinked now)
@@ -248,7 +240,7 @@ module _ (rows : Slab Row) (ends : List Ends) (now : Sequences) (inner : IsSound
   -- an unlinking
   module _ (node : ℕ) (linked : IsLinked now node) (key : ℕ) (is : key ≡ node) (row : Row) (read : get rows key ≡ Some row) where
     row-is : row ≡ linked_row linked.0 (previous rows ends now.lists sound linked.0 node linked.1) (next rows ends now.lists sound linked.0 node linked.1)
-    row-is = some_same _ _ (sym read ∙ ap (get rows) is ∙ row-named rows ends now.lists sound linked.0 node linked.1)
+    row-is = same_Some _ _ (sym read ∙ ap (get rows) is ∙ row-named rows ends now.lists sound linked.0 node linked.1)
 
     list-is : row.list ≡ Some linked.0
     list-is = ap (λ (r : Row). r.list) row-is
@@ -267,7 +259,7 @@ module _ (rows : Slab Row) (ends : List Ends) (now : Sequences) (inner : IsSound
 
     module _ (list : ℕ) (unwrapped : row.list ≡ Some list) where
       same_list : list ≡ linked.0
-      same_list = some_same list linked.0 (sym unwrapped ∙ list-is)
+      same_list = same_Some list linked.0 (sym unwrapped ∙ list-is)
 
       pub ends-there : list < length ends
       ends-there = subst (λ l. l < length ends) (sym same_list) (list-within rows ends now.lists sound linked.0 node linked.1)
