@@ -1,9 +1,6 @@
 -- What counts that are kept in order say: of none that all count 0, and how often each key stands among them.
-use Rattle.std.proofs.Common.{◌≡◌, ◌≢◌, ⊎_elim, subst, ℕ, ◌+◌, ◌<◌, List, [], ◌∷◌, Option, Some, None, ap, sym, refl, ◌∙◌, arith, length, min, true, false}
+use Rattle.std.proofs.Common.{◌≡◌, ◌≢◌, ⊎_elim, subst, ℕ, ◌+◌, ◌<◌, List, [], ◌∷◌, Option, Some, None, ap, sym, refl, ◌∙◌, arith, length, min}
 use Rattle.std.proofs.lemmas.Bool.{cases_eq, cond-true, cond-false}
-use Rattle.std.proofs.lemmas.Bool.Decides.{nat_tests}
-use Rattle.std.proofs.lemmas.Cmp.{ranked}
-use Rattle.std.proofs.lemmas.Grind.{common_steps}
 use Rattle.std.proofs.lemmas.List.Sums.{sum_by-cons}
 use Rattle.std.specs.Prelude.{IfSome}
 use Rattle.std.proofs.lemmas.Map.Keys.{sorted_head, sorted_tail}
@@ -16,23 +13,12 @@ use Rattle.std.specs.Ordering.{nat_cmp}
 use Rattle.std.specs.declared.cmp.Ordering.TheVariants.{Less}
 use Rattle.flt_model.specs.Trace.{one_if}
 use Rattle.flt_replay.specs.Counts.{count, occurs}
+use Rattle.flt_replay.proofs.Keys.{at_self, at_other, at_later, less_is}
 use Rattle.flt_replay.proofs.Ones.{one_here, one_elsewhere}
 
 -- each count is at least one
 abbrev pub IsPositive : List (ℕ × ℕ) → Type 0
 IsPositive es = (n : ℕ) → IfSome (lookup (is_at (nat_cmp n)) es) (λ times. 0 < times)
-
-at_self : (n : ℕ) → is_at (nat_cmp n) n ≡ true
-at_self n = grind (arith, common_steps)
-
-below_other : (k n : ℕ) → nat_cmp k n ≡ Less → k < n
-below_other k n h = ranked k n Less (sym h)
-
-at_other : (k n : ℕ) → k ≢ n → is_at (nat_cmp n) k ≡ false
-at_other k n h = grind (arith, nat_tests)
-
-at_later : (k n : ℕ) → k < n → is_at (nat_cmp k) n ≡ false
-at_later k n h = grind (arith, nat_tests)
 
 pub empty_from_length : (es : List (ℕ × ℕ)) → length es ≡ 0 → (n : ℕ) → count es n ≡ 0
 unfolding count
@@ -52,19 +38,19 @@ length_from_empty ((k, v) ∷ es) h z = absurd (omega (arith, some_counts k v es
 
 absent : (k : ℕ) (es : List (ℕ × ℕ)) → AllByRecursion (λ y. nat_cmp k y ≡ Less) (keys_of es) → lookup (is_at (nat_cmp k)) es ≡ None
 absent k [] h = refl
-absent k ((m, v) ∷ es) h = cond-false (is_at (nat_cmp k) m) (Some v) (lookup (is_at (nat_cmp k)) es) (at_later k m (below_other k m h.0)) ∙ absent k es h.1
+absent k ((m, v) ∷ es) h = cond-false (is_at (nat_cmp k) m) (Some v) (lookup (is_at (nat_cmp k)) es) (at_later k m (less_is k m h.0)) ∙ absent k es h.1
 
 not_later : (k : ℕ) (es : List (ℕ × ℕ)) → AllByRecursion (λ y. nat_cmp k y ≡ Less) (keys_of es) → occurs k (keys_of es) ≡ 0
 not_later k [] h = refl
 not_later k ((m, v) ∷ es) h =
-    let here : one_if m k ≡ 0 = one_elsewhere m k (λ e. omega (arith, below_other k m h.0)) in
+    let here : one_if m k ≡ 0 = one_elsewhere m k (λ e. omega (arith, less_is k m h.0)) in
     omega (arith, sum_by-cons (λ (x : ℕ). one_if x k) m (keys_of es), here, not_later k es h.1)
 
 -- the entries after the first
 others_positive : (k v : ℕ) (es : List (ℕ × ℕ)) → AllByRecursion (λ y. nat_cmp k y ≡ Less) (keys_of es) → IsPositive ((k, v) ∷ es) → IsPositive es
 others_positive k v es s h n =
     ⊎_elim (λ (e : k ≡ n). subst (λ (m : ℕ). IfSome (lookup (is_at (nat_cmp m)) es) (λ times. 0 < times)) e (subst (λ (o : Option ℕ). IfSome o (λ times. 0 < times)) (sym (absent k es s)) tt))
-    (λ (ne : k ≢ n). subst (λ (o : Option ℕ). IfSome o (λ times. 0 < times)) (cond-false (is_at (nat_cmp n) k) (Some v) (lookup (is_at (nat_cmp n)) es) (at_other k n ne)) (h n))
+    (λ (ne : k ≢ n). subst (λ (o : Option ℕ). IfSome o (λ times. 0 < times)) (cond-false (is_at (nat_cmp n) k) (Some v) (lookup (is_at (nat_cmp n)) es) (at_other n k ne)) (h n))
     (cases_eq k n)
 
 -- each number that counts is a key, once
@@ -82,6 +68,6 @@ keys_counted ((k, v) ∷ es) s h n =
     (λ (ne : k ≢ n).
     let rest : occurs n (keys_of es) ≡ min 1 (count es n) = keys_counted es (sorted_tail nat_cmp k (keys_of es) s) (others_positive k v es first h) n in
     let here : one_if k n ≡ 0 = one_elsewhere k n ne in
-    let same : count ((k, v) ∷ es) n ≡ count es n = ap (λ (o : Option ℕ). unwrap_or o 0) (cond-false (is_at (nat_cmp n) k) (Some v) (lookup (is_at (nat_cmp n)) es) (at_other k n ne)) in
+    let same : count ((k, v) ∷ es) n ≡ count es n = ap (λ (o : Option ℕ). unwrap_or o 0) (cond-false (is_at (nat_cmp n) k) (Some v) (lookup (is_at (nat_cmp n)) es) (at_other n k ne)) in
     omega arith)
     (cases_eq k n)

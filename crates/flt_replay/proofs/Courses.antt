@@ -24,7 +24,7 @@ use Rattle.flt_replay.specs.declared.monitor.Course.{Course as Code}
 use Rattle.flt_replay.specs.declared.monitor.Course.TheVariants as code
 use Rattle.flt_replay.specs.declared.monitor.Monitor.{Monitor}
 use Rattle.flt_replay.proofs.Frames.{stepped}
-use Rattle.flt_replay.proofs.Judgements.{least_of_both, owned_after, rules_of_step, no_rule_of_move}
+use Rattle.flt_replay.proofs.Judgements.{least_of_both, rules_of_step, no_rule_of_move}
 use Rattle.flt_replay.proofs.Ledgers.{agrees_unseen}
 use Rattle.flt_replay.proofs.RulesAfter.{alike_after}
 
@@ -62,7 +62,7 @@ module _ (p : List Filter) (m : Moment) (s : Step) (monitor : Monitor) (found ru
       ComesTo code.Reaches monitor (unless_broken (broken p m s) (Reaches (after m s)))
   reaches e world counts =
       let none : found ≡ None = none_of found rule e in
-      rw (both, e) (record { world = world; counts = counts none; owned = owned_after p m s (sym holding ∙ none) })
+      rw (both, e) (record { world = world; counts = counts none })
 
 -- ---- one transition
 
@@ -156,9 +156,8 @@ module _ (quiet : AreQuiet) (p : List Filter) (m : Moment) (a : ℕ) (old : Moni
   unseen_by : (s : Step) → next p m (Local a) ≡ Some s → u ≡ s.world →
       GoesOn true (record { world = u; ledger = old.ledger }) p ys (course p m (Local a ∷ ys))
   unseen_by s e world =
-      let q = quiet p m a s at.owned e in
-      let none : first_of of_holding p m s ≡ None = none_of (first_of of_holding p m s) (first_of of_rules p m s) (sym (least_of_both p m s) ∙ q.1) in
-      (after m s, record { world = world; counts = agrees_unseen p m a s old.ledger at.counts e q.0; owned = owned_after p m s none }, rw (e, q.1) refl)
+      let q = quiet p m a s at.counts.owned e in
+      (after m s, record { world = world; counts = agrees_unseen p m a s old.ledger at.counts e q.0 }, rw (e, q.1) refl)
 
   pub unseen : enabled ≡ true → GoesOn true (record { world = u; ledger = old.ledger }) p ys (course p m (Local a ∷ ys))
   unseen is =
@@ -206,4 +205,4 @@ judged_at p m n entries d whole k h is e =
 
 -- before the first entry
 pub begins : (p : List Filter) (monitor : Monitor) → monitor.world ≡ opening p → Agrees (start p) monitor.ledger → IsAt monitor (start p)
-begins p monitor world counts = record { world = world; counts = counts; owned = refl }
+begins p monitor world counts = record { world = world; counts = counts }

@@ -1,6 +1,6 @@
 -- What a step of an activation does with visits: none but those that its events name change their places, and what it gains and
 -- loses is its own. It ends where an event says so.
-use Rattle.std.proofs.Common.{◌≡◌, ℕ, Bool, true, false, List, [], ◌∷◌, ◌++◌, Option, Some, None, length, ap, sym, subst, refl, ◌∙◌}
+use Rattle.std.proofs.Common.{◌≡◌, ℕ, Bool, true, false, List, [], ◌∷◌, ◌++◌, Option, Some, None, length, ap, sym, refl, ◌∙◌}
 use Rattle.std.proofs.Math.ListN.{set}
 use Rattle.std.proofs.lemmas.Bool.{and_from, and_parts}
 use Rattle.std.proofs.lemmas.List.{get_or-set_other, length-set}
@@ -17,20 +17,13 @@ use Rattle.flt_rules.specs.declared.call.LockKind.{LockKind}
 use Rattle.flt_rules.specs.declared.call.LockNumber.{LockNumber}
 use Rattle.flt_syntax.specs.Filter.{context_of, named_context}
 use Rattle.flt_syntax.specs.Variable.{whose}
-use Rattle.flt_syntax.specs.declared.filter.Action.{Action}
-use Rattle.flt_syntax.specs.declared.filter.Action.TheVariants as action
-use Rattle.flt_syntax.specs.declared.filter.Condition.{Condition}
-use Rattle.flt_syntax.specs.declared.filter.Condition.TheVariants as condition
 use Rattle.flt_syntax.specs.declared.filter.FallibleCall.{FallibleCall}
 use Rattle.flt_syntax.specs.declared.filter.FallibleCall.TheVariants as fallible
 use Rattle.flt_syntax.specs.declared.filter.Filter.{Filter}
 use Rattle.flt_syntax.specs.declared.filter.PlainCall.{PlainCall}
 use Rattle.flt_syntax.specs.declared.filter.PlainCall.TheVariants as plain
-use Rattle.flt_syntax.specs.declared.filter.Statement.{Statement, out-Statement}
-use Rattle.flt_syntax.specs.declared.filter.Statement.TheOpen.{Statement-F}
+use Rattle.flt_syntax.specs.declared.filter.Statement.{Statement}
 use Rattle.flt_syntax.specs.declared.filter.Status.{Status}
-use Rattle.flt_syntax.specs.declared.filter.Test.{Test}
-use Rattle.flt_syntax.specs.declared.filter.Test.TheVariants as test
 use Rattle.flt_syntax.specs.declared.variable.Atom.{Atom}
 use Rattle.flt_syntax.specs.declared.variable.ContextVariable.{ContextVariable}
 use Rattle.flt_syntax.specs.declared.variable.NumberVariable.{NumberVariable}
@@ -47,15 +40,16 @@ use Rattle.flt_model.specs.Calls.{needs_of, link_of, set_there, set_by, cannot_s
 use Rattle.flt_model.specs.Effects.{Step, context, operation, optional, uses, empties, gains_context, loses_context, freed_by_drop, after_unlink, events_of_unlink, onward, goes_on, unchanged, gives_nothing, needing, calling}
 use Rattle.flt_model.specs.Locks.{holds_lock}
 use Rattle.flt_model.specs.Program.{callbacks_at, routine_of}
-use Rattle.flt_model.specs.Reads.{put_value, read_value_of, read_value, write_value_of, write_value, read_file_of, read_file, test_irp_of, test_irp}
+use Rattle.flt_model.specs.Reads.{put_value, read_value_of, write_value_of, read_file_of, test_irp_of}
 use Rattle.flt_model.specs.Returns.{ends, status_given, context_used, visit_given_back, returned, returns, there}
 use Rattle.flt_model.specs.Settling.{Way, led, way_of, settles_visit, makes_frame, is_led, lead, settled_by}
-use Rattle.flt_model.specs.Steps.{act_step, plain_step, fallible_step, test_step, if_step, statement_step, list_step, board, may_go}
+use Rattle.flt_model.specs.Steps.{plain_step, fallible_step, list_step, board}
 use Rattle.flt_model.specs.Trace.{is_held}
 use Rattle.flt_model.specs.Variables.{operation_in, context_in, named_in, atom_value, with_number, with_old}
 use Rattle.flt_model.specs.World.{World, Store, Activation, Entry, Item, Link, activation_at, actor_at, is_attached, presence_at, queue_at, context_at, is_freed, linked_at, arrival_of, visit_at, route_at, with_context, with_route}
 use Rattle.flt_model.specs.Violations.{in_queue, in_item}
 use Rattle.flt_replay.proofs.Apart.{apart_numbers, one_if_apart, Unmoved, unmoved_itself, unmoved_if, unmoved_same, SameParts, same_itself, parts_if, sum_set, sum_push, queue_push, queue_front}
+use Rattle.flt_replay.proofs.EachStep.{OfEach, of_list}
 use Rattle.flt_replay.proofs.Frames.{self_by, if_same}
 use Rattle.flt_replay.proofs.MoveRules.{all_pass}
 use Rattle.flt_replay.specs.Apart.{is_apart, is_end_of}
@@ -624,23 +618,6 @@ module _ (w : World) (a : ℕ) where
 
       -- ---- any step
 
-      some_handed : (r s : Step) → Handed w a r → Some r ≡ Some s → Handed w a s
-      some_handed r s h e = let same : r ≡ s = cc in subst (λ q. Handed w a q) same h
-
-      act_handed : (rest : List Statement) (x : Action) (s : Step) → act_step p t w a rest x ≡ Some s → Handed w a s
-      act_handed rest (action.ReadValue n c) s e =
-          let x = context_in here c in
-          some_handed (read_value w a n c rest) s (needed (context x ∷ []) (read_value_of w a n rest x) (value_read n rest x)) e
-      act_handed rest (action.ReadFile n d) s e =
-          let v = operation_in here d in
-          some_handed (read_file w a n d rest) s (needed (operation v ∷ []) (read_file_of w a n rest v) (file_read n rest v)) e
-      act_handed rest (action.WriteValue c x) s e =
-          let y = context_in here c in
-          some_handed (write_value w a c x rest) s (needed (context y ∷ []) (write_value_of w a x rest y) (value_written x rest y)) e
-      act_handed rest (action.SetNumber n x) s e = absurd (cc)
-      act_handed rest (action.ClearContext c) s e = absurd (cc)
-      act_handed rest (action.ClearOperation o) s e = absurd (cc)
-
       plain_handed : (rest : List Statement) (c : PlainCall) → Handed w a (plain_step p t w a rest c)
       plain_handed rest (plain.DeleteContext c) = delete_handed c rest
       plain_handed rest (plain.ReferenceContext c d) = reference_handed c d rest
@@ -663,49 +640,23 @@ module _ (w : World) (a : ℕ) where
       fallible_handed grant granted refused (fallible.QueueGenericWorkItem r c) =
           queue_handed (routine_of (callbacks_at p own_filter) r) c grant granted refused
 
-      test_handed : (holds fails : List Statement) (x : Test) (s : Step) → test_step p t w a holds fails x ≡ Some s → Handed w a s
-      test_handed holds fails test.IsIrp s e =
-          let v = operation_in here Data in
-          some_handed (test_irp w a holds fails) s
-          (needed (operation v ∷ []) (test_irp_of w a holds fails v) (irp_tested holds fails v)) e
-      test_handed holds fails (test.ContextIsSome c) s e = absurd (cc)
-      test_handed holds fails (test.OperationIsSome o) s e = absurd (cc)
-      test_handed holds fails (test.Equal n x) s e = absurd (cc)
-      test_handed holds fails (test.Less n x) s e = absurd (cc)
-      test_handed holds fails test.IsDraining s e = absurd (cc)
-
-      if_step_handed : (grant : Bool) (granted refused : List Statement) (asked : Condition) (s : Step) →
-          if_step p t w a grant granted refused asked ≡ Some s → Handed w a s
-      if_step_handed grant granted refused (condition.Test x) s e = test_handed granted refused x s e
-      if_step_handed grant granted refused (condition.Succeeds c) s e =
-          some_handed (fallible_step p t w a grant granted refused c) s (fallible_handed grant granted refused c) e
-
-      statement_handed : (rest : List Statement) (grant : Bool) (layer : Statement-F Statement) (s : Step) →
-          statement_step p t w a rest grant layer ≡ Some s → Handed w a s
-      statement_handed rest grant (Statement-F.Act line x) s e = act_handed rest x s e
-      statement_handed rest grant (Statement-F.Call line c) s e = some_handed (plain_step p t w a rest c) s (plain_handed rest c) e
-      statement_handed rest grant (Statement-F.Return line st) s e = some_handed (returns p t w a st) s (returns_handed st) e
-      statement_handed rest grant (Statement-F.If line asked granted refused) s e =
-          if_step_handed grant (granted ++ rest) (refused ++ rest) asked s e
-      statement_handed rest grant (Statement-F.Repeat line turns block) s e = absurd (cc)
-
-      unless_handed : (b : Bool) (o : Option Step) (s : Step) → (o ≡ Some s → Handed w a s) → (if b then o else None) ≡ Some s → Handed w a s
-      unless_handed true o s h e = h e
-      unless_handed false o s h e = absurd (cc)
-
-      list_handed : (list : List Statement) (grant : Bool) (s : Step) → list_step p t w a list grant ≡ Some s → Handed w a s
-      list_handed [] grant s e =
-          unless_handed grant (Some (returns p t w a None)) s (λ h. some_handed (returns p t w a None) s (returns_handed None) h) e
-      list_handed (x ∷ rest) grant s e =
-          unless_handed (may_go w a grant (out-Statement x)) (statement_step p t w a rest grant (out-Statement x)) s
-          (λ h. statement_handed rest grant (out-Statement x) s h) e
+      each_handed : OfEach p t w a (λ s. Handed w a s)
+      each_handed = record {
+        of_value_read = λ n c rest. needed (context (context_in here c) ∷ []) (read_value_of w a n rest (context_in here c)) (value_read n rest (context_in here c));
+        of_value_written = λ c x rest. needed (context (context_in here c) ∷ []) (write_value_of w a x rest (context_in here c)) (value_written x rest (context_in here c));
+        of_file_read = λ n d rest. needed (operation (operation_in here d) ∷ []) (read_file_of w a n rest (operation_in here d)) (file_read n rest (operation_in here d));
+        of_irp_test = λ holds fails. needed (operation (operation_in here Data) ∷ []) (test_irp_of w a holds fails (operation_in here Data)) (irp_tested holds fails (operation_in here Data));
+        of_plain_call = plain_handed;
+        of_fallible_call = fallible_handed;
+        of_return = returns_handed;
+      }
 
 -- ---- a step that others see
 
 module _ (p : List Filter) (t : List Event) (w : World) (a : ℕ) (grant : Bool) (s : Step) where
   handed_by : (b : Bool) → (if b then None else list_step p t w a (activation_at w a).rest grant) ≡ Some s → Handed w a s
   handed_by true e = absurd (cc)
-  handed_by false e = list_handed w a p t (activation_at w a).rest grant s e
+  handed_by false e = of_list p t w a (λ r. Handed w a r) (each_handed w a p t) (activation_at w a).rest grant s e
 
   pub handed : board p t w a grant ≡ Some s → Handed w a s
   handed e = handed_by (activation_at w a).ended e

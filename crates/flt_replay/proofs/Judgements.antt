@@ -1,16 +1,15 @@
 -- The least violation of a step: first those of who holds what, then those of rules.
-use Rattle.std.proofs.Common.{◌≡◌, ℕ, Bool, true, false, List, ◌++◌, Some, None, cond, find, not, refl, sym}
+use Rattle.std.proofs.Common.{◌≡◌, ℕ, Bool, true, List, Some, None, find, not, refl, sym}
 use Rattle.std.proofs.lemmas.List.Folds.{find-append}
 use Rattle.std.specs.Option.{option_or}
 use Rattle.flt_syntax.specs.declared.filter.Filter.{Filter}
 use Rattle.flt_model.specs.declared.moves.Move.{Move}
 use Rattle.flt_model.specs.declared.verdict.Violation.{Violation}
-use Rattle.flt_model.specs.declared.verdict.Violation.TheVariants.{V1, V2, V3, V4, V5, V6, V7, V8}
+use Rattle.flt_model.specs.declared.verdict.Violation.TheVariants.{V5, V6, V7, V8}
 use Rattle.flt_model.specs.Effects.{Step}
 use Rattle.flt_model.specs.Moves.{make}
 use Rattle.flt_model.specs.Runs.{Moment, keeps, broken}
 use Rattle.flt_model.specs.Steps.{board}
-use Rattle.flt_model.specs.Violations.{one_owner}
 use Rattle.flt_model.specs.World.{activation_at}
 use Rattle.flt_replay.specs.Judging.{first_of, of_holding, of_rules, keeps_rule, with_locks}
 use Rattle.flt_replay.proofs.Frames.{stepped}
@@ -36,14 +35,3 @@ rules_of_step p m a grant s e =
 -- a move breaks none
 pub no_rule_of_move : (p : List Filter) (m : Moment) (x : Move) (s : Step) → make p m.world x ≡ Some s → None ≡ first_of of_rules p m s
 no_rule_of_move p m x s e = sym (rules_by p m s (λ v. true) (λ v. moves_keep_rules p m.world x s e v m.world m.trace))
-
--- where none of the first four is broken, each visit has its owner
-last_kept : (a b c d : Bool) → cond (not a) (Some V1) (cond (not b) (Some V2) (cond (not c) (Some V3) (cond (not d) (Some V4) None))) ≡ None → d ≡ true
-last_kept true true true true h = refl
-last_kept true true true false h = absurd (cc)
-last_kept true true false d h = absurd (cc)
-last_kept true false c d h = absurd (cc)
-last_kept false b c d h = absurd (cc)
-
-pub owned_after : (p : List Filter) (m : Moment) (s : Step) → first_of of_holding p m s ≡ None → one_owner s.world (m.trace ++ s.events) ≡ true
-owned_after p m s h = last_kept (keeps p m s V1) (keeps p m s V2) (keeps p m s V3) (keeps p m s V4) h

@@ -5,6 +5,7 @@ pub mod Concluding
 pub mod CountWaiting
 pub mod Counting
 pub mod Courses
+pub mod EachStep
 pub mod EntryVisits
 pub mod First
 pub mod FirstLinked
@@ -13,6 +14,7 @@ pub mod Frames
 pub mod Handing
 pub mod Holders
 pub mod Judgements
+pub mod Keys
 pub mod LastFrames
 pub mod Ledgers
 pub mod LocalFrames

@@ -12,17 +12,9 @@ use Rattle.std.specs.Option.{IfSome}
 use Rattle.std.specs.Ordering.{nat_cmp}
 use Rattle.std.specs.declared.cmp.Ordering.TheVariants.{Less}
 use Rattle.flt_model.specs.World.{Entry}
+use Rattle.flt_replay.proofs.Keys.{at_is, at_self, at_other, less_is}
 use Rattle.flt_replay.specs.Places.{has, is_place}
 use Rattle.flt_replay.specs.Tickets.{entry_at, has_visit, is_of, without_first, AreTickets, IsLeast}
-
-at_self : (n : ℕ) → is_at (nat_cmp n) n ≡ true
-at_self n = grind (arith, nat_tests)
-
-at_other : (n k : ℕ) → (k ≡ n → ⊥) → is_at (nat_cmp n) k ≡ false
-at_other n k h = grind (arith, nat_tests)
-
-less_is : (k n : ℕ) → nat_cmp k n ≡ Less → k < n
-less_is k n h = grind (arith, nat_tests)
 
 -- ---- entries of later tickets
 
@@ -117,9 +109,6 @@ still_below (x ∷ es) n t h =
     ⊎_elim (λ (d : x.0 ≡ t). let at : is_at (nat_cmp t) x.0 ≡ true = rw d (at_self t) in rw at h.1)
     (λ (d : x.0 ≡ t → ⊥). let at = at_other t x.0 d in rw at (h.0, still_below es n t h.1))
     (cases_eq x.0 t)
-
-at_is : (n k : ℕ) → is_at (nat_cmp n) k ≡ (n == k)
-at_is n k = grind (arith, nat_tests)
 
 without : (this at was : Bool) (e : Entry) (v : ℕ) (o : Option Entry) → this ≡ (e.visit == v) → was ≡ has_visit v o → (at ≡ true → o ≡ Some e) → (not (this && at) && was) ≡ has_visit v (cond at None o)
 without true true was e v o i w n = refl

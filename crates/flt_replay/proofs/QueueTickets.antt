@@ -9,6 +9,7 @@ use Rattle.std.specs.Map.{keys_of, values_of}
 use Rattle.std.specs.Ordering.{nat_cmp}
 use Rattle.std.specs.declared.cmp.Ordering.TheVariants.{Greater}
 use Rattle.flt_model.specs.World.{Entry}
+use Rattle.flt_replay.proofs.Keys.{at_is, at_earlier}
 use Rattle.flt_replay.specs.Places.{has, is_place}
 use Rattle.flt_replay.specs.Tickets.{entry_at, has_visit}
 
@@ -34,16 +35,10 @@ more_below (x ∷ es) n m e l h = (let k = h.0 in omega arith, more_below es n m
 pub still_below : (es new : List (ℕ × Entry)) (n m : ℕ) (e : Entry) → AllByRecursion (λ k. k < n) (keys_of es) → new ≡ insert_entry nat_cmp es n e → n < m → AllByRecursion (λ k. k < m) (keys_of new)
 still_below es new n m e h is l = rw (is, at_end es n e h) (more_below es n m e l h)
 
-other : (n k : ℕ) → k < n → is_at (nat_cmp n) k ≡ false
-other n k h = grind (arith, nat_tests)
-
 -- no entry has a ticket above all others
 pub none_at : (es : List (ℕ × Entry)) (n : ℕ) → AllByRecursion (λ k. k < n) (keys_of es) → entry_at es n ≡ None
 none_at [] n h = refl
-none_at (x ∷ es) n h = rw (other n x.0 h.0) (none_at es n h.1)
-
-at_is : (n t : ℕ) → is_at (nat_cmp n) t ≡ (n == t)
-at_is n t = grind (arith, nat_tests)
+none_at (x ∷ es) n h = rw (at_earlier n x.0 h.0) (none_at es n h.1)
 
 by_tests : (this at was : Bool) (e : Entry) (v : ℕ) (o : Option Entry) → this ≡ (e.visit == v) → was ≡ has_visit v o → (at ≡ true → o ≡ None) → ((this && at) || was) ≡ has_visit v (cond at (Some e) o)
 by_tests true true was e v o i w n = i

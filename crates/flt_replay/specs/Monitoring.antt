@@ -4,17 +4,15 @@ use Rattle.flt_syntax.specs.declared.filter.Filter.{Filter}
 use Rattle.flt_model.specs.Expansion as spec
 use Rattle.flt_model.specs.Runs.{Moment}
 use Rattle.flt_model.specs.Steps.{Transition}
-use Rattle.flt_model.specs.Violations.{one_owner}
 use Rattle.flt_replay.specs.Ledger.{Agrees}
 use Rattle.flt_replay.specs.declared.monitor.Course.{Course}
 use Rattle.flt_replay.specs.declared.monitor.Course.TheVariants.{Reaches, Stops, Fails}
 use Rattle.flt_replay.specs.declared.monitor.Monitor.{Monitor}
 
--- the monitor stands at a moment, where each visit has its owner
+-- the monitor stands at a moment
 pub record IsAt (monitor : Monitor) (m : Moment) : Type 0 where
   pub world : monitor.world ≡ m.world
   pub counts : Agrees m monitor.ledger
-  pub owned : one_owner m.world m.trace ≡ true
 
 -- what comes of transitions, after which the monitor stands where they lead
 abbrev pub ComesTo : Course → Monitor → spec.Course → Type 0

@@ -1,7 +1,7 @@
 //! The calls on contexts, and what each does where it is used wrongly: a variable that is NULL where an object is needed leaves
 //! all as it is, and a call that can fail then fails.
 
-ghost use Rattle.std.specs.Prelude.{◌≡◌, ◌∷◌, ◌++◌, OnOk};
+ghost use Rattle.std.specs.Prelude.{◌≡◌, ◌∷◌, ◌++◌, None, OnOk};
 ghost use Rattle.flt_model.specs.Calls as calls;
 ghost use Rattle.flt_model.specs.Effects as effects;
 ghost use Rattle.flt_model.specs.Variables as variables;
@@ -80,7 +80,7 @@ impl<'a> World<'a> {
     }
 
     /// Comes before a reference is dropped, which may be the last.
-    pub(crate) fn tell_drop(&self, x: usize, events: &mut Vec<Event>) -> Result<(), AllocError>
+    fn tell_drop(&self, x: usize, events: &mut Vec<Event>) -> Result<(), AllocError>
         ensures { OnOk result (events.new.items ≡ events.old.items ++ effects.freed_by_drop self.now.store x) }
     {
         if self.references(x) == 1 {
@@ -89,8 +89,22 @@ impl<'a> World<'a> {
         Ok(())
     }
 
+    /// The link goes, and its reference is dropped.
+    pub(crate) fn unlink_context(
+        &mut self,
+        x: usize,
+        events: &mut Vec<Event>,
+    ) -> Result<(), AllocError>
+        ensures { OnOk result ((self.new ≡ record self.old { store = effects.after_unlink self.old.store x None }) × (events.new.items ≡ events.old.items ++ effects.freed_by_drop self.old.store x)) }
+    {
+        self.tell_drop(x, events)?;
+        self.clear_link(x);
+        self.drop_reference(x);
+        Ok(())
+    }
+
     /// The link's reference goes to the variable that receives it, or is dropped.
-    pub(crate) fn drop_link(
+    fn drop_link(
         &mut self,
         a: usize,
         x: usize,
@@ -103,14 +117,10 @@ impl<'a> World<'a> {
             Some(_) => {
                 events.push(Event::Gain(a, Object::Context(x)))?;
                 self.clear_link(x);
+                Ok(())
             }
-            None => {
-                self.tell_drop(x, events)?;
-                self.clear_link(x);
-                self.drop_reference(x);
-            }
+            None => self.unlink_context(x, events),
         }
-        Ok(())
     }
 }
 
@@ -129,9 +139,8 @@ impl<'a> World<'a> {
     {
         events.push(Event::Call(a, Call::AllocateContext))?;
         if grant {
-            let number = self.context_count();
+            let number = self.add_context(self.filter(a))?;
             self.go_on(a, to.granted, Write::Output(Some(d), Some(number)))?;
-            let _ = self.add_context(self.filter(a))?;
             events.push(Event::Gain(a, Object::Context(number)))?;
             Ok(())
         } else {

@@ -38,3 +38,6 @@ mod waiting_list;
 mod world;
 
 pub use monitor::replay;
+
+#[cfg(test)]
+mod tests;

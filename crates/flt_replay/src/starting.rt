@@ -1,6 +1,6 @@
 //! Callbacks that start: each is a new activation, which gains what it is given.
 
-ghost use Rattle.std.specs.Prelude.{OnOk};
+ghost use Rattle.std.specs.Prelude.{Some, length, OnOk};
 ghost use Rattle.flt_model.specs.Moves as moves;
 ghost use Rattle.flt_replay.specs.Starting.{starts_post};
 ghost use Rattle.flt_replay.specs.Writes.{Happened};
@@ -51,6 +51,32 @@ impl<'a> World<'a> {
         Ok(())
     }
 
+    /// A visit begins, and its callback starts with it.
+    fn start_visit(
+        &mut self,
+        alloc: Global,
+        visit: Visit,
+        place: Place,
+        body: &'a [Statement],
+        context: Option<usize>,
+        events: &mut Vec<Event>,
+    ) -> Result<(), AllocError>
+        ensures { OnOk result (Happened self.new events.old.items events.new.items (moves.starts self.old (moves.with_visit self.old.store visit) (record { filter = visit.filter; place = place; draining = visit.draining }) body.now (Some (length self.old.store.visits)) context)) }
+    {
+        let actor = Actor {
+            filter: visit.filter,
+            place,
+            draining: visit.draining,
+        };
+        let start = Start {
+            actor,
+            body,
+            visit: Some(self.add_visit(visit)?),
+            context,
+        };
+        self.start(alloc, start, events)
+    }
+
     /// The visit of an operation that is down at a filter with a pre callback, and the callback.
     pub(crate) fn start_pre(
         &mut self,
@@ -64,23 +90,14 @@ impl<'a> World<'a> {
         ensures { OnOk result (Happened self.new events.old.items events.new.items (moves.pre_of stack.now self.old operation kind filter)) }
     {
         self.set_position(operation, Position::Visiting);
-        let visit = self.add_visit(Visit {
+        let visit = Visit {
             operation,
             filter,
             stage: Stage::Pre,
             draining: false,
-        })?;
-        let start = Start {
-            actor: Actor {
-                filter,
-                place: Place::Pre(kind),
-                draining: false,
-            },
-            body: stack.pre_body(filter, kind),
-            visit: Some(visit),
-            context: None,
         };
-        self.start(alloc, start, events)
+        let body = stack.pre_body(filter, kind);
+        self.start_visit(alloc, visit, Place::Pre(kind), body, None, events)
     }
 
     /// The post callback of a frame that was taken out of its operation.
@@ -97,22 +114,13 @@ impl<'a> World<'a> {
     {
         let kind = self.kind(operation);
         let Frame { filter, context } = frame;
-        let visit = self.add_visit(Visit {
+        let visit = Visit {
             operation,
             filter,
             stage: Stage::Post,
             draining,
-        })?;
-        let start = Start {
-            actor: Actor {
-                filter,
-                place: Place::Post(kind),
-                draining,
-            },
-            body: stack.post_body(filter, kind),
-            visit: Some(visit),
-            context,
         };
-        self.start(alloc, start, events)
+        let body = stack.post_body(filter, kind);
+        self.start_visit(alloc, visit, Place::Post(kind), body, context, events)
     }
 }

@@ -111,11 +111,7 @@ impl<'a> World<'a> {
     {
         match context {
             Some(context) => {
-                if self.references(context) == 1 {
-                    events.push(Event::Free(context))?;
-                }
-                self.clear_link(context);
-                self.drop_reference(context);
+                self.unlink_context(context, events)?;
                 Ok(true)
             }
             None => Ok(false),

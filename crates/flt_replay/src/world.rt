@@ -177,13 +177,6 @@ impl<'a> World<'a> {
         self.waiting.is_empty(filter)
     }
 
-    /// How many contexts there have been.
-    pub(crate) fn context_count(&self) -> usize
-        ensures { result ≡ length self.now.store.contexts }
-    {
-        self.contexts.len()
-    }
-
     /// The operation that a visit is of.
     #[tactic(auto, using(crate::proofs::Reading::found, crate::proofs::Reading::missing))]
     pub(crate) fn operation_of(&self, visit: usize) -> usize
