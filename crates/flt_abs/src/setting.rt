@@ -78,7 +78,6 @@ fn level_with(kinds: &[LockKind], locks: &[u8], entry: Level) -> Level
 
 /// The setting of a callback's points in which a state's locks are held.
 pub fn setting_of(graph: &Graph, callback: usize, state: &Abs) -> Setting
-    requires { callback < length graph.now.callbacks }
     ensures { result ≡ spec.setting_of graph.now callback state.now }
 {
     let place = graph.place(callback);

@@ -265,8 +265,6 @@ pub fn transfer(
     point: usize,
     state: &Abs,
 ) -> Result<Successors, Rule>
-    requires callback { callback < length graph.now.callbacks }
-    requires point { point < points_at graph.now callback }
     ensures { result ≡ spec.transfer graph.now callback point state.now }
 {
     let setting = setting_of(graph, callback, state);

@@ -49,8 +49,6 @@ impl<L: Ledger, const CALLBACK: usize, const POINT: usize> Ticks<L, CALLBACK, PO
         point: usize,
         state: &Abs,
     ) -> Result<Successors, Rule>
-        requires callback { callback < length graph.now.callbacks }
-        requires point { point < points_at graph.now callback }
         ensures value { result ≡ step.transfer graph.now callback point state.now }
         ensures count { self.new ≡ self.old + spec.one_at CALLBACK POINT callback point }
     {

@@ -1,6 +1,6 @@
 //! The points of a filter's callbacks.
 
-ghost use Rattle.std.specs.Prelude.{◌≡◌, ◌<◌, Some, length, slice_get};
+ghost use Rattle.std.specs.Prelude.{◌≡◌, length};
 ghost use Rattle.flt_graph.specs.Graph as spec;
 
 use crate::instruction::Instruction;
@@ -36,37 +36,58 @@ impl Graph {
         self.callbacks.len()
     }
 
-    /// How many points a callback has.
+    /// How many points a callback has; none where it isn't there.
+    #[tactic(auto, using(crate::proofs::Reading::found, crate::proofs::Reading::missing))]
     pub fn points(&self, callback: usize) -> usize
-        requires { callback < length self.now.callbacks }
         ensures { result ≡ spec.points_at self.now callback }
     {
-        self.callbacks.as_slice()[callback].points.len()
+        match self.callbacks.get(callback) {
+            Some(found) => found.points.len(),
+            None => 0,
+        }
     }
 
-    /// The place of a callback.
+    /// The place of a callback; that of a generic routine where it isn't there.
+    #[tactic(auto, using(crate::proofs::Reading::found, crate::proofs::Reading::missing))]
     pub fn place(&self, callback: usize) -> Place
-        requires { callback < length self.now.callbacks }
         ensures { result ≡ spec.place_at self.now callback }
     {
-        self.callbacks.as_slice()[callback].place
+        match self.callbacks.get(callback) {
+            Some(found) => found.place,
+            None => Place::Generic,
+        }
     }
 
-    /// The line of a point, from 1: that of the first token of its statement, or of the closing brace for the end.
+    /// A point of a callback; where it isn't there, an end that stands on no line.
+    #[tactic(auto, using(crate::proofs::Reading::found, crate::proofs::Reading::missing))]
+    fn point(&self, callback: usize, point: usize) -> Point
+        ensures { result ≡ spec.point_at self.now callback point }
+    {
+        let found = match self.callbacks.get(callback) {
+            Some(found) => found.points.get(point),
+            None => None,
+        };
+        match found {
+            Some(found) => *found,
+            None => Point {
+                line: 0,
+                instruction: Instruction::End,
+            },
+        }
+    }
+
+    /// The line of a point, from 1: that of the first token of its statement, or of the closing brace for the end. It is 0
+    /// where the point isn't there.
     pub fn line(&self, callback: usize, point: usize) -> usize
-        requires callback { callback < length self.now.callbacks }
-        requires point { point < spec.points_at self.now callback }
         ensures { result ≡ spec.line_at self.now callback point }
     {
-        self.callbacks.as_slice()[callback].points.as_slice()[point].line
+        self.point(callback, point).line
     }
 
-    /// What is done at a point, and where that leads.
+    /// What is done at a point, and where that leads; the end where the point isn't there.
     pub fn instruction(&self, callback: usize, point: usize) -> Instruction
-        requires callback { callback < length self.now.callbacks }
-        requires point { point < spec.points_at self.now callback }
         ensures { result ≡ spec.instruction_at self.now callback point }
     {
-        self.callbacks.as_slice()[callback].points.as_slice()[point].instruction
+        self.point(callback, point).instruction
     }
 }
