@@ -1,6 +1,6 @@
 //! What the rules of a point read besides its variables: where it stands and at which level.
 
-ghost use Rattle.std.specs.Prelude.{◌≡◌, ◌<◌, length};
+ghost use Rattle.std.specs.Prelude.{◌≡◌};
 ghost use Rattle.flt_abs.specs.Setting as spec;
 
 use crate::state::Abs;

@@ -1,9 +1,8 @@
 //! What an instruction makes of a state.
 
-ghost use Rattle.std.specs.Prelude.{◌≡◌, ℕ, ◌<◌, true, false, length, IfSome, IsTrue};
+ghost use Rattle.std.specs.Prelude.{◌≡◌, ℕ, true, false, IfSome, IsTrue};
 ghost use Rattle.flt_abs.specs.Sets as sets;
 ghost use Rattle.flt_abs.specs.Step as spec;
-ghost use Rattle.flt_graph.specs.Graph.{points_at};
 ghost use Rattle.flt_graph.specs.declared.graph.Graph.{Graph};
 ghost use Rattle.flt_abs.specs.State.{State, is_below, is_proper};
 

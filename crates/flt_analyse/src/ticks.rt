@@ -1,8 +1,7 @@
 //! A count of the transfers of a point.
 
-ghost use Rattle.std.specs.Prelude.{◌≡◌, ◌+◌, ◌<◌, length};
+ghost use Rattle.std.specs.Prelude.{◌≡◌, ◌+◌, ◌<◌};
 ghost use Rattle.flt_abs.specs.Step as step;
-ghost use Rattle.flt_graph.specs.Graph.{points_at};
 ghost use Rattle.flt_analyse.specs.Ticks as spec;
 
 use flt_abs::{Abs, Successors, transfer};
