@@ -2,7 +2,7 @@
 
 use crate::command::{CommandFault, command};
 use crate::inputs::Inputs;
-use crate::sink::{Sink, WriteFailed};
+use flt_model::{Sink, WriteFault};
 use std::alloc::{AllocError, Global};
 use std::test::Fail;
 
@@ -63,7 +63,7 @@ impl Sink for Kept {
 
     ghost failures = { λ s. s.failures };
 
-    fn put(&mut self, bytes: &[u8]) -> Result<usize, WriteFailed> {
+    fn put(&mut self, bytes: &[u8]) -> Result<usize, WriteFault> {
         let call = self.calls;
         self.calls = self.calls.wrapping_add(1);
         let count = if self.slow && 1 < bytes.len() {
@@ -73,7 +73,7 @@ impl Sink for Kept {
         };
         if self.fails_at == Some(call) || self.bytes.extend_from_slice(&bytes[..count]).is_err() {
             self.failures = self.failures.wrapping_add(1);
-            return Err(WriteFailed);
+            return Err(WriteFault);
         }
         Ok(count)
     }
