@@ -1,4 +1,3 @@
 pub mod Firsts
 pub mod Outputs
 pub mod Requests
-pub mod Sinks

@@ -1,15 +1,13 @@
 -- What `analyse` says. This project's own program.
 use Rattle.std.specs.Prelude.{◌≡◌, ℕ, List, IsTrue, Some, None, Result, Ok, Err}
-use Rattle.flt_syntax.specs.Spelling.{Spells}
 use Rattle.flt_syntax.specs.File.{filter_of}
-use Rattle.flt_syntax.specs.declared.filter.Filter.{Filter}
-use Rattle.flt_graph.specs.Lowering.{IsLowered}
 use Rattle.flt_graph.specs.declared.graph.Graph.{Graph}
 use Rattle.flt_cert.specs.Format.{Certificate, is_certificate, spelling}
 use Rattle.flt_check.specs.Checker.{Covers}
 use Rattle.flt_check.specs.declared.checker.Refusal.{Refusal}
 use Rattle.flt_analyse.specs.Least.{IsLeast, NoneCovers, IsNamed}
 use Rattle.fltstack.specs.Failures.{Giving, IsUnread}
+use Rattle.fltstack.specs.Judging.{HasPoints}
 use Rattle.fltstack.specs.declared.answer.Analysis.{Analysis}
 use Rattle.fltstack.specs.declared.answer.Analysis.TheVariants.{Found, Refused}
 use Rattle.fltstack.specs.declared.failure.Failure.{Failure}
@@ -17,10 +15,8 @@ use Rattle.fltstack.specs.declared.failure.Failure.TheVariants.{CannotRead, TooM
 
 -- the text spells a filter, and the bytes spell the least certificate that covers its points
 pub record IsCertified (text bytes : List ℕ) : Type 0 where
-  pub filter : Filter
-  pub spelled : Spells text filter
   pub graph : Graph
-  pub lowered : IsLowered filter graph
+  pub points : HasPoints text graph
   pub cert : Certificate
   pub certified : IsTrue (is_certificate cert)
   pub covers : Covers graph cert
@@ -29,10 +25,8 @@ pub record IsCertified (text bytes : List ℕ) : Type 0 where
 
 -- the text spells a filter, no certificate covers its points, and this is the fault that is met first
 pub record IsRefused (text : List ℕ) (f : Refusal) : Type 0 where
-  pub filter : Filter
-  pub spelled : Spells text filter
   pub graph : Graph
-  pub lowered : IsLowered filter graph
+  pub points : HasPoints text graph
   pub none : NoneCovers graph
   pub named : IsNamed graph f
 

@@ -17,6 +17,12 @@ use Rattle.fltstack.specs.declared.failure.Failure.TheVariants.{CannotRead, TooM
 
 -- ---- of a text and a certificate
 
+-- the text spells a filter, and these are its points
+pub record HasPoints (text : List ℕ) (graph : Graph) : Type 0 where
+  pub filter : Filter
+  pub spelled : Spells text filter
+  pub lowered : IsLowered filter graph
+
 -- of the points of a text and a certificate
 abbrev pub Decides : Graph → Certificate → Answer → Type 0
 Decides g c Accepted = Covers g c
@@ -25,10 +31,8 @@ Decides g c (Refused f) = IsLeastFault g c f
 -- the text spells a filter, the bytes spell a certificate, and it covers the filter's points, or the refusal is the
 -- first that it earns
 pub record IsAnswer (text certificate : List ℕ) (answer : Answer) : Type 0 where
-  pub filter : Filter
-  pub spelled : Spells text filter
   pub graph : Graph
-  pub lowered : IsLowered filter graph
+  pub points : HasPoints text graph
   pub cert : Certificate
   pub certified : IsTrue (is_certificate cert)
   pub written : certificate ≡ spelling cert

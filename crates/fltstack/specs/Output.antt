@@ -1,6 +1,5 @@
 -- What the commands put on the standard output, and their exit status. This project's own program.
 use Rattle.std.specs.Prelude.{◌≡◌, ◌≢◌, ◌⊎◌, ℕ, List, [], ◌∷◌, ◌++◌, Option, Some, None, Ok, Err}
-use Rattle.flt_model.specs.declared.verdict.Verdict.{Verdict}
 use Rattle.fltstack.specs.Certify.{SaysOfText}
 use Rattle.fltstack.specs.Failures.{Giving}
 use Rattle.fltstack.specs.Judging.{Says}
@@ -9,7 +8,6 @@ use Rattle.fltstack.specs.Replaying.{SaysOfJournal}
 use Rattle.fltstack.specs.Words.{Asked, Check, Analyse, Replay, asked}
 use Rattle.fltstack.specs.declared.answer.Analysis.{Analysis}
 use Rattle.fltstack.specs.declared.answer.Analysis.TheVariants.{Found, Refused}
-use Rattle.fltstack.specs.declared.answer.Answer.{Answer}
 use Rattle.fltstack.specs.declared.failure.Failure.{Failure}
 use Rattle.fltstack.specs.declared.failure.Failure.TheVariants.{OutOfMemory}
 
@@ -17,23 +15,14 @@ use Rattle.fltstack.specs.declared.failure.Failure.TheVariants.{OutOfMemory}
 abbrev pub IsNothing : List ℕ → ℕ → Type 0
 IsNothing bytes status = (bytes ≡ []) × (status ≡ 2)
 
--- ---- `check`
+-- ---- answers
 
--- the answer and a line feed, with the answer's status
-pub record PrintsAnswer (gives : Giving) (file : List ℕ) (cert : Option (List ℕ)) (bytes : List ℕ) (status : ℕ) : Type 0 where
-  pub answer : Answer
-  pub said : Says gives file cert (Ok answer)
-  pub written : bytes ≡ answer_line answer ++ 10 ∷ []
-  pub ended : status ≡ answer_status answer
-
--- a failure, which isn't want of memory
-pub record PrintsFailure (gives : Giving) (file : List ℕ) (cert : Option (List ℕ)) (bytes : List ℕ) (status : ℕ) : Type 0 where
-  pub failure : Failure
-  pub told : failure ≢ OutOfMemory
-  pub said : Says gives file cert (Err failure)
-  pub nothing : IsNothing bytes status
-
--- ---- `analyse`
+-- a line and a line feed for what is said, with its status
+pub record PrintsLine {X : Type 0} (IsSaid : X → Type 0) (line : X → List ℕ) (status_of : X → ℕ) (bytes : List ℕ) (status : ℕ) : Type 0 where
+  pub answer : X
+  pub said : IsSaid answer
+  pub written : bytes ≡ line answer ++ 10 ∷ []
+  pub ended : status ≡ status_of answer
 
 -- the certificate with the status 0, or the refusal and a line feed with the status 1
 abbrev pub IsWritten : Analysis → List ℕ → ℕ → Type 0
@@ -45,36 +34,32 @@ pub record PrintsAnalysis (gives : Giving) (file : List ℕ) (bytes : List ℕ) 
   pub said : SaysOfText gives file (Ok analysis)
   pub written : IsWritten analysis bytes status
 
--- a failure, which isn't want of memory
-pub record PrintsNoAnalysis (gives : Giving) (file : List ℕ) (bytes : List ℕ) (status : ℕ) : Type 0 where
-  pub failure : Failure
-  pub told : failure ≢ OutOfMemory
-  pub said : SaysOfText gives file (Err failure)
-  pub nothing : IsNothing bytes status
+-- what is asked for has an answer
+abbrev pub PrintsAnswer : Giving → Asked → List ℕ → ℕ → Type 0
+PrintsAnswer gives (Check file cert) bytes status = PrintsLine (λ answer. Says gives file cert (Ok answer)) answer_line answer_status bytes status
+PrintsAnswer gives (Analyse file) bytes status = PrintsAnalysis gives file bytes status
+PrintsAnswer gives (Replay journal files) bytes status = PrintsLine (λ verdict. SaysOfJournal gives journal files (Ok verdict)) verdict_line verdict_status bytes status
 
--- ---- `replay`
+-- ---- failures
 
--- the verdict and a line feed, with the verdict's status
-pub record PrintsVerdict (gives : Giving) (journal : List ℕ) (files : List (List ℕ)) (bytes : List ℕ) (status : ℕ) : Type 0 where
-  pub verdict : Verdict
-  pub said : SaysOfJournal gives journal files (Ok verdict)
-  pub written : bytes ≡ verdict_line verdict ++ 10 ∷ []
-  pub ended : status ≡ verdict_status verdict
+-- what is asked for has this failure
+abbrev pub HasFailure : Giving → Asked → Failure → Type 0
+HasFailure gives (Check file cert) f = Says gives file cert (Err f)
+HasFailure gives (Analyse file) f = SaysOfText gives file (Err f)
+HasFailure gives (Replay journal files) f = SaysOfJournal gives journal files (Err f)
 
 -- a failure, which isn't want of memory
-pub record PrintsNoVerdict (gives : Giving) (journal : List ℕ) (files : List (List ℕ)) (bytes : List ℕ) (status : ℕ) : Type 0 where
+pub record PrintsFailure (gives : Giving) (request : Asked) (bytes : List ℕ) (status : ℕ) : Type 0 where
   pub failure : Failure
   pub told : failure ≢ OutOfMemory
-  pub said : SaysOfJournal gives journal files (Err failure)
+  pub said : HasFailure gives request failure
   pub nothing : IsNothing bytes status
 
 -- ---- the commands
 
 abbrev pub PrintsFor : Giving → Option Asked → List ℕ → ℕ → Type 0
 PrintsFor gives None bytes status = IsNothing bytes status
-PrintsFor gives (Some (Check file cert)) bytes status = PrintsAnswer gives file cert bytes status ⊎ PrintsFailure gives file cert bytes status
-PrintsFor gives (Some (Analyse file)) bytes status = PrintsAnalysis gives file bytes status ⊎ PrintsNoAnalysis gives file bytes status
-PrintsFor gives (Some (Replay journal files)) bytes status = PrintsVerdict gives journal files bytes status ⊎ PrintsNoVerdict gives journal files bytes status
+PrintsFor gives (Some request) bytes status = PrintsAnswer gives request bytes status ⊎ PrintsFailure gives request bytes status
 
 -- what the words of a command line, and what its names give, put on the standard output, and the exit status
 abbrev pub Prints : Giving → List (List ℕ) → List ℕ → ℕ → Type 0

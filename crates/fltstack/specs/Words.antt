@@ -6,7 +6,7 @@ use Rattle.clap.specs.declared.builder.command.Command.{Command}
 use Rattle.clap.specs.declared.builder.command.Command.TheViews.{out-Command as fields_of}
 use Rattle.clap.specs.Simple.{App, app_of, new_app, new_rule, with_rule, with_subcommand, subcommand_of}
 use Rattle.clap.specs.Lexer.{usize_max}
-use Rattle.clap.specs.Walk.{Row, Text, all_of, first_of}
+use Rattle.clap.specs.Walk.{Row, Rule, Text, all_of, first_of}
 use Rattle.clap.specs.Kinds.{Kinds}
 use Rattle.clap.specs.declared.error.kind.ErrorKind.{ErrorKind}
 use Rattle.clap.specs.declared.error.kind.ErrorKind.TheVariants.{OutOfMemory}
@@ -19,13 +19,17 @@ pub data Asked : Type 0 where
   Analyse : (file : Text) → Asked
   Replay : (journal : Text) (files : List Text) → Asked
 
+-- the argument FILE of a command on one text
+abbrev pub text_rule : Rule
+text_rule = record (new_rule (codes "FILE")) { required = true }
+
 -- `check FILE [CERT]`
 abbrev pub check_app : App
-check_app = with_rule (with_rule (new_app (codes "check")) (record (new_rule (codes "FILE")) { required = true })) (new_rule (codes "CERT"))
+check_app = with_rule (with_rule (new_app (codes "check")) text_rule) (new_rule (codes "CERT"))
 
 -- `analyse FILE`
 abbrev pub analyse_app : App
-analyse_app = with_rule (new_app (codes "analyse")) (record (new_rule (codes "FILE")) { required = true })
+analyse_app = with_rule (new_app (codes "analyse")) text_rule
 
 -- `replay JOURNAL FILE..`
 abbrev pub replay_app : App
@@ -50,19 +54,19 @@ asked_of (request.Analyse file) = Some (Analyse file.now)
 asked_of (request.Replay journal files) = Some (Replay journal.now (map (λ name. name.now) files.items))
 asked_of (request.Usage text) = None
 
--- the argument FILE, which is always there
-abbrev pub file_of : List Row → Text
-file_of rows = unwrap_or (first_of (codes "FILE") rows) (codes "-")
+-- the value of an argument that is always there
+abbrev pub text_of : Text → List Row → Text
+text_of id rows = unwrap_or (first_of id rows) (codes "-")
 
 abbrev pub check_of : List Row → Asked
-check_of rows = Check (file_of rows) (first_of (codes "CERT") rows)
+check_of rows = Check (text_of (codes "FILE") rows) (first_of (codes "CERT") rows)
 
 abbrev pub analyse_of : List Row → Asked
-analyse_of rows = Analyse (file_of rows)
+analyse_of rows = Analyse (text_of (codes "FILE") rows)
 
 -- JOURNAL, and all of FILE
 abbrev pub replay_of : List Row → Asked
-replay_of rows = Replay (unwrap_or (first_of (codes "JOURNAL") rows) (codes "-")) (unwrap_or (all_of (codes "FILE") rows) [])
+replay_of rows = Replay (text_of (codes "JOURNAL") rows) (unwrap_or (all_of (codes "FILE") rows) [])
 
 -- what a subcommand with its arguments asks for
 abbrev pub asked_by : Text × List Row → Option Asked

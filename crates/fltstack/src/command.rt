@@ -11,8 +11,8 @@ use crate::failure::Failure;
 use crate::inputs::Inputs;
 use crate::judging::check_files;
 use crate::replaying::replay_files;
-use crate::sink::{Sink, WriteFailed, put_all};
 use crate::words::{Request, read_words};
+use flt_model::{Sink, WriteFault, put_all};
 use std::alloc::{AllocError, AllocFailed, Global};
 use thiserror::Error;
 
@@ -47,13 +47,13 @@ impl<T: Drop> From<AllocFailed<T>> for CommandFault {
     }
 }
 
-impl From<WriteFailed> for CommandFault {
+impl From<WriteFault> for CommandFault {
     ghost use Rattle.std.specs.Prelude.{◌≡◌};
     ghost use Rattle.fltstack.specs.declared.command.CommandFault.TheVariants.{Write};
 
     ghost from_gives = { λ _ e. e ≡ Write };
 
-    fn from(_: WriteFailed) -> CommandFault {
+    fn from(_: WriteFault) -> CommandFault {
         CommandFault::Write
     }
 }

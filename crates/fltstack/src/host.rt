@@ -1,7 +1,7 @@
 //! The files and the streams of the system.
 
 use crate::inputs::{Inputs, MAX_INPUT};
-use crate::sink::{Sink, WriteFailed};
+use flt_model::{Sink, WriteFault};
 use std::alloc::{AllocError, Global};
 use std::io::{Read, Write};
 use std::{env, fs, io};
@@ -64,12 +64,12 @@ impl<W: Write + Drop> Sink for Stream<W> {
 
     ghost failures = { λ s. s.failures };
 
-    fn put(&mut self, bytes: &[u8]) -> Result<usize, WriteFailed> {
+    fn put(&mut self, bytes: &[u8]) -> Result<usize, WriteFault> {
         match self.inner.write(bytes) {
             Ok(n) if 0 < n || bytes.is_empty() => Ok(n),
             _ => {
                 self.failures = self.failures.wrapping_add(1);
-                Err(WriteFailed)
+                Err(WriteFault)
             }
         }
     }

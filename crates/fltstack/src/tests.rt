@@ -2,7 +2,7 @@
 
 use crate::command::{CommandFault, command};
 use crate::inputs::Inputs;
-use crate::sink::{Sink, WriteFailed};
+use flt_model::{Sink, WriteFault};
 use std::alloc::{AllocError, Global};
 use std::test::Fail;
 
@@ -12,6 +12,42 @@ mod examples;
 mod memory;
 mod refusals;
 mod replays;
+
+/// A filter that pends its reads, and the least states of its points.
+const PENDING_READS: &str =
+    "filter q altitude 100\nqueue\npre read {\n  if irp data {\n    if FltCbdqInsertIo data {\n      return PENDING\n    }\n  }\n  return NO_CALLBACK\n}\ncanceled {\n  if arg != NULL {\n    FltReleaseContext arg\n  }\n  FltCompletePendedPreOperation data COMPLETE STATUS_CANCELLED\n}\n";
+
+const PENDING_STATES: [&[&str]; 2] = [
+    &[
+        "111111111 11112 3 1 -",
+        "111111111 11112 1 1 -",
+        "111111111 11114 1 1 -",
+        "111111111 11112 3 1 -",
+        "!",
+    ],
+    &[
+        "111111113 11112 1 1 -",
+        "111111112 11112 1 1 -",
+        "111111115 11112 1 1 -",
+        "111111115 11114 1 1 -",
+    ],
+];
+
+/// A filter that gives each stream a context, and the least states of its points.
+const STREAM_CONTEXTS: &str =
+    "filter a altitude 100\npre read {\nif FltGetStreamContext c0 {\n} else {\nif FltAllocateContext c0 {\nif FltSetStreamContext KEEP_IF_EXISTS c0 old c1 {\n}\nif c1 != NULL {\nFltReleaseContext c1\n}\n}\n}\nif c0 != NULL {\nFltReleaseContext c0\n}\nreturn NO_CALLBACK\n}\n";
+
+const STREAM_STATES: [&[&str]; 1] = [&[
+    "111111111",
+    "111111111",
+    "211111111",
+    "231111111",
+    "221111111",
+    "351111111",
+    "251111111",
+    "551111111",
+    "!",
+]];
 
 /// Inputs by their names.
 #[derive(Drop)]
@@ -63,7 +99,7 @@ impl Sink for Kept {
 
     ghost failures = { λ s. s.failures };
 
-    fn put(&mut self, bytes: &[u8]) -> Result<usize, WriteFailed> {
+    fn put(&mut self, bytes: &[u8]) -> Result<usize, WriteFault> {
         let call = self.calls;
         self.calls = self.calls.wrapping_add(1);
         let count = if self.slow && 1 < bytes.len() {
@@ -73,7 +109,7 @@ impl Sink for Kept {
         };
         if self.fails_at == Some(call) || self.bytes.extend_from_slice(&bytes[..count]).is_err() {
             self.failures = self.failures.wrapping_add(1);
-            return Err(WriteFailed);
+            return Err(WriteFault);
         }
         Ok(count)
     }
@@ -106,6 +142,12 @@ fn run(alloc: Global, words: &[&str], files: &[(&str, &[u8])]) -> Result<Outcome
         out: out.bytes,
         err: err.bytes,
     })
+}
+
+/// What `check` does with a text and a certificate.
+fn check(alloc: Global, text: &[u8], cert: &[u8]) -> Result<Outcome, CommandFault> {
+    let files = [("text", text), ("cert", cert)];
+    run(alloc, &["check", "text", "cert"], &files)
 }
 
 /// The five fields of a state. One without blanks has the other fields of a pre callback of a read.

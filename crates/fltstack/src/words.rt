@@ -1,8 +1,8 @@
 //! The words of the command line.
 
-ghost use Rattle.std.specs.Prelude.{◌≡◌, Some, IfOk, map, option_and_then, string_bytes};
+ghost use Rattle.std.specs.Prelude.{◌≡◌, false, Some, IfOk, map, option_and_then, string_bytes};
 ghost use Rattle.clap.specs.Simple.{subcommand_rows_of};
-ghost use Rattle.clap.specs.Walk.{rows_of};
+ghost use Rattle.clap.specs.Walk.{rows_of, rule_of};
 ghost use Rattle.clap.specs.Matches.{found_of};
 ghost use Rattle.fltstack.specs.Words as spec;
 
@@ -31,12 +31,19 @@ pub enum Request<'a> {
     Usage(String),
 }
 
+/// The argument FILE of a command on one text. It goes down to no subcommand.
+fn text_argument<'a>(alloc: Global) -> Arg<'a>
+    ensures rule { rule_of result ≡ spec.text_rule }
+    ensures own { result.global ≡ false }
+{
+    Arg::new(alloc, "FILE")
+        .required(true)
+        .help("The filter's text; `-` is the standard input")
+}
+
 fn check_command<'a>(alloc: Global) -> Result<Command<'a>, AllocError>
     ensures { IfOk result (λ c. spec.IsCommand c spec.check_app) }
 {
-    let file = Arg::new(alloc, "FILE")
-        .required(true)
-        .help("The filter's text; `-` is the standard input");
     let cert = Arg::new(alloc, "CERT").help(
         "Its certificate; without it, FILE's first line `fltcert 1` begins it",
     );
@@ -45,22 +52,19 @@ fn check_command<'a>(alloc: Global) -> Result<Command<'a>, AllocError>
         .after_help(
             "Prints `accepted` (exit 0), or the first point and rule that refuse it (exit 1).\nErrors go to the standard error with exit 2.\n\nExample: fltstack check examples/pass_through.flt examples/pass_through.cert",
         )
-        .arg(file)?
+        .arg(text_argument(alloc))?
         .arg(cert)
 }
 
 fn analyse_command<'a>(alloc: Global) -> Result<Command<'a>, AllocError>
     ensures { IfOk result (λ c. spec.IsCommand c spec.analyse_app) }
 {
-    let file = Arg::new(alloc, "FILE")
-        .required(true)
-        .help("The filter's text; `-` is the standard input");
     Command::new(alloc, "analyse")
         .about("Finds the least certificate that covers a filter's text")
         .after_help(
             "Prints the certificate (exit 0), or the point and rule for which there is none (exit 1).\nErrors go to the standard error with exit 2.\n\nExample: fltstack analyse examples/pending_reads.flt",
         )
-        .arg(file)
+        .arg(text_argument(alloc))
 }
 
 fn replay_command<'a>(alloc: Global) -> Result<Command<'a>, AllocError>
@@ -95,12 +99,19 @@ fn program<'a>(alloc: Global) -> Result<Command<'a>, AllocError>
         .subcommand(replay_command(alloc)?)
 }
 
+/// The value of an argument that is always there.
+fn text_of<'a>(matches: &ArgMatches<'a>, id: &str) -> &'a str
+    ensures { result.now ≡ spec.text_of id.now (rows_of (found_of matches.now)) }
+{
+    matches.get_str(id).unwrap_or("-")
+}
+
 /// What the matches of `check` ask for.
 fn asked_check<'a>(check: &ArgMatches<'a>) -> Request<'a>
     ensures { spec.asked_of result ≡ Some (spec.check_of (rows_of (found_of check.now))) }
 {
     Request::Check {
-        file: check.get_str("FILE").unwrap_or("-"),
+        file: text_of(check, "FILE"),
         cert: check.get_str("CERT"),
     }
 }
@@ -110,7 +121,7 @@ fn asked_analyse<'a>(analyse: &ArgMatches<'a>) -> Request<'a>
     ensures { spec.asked_of result ≡ Some (spec.analyse_of (rows_of (found_of analyse.now))) }
 {
     Request::Analyse {
-        file: analyse.get_str("FILE").unwrap_or("-"),
+        file: text_of(analyse, "FILE"),
     }
 }
 
@@ -123,7 +134,7 @@ fn asked_replay<'a>(alloc: Global, replay: &ArgMatches<'a>) -> Result<Request<'a
         None => Vec::new(alloc),
     };
     Ok(Request::Replay {
-        journal: replay.get_str("JOURNAL").unwrap_or("-"),
+        journal: text_of(replay, "JOURNAL"),
         files,
     })
 }

@@ -1,7 +1,7 @@
 //! The least certificates of texts, and the point and rule for which there is none.
 
 use super::refusals::{CONTEXTS, Example, LEVELS, LOCKS, OPERATIONS};
-use super::{certificate, run};
+use super::{certificate, check, run};
 use std::alloc::Global;
 use std::process::Abort;
 use std::test::Fail;
@@ -30,19 +30,6 @@ const OTHERS: [Example; 2] = [
     ),
 ];
 
-/// `check` accepts a text with a certificate.
-fn is_accepted(
-    rt: &impl Abort,
-    alloc: Global,
-    text: &[u8],
-    certificate: &[u8],
-) -> Result<(), Fail> {
-    let files = [("text", text), ("cert", certificate)];
-    let checked = run(alloc, &["check", "text", "cert"], &files)?;
-    assert_eq!(rt; checked.out.as_slice(), b"accepted\n".as_slice());
-    Ok(())
-}
-
 /// What `analyse` prints, with its exit status: the certificate where the text is accepted, else the line; and `check` accepts
 /// that certificate.
 fn analyses(
@@ -62,7 +49,9 @@ fn analyses(
     let least = certificate(alloc, states)?;
     assert_eq!(rt; ran.out.as_slice(), least.as_bytes(), "of {text}");
     assert_eq!(rt; ran.status, 0);
-    is_accepted(rt, alloc, text.as_bytes(), ran.out.as_slice())
+    let checked = check(alloc, text.as_bytes(), ran.out.as_slice())?;
+    assert_eq!(rt; checked.out.as_slice(), b"accepted\n".as_slice());
+    Ok(())
 }
 
 fn analyses_each(rt: &impl Abort, alloc: Global, examples: &[Example]) -> Result<(), Fail> {

@@ -1,49 +1,15 @@
 //! The least certificate of a text, of which no field can be less.
 
-use super::{certificate, changed_certificate, run, whole_state};
+use super::{
+    PENDING_READS, PENDING_STATES, STREAM_CONTEXTS, STREAM_STATES, certificate,
+    changed_certificate, check, whole_state,
+};
 use std::alloc::{AllocError, Global};
 use std::process::Abort;
 use std::test::Fail;
 
-/// A filter that pends its reads, and the least states of its points.
-const PENDING_READS: &str =
-    "filter q altitude 100\nqueue\npre read {\n  if irp data {\n    if FltCbdqInsertIo data {\n      return PENDING\n    }\n  }\n  return NO_CALLBACK\n}\ncanceled {\n  if arg != NULL {\n    FltReleaseContext arg\n  }\n  FltCompletePendedPreOperation data COMPLETE STATUS_CANCELLED\n}\n";
-
-const PENDING_STATES: [&[&str]; 2] = [
-    &[
-        "111111111 11112 3 1 -",
-        "111111111 11112 1 1 -",
-        "111111111 11114 1 1 -",
-        "111111111 11112 3 1 -",
-        "!",
-    ],
-    &[
-        "111111113 11112 1 1 -",
-        "111111112 11112 1 1 -",
-        "111111115 11112 1 1 -",
-        "111111115 11114 1 1 -",
-    ],
-];
-
-/// A filter that gives each stream a context, and the least states of its points.
-const STREAM_CONTEXTS: &str =
-    "filter a altitude 100\npre read {\nif FltGetStreamContext c0 {\n} else {\nif FltAllocateContext c0 {\nif FltSetStreamContext KEEP_IF_EXISTS c0 old c1 {\n}\nif c1 != NULL {\nFltReleaseContext c1\n}\n}\n}\nif c0 != NULL {\nFltReleaseContext c0\n}\nreturn NO_CALLBACK\n}\n";
-
-const STREAM_STATES: [&[&str]; 1] = [&[
-    "111111111",
-    "111111111",
-    "211111111",
-    "231111111",
-    "221111111",
-    "351111111",
-    "251111111",
-    "551111111",
-    "!",
-]];
-
 fn status(alloc: Global, text: &str, cert: &str) -> Result<u8, Fail> {
-    let files = [("text", text.as_bytes()), ("cert", cert.as_bytes())];
-    Ok(run(alloc, &["check", "text", "cert"], &files)?.status)
+    Ok(check(alloc, text.as_bytes(), cert.as_bytes())?.status)
 }
 
 /// The state with another digit at a place.

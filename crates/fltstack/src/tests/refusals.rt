@@ -1,7 +1,9 @@
 //! Texts with their certificates and what `check` says of them. Each certificate is what a walk over the points has found
 //! when it stops, or the least one where the text is accepted.
 
-use super::{Outcome, certificate, run};
+use super::{
+    PENDING_READS, PENDING_STATES, STREAM_CONTEXTS, STREAM_STATES, certificate, check,
+};
 use std::alloc::Global;
 use std::process::Abort;
 use std::test::Fail;
@@ -13,11 +15,6 @@ pub(super) type Example = (
     &'static str,
 );
 
-fn check(alloc: Global, text: &str, cert: &str) -> Result<Outcome, Fail> {
-    let files = [("text", text.as_bytes()), ("cert", cert.as_bytes())];
-    Ok(run(alloc, &["check", "text", "cert"], &files)?)
-}
-
 /// The line is what is printed, with its exit status.
 fn tells(
     rt: &impl Abort,
@@ -27,9 +24,16 @@ fn tells(
     line: &str,
 ) -> Result<(), Fail> {
     let cert = certificate(alloc, states)?;
-    let ran = check(alloc, text, cert.as_str())?;
+    let ran = check(alloc, text.as_bytes(), cert.as_bytes())?;
     assert_eq!(rt; ran.out.as_slice(), line.as_bytes(), "of {text}");
     assert_eq!(rt; ran.status, u8::from(line != "accepted\n"));
+    Ok(())
+}
+
+fn tells_each(rt: &impl Abort, alloc: Global, examples: &[Example]) -> Result<(), Fail> {
+    for (text, states, line) in examples {
+        tells(rt, alloc, text, states, line)?;
+    }
     Ok(())
 }
 
@@ -92,29 +96,12 @@ pub(super) const CONTEXTS: [Example; 11] = [
         &[&["111111111", "211111111", "111111111", "!"]],
         "refused callback 0 point 1 line 4 R03 held variable overwritten\n",
     ),
-    (
-        "filter a altitude 100\npre read {\nif FltGetStreamContext c0 {\n} else {\nif FltAllocateContext c0 {\nif FltSetStreamContext KEEP_IF_EXISTS c0 old c1 {\n}\nif c1 != NULL {\nFltReleaseContext c1\n}\n}\n}\nif c0 != NULL {\nFltReleaseContext c0\n}\nreturn NO_CALLBACK\n}\n",
-        &[&[
-            "111111111",
-            "111111111",
-            "211111111",
-            "231111111",
-            "221111111",
-            "351111111",
-            "251111111",
-            "551111111",
-            "!",
-        ]],
-        "accepted\n",
-    ),
+    (STREAM_CONTEXTS, &STREAM_STATES, "accepted\n"),
 ];
 
 #[test]
 fn tells_what_becomes_of_contexts(rt: HostRuntime) -> Result<(), Fail> {
-    for (text, states, line) in CONTEXTS {
-        tells(&rt, rt.alloc(), text, states, line)?;
-    }
-    Ok(())
+    tells_each(&rt, rt.alloc(), &CONTEXTS)
 }
 
 pub(super) const OPERATIONS: [Example; 7] = [
@@ -165,33 +152,12 @@ pub(super) const OPERATIONS: [Example; 7] = [
         &[&["111111111 11112 3 1 -"]],
         "refused callback 0 point 0 line 3 R15 end without status\n",
     ),
-    (
-        "filter q altitude 100\nqueue\npre read {\n  if irp data {\n    if FltCbdqInsertIo data {\n      return PENDING\n    }\n  }\n  return NO_CALLBACK\n}\ncanceled {\n  if arg != NULL {\n    FltReleaseContext arg\n  }\n  FltCompletePendedPreOperation data COMPLETE STATUS_CANCELLED\n}\n",
-        &[
-            &[
-                "111111111 11112 3 1 -",
-                "111111111 11112 1 1 -",
-                "111111111 11114 1 1 -",
-                "111111111 11112 3 1 -",
-                "!",
-            ],
-            &[
-                "111111113 11112 1 1 -",
-                "111111112 11112 1 1 -",
-                "111111115 11112 1 1 -",
-                "111111115 11114 1 1 -",
-            ],
-        ],
-        "accepted\n",
-    ),
+    (PENDING_READS, &PENDING_STATES, "accepted\n"),
 ];
 
 #[test]
 fn tells_what_becomes_of_operations(rt: HostRuntime) -> Result<(), Fail> {
-    for (text, states, line) in OPERATIONS {
-        tells(&rt, rt.alloc(), text, states, line)?;
-    }
-    Ok(())
+    tells_each(&rt, rt.alloc(), &OPERATIONS)
 }
 
 pub(super) const LEVELS: [Example; 4] = [
@@ -247,10 +213,7 @@ pub(super) const LEVELS: [Example; 4] = [
 
 #[test]
 fn tells_levels_and_places(rt: HostRuntime) -> Result<(), Fail> {
-    for (text, states, line) in LEVELS {
-        tells(&rt, rt.alloc(), text, states, line)?;
-    }
-    Ok(())
+    tells_each(&rt, rt.alloc(), &LEVELS)
 }
 
 pub(super) const LOCKS: [Example; 6] = [
@@ -312,15 +275,12 @@ pub(super) const LOCKS: [Example; 6] = [
 
 #[test]
 fn tells_what_becomes_of_locks(rt: HostRuntime) -> Result<(), Fail> {
-    for (text, states, line) in LOCKS {
-        tells(&rt, rt.alloc(), text, states, line)?;
-    }
-    Ok(())
+    tells_each(&rt, rt.alloc(), &LOCKS)
 }
 
 const CERTIFICATES: [Example; 5] = [
     (
-        "filter a altitude 100\npre read {\nif FltGetStreamContext c0 {\n} else {\nif FltAllocateContext c0 {\nif FltSetStreamContext KEEP_IF_EXISTS c0 old c1 {\n}\nif c1 != NULL {\nFltReleaseContext c1\n}\n}\n}\nif c0 != NULL {\nFltReleaseContext c0\n}\nreturn NO_CALLBACK\n}\n",
+        STREAM_CONTEXTS,
         &[&[
             "111111111",
             "111111111",
@@ -335,7 +295,7 @@ const CERTIFICATES: [Example; 5] = [
         "refused callback 0 point 0 line 3 R14 certificate does not cover\n",
     ),
     (
-        "filter a altitude 100\npre read {\nif FltGetStreamContext c0 {\n} else {\nif FltAllocateContext c0 {\nif FltSetStreamContext KEEP_IF_EXISTS c0 old c1 {\n}\nif c1 != NULL {\nFltReleaseContext c1\n}\n}\n}\nif c0 != NULL {\nFltReleaseContext c0\n}\nreturn NO_CALLBACK\n}\n",
+        STREAM_CONTEXTS,
         &[&["!", "!", "!", "!", "!", "!", "!", "!", "!"]],
         "refused callback 0 point 0 line 3 R14 certificate does not cover\n",
     ),
@@ -358,8 +318,5 @@ const CERTIFICATES: [Example; 5] = [
 
 #[test]
 fn tells_what_a_certificate_lacks(rt: HostRuntime) -> Result<(), Fail> {
-    for (text, states, line) in CERTIFICATES {
-        tells(&rt, rt.alloc(), text, states, line)?;
-    }
-    Ok(())
+    tells_each(&rt, rt.alloc(), &CERTIFICATES)
 }

@@ -1,6 +1,6 @@
 //! What `replay` says of journals on texts. What is expected follows by hand from what the machine does.
 
-use super::{Outcome, run};
+use super::{Outcome, PENDING_READS, STREAM_CONTEXTS, run};
 use std::alloc::Global;
 use std::process::Abort;
 use std::test::Fail;
@@ -14,21 +14,13 @@ mod violations;
 /// The entries of a journal, line by line, and what is said of it.
 type Replay = (&'static str, &'static str);
 
-/// A filter that pends its reads.
-const PENDING_READS: &str =
-    "filter q altitude 100\nqueue\npre read {\n  if irp data {\n    if FltCbdqInsertIo data {\n      return PENDING\n    }\n  }\n  return NO_CALLBACK\n}\ncanceled {\n  if arg != NULL {\n    FltReleaseContext arg\n  }\n  FltCompletePendedPreOperation data COMPLETE STATUS_CANCELLED\n}\n";
-
-/// With it, a write lets the first of these reads go on.
+/// With `PENDING_READS`, a write lets the first of these reads go on.
 const REMOVING_WRITES: &str =
     "pre write {\nif FltCbdqRemoveNextIo o0 context c0 {\nif c0 != NULL {\nFltReleaseContext c0\n}\nFltCompletePendedPreOperation o0 NO_CALLBACK\n}\nreturn NO_CALLBACK\n}\n";
 
 /// With it, a write sets a context on its stream and hands it to its post callback.
 const LINKING_WRITES: &str =
     "pre write {\nif FltAllocateContext c0 {\nif FltSetStreamContext KEEP_IF_EXISTS c0 {\n}\nreturn WITH_CALLBACK context c0\n}\nreturn NO_CALLBACK\n}\npost write {\nif arg != NULL {\nFltReleaseContext arg\n}\nreturn FINISHED_PROCESSING\n}\n";
-
-/// A filter that gives each stream a context.
-const STREAM_CONTEXTS: &str =
-    "filter a altitude 100\npre read {\nif FltGetStreamContext c0 {\n} else {\nif FltAllocateContext c0 {\nif FltSetStreamContext KEEP_IF_EXISTS c0 old c1 {\n}\nif c1 != NULL {\nFltReleaseContext c1\n}\n}\n}\nif c0 != NULL {\nFltReleaseContext c0\n}\nreturn NO_CALLBACK\n}\n";
 
 /// A filter that reads the value of the instance's context after its release.
 const STALE_READS: &str =

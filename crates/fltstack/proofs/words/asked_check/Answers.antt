@@ -1,16 +1,11 @@
-use Rattle.std.proofs.Common.{◌≡◌, codes, Bor, List, ℕ, ◌∙◌, ap, refl, option_map, unwrap_or}
+use Rattle.std.proofs.Common.{◌≡◌, codes, ◌∙◌, refl, option_map}
 use Rattle.clap.proofs.WalkLemmas.{first_value-rows}
 use Rattle.clap.specs.Walk.{rows_of, first_of}
 use Rattle.clap.specs.Matches.{found_of}
-use Rattle.fltstack.proofs.Requests.{text_or}
-use Rattle.fltstack.specs.Words as spec
 use Rattle.fltstack.proofs.words.asked_check.Goals as goal
 
 pub returns : goal.returns
 returns c =
     let found = found_of c.args.check.now in
-    let given : option_map (λ s. s.now) c.get_str.result ≡ first_of (codes "FILE") (rows_of found) = c.get_str.ensures ∙ first_value-rows found (codes "FILE") in
-    let file : c.unwrap_or.result.now ≡ spec.file_of (rows_of found) =
-    ap (λ (s : Bor (List ℕ)). s.now) c.unwrap_or.ensures ∙ text_or c.get_str.result _ ∙ ap (λ o. unwrap_or o (codes "-")) given in
-    let cert : option_map (λ s. s.now) c.get_str-2.result ≡ first_of (codes "CERT") (rows_of found) = c.get_str-2.ensures ∙ first_value-rows found (codes "CERT") in
-    rw (file, cert) refl
+    let cert : option_map (λ s. s.now) c.get_str.result ≡ first_of (codes "CERT") (rows_of found) = c.get_str.ensures ∙ first_value-rows found (codes "CERT") in
+    rw (c.text_of.ensures, cert) refl
