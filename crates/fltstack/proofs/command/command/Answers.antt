@@ -9,6 +9,9 @@ returns-in-Check g c =
     record {
       prints = failed_check _ _ c.in-Err.failure told _ _ _ c.excuse.result (sym (rw c.in-Check.is at c.in_ok-text.ensures)) c.in-Err.ensures c.excuse.ensures.status;
       write = search rules;
+      fine = search rules;
+      memory = search rules;
+      quiet = search rules;
     }
 
 pub returns-in-Analyse : goal.returns-in-Analyse
@@ -18,6 +21,9 @@ returns-in-Analyse g c =
       prints = failed_analysis _ _ c.in-Err-analyse_file.failure told _ _ c.excuse-in-Err-analyse_file.result (sym (rw c.in-Analyse.is at c.in_ok-text.ensures))
           c.in-Err-analyse_file.ensures c.excuse-in-Err-analyse_file.ensures.status;
       write = search rules;
+      fine = search rules;
+      memory = search rules;
+      quiet = search rules;
     }
 
 pub returns : goal.returns
@@ -27,4 +33,7 @@ returns g c =
       prints = failed_replay _ _ c.in-Err-replay_files.failure told _ _ _ c.excuse-in-Err-replay_files.result (sym (rw c.in-Replay.is at c.in_ok-text.ensures))
           (rw c.as_slice-in-Replay.ensures.value at c.in-Err-replay_files.ensures) c.excuse-in-Err-replay_files.ensures.status;
       write = search rules;
+      fine = search rules;
+      memory = search rules;
+      quiet = search rules;
     }
