@@ -1,7 +1,7 @@
 //! The commands, over inputs and writers.
 
 ghost use Rattle.std.specs.Io.KnownBytes.{Appends};
-ghost use Rattle.std.specs.Prelude.{◌≡◌, ◌≢◌, ◌⊎◌, ◌++◌, ◌∷◌, [], ℕ, List, IfOk, IfErr, map, string_bytes};
+ghost use Rattle.std.specs.Prelude.{◌≡◌, ◌≢◌, ◌⊎◌, ◌++◌, ◌∷◌, [], ℕ, List, OnOk, IfOk, IfErr, map, string_bytes};
 ghost use Rattle.fltstack.specs.Lines.{answer_line, answer_status, verdict_line, verdict_status};
 ghost use Rattle.fltstack.specs.Output as spec;
 
@@ -62,6 +62,8 @@ impl From<WriteFault> for CommandFault {
 fn tell<O: Sink>(alloc: Global, answer: Answer, out: &mut O) -> Result<u8, CommandFault>
     ensures prints { IfOk result (λ status. (status ≡ answer_status answer) × Appends (O.taken out.old) (O.taken out.new) (answer_line answer ++ 10 ∷ [])) }
     ensures write { IfErr result (λ e. e ≡ CommandFault.Write → O.failures out.new ≢ O.failures out.old) }
+    ensures fine { OnOk result (O.failures out.new ≡ O.failures out.old) }
+    ensures memory { IfErr result (λ e. e ≡ CommandFault.OutOfMemory → out.new ≡ out.old) }
 {
     let line = format!(in alloc; "{answer}\n")?;
     put_all(out, line.as_bytes())?;
@@ -72,6 +74,8 @@ fn tell<O: Sink>(alloc: Global, answer: Answer, out: &mut O) -> Result<u8, Comma
 fn pronounce<O: Sink>(alloc: Global, verdict: VerdictLine, out: &mut O) -> Result<u8, CommandFault>
     ensures prints { IfOk result (λ status. (status ≡ verdict_status verdict.0) × Appends (O.taken out.old) (O.taken out.new) (verdict_line verdict.0 ++ 10 ∷ [])) }
     ensures write { IfErr result (λ e. e ≡ CommandFault.Write → O.failures out.new ≢ O.failures out.old) }
+    ensures fine { OnOk result (O.failures out.new ≡ O.failures out.old) }
+    ensures memory { IfErr result (λ e. e ≡ CommandFault.OutOfMemory → out.new ≡ out.old) }
 {
     let line = format!(in alloc; "{verdict}\n")?;
     put_all(out, line.as_bytes())?;
@@ -82,6 +86,8 @@ fn pronounce<O: Sink>(alloc: Global, verdict: VerdictLine, out: &mut O) -> Resul
 fn excuse<E: Sink>(alloc: Global, failure: &Failure, err: &mut E) -> Result<u8, CommandFault>
     ensures status { IfOk result (λ status. status ≡ 2) }
     ensures write { IfErr result (λ e. e ≡ CommandFault.Write → E.failures err.new ≢ E.failures err.old) }
+    ensures fine { OnOk result (E.failures err.new ≡ E.failures err.old) }
+    ensures memory { IfErr result (λ e. e ≡ CommandFault.OutOfMemory → err.new ≡ err.old) }
 {
     let line = format!(in alloc; "{failure}\n")?;
     put_all(err, line.as_bytes())?;
@@ -99,6 +105,9 @@ pub fn command<I: Inputs, O: Sink, E: Sink>(
 ) -> Result<u8, CommandFault>
     ensures prints { IfOk result (λ status. (bytes : List ℕ) × spec.Prints (I.gives inputs.now) (map string_bytes words.now) bytes status × Appends (O.taken out.old) (O.taken out.new) bytes) }
     ensures write { IfErr result (λ e. e ≡ CommandFault.Write → (O.failures out.new ≢ O.failures out.old) ⊎ (E.failures err.new ≢ E.failures err.old)) }
+    ensures fine { OnOk result ((O.failures out.new ≡ O.failures out.old) × (E.failures err.new ≡ E.failures err.old)) }
+    ensures memory { IfErr result (λ e. e ≡ CommandFault.OutOfMemory → (out.new ≡ out.old) × (err.new ≡ err.old)) }
+    ensures quiet { IfOk result (λ status. status ≢ 2 → err.new ≡ err.old) }
 {
     match read_words(alloc, words)? {
         Request::Usage(text) => {

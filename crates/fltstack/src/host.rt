@@ -1,5 +1,8 @@
 //! The files and the streams of the system.
 
+ghost use Rattle.std.specs.Io.KnownBytes.{Consumes, IsAtEnd};
+ghost use Rattle.std.specs.Prelude.{◌≤◌, length, IfOk, IfSome};
+
 use crate::inputs::{Inputs, MAX_INPUT};
 use flt_model::{Sink, WriteFault};
 use std::alloc::{AllocError, Global};
@@ -13,7 +16,10 @@ pub struct Files<'a> {
 }
 
 /// The bytes that a reader has; none if it fails or has too many.
-fn read_within<R: Read>(alloc: Global, reader: &mut R) -> Result<Option<Vec<u8>>, AllocError> {
+fn read_within<R: Read>(alloc: Global, reader: &mut R) -> Result<Option<Vec<u8>>, AllocError>
+    ensures all { IfOk result (λ found. IfSome found (λ v. Consumes (R.remaining reader.old) (R.remaining reader.new) v.items × IsAtEnd (R.remaining reader.new))) }
+    ensures few { IfOk result (λ found. IfSome found (λ v. length v.items ≤ 67108864)) }
+{
     let mut found = Vec::new(alloc);
     let mut buffer = [0u8; 4096];
     for _ in 0..u64::MAX {
