@@ -49,6 +49,7 @@ fn check_command<'a>(alloc: Global) -> Result<Command<'a>, AllocError>
     );
     Command::new(alloc, "check")
         .about("Says whether a certificate covers a filter's text")
+        .override_usage("fltstack check <FILE> [CERT]")
         .after_help(
             "Prints `accepted` (exit 0), or the first point and rule that refuse it (exit 1).\nErrors go to the standard error with exit 2.\n\nExample: fltstack check examples/pass_through.flt examples/pass_through.cert",
         )
@@ -61,6 +62,7 @@ fn analyse_command<'a>(alloc: Global) -> Result<Command<'a>, AllocError>
 {
     Command::new(alloc, "analyse")
         .about("Finds the least certificate that covers a filter's text")
+        .override_usage("fltstack analyse <FILE>")
         .after_help(
             "Prints the certificate (exit 0), or the point and rule for which there is none (exit 1).\nErrors go to the standard error with exit 2.\n\nExample: fltstack analyse examples/pending_reads.flt",
         )
@@ -79,6 +81,7 @@ fn replay_command<'a>(alloc: Global) -> Result<Command<'a>, AllocError>
         .help("The filters' texts, up to 16");
     Command::new(alloc, "replay")
         .about("Says whether a journal is a run of the machine on some filters that breaks nothing")
+        .override_usage("fltstack replay <JOURNAL> <FILE>...")
         .after_help(
             "Prints `legal` (exit 0), or `not a run at N` or `breaks Vk at N` for the first such entry (exit 1).\nErrors go to the standard error with exit 2.\n\nExample: fltstack replay examples/pending_reads.journal examples/pending_reads.flt",
         )
@@ -91,7 +94,9 @@ fn program<'a>(alloc: Global) -> Result<Command<'a>, AllocError>
 {
     Command::new(alloc, "fltstack")
         .about("A static verifier for Windows file-system minifilters")
-        .after_help("With no words it acts as `check -`.")
+        .after_help(
+            "With no words it acts as `check -`.\n\nExit status: 0 for `accepted`, a certificate or `legal`; 1 for any other answer;\n2 where there is none, and the standard error says why.\n\nExample: fltstack analyse examples/pending_reads.flt",
+        )
         .subcommand_required(true)
         .no_binary_name(true)
         .subcommand(check_command(alloc)?)?
