@@ -2,7 +2,7 @@
 # Runs the program on all of examples/ and compares what it says with examples/expected.
 #
 #   tools/run-examples.sh [PROGRAM]
-#       runs PROGRAM, else what `rt run` in crates/fltstack made. Ends with status 1 at any difference: another exit status,
+#       runs PROGRAM, else what `rt ci`, or `rt run` in crates/fltstack, made. Ends with status 1 at any difference: another exit status,
 #       another output, a byte on the standard error, or a file of examples/ that no line of `expected` names.
 set -euo pipefail
 

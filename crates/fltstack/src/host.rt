@@ -81,12 +81,17 @@ impl<W: Write + Drop> Sink for Stream<W> {
     }
 }
 
-/// The words of the command line, the program's own name left out.
-pub fn arguments(rt: &HostRuntime) -> io::Result<Vec<String>> {
+/// The words of the command line, the program's own name left out; none if one of them isn't UTF-8.
+pub fn arguments(rt: &HostRuntime) -> Result<Option<Vec<String>>, AllocError> {
+    let given = match env::args(rt) {
+        Ok(given) => given,
+        Err(fault) if fault.kind() == io::ErrorKind::InvalidData => return Ok(None),
+        Err(_) => return Err(AllocError),
+    };
     // `collect` asks for room for all of them first, and goes on where that is refused.
     let mut words = Vec::new(rt.alloc());
-    for word in env::args(rt)?.skip(1) {
+    for word in given.skip(1) {
         words.push(word)?;
     }
-    Ok(words)
+    Ok(Some(words))
 }
