@@ -1,15 +1,20 @@
 -- The verdict about a journal, and the run that its transitions are.
-use Rattle.std.proofs.Common.{◌≡◌, ℕ, ◌+◌, List, [], ◌∷◌, ◌++◌, Option, Some, None, ap, sym, refl, ◌∙◌}
-use Rattle.std.specs.Prelude.{option_map, option_and_then, ◌↔◌}
+use Rattle.std.proofs.Common.{◌≡◌, ℕ, zero, suc, ◌+◌, Bool, true, false, List, [], ◌∷◌, ◌++◌, Option, Some, None, ap, arith, sym, subst, refl, ◌∙◌, append_assoc, append-nil}
+use Rattle.std.specs.Prelude.{not, cond, replicate, take, drop, find, option_map, option_and_then, ◌↔◌}
 use Rattle.flt_syntax.specs.declared.filter.Filter.{Filter}
+use Rattle.flt_model.proofs.LocalLaws.{local_quiet}
 use Rattle.flt_model.specs.declared.moves.JournalEntry.{JournalEntry}
-use Rattle.flt_model.specs.declared.verdict.Verdict.TheVariants.{Legal}
+use Rattle.flt_model.specs.declared.moves.JournalEntry.TheVariants.{Move, Go}
+use Rattle.flt_model.specs.declared.verdict.Verdict.{Verdict}
+use Rattle.flt_model.specs.declared.verdict.Verdict.TheVariants.{Legal, NotARun, Breaks}
 use Rattle.flt_model.specs.declared.verdict.Violation.{Violation}
+use Rattle.flt_model.specs.declared.verdict.Violation.TheVariants.{V1, V2, V3, V4, V5, V6, V7, V8}
 use Rattle.flt_model.specs.Effects.{Step}
-use Rattle.flt_model.specs.Expansion.{expansion, expand, IsCleanRun, Course, Reaches, Stops, Fails, unless_broken, course_by, course, entry_course, judged, verdict_from, verdict}
+use Rattle.flt_model.specs.Expansion.{expansion, expand, IsCleanRun, IsStoppedAt, IsBrokenAt, Course, Reaches, Stops, Fails, unless_broken, course_by, course, entry_course, judged, verdict_from, verdict}
 use Rattle.flt_model.specs.Program.{by_altitude}
-use Rattle.flt_model.specs.Runs.{Moment, start, after, next, run_from, broken, on_step, first_or, breaks_from}
-use Rattle.flt_model.specs.Steps.{Transition}
+use Rattle.flt_model.specs.Runs.{Moment, start, after, next, run_from, keeps, broken, Break, on_step, first_or, breaks_from}
+use Rattle.flt_model.specs.Steps.{Transition, Make, Local, Board}
+use Rattle.flt_model.specs.Violations.{one_owner}
 
 -- ---- a course that reaches a moment is a run that breaks nothing
 
@@ -179,3 +184,466 @@ clean_legal filters entries r =
 
 pub legal_is_clean : (filters : List Filter) (entries : List JournalEntry) → (verdict filters entries ≡ Legal) ↔ IsCleanRun filters entries
 legal_is_clean filters entries = (legal_clean filters entries, clean_legal filters entries)
+
+-- ---- a course that stops isn't a run; one that fails breaks what it names
+
+module _ (p : List Filter) (m : Moment) (xs : List Transition) where
+  stops_step : (o : Option Step) → ((s : Step) → course p (after m s) xs ≡ Stops → run_from p (after m s) xs ≡ None) →
+      course_by o (λ s. unless_broken (broken p m s) (course p (after m s) xs)) ≡ Stops → option_and_then (λ s. run_from p (after m s) xs) o ≡ None
+  stops_step None ih e = refl
+  stops_step (Some s) ih e = unbroken (broken p m s) e
+    where
+      unbroken : (b : Option Violation) → unless_broken b (course p (after m s) xs) ≡ Stops → run_from p (after m s) xs ≡ None
+      unbroken None h = ih s h
+      unbroken (Some v) h = absurd (cc)
+
+course_stops : (p : List Filter) (m : Moment) (xs : List Transition) → course p m xs ≡ Stops → run_from p m xs ≡ None
+course_stops p m [] e = absurd (cc)
+course_stops p m (x ∷ xs) e = stops_step p m xs (next p m x) (λ s. course_stops p (after m s) xs) e
+
+-- the violation of a break, if there is one
+abbrev violation_of : Option Break → Option Violation
+violation_of o = option_map (λ b. b.violation) o
+
+module _ (p : List Filter) (m : Moment) (xs : List Transition) (v : Violation) (k : ℕ) where
+  fails_broken : (s : Step) (b : Option Violation) →
+      (course p (after m s) xs ≡ Fails v → violation_of (breaks_from p (after m s) k xs) ≡ Some v) →
+      unless_broken b (course p (after m s) xs) ≡ Fails v → violation_of (first_or b k (breaks_from p (after m s) k xs)) ≡ Some v
+  fails_broken s None ih e = ih e
+  fails_broken s (Some w) ih e = cc
+
+  fails_step : (o : Option Step) → ((s : Step) → course p (after m s) xs ≡ Fails v → violation_of (breaks_from p (after m s) k xs) ≡ Some v) →
+      course_by o (λ s. unless_broken (broken p m s) (course p (after m s) xs)) ≡ Fails v →
+      violation_of (on_step o (λ s. first_or (broken p m s) k (breaks_from p (after m s) k xs))) ≡ Some v
+  fails_step None ih e = absurd (cc)
+  fails_step (Some s) ih e = fails_broken s (broken p m s) (ih s) e
+
+  broken_fails : (s : Step) (b : Option Violation) →
+      (violation_of (breaks_from p (after m s) k xs) ≡ Some v → course p (after m s) xs ≡ Fails v) →
+      violation_of (first_or b k (breaks_from p (after m s) k xs)) ≡ Some v → unless_broken b (course p (after m s) xs) ≡ Fails v
+  broken_fails s None ih e = ih e
+  broken_fails s (Some w) ih e = cc
+
+  step_fails : (last : Moment) (o : Option Step) →
+      ((s : Step) → run_from p (after m s) xs ≡ Some last → violation_of (breaks_from p (after m s) k xs) ≡ Some v → course p (after m s) xs ≡ Fails v) →
+      option_and_then (λ s. run_from p (after m s) xs) o ≡ Some last →
+      violation_of (on_step o (λ s. first_or (broken p m s) k (breaks_from p (after m s) k xs))) ≡ Some v →
+      course_by o (λ s. unless_broken (broken p m s) (course p (after m s) xs)) ≡ Fails v
+  step_fails last None ih r e = absurd (cc)
+  step_fails last (Some s) ih r e = broken_fails s (broken p m s) (ih s r) e
+
+course_fails : (p : List Filter) (m : Moment) (xs : List Transition) (v : Violation) (k : ℕ) → course p m xs ≡ Fails v →
+    violation_of (breaks_from p m k xs) ≡ Some v
+course_fails p m [] v k e = absurd (cc)
+course_fails p m (x ∷ xs) v k e = fails_step p m xs v (k + 1) (next p m x) (λ s. course_fails p (after m s) xs v (k + 1)) e
+
+run_fails : (p : List Filter) (m last : Moment) (xs : List Transition) (v : Violation) (k : ℕ) → run_from p m xs ≡ Some last →
+    violation_of (breaks_from p m k xs) ≡ Some v → course p m xs ≡ Fails v
+run_fails p m last [] v k r e = absurd (cc)
+run_fails p m last (x ∷ xs) v k r e =
+    step_fails p m xs v (k + 1) last (next p m x) (λ s. run_fails p (after m s) last xs v (k + 1)) r e
+
+module _ (p : List Filter) (m : Moment) (xs ys : List Transition) where
+  append_run : (o : Option Step) →
+      ((s : Step) → run_from p (after m s) (xs ++ ys) ≡ option_and_then (λ r. run_from p r ys) (run_from p (after m s) xs)) →
+      option_and_then (λ s. run_from p (after m s) (xs ++ ys)) o
+      ≡ option_and_then (λ r. run_from p r ys) (option_and_then (λ s. run_from p (after m s) xs) o)
+  append_run None ih = refl
+  append_run (Some s) ih = ih s
+
+run_append : (p : List Filter) (m : Moment) (xs ys : List Transition) →
+    run_from p m (xs ++ ys) ≡ option_and_then (λ r. run_from p r ys) (run_from p m xs)
+run_append p m [] ys = refl
+run_append p m (x ∷ xs) ys = append_run p m xs ys (next p m x) (λ s. run_append p (after m s) xs ys)
+
+-- ---- along a run that breaks nothing each visit has its owner
+
+abbrev Owned : Moment → Type 0
+Owned m = one_owner m.world m.trace ≡ true
+
+fourth_kept : (a b c d : Bool) (rest : Option Violation) →
+    cond (not a) (Some V1) (cond (not b) (Some V2) (cond (not c) (Some V3) (cond (not d) (Some V4) rest))) ≡ None → d ≡ true
+fourth_kept false b c d rest e = absurd (cc)
+fourth_kept true false c d rest e = absurd (cc)
+fourth_kept true true false d rest e = absurd (cc)
+fourth_kept true true true false rest e = absurd (cc)
+fourth_kept true true true true rest e = refl
+
+owned_after : (p : List Filter) (m : Moment) (s : Step) → broken p m s ≡ None → Owned (after m s)
+owned_after p m s e =
+    fourth_kept (keeps p m s V1) (keeps p m s V2) (keeps p m s V3) (keeps p m s V4)
+    (find (λ v. not (keeps p m s v)) (V5 ∷ V6 ∷ V7 ∷ V8 ∷ [])) e
+
+module _ (p : List Filter) (m last : Moment) (xs : List Transition) where
+  owned_broken : (s : Step) (b : Option Violation) → broken p m s ≡ b →
+      (Owned (after m s) → course p (after m s) xs ≡ Reaches last → Owned last) →
+      unless_broken b (course p (after m s) xs) ≡ Reaches last → Owned last
+  owned_broken s None h ih e = ih (owned_after p m s h) e
+  owned_broken s (Some v) h ih e = absurd (cc)
+
+  owned_step : (o : Option Step) → ((s : Step) → Owned (after m s) → course p (after m s) xs ≡ Reaches last → Owned last) →
+      course_by o (λ s. unless_broken (broken p m s) (course p (after m s) xs)) ≡ Reaches last → Owned last
+  owned_step None ih e = absurd (cc)
+  owned_step (Some s) ih e = owned_broken s (broken p m s) refl (ih s) e
+
+course_owned : (p : List Filter) (m last : Moment) (xs : List Transition) → Owned m → course p m xs ≡ Reaches last → Owned last
+course_owned p m last [] h e = let same : m ≡ last = cc in subst Owned same h
+course_owned p m last (x ∷ xs) h e = owned_step p m last xs (next p m x) (λ s. course_owned p (after m s) last xs) e
+
+-- ---- an entry breaks nothing but by its last transition, so one that breaks something is a run
+
+-- the transitions are a run
+abbrev IsRun : List Filter → Moment → List Transition → Type 0
+IsRun p m xs = (last : Moment) × (run_from p m xs ≡ Some last)
+
+module _ (p : List Filter) (m : Moment) (v : Violation) where
+  last_runs : (o : Option Step) → course_by o (λ s. unless_broken (broken p m s) (Reaches (after m s))) ≡ Fails v →
+      (last : Moment) × (option_and_then (λ s. Some (after m s)) o ≡ Some last)
+  last_runs None e = absurd (cc)
+  last_runs (Some s) e = (after m s, refl)
+
+  local_runs : (xs : List Transition) (o : Option Step) → ((s : Step) → o ≡ Some s → broken p m s ≡ None) →
+      ((s : Step) → Owned (after m s) → course p (after m s) xs ≡ Fails v → IsRun p (after m s) xs) →
+      course_by o (λ s. unless_broken (broken p m s) (course p (after m s) xs)) ≡ Fails v →
+      (last : Moment) × (option_and_then (λ s. run_from p (after m s) xs) o ≡ Some last)
+  local_runs xs None quiet ih e = absurd (cc)
+  local_runs xs (Some s) quiet ih e =
+      let h = quiet s refl in
+      ih s (owned_after p m s h) (sym (ap (λ b. unless_broken b (course p (after m s) xs)) h) ∙ e)
+
+go_runs : (p : List Filter) (m : Moment) (v : Violation) (a n : ℕ) (grant : Bool) → Owned m →
+    course p m (replicate n (Local a) ++ Board a grant ∷ []) ≡ Fails v → IsRun p m (replicate n (Local a) ++ Board a grant ∷ [])
+go_runs p m v a zero grant owned e = last_runs p m v (next p m (Board a grant)) e
+go_runs p m v a (suc n) grant owned e =
+    local_runs p m v (replicate n (Local a) ++ Board a grant ∷ []) (next p m (Local a)) (λ s h. (local_quiet p m a s owned h).1)
+    (λ s h. go_runs p (after m s) v a n grant h) e
+
+entry_runs : (p : List Filter) (m : Moment) (v : Violation) (x : JournalEntry) (xs : List Transition) → expansion x ≡ Some xs → Owned m →
+    course p m xs ≡ Fails v → IsRun p m xs
+entry_runs p m v (Move x) xs h owned e =
+    let same : Make x ∷ [] ≡ xs = cc in
+    subst (λ z. course p m z ≡ Fails v → IsRun p m z) same (last_runs p m v (next p m (Make x))) e
+entry_runs p m v (Go a zero grant) xs h owned e = absurd (cc)
+entry_runs p m v (Go a (suc n) grant) xs h owned e =
+    let same : replicate n (Local a) ++ Board a grant ∷ [] ≡ xs = cc in
+    subst (λ z. course p m z ≡ Fails v → IsRun p m z) same (go_runs p m v a n grant owned) e
+
+-- ---- behind entries that break nothing
+
+-- the first i entries lead to a moment, and the verdict goes on from there
+record Parted (p : List Filter) (m last : Moment) (n i : ℕ) (es : List JournalEntry) (front : List Transition) : Type 0 where
+  told : verdict_from p m n es ≡ verdict_from p last (n + i) (drop i es)
+  more : expand (take (suc i) es) ≡ option_map (λ ys. front ++ ys) (expand (take 1 (drop i es)))
+
+map_front : (xs ys : List Transition) (o : Option (List Transition)) →
+    option_map (λ zs. xs ++ zs) (option_map (λ zs. ys ++ zs) o) ≡ option_map (λ zs. (xs ++ ys) ++ zs) o
+map_front xs ys None = refl
+map_front xs ys (Some zs) = ap (λ l. Some l) (sym (append_assoc xs ys zs))
+
+map_nothing : (o : Option (List Transition)) → o ≡ option_map (λ ys. [] ++ ys) o
+map_nothing None = refl
+map_nothing (Some xs) = refl
+
+module _ (p : List Filter) (m last : Moment) (n i : ℕ) (es : List JournalEntry) where
+  parted_by : (xs ys : List Transition) (c : Course) →
+      ((mid : Moment) → course p mid ys ≡ Reaches last → Parted p mid last (n + 1) i es ys) →
+      then_course c (λ q. course p q ys) ≡ Reaches last →
+      (judged c n (λ r. verdict_from p r (n + 1) es) ≡ verdict_from p last (n + suc i) (drop i es))
+      × (option_map (λ zs. xs ++ zs) (expand (take (suc i) es)) ≡ option_map (λ zs. (xs ++ ys) ++ zs) (expand (take 1 (drop i es))))
+  parted_by xs ys (Reaches mid) ih e =
+      let r = ih mid e in
+      let count : n + 1 + i ≡ n + suc i = omega arith in (
+        r.told ∙ ap (λ k. verdict_from p last k (drop i es)) count,
+        ap (λ o. option_map (λ zs. xs ++ zs) o) r.more ∙ map_front xs ys (expand (take 1 (drop i es))),
+      )
+  parted_by xs ys Stops ih e = absurd (cc)
+  parted_by xs ys (Fails v) ih e = absurd (cc)
+
+  parted_rest : (xs front : List Transition) (o : Option (List Transition)) →
+      ((ys : List Transition) (mid : Moment) → o ≡ Some ys → course p mid ys ≡ Reaches last → Parted p mid last (n + 1) i es ys) →
+      option_map (λ ys. xs ++ ys) o ≡ Some front → course p m front ≡ Reaches last →
+      (judged (course p m xs) n (λ r. verdict_from p r (n + 1) es) ≡ verdict_from p last (n + suc i) (drop i es))
+      × (option_map (λ zs. xs ++ zs) (expand (take (suc i) es)) ≡ option_map (λ zs. front ++ zs) (expand (take 1 (drop i es))))
+  parted_rest xs front None ih e h = absurd (cc)
+  parted_rest xs front (Some ys) ih e h =
+      let same : xs ++ ys ≡ front = cc in
+      let r = parted_by xs ys (course p m xs) (λ mid. ih ys mid refl) (sym (course_append p m xs ys) ∙ (ap (λ q. course p m q) same ∙ h)) in
+      (r.0, r.1 ∙ ap (λ l. option_map (λ zs. l ++ zs) (expand (take 1 (drop i es)))) same)
+
+  parted_entry : (front : List Transition) (o : Option (List Transition)) →
+      ((ys : List Transition) (mid : Moment) → expand (take i es) ≡ Some ys → course p mid ys ≡ Reaches last → Parted p mid last (n + 1) i es ys) →
+      option_and_then (λ xs. option_map (λ ys. xs ++ ys) (expand (take i es))) o ≡ Some front → course p m front ≡ Reaches last →
+      (judged (entry_course p m o) n (λ r. verdict_from p r (n + 1) es) ≡ verdict_from p last (n + suc i) (drop i es))
+      × (option_and_then (λ xs. option_map (λ zs. xs ++ zs) (expand (take (suc i) es))) o ≡ option_map (λ zs. front ++ zs) (expand (take 1 (drop i es))))
+  parted_entry front None ih e h = absurd (cc)
+  parted_entry front (Some xs) ih e h = parted_rest xs front (expand (take i es)) ih e h
+
+parted : (p : List Filter) (m last : Moment) (n i : ℕ) (es : List JournalEntry) (front : List Transition) →
+    expand (take i es) ≡ Some front → course p m front ≡ Reaches last → Parted p m last n i es front
+parted p m last n zero es front e h =
+    let none : [] ≡ front = cc in
+    let here : m ≡ last = (let reached : course p m [] ≡ Reaches last = ap (λ l. course p m l) none ∙ h in cc) in
+    let count : n ≡ n + 0 = omega arith in
+    record {
+      told = ap (λ q. verdict_from p q n es) here ∙ ap (λ k. verdict_from p last k es) count;
+      more = map_nothing (expand (take 1 es)) ∙ ap (λ l. option_map (λ ys. l ++ ys) (expand (take 1 es))) none;
+    }
+parted p m last n (suc i) [] front e h =
+    let none : [] ≡ front = cc in record { told = refl; more = ap (λ l. option_map (λ ys. l ++ ys) (Some [])) none }
+parted p m last n (suc i) (x ∷ es) front e h =
+    let r = parted_entry p m last n i es front (expansion x) (λ ys mid. parted p mid last (n + 1) i es ys) e h in
+    record { told = r.0; more = r.1 }
+
+-- ---- where the fault is that a verdict tells
+
+record Located (p : List Filter) (m : Moment) (n : ℕ) (es : List JournalEntry) (w : Verdict) : Type 0 where
+  i : ℕ
+  front : List Transition
+  last : Moment
+  entry : JournalEntry
+  rest : List JournalEntry
+  expanded : expand (take i es) ≡ Some front
+  reaches : course p m front ≡ Reaches last
+  there : drop i es ≡ entry ∷ rest
+  told : judged (entry_course p last (expansion entry)) (n + i) (λ r. Legal) ≡ w
+
+module _ (p : List Filter) (m : Moment) (n : ℕ) (x : JournalEntry) (es : List JournalEntry) (w : Verdict) where
+  located_here : judged (entry_course p m (expansion x)) n (λ r. Legal) ≡ w → Located p m n (x ∷ es) w
+  located_here e =
+      let count : n + 0 ≡ n = omega arith in
+      record {
+        i = 0;
+        front = [];
+        last = m;
+        entry = x;
+        rest = es;
+        expanded = refl;
+        reaches = refl;
+        there = refl;
+        told = ap (λ k. judged (entry_course p m (expansion x)) k (λ r. Legal)) count ∙ e;
+      }
+
+  located_later : (mid : Moment) (o : Option (List Transition)) → expansion x ≡ o → entry_course p m o ≡ Reaches mid →
+      Located p mid (n + 1) es w → Located p m n (x ∷ es) w
+  located_later mid None h e r = absurd (cc)
+  located_later mid (Some xs) h e r =
+      let count : n + suc r.i ≡ n + 1 + r.i = omega arith in
+      record {
+        i = suc r.i;
+        front = xs ++ r.front;
+        last = r.last;
+        entry = r.entry;
+        rest = r.rest;
+        expanded =
+            ap (λ o. option_and_then (λ xs. option_map (λ ys. xs ++ ys) (expand (take r.i es))) o) h
+            ∙ ap (λ o. option_map (λ ys. xs ++ ys) o) r.expanded;
+        reaches = course_append p m xs r.front ∙ (ap (λ c. then_course c (λ q. course p q r.front)) e ∙ r.reaches);
+        there = r.there;
+        told = ap (λ k. judged (entry_course p r.last (expansion r.entry)) k (λ r. Legal)) count ∙ r.told;
+      }
+
+  located_by : (c : Course) → entry_course p m (expansion x) ≡ c →
+      ((mid : Moment) → verdict_from p mid (n + 1) es ≡ w → Located p mid (n + 1) es w) →
+      judged c n (λ r. verdict_from p r (n + 1) es) ≡ w → Located p m n (x ∷ es) w
+  located_by (Reaches mid) h ih e = located_later mid (expansion x) refl h (ih mid e)
+  located_by Stops h ih e = located_here (ap (λ c. judged c n (λ r. Legal)) h ∙ e)
+  located_by (Fails v) h ih e = located_here (ap (λ c. judged c n (λ r. Legal)) h ∙ e)
+
+located : (p : List Filter) (m : Moment) (n : ℕ) (es : List JournalEntry) (w : Verdict) → (Legal ≡ w → ⊥) → verdict_from p m n es ≡ w →
+    Located p m n es w
+located p m n [] w bad e = absurd (bad e)
+located p m n (x ∷ es) w bad e =
+    located_by p m n x es w (entry_course p m (expansion x)) refl (λ mid. located p mid (n + 1) es w bad) e
+
+told_stops : (c : Course) (k n : ℕ) → judged c k (λ r. Legal) ≡ NotARun n → (c ≡ Stops) × (k ≡ n)
+told_stops (Reaches m) k n e = absurd (cc)
+told_stops Stops k n e = (refl, cc)
+told_stops (Fails v) k n e = absurd (cc)
+
+told_fails : (c : Course) (v : Violation) (k n : ℕ) → judged c k (λ r. Legal) ≡ Breaks v n → (c ≡ Fails v) × (k ≡ n)
+told_fails (Reaches m) v k n e = absurd (cc)
+told_fails Stops v k n e = absurd (cc)
+told_fails (Fails w) v k n e = (cc, cc)
+
+single : (o : Option (List Transition)) → option_and_then (λ xs. option_map (λ ys. xs ++ ys) (Some [])) o ≡ o
+single None = refl
+single (Some xs) = ap (λ l. Some l) (append-nil xs)
+
+-- the transitions of the first entries with those of the next one
+with_next : (front : List Transition) (x : JournalEntry) (es rest : List JournalEntry) → es ≡ x ∷ rest →
+    option_map (λ ys. front ++ ys) (expand (take 1 es)) ≡ option_map (λ ys. front ++ ys) (expansion x)
+with_next front x es rest e =
+    ap (λ l. option_map (λ ys. front ++ ys) (expand (take 1 l))) e ∙ ap (λ o. option_map (λ ys. front ++ ys) o) (single (expansion x))
+
+-- ---- the entry that follows entries that break nothing
+
+not_both : (o : Option Moment) (r : Moment) → o ≡ Some r → o ≡ None → ⊥
+not_both o r some none = cc
+
+module _ (p : List Filter) (m last : Moment) (front : List Transition) (reaches : course p m front ≡ Reaches last) where
+  run_behind : (xs : List Transition) → run_from p m (front ++ xs) ≡ run_from p last xs
+  run_behind xs = run_append p m front xs ∙ ap (λ o. option_and_then (λ r. run_from p r xs) o) (course_clean p m last front reaches).runs
+
+  course_behind : (xs : List Transition) → course p m (front ++ xs) ≡ course p last xs
+  course_behind xs = course_append p m front xs ∙ ap (λ c. then_course c (λ q. course p q xs)) reaches
+
+  stops_behind : (o : Option (List Transition)) → entry_course p last o ≡ Stops →
+      option_and_then (λ xs. run_from p m xs) (option_map (λ ys. front ++ ys) o) ≡ None
+  stops_behind None e = refl
+  stops_behind (Some xs) e = run_behind xs ∙ course_stops p last xs e
+
+  no_run_behind : (o : Option (List Transition)) →
+      ((xs : List Transition) (v : Violation) → o ≡ Some xs → course p last xs ≡ Fails v → IsRun p last xs) →
+      option_and_then (λ xs. run_from p m xs) (option_map (λ ys. front ++ ys) o) ≡ None → entry_course p last o ≡ Stops
+  no_run_behind None fails e = refl
+  no_run_behind (Some xs) fails e = by_course (course p last xs) refl
+    where
+      none : run_from p last xs ≡ None
+      none = sym (run_behind xs) ∙ e
+
+      by_course : (c : Course) → course p last xs ≡ c → c ≡ Stops
+      by_course (Reaches r) h = absurd (not_both (run_from p last xs) r (course_clean p last r xs h).runs none)
+      by_course Stops h = refl
+      by_course (Fails v) h = let runs = fails xs v refl h in absurd (not_both (run_from p last xs) runs.0 runs.1 none)
+
+  fails_behind : (v : Violation) (o : Option (List Transition)) →
+      ((xs : List Transition) → o ≡ Some xs → course p last xs ≡ Fails v → IsRun p last xs) → entry_course p last o ≡ Fails v →
+      (ys : List Transition) × ((end : Moment) × ((option_map (λ zs. front ++ zs) o ≡ Some ys)
+      × ((run_from p m ys ≡ Some end) × (violation_of (breaks_from p m 0 ys) ≡ Some v))))
+  fails_behind v None runs e = absurd (cc)
+  fails_behind v (Some xs) runs e =
+      let r = runs xs refl e in
+      (front ++ xs, (r.0, (refl, (run_behind xs ∙ r.1, course_fails p m (front ++ xs) v 0 (course_behind xs ∙ e)))))
+
+  broken_behind : (v : Violation) (ys : List Transition) (end : Moment) (o : Option (List Transition)) → option_map (λ zs. front ++ zs) o ≡ Some ys →
+      run_from p m ys ≡ Some end → violation_of (breaks_from p m 0 ys) ≡ Some v → entry_course p last o ≡ Fails v
+  broken_behind v ys end None e r b = absurd (cc)
+  broken_behind v ys end (Some xs) e r b =
+      let same : front ++ xs ≡ ys = cc in
+      sym (course_behind xs) ∙ (ap (λ l. course p m l) same ∙ run_fails p m end ys v 0 r b)
+
+  -- of the entries that follow, the first decides
+  next_stops : (n : ℕ) (es : List JournalEntry) → Owned last →
+      option_and_then (λ xs. run_from p m xs) (option_map (λ ys. front ++ ys) (expand (take 1 es))) ≡ None → verdict_from p last n es ≡ NotARun n
+  next_stops n [] owned e = absurd (not_both (run_from p m (front ++ [])) last (run_behind []) e)
+  next_stops n (x ∷ es) owned e =
+      let none = ap (λ o. option_and_then (λ xs. run_from p m xs) o) (sym (with_next front x (x ∷ es) es refl)) ∙ e in
+      ap (λ c. judged c n (λ r. verdict_from p r (n + 1) es))
+      (no_run_behind (expansion x) (λ xs v h. entry_runs p last v x xs h owned) none)
+
+  next_fails : (v : Violation) (n : ℕ) (es : List JournalEntry) (ys : List Transition) (end : Moment) →
+      option_map (λ zs. front ++ zs) (expand (take 1 es)) ≡ Some ys → run_from p m ys ≡ Some end →
+      violation_of (breaks_from p m 0 ys) ≡ Some v → verdict_from p last n es ≡ Breaks v n
+  next_fails v n [] ys end e r b =
+      let same : front ++ [] ≡ ys = cc in
+      let reached = sym (ap (λ l. course p m l) same) ∙ course_behind [] in
+      let failed = run_fails p m end ys v 0 r b in
+      absurd (cc)
+  next_fails v n (x ∷ es) ys end e r b =
+      ap (λ c. judged c n (λ r. verdict_from p r (n + 1) es))
+      (broken_behind v ys end (expansion x) (sym (with_next front x (x ∷ es) es refl) ∙ e) r b)
+
+-- ---- the laws about the first fault
+
+clean_front : (filters : List Filter) (es : List JournalEntry) (front : List Transition) (last : Moment) → expand es ≡ Some front →
+    course (by_altitude filters) (start (by_altitude filters)) front ≡ Reaches last → IsCleanRun filters es
+clean_front filters es front last e h =
+    let p = by_altitude filters in
+    let c = course_clean p (start p) last front h in
+    record { transitions = front; last = last; expanded = e; runs = c.runs; clean = c.clean 0 }
+
+one_more : (n : ℕ) (es : List JournalEntry) → expand (take (n + 1) es) ≡ expand (take (suc n) es)
+one_more n es = let count : n + 1 ≡ suc n = omega arith in ap (λ k. expand (take k es)) count
+
+none_before : (n : ℕ) → 0 + n ≡ n
+none_before n = omega arith
+
+-- the fault that a verdict tells stands at its number
+record Fault (filters : List Filter) (entries : List JournalEntry) (n : ℕ) (c : Course) : Type 0 where
+  front : List Transition
+  last : Moment
+  entry : JournalEntry
+  before : IsCleanRun filters (take n entries)
+  reaches : course (by_altitude filters) (start (by_altitude filters)) front ≡ Reaches last
+  owned : Owned last
+  more : expand (take (n + 1) entries) ≡ option_map (λ ys. front ++ ys) (expansion entry)
+  ends : entry_course (by_altitude filters) last (expansion entry) ≡ c
+
+fault_at : (filters : List Filter) (entries : List JournalEntry) (n : ℕ) (c : Course) (w : Verdict) →
+    (r : Located (by_altitude filters) (start (by_altitude filters)) 0 entries w) → r.i ≡ n →
+    entry_course (by_altitude filters) r.last (expansion r.entry) ≡ c → Fault filters entries n c
+fault_at filters entries n c w r count ends =
+    let p = by_altitude filters in
+    let expanded : expand (take n entries) ≡ Some r.front = ap (λ k. expand (take k entries)) (sym count) ∙ r.expanded in
+    let there : drop n entries ≡ r.entry ∷ r.rest = ap (λ k. drop k entries) (sym count) ∙ r.there in
+    let q = parted p (start p) r.last 0 n entries r.front expanded r.reaches in
+    record {
+      front = r.front;
+      last = r.last;
+      entry = r.entry;
+      before = clean_front filters (take n entries) r.front r.last expanded r.reaches;
+      reaches = r.reaches;
+      owned = course_owned p (start p) r.last r.front refl r.reaches;
+      more = one_more n entries ∙ q.more ∙ with_next r.front r.entry (drop n entries) r.rest there;
+      ends = ends;
+    }
+
+stopped_by : (filters : List Filter) (entries : List JournalEntry) (n : ℕ) → Fault filters entries n Stops → IsStoppedAt filters entries n
+stopped_by filters entries n f =
+    let p = by_altitude filters in
+    record {
+      before = f.before;
+      stopped = ap (λ o. option_and_then (λ xs. run_from p (start p) xs) o) f.more
+          ∙ stops_behind p (start p) f.last f.front f.reaches (expansion f.entry) f.ends;
+    }
+
+broken_by : (filters : List Filter) (entries : List JournalEntry) (v : Violation) (n : ℕ) → Fault filters entries n (Fails v) →
+    IsBrokenAt filters entries v n
+broken_by filters entries v n f =
+    let p = by_altitude filters in
+    let b = fails_behind p (start p) f.last f.front f.reaches v (expansion f.entry) (λ xs h. entry_runs p f.last v f.entry xs h f.owned) f.ends in
+    record { before = f.before; transitions = b.0; last = b.1.0; expanded = f.more ∙ b.1.1.0; runs = b.1.1.1.0; broken = b.1.1.1.1 }
+
+told_stopped : (filters : List Filter) (entries : List JournalEntry) (n : ℕ) → verdict filters entries ≡ NotARun n → IsStoppedAt filters entries n
+told_stopped filters entries n e =
+    let p = by_altitude filters in
+    let r = located p (start p) 0 entries (NotARun n) (λ q. absurd (cc)) e in
+    let c = told_stops (entry_course p r.last (expansion r.entry)) (0 + r.i) n r.told in
+    stopped_by filters entries n (fault_at filters entries n Stops (NotARun n) r (sym (none_before r.i) ∙ c.1) c.0)
+
+told_broken : (filters : List Filter) (entries : List JournalEntry) (v : Violation) (n : ℕ) → verdict filters entries ≡ Breaks v n →
+    IsBrokenAt filters entries v n
+told_broken filters entries v n e =
+    let p = by_altitude filters in
+    let r = located p (start p) 0 entries (Breaks v n) (λ q. absurd (cc)) e in
+    let c = told_fails (entry_course p r.last (expansion r.entry)) v (0 + r.i) n r.told in
+    broken_by filters entries v n (fault_at filters entries n (Fails v) (Breaks v n) r (sym (none_before r.i) ∙ c.1) c.0)
+
+stopped_told : (filters : List Filter) (entries : List JournalEntry) (n : ℕ) → IsStoppedAt filters entries n → verdict filters entries ≡ NotARun n
+stopped_told filters entries n r =
+    let p = by_altitude filters in
+    let b = r.before in
+    let reaches = clean_course p (start p) b.last b.transitions 0 b.runs b.clean in
+    let q = parted p (start p) b.last 0 n entries b.transitions b.expanded reaches in
+    q.told
+    ∙ ap (λ k. verdict_from p b.last k (drop n entries)) (none_before n)
+    ∙ next_stops p (start p) b.last b.transitions reaches n (drop n entries) (course_owned p (start p) b.last b.transitions refl reaches)
+    (sym (ap (λ o. option_and_then (λ xs. run_from p (start p) xs) o) (one_more n entries ∙ q.more)) ∙ r.stopped)
+
+broken_told : (filters : List Filter) (entries : List JournalEntry) (v : Violation) (n : ℕ) → IsBrokenAt filters entries v n →
+    verdict filters entries ≡ Breaks v n
+broken_told filters entries v n r =
+    let p = by_altitude filters in
+    let b = r.before in
+    let reaches = clean_course p (start p) b.last b.transitions 0 b.runs b.clean in
+    let q = parted p (start p) b.last 0 n entries b.transitions b.expanded reaches in
+    q.told
+    ∙ ap (λ k. verdict_from p b.last k (drop n entries)) (none_before n)
+    ∙ next_fails p (start p) b.last b.transitions reaches v n (drop n entries) r.transitions r.last (sym (one_more n entries ∙ q.more) ∙ r.expanded) r.runs r.broken
+
+pub stopped_is_told : (filters : List Filter) (entries : List JournalEntry) (n : ℕ) → (verdict filters entries ≡ NotARun n) ↔ IsStoppedAt filters entries n
+stopped_is_told filters entries n = (told_stopped filters entries n, stopped_told filters entries n)
+
+pub broken_is_told : (filters : List Filter) (entries : List JournalEntry) (v : Violation) (n : ℕ) →
+    (verdict filters entries ≡ Breaks v n) ↔ IsBrokenAt filters entries v n
+broken_is_told filters entries v n = (told_broken filters entries v n, broken_told filters entries v n)

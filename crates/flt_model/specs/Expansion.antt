@@ -1,5 +1,5 @@
 -- What a journal says: the transitions of each entry, and which entry is the first that isn't a run or that breaks something.
-use Rattle.std.specs.Prelude.{◌≡◌, ℕ, zero, suc, ◌+◌, Bool, List, [], ◌∷◌, ◌++◌, replicate, Option, Some, None, option_map, option_and_then}
+use Rattle.std.specs.Prelude.{◌≡◌, ℕ, zero, suc, ◌+◌, Bool, List, [], ◌∷◌, ◌++◌, replicate, take, Option, Some, None, option_map, option_and_then}
 use Rattle.flt_syntax.specs.declared.filter.Filter.{Filter}
 use Rattle.flt_model.specs.declared.moves.JournalEntry.{JournalEntry}
 use Rattle.flt_model.specs.declared.moves.JournalEntry.TheVariants.{Move, Go}
@@ -35,6 +35,20 @@ pub record IsCleanRun (filters : List Filter) (entries : List JournalEntry) : Ty
   pub expanded : expand entries ≡ Some transitions
   pub runs : run (by_altitude filters) transitions ≡ Some last
   pub clean : breaks (by_altitude filters) transitions ≡ None
+
+-- the first n entries are a run that breaks nothing, and with the one after them they aren't a run
+pub record IsStoppedAt (filters : List Filter) (entries : List JournalEntry) (n : ℕ) : Type 0 where
+  pub before : IsCleanRun filters (take n entries)
+  pub stopped : option_and_then (run (by_altitude filters)) (expand (take (n + 1) entries)) ≡ None
+
+-- the first n entries are a run that breaks nothing, and with the one after them they are a run that first breaks v
+pub record IsBrokenAt (filters : List Filter) (entries : List JournalEntry) (v : Violation) (n : ℕ) : Type 0 where
+  pub before : IsCleanRun filters (take n entries)
+  pub transitions : List Transition
+  pub last : Moment
+  pub expanded : expand (take (n + 1) entries) ≡ Some transitions
+  pub runs : run (by_altitude filters) transitions ≡ Some last
+  pub broken : option_map (λ b. b.violation) (breaks (by_altitude filters) transitions) ≡ Some v
 
 -- ---- the verdict
 

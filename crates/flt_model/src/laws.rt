@@ -3,16 +3,25 @@
 ghost use Rattle.std.specs.Prelude.{◌≡◌, ◌↔◌, ℕ, true, List, [], Some, None};
 ghost use Rattle.flt_syntax.specs.declared.filter.Filter.{Filter};
 ghost use Rattle.flt_model.specs.Effects.{Step};
-ghost use Rattle.flt_model.specs.Expansion.{IsCleanRun, verdict};
+ghost use Rattle.flt_model.specs.Expansion.{IsCleanRun, IsStoppedAt, IsBrokenAt, verdict};
 ghost use Rattle.flt_model.specs.Runs.{Moment, broken, next};
 ghost use Rattle.flt_model.specs.Steps.{Local};
 ghost use Rattle.flt_model.specs.Violations.{one_owner};
 ghost use Rattle.flt_model.specs.declared.moves.JournalEntry.{JournalEntry};
-ghost use Rattle.flt_model.specs.declared.verdict.Verdict.TheVariants.{Legal};
+ghost use Rattle.flt_model.specs.declared.verdict.Verdict.TheVariants.{Legal, NotARun, Breaks};
+ghost use Rattle.flt_model.specs.declared.verdict.Violation.{Violation};
 
 /// A journal is legal exactly where its transitions are a run that breaks nothing. It does nothing: its clause is the law.
 pub fn legal_journals_are_clean_runs()
     ensures law { (filters : List Filter) (entries : List JournalEntry) → (verdict filters entries ≡ Legal) ↔ IsCleanRun filters entries }
+{}
+
+/// A verdict that isn't legal tells the first fault. It names an entry before which the journal is a run that breaks
+/// nothing: `NotARun` exactly where it is no run with that entry, `Breaks` exactly where with that entry it is a run that
+/// breaks something, and first the violation that it names. It does nothing: its clauses are the law.
+pub fn first_faults_are_told()
+    ensures stopped { (filters : List Filter) (entries : List JournalEntry) (n : ℕ) → (verdict filters entries ≡ NotARun n) ↔ IsStoppedAt filters entries n }
+    ensures broken { (filters : List Filter) (entries : List JournalEntry) (v : Violation) (n : ℕ) → (verdict filters entries ≡ Breaks v n) ↔ IsBrokenAt filters entries v n }
 {}
 
 /// A local step has no events and breaks nothing, where each visit had its owner before it. It does nothing: its clause is

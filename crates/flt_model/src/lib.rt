@@ -17,7 +17,7 @@ mod writer;
 pub use event::{Answer, Event, Object};
 pub use fault::JournalFault;
 pub use journal::Journal;
-pub use laws::{legal_journals_are_clean_runs, local_steps_are_quiet};
+pub use laws::{first_faults_are_told, legal_journals_are_clean_runs, local_steps_are_quiet};
 pub use moves::{JournalEntry, Key, Move};
 pub use reader::{MAX_ENTRIES, read};
 pub use streams::{ReadFault, Sink, Source, WriteFault, put_all};
