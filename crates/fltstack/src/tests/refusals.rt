@@ -1,9 +1,7 @@
 //! Texts with their certificates and what `check` says of them. Each certificate is what a walk over the points has found
 //! when it stops, or the least one where the text is accepted.
 
-use super::{
-    PENDING_READS, PENDING_STATES, STREAM_CONTEXTS, STREAM_STATES, certificate, check,
-};
+use super::{PENDING_READS, PENDING_STATES, STREAM_CONTEXTS, STREAM_STATES, certificate, check};
 use std::alloc::Global;
 use std::process::Abort;
 use std::test::Fail;
