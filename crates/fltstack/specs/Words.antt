@@ -31,11 +31,17 @@ check_app = with_rule (with_rule (new_app (codes "check")) text_rule) (new_rule 
 abbrev pub analyse_app : App
 analyse_app = with_rule (new_app (codes "analyse")) text_rule
 
+-- the argument JOURNAL
+abbrev pub journal_rule : Rule
+journal_rule = record (new_rule (codes "JOURNAL")) { required = true }
+
+-- the argument FILE.. of a command on several texts
+abbrev pub texts_rule : Rule
+texts_rule = record (new_rule (codes "FILE")) { required = true; range = Some (record { start_inclusive = 1; end_inclusive = usize_max }) }
+
 -- `replay JOURNAL FILE..`
 abbrev pub replay_app : App
-replay_app =
-    with_rule (with_rule (new_app (codes "replay")) (record (new_rule (codes "JOURNAL")) { required = true }))
-    (record (new_rule (codes "FILE")) { required = true; range = Some (record { start_inclusive = 1; end_inclusive = usize_max }) })
+replay_app = with_rule (with_rule (new_app (codes "replay")) journal_rule) texts_rule
 
 -- the program: a subcommand is asked for, and the program's own name is left out
 abbrev pub program_app : App

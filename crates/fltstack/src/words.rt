@@ -69,24 +69,38 @@ fn analyse_command<'a>(alloc: Global) -> Result<Command<'a>, AllocError>
         .arg(text_argument(alloc))
 }
 
+/// The argument JOURNAL.
+fn journal_argument<'a>(alloc: Global) -> Arg<'a>
+    ensures rule { rule_of result ≡ spec.journal_rule }
+    ensures own { result.global ≡ false }
+{
+    Arg::new(alloc, "JOURNAL")
+        .required(true)
+        .help("The journal; `-` is the standard input")
+}
+
+/// The argument FILE.. of a command on several texts.
+fn texts_argument<'a>(alloc: Global) -> Arg<'a>
+    ensures rule { rule_of result ≡ spec.texts_rule }
+    ensures own { result.global ≡ false }
+{
+    Arg::new(alloc, "FILE")
+        .required(true)
+        .num_args(1..)
+        .help("The filters' texts, up to 16")
+}
+
 fn replay_command<'a>(alloc: Global) -> Result<Command<'a>, AllocError>
     ensures { IfOk result (λ c. spec.IsCommand c spec.replay_app) }
 {
-    let journal = Arg::new(alloc, "JOURNAL")
-        .required(true)
-        .help("The journal; `-` is the standard input");
-    let files = Arg::new(alloc, "FILE")
-        .required(true)
-        .num_args(1..)
-        .help("The filters' texts, up to 16");
     Command::new(alloc, "replay")
         .about("Says whether a journal is a run of the machine on some filters that breaks nothing")
         .override_usage("fltstack replay <JOURNAL> <FILE>...")
         .after_help(
             "Prints `legal` (exit 0), or `not a run at N` or `breaks Vk at N` for the first such entry (exit 1).\nErrors go to the standard error with exit 2.\n\nExample: fltstack replay examples/pending_reads.journal examples/pending_reads.flt",
         )
-        .arg(journal)?
-        .arg(files)
+        .arg(journal_argument(alloc))?
+        .arg(texts_argument(alloc))
 }
 
 fn program<'a>(alloc: Global) -> Result<Command<'a>, AllocError>
