@@ -38,6 +38,3 @@ mod waiting_list;
 mod world;
 
 pub use monitor::replay;
-
-#[cfg(test)]
-mod tests;
