@@ -76,7 +76,7 @@ fn level_with(kinds: &[LockKind], locks: &[u8], entry: Level) -> Level
     level
 }
 
-/// The setting of a callback's points in which a state's locks are held.
+/// The setting of a callback's points in which a state's locks are held. A callback that isn't there is a generic routine.
 pub fn setting_of(graph: &Graph, callback: usize, state: &Abs) -> Setting
     ensures { result ≡ spec.setting_of graph.now callback state.now }
 {

@@ -257,7 +257,7 @@ fn leads_to(state: &Abs, instruction: &Instruction) -> Successors
 }
 
 /// Where the point of a callback leads from a state, or the least rule that it breaks. Callbacks and points count
-/// from 0. It takes no memory.
+/// from 0; a point that isn't there is an end, and a callback that isn't there a generic routine. It takes no memory.
 pub fn transfer(
     graph: &Graph,
     callback: usize,
