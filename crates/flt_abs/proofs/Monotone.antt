@@ -37,12 +37,12 @@ use Rattle.flt_graph.specs.declared.graph.Graph.{Graph}
 use Rattle.flt_graph.specs.declared.instruction.Instruction.{Instruction}
 use Rattle.flt_graph.specs.declared.instruction.Instruction.TheVariants as instruction
 use Rattle.flt_graph.specs.declared.instruction.Invocation.{Invocation}
-use Rattle.flt_abs.specs.Breaks.{is_empty, lacks_context, lacks_operation, may_hold_context, may_hold_operation, is_mode_alone, action_breaks, test_breaks, hands_illegally, is_need_held, is_need_handed_over, is_need_output, is_need_latest, is_need_not_held, releases_wrong_lock, takes_held_lock, row_breaks, is_possessed, is_of_mode, fits_setting, fits_state, is_returned_legally, returns_illegally, contexts_without, is_any_held, keeps_context, owes_data, keeps_operation, return_breaks, breaks, first_broken, rules}
-use Rattle.flt_abs.specs.Sets.{StatusSet, ModeSet, null_alone, is_held, is_stale, statuses_within, modes_within, drainings_within, without_null, is_possible, is_mode_possible, irp_alone, fast_alone, no_alone, yes_alone}
+use Rattle.flt_abs.specs.Breaks.{is_empty, lacks_context, lacks_operation, may_hold_context, may_hold_operation, is_mode_alone, action_breaks, test_breaks, hands_illegally, is_need_held, is_need_handed_over, is_need_output, is_need_latest, is_need_not_held, releases_wrong_lock, takes_held_lock, row_breaks, is_possessed, is_of_mode, fits_setting, fits_state, returns_illegally, contexts_without, is_any_held, owes_data, return_breaks, breaks, first_broken, rules}
+use Rattle.flt_abs.specs.Sets.{StatusSet, ModeSet, null_alone, is_held, is_stale, statuses_within, modes_within, drainings_within, without_null, is_possible, is_mode_possible}
 use Rattle.flt_abs.specs.Locks.{holds_lock, is_latest}
 use Rattle.flt_abs.specs.Setting.{setting_of}
 use Rattle.flt_abs.specs.State.{Null, Held, Stale, State, is_below, is_proper, all_within}
-use Rattle.flt_abs.specs.Step.{changed, set_context, set_operation, changed_locks, set_locks, change_context, change_output, change_operation, change_locks, after_call, after_action, if_possible, where_true, where_false, at, after_failure, call_successors, leads_to, unless_broken, transfer, IsSuccessorBelow, AreBelow, IsOutcomeBelow}
+use Rattle.flt_abs.specs.Step.{changed, set_context, set_operation, changed_locks, set_locks, after_call, after_action, where_true, where_false, at, after_failure, leads_to, unless_broken, transfer, IsSuccessorBelow, AreBelow, IsOutcomeBelow}
 use Rattle.flt_abs.specs.Variables.{context_in, operation_in, with_context, with_operation}
 use Rattle.flt_abs.specs.declared.setting.Setting.{Setting}
 use Rattle.flt_abs.specs.declared.step.Successors.{Successors}

@@ -183,12 +183,15 @@ pub fn join(a: &Abs, b: &Abs) -> Result<Abs, LocksDiffer>
     })
 }
 
-/// The order of states is a partial order, also as it is computed.
+/// The order of states is a partial order, also as it is computed; what is computed is the order. It does nothing: its clauses are
+/// the law.
 #[tactic(auto, using(crate::proofs::Order::below_same))]
 pub fn is_partial_order()
     ensures reflexive { (a : spec.State) → spec.IsBelow a a }
     ensures transitive { (a b c : spec.State) → spec.IsBelow a b → spec.IsBelow b c → spec.IsBelow a c }
     ensures antisymmetric { (a b : spec.State) → IsTrue (spec.is_below a b) → IsTrue (spec.is_below b a) → a ≡ b }
+    ensures computed { (a b : spec.State) → IsTrue (spec.is_below a b) → spec.IsBelow a b }
+    ensures decided { (a b : spec.State) → IsTrue (spec.is_proper a) → spec.IsBelow a b → IsTrue (spec.is_below a b) }
 {}
 
 /// The order of states and their join, as they are computed: the join is the least state above both. It does nothing: its

@@ -2,5 +2,7 @@
 #![tactic(auto)]
 
 mod checker;
+mod laws;
 
 pub use checker::{Refusal, check};
+pub use laws::covering_is_faultless;

@@ -4,4 +4,6 @@ pub mod Lowerings
 pub mod Places
 pub mod Reading
 pub mod Remaining
+pub mod Routines
 pub mod Segments
+pub mod Served

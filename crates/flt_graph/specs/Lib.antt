@@ -3,3 +3,4 @@ pub mod Graph
 pub mod Instruction
 pub mod Lowering
 pub mod Points
+pub mod Served

@@ -1,11 +1,12 @@
 -- From a tree to its points.
-use Rattle.std.specs.Prelude.{◌≡◌, ℕ, ◌+◌, List, [], ◌∷◌, length, map}
+use Rattle.std.specs.Prelude.{◌≡◌, ℕ, ◌+◌, List, [], ◌∷◌, ◌++◌, length, map}
 use Rattle.flt_syntax.specs.Filter.{head_place}
 use Rattle.flt_syntax.specs.Measures.{points_of, points}
 use Rattle.flt_syntax.specs.declared.filter.Callback.{Callback}
 use Rattle.flt_syntax.specs.declared.filter.Filter.{Filter}
 use Rattle.flt_syntax.specs.declared.filter.Lock.{Lock}
 use Rattle.flt_syntax.specs.declared.filter.Statement.{Statement, out-Statement}
+use Rattle.flt_graph.specs.Codes.{block_code}
 use Rattle.flt_graph.specs.Graph.{point_in}
 use Rattle.flt_graph.specs.Points.{entry, point_of, In}
 use Rattle.flt_graph.specs.declared.graph.CallbackGraph.{CallbackGraph}
@@ -35,3 +36,11 @@ AreGraphsOf all _ _ = ⊥
 pub record IsLowered (f : Filter) (g : Graph) : Type 0 where
   pub locks : g.locks ≡ map (λ (l : Lock). l.kind) f.locks
   pub callbacks : AreGraphsOf f.callbacks f.callbacks g.callbacks
+
+-- ---- the graph of a filter, by computing
+
+abbrev pub callback_graph_of : List Callback → Callback → CallbackGraph
+callback_graph_of all c = record { place = head_place c.head; points = block_code all c.body 0 (points c.body) ++ end_of c ∷ [] }
+
+abbrev pub graph_of : Filter → Graph
+graph_of f = record { locks = map (λ (l : Lock). l.kind) f.locks; callbacks = map (callback_graph_of f.callbacks) f.callbacks }

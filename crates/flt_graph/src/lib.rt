@@ -13,4 +13,6 @@ pub use flt_syntax::{
 pub use graph::{CallbackGraph, Graph, Point};
 pub use instruction::{Instruction, Invocation};
 pub use lowering::lower;
-pub use points::{callbacks_have_graphs, lists_have_points};
+pub use points::{
+    callbacks_have_graphs, filters_have_graphs, instructions_are_served, lists_have_points,
+};

@@ -1,11 +1,13 @@
 //! The laws of points: where the remaining lists of a run stand in a lowered callback.
 
 ghost use Rattle.std.specs.Prelude.{◌≡◌, ℕ, List, Bool, Some, length, slice_get};
-ghost use Rattle.flt_graph.specs.Graph.{point_in, callback_at};
-ghost use Rattle.flt_graph.specs.Lowering.{IsGraphOf, IsLowered, end_of};
+ghost use Rattle.flt_graph.specs.Graph.{point_in, callback_at, place_at, instruction_at};
+ghost use Rattle.flt_graph.specs.Lowering.{IsGraphOf, IsLowered, end_of, graph_of};
 ghost use Rattle.flt_graph.specs.Points as spec;
+ghost use Rattle.flt_graph.specs.Served.{IsInstructionServed};
 ghost use Rattle.flt_graph.specs.declared.graph.CallbackGraph.{CallbackGraph};
 ghost use Rattle.flt_graph.specs.declared.graph.Graph.{Graph};
+ghost use Rattle.flt_syntax.specs.WellFormed.{IsWellFormed};
 ghost use Rattle.flt_syntax.specs.declared.filter.Callback.{Callback};
 ghost use Rattle.flt_syntax.specs.declared.filter.Filter.{Filter};
 ghost use Rattle.flt_syntax.specs.declared.filter.Statement.{Statement};
@@ -22,4 +24,15 @@ pub fn lists_have_points()
 pub fn callbacks_have_graphs()
     ensures count { (f : Filter) (g : Graph) → IsLowered f g → length g.callbacks ≡ length f.callbacks }
     ensures each { (f : Filter) (g : Graph) (k : ℕ) (c : Callback) → IsLowered f g → slice_get f.callbacks k ≡ Some c → IsGraphOf f.callbacks c (callback_at g k) }
+{}
+
+/// Each filter has a graph, which can be computed. It does nothing: its clause is the law.
+pub fn filters_have_graphs()
+    ensures { (f : Filter) → IsLowered f (graph_of f) }
+{}
+
+/// What each instruction of a well-formed filter names is there: a call of the queue has its `canceled` callback, a work item its
+/// routine, of the kind that its place asks. It does nothing: its clause is the law.
+pub fn instructions_are_served()
+    ensures { (f : Filter) (g : Graph) (k n : ℕ) → IsWellFormed f → IsLowered f g → IsInstructionServed f.callbacks (place_at g k) (instruction_at g k n) }
 {}

@@ -1,0 +1,6 @@
+pub mod sums
+pub mod points
+pub mod calls
+pub mod ends
+pub mod moves
+pub mod run

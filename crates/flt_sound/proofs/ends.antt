@@ -1,0 +1,4 @@
+pub mod Board
+pub mod Completing
+pub mod Returning
+pub mod Settling

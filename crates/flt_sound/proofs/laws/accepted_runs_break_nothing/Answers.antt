@@ -1,0 +1,17 @@
+use Rattle.flt_sound.proofs.laws.accepted_runs_break_nothing.Goals as goal
+use Rattle.flt_sound.proofs.points.Placed.{Laws}
+use Rattle.flt_sound.proofs.run.Whole.{nothing_breaks}
+
+pub returns : goal.returns
+returns c =
+    let laws : Laws = record {
+      whole = c.lists_have_points.ensures.whole;
+      first = c.lists_have_points.ensures.first;
+      next = c.lists_have_points.ensures.next;
+      count = c.callbacks_have_graphs.ensures.count;
+      each = c.callbacks_have_graphs.ensures.each;
+      served = c.instructions_are_served.ensures;
+      follows = c.transfer_follows_situations.ensures;
+      below = c.is_partial_order.ensures.computed;
+    } in
+    λ p xs ok. nothing_breaks laws p ok xs
