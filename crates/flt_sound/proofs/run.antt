@@ -1,2 +1,4 @@
+pub mod Accepting
+pub mod Journals
 pub mod Sound
 pub mod Whole

@@ -1,21 +1,52 @@
-//! The law of accepted filters.
+//! The laws of accepted filters.
 
-use flt_abs::{is_partial_order, transfer_follows_situations};
-use flt_graph::{callbacks_have_graphs, instructions_are_served, lists_have_points};
-
-ghost use Rattle.std.specs.Prelude.{◌≡◌, List, None};
-ghost use Rattle.flt_syntax.specs.declared.filter.Filter.{Filter};
+ghost use Rattle.std.specs.Prelude.{◌≡◌, ℕ, List, [], ◌∷◌, None};
+ghost use Rattle.flt_model.specs.Expansion.{verdict};
+ghost use Rattle.flt_model.specs.Program.{by_altitude};
 ghost use Rattle.flt_model.specs.Runs.{breaks};
 ghost use Rattle.flt_model.specs.Steps.{Transition};
-ghost use Rattle.flt_sound.specs.Accepted.{AreAccepted};
+ghost use Rattle.flt_model.specs.declared.moves.JournalEntry.{JournalEntry};
+ghost use Rattle.flt_model.specs.declared.verdict.Verdict.TheVariants.{Breaks};
+ghost use Rattle.flt_model.specs.declared.verdict.Violation.{Violation};
+ghost use Rattle.flt_sound.specs.Accepted.{IsAccepted, AreAccepted};
+ghost use Rattle.flt_sound.specs.Worked.{worked};
+ghost use Rattle.flt_syntax.specs.declared.filter.Filter.{Filter};
+
+use flt_abs::{is_partial_order, transfer_follows_situations};
+use flt_check::covering_is_faultless;
+use flt_graph::{
+    callbacks_have_graphs, filters_have_graphs, instructions_are_served, lists_have_points,
+};
+use flt_model::first_faults_are_told;
 
 /// No run of accepted filters breaks anything. It does nothing: its clause is the law.
 pub fn accepted_runs_break_nothing()
-    ensures { (p : List Filter) (xs : List Transition) → AreAccepted p → breaks p xs ≡ None }
+    ensures { (filters : List Filter) (transitions : List Transition) → AreAccepted filters → breaks filters transitions ≡ None }
 {
     lists_have_points();
     callbacks_have_graphs();
     instructions_are_served();
     transfer_follows_situations();
     is_partial_order();
+}
+
+/// Accepted filters are accepted in the order of their altitudes too, in which the machine takes them; and no journal of theirs is
+/// judged to break anything. It does nothing: its clauses are the law.
+pub fn accepted_journals_break_nothing()
+    ensures ordered { (filters : List Filter) → AreAccepted filters → AreAccepted (by_altitude filters) }
+    ensures verdicts { (filters : List Filter) (entries : List JournalEntry) (v : Violation) (n : ℕ) → AreAccepted filters → verdict filters entries ≡ Breaks v n → ⊥ }
+{
+    accepted_runs_break_nothing();
+    first_faults_are_told();
+}
+
+/// The worked filter, which queues, locks, hands a context over and asks for a worker, is accepted, and no run of it breaks anything. It
+/// does nothing: its clauses are the law.
+pub fn worked_filter_breaks_nothing()
+    ensures accepted { IsAccepted worked }
+    ensures clean { (transitions : List Transition) → breaks (worked ∷ []) transitions ≡ None }
+{
+    filters_have_graphs();
+    covering_is_faultless();
+    accepted_runs_break_nothing();
 }
