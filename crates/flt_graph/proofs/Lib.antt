@@ -2,8 +2,8 @@ pub mod Added
 pub mod Codes
 pub mod Lowerings
 pub mod Places
+pub mod PointsOfText
 pub mod Reading
 pub mod Remaining
 pub mod Routines
 pub mod Segments
-pub mod Served

@@ -15,4 +15,5 @@ pub use instruction::{Instruction, Invocation};
 pub use lowering::lower;
 pub use points::{
     callbacks_have_graphs, filters_have_graphs, instructions_are_served, lists_have_points,
+    one_graph_at_most,
 };

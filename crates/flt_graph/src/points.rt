@@ -31,6 +31,11 @@ pub fn filters_have_graphs()
     ensures { (f : Filter) → IsLowered f (graph_of f) }
 {}
 
+/// A well-formed filter has one graph at most. It does nothing: its clause is the law.
+pub fn one_graph_at_most()
+    ensures { (f : Filter) (g h : Graph) → IsWellFormed f → IsLowered f g → IsLowered f h → g ≡ h }
+{}
+
 /// What each instruction of a well-formed filter names is there: a call of the queue has its `canceled` callback, a work item its
 /// routine, of the kind that its place asks. It does nothing: its clause is the law.
 pub fn instructions_are_served()

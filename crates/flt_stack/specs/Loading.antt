@@ -1,0 +1,129 @@
+-- What `load` answers of texts with a certificate each. This project's own definitions.
+use Rattle.std.specs.Prelude.{◌≡◌, ◌⊎◌, ℕ, ◌≤◌, ◌<◌, List, length, take, IsTrue, Some, Result, Ok, Err, slice_get}
+use Rattle.std.specs.List.{AllZip}
+use Rattle.flt_syntax.specs.File.{filter_of}
+use Rattle.flt_syntax.specs.Spelling.{Spells}
+use Rattle.flt_syntax.specs.WellFormed.{IsWellFormed}
+use Rattle.flt_syntax.specs.declared.filter.Filter.{Filter}
+use Rattle.flt_graph.specs.Lowering.{IsLowered}
+use Rattle.flt_graph.specs.declared.graph.Graph.{Graph}
+use Rattle.flt_cert.specs.Format.{Certificate, is_certificate, spelling}
+use Rattle.flt_cert.specs.Format as format
+use Rattle.flt_cert.specs.declared.fault.CertFault.{CertFault}
+use Rattle.flt_cert.specs.declared.fault.CertFault.TheVariants as cert
+use Rattle.flt_check.specs.Checker.{Covers, IsLeastFault}
+use Rattle.flt_check.specs.declared.checker.Refusal.{Refusal}
+use Rattle.flt_model.specs.Program.{HasDistinctAltitudes, by_altitude}
+use Rattle.flt_stack.specs.declared.fault.LoadFault.{LoadFault}
+use Rattle.flt_stack.specs.declared.fault.LoadFault.TheVariants as fault
+
+-- ---- one file
+
+-- a text and the certificate that comes with it, as bytes
+pub record File : Type 0 where
+  pub text : List ℕ
+  pub certificate : List ℕ
+
+-- a well-formed filter and its graph, which a certificate covers
+pub record IsCovered (filter : Filter) (graph : Graph) : Type 0 where
+  pub well_formed : IsWellFormed filter
+  pub lowered : IsLowered filter graph
+  pub certificate : Certificate
+  pub covers : Covers graph certificate
+
+-- the text spells the filter, the bytes spell a certificate, and it covers the filter's graph
+pub record IsAcceptedFile (file : File) (filter : Filter) : Type 0 where
+  pub spelled : Spells file.text filter
+  pub graph : Graph
+  pub lowered : IsLowered filter graph
+  pub certificate : Certificate
+  pub certified : IsTrue (is_certificate certificate)
+  pub written : file.certificate ≡ spelling certificate
+  pub covers : Covers graph certificate
+
+-- the text spells a filter
+pub record IsSpelled (file : File) : Type 0 where
+  pub filter : Filter
+  pub spelled : Spells file.text filter
+
+-- the text spells a filter, the bytes spell a certificate, and the refusal is the first that the filter's graph earns with it
+pub record IsRefusedFile (file : File) (refusal : Refusal) : Type 0 where
+  pub filter : Filter
+  pub spelled : Spells file.text filter
+  pub graph : Graph
+  pub lowered : IsLowered filter graph
+  pub certificate : Certificate
+  pub certified : IsTrue (is_certificate certificate)
+  pub written : file.certificate ≡ spelling certificate
+  pub refused : IsLeastFault graph certificate refusal
+
+-- the text spells a filter, and the fault names the first line of the bytes that no certificate has
+abbrev pub HasCertFault : File → CertFault → Type 0
+HasCertFault file (cert.Line line) = IsSpelled file × format.IsFirstFault file.certificate line
+HasCertFault file cert.OutOfMemory = ⊥
+
+-- the file of a number has this fault: its text's first, or else its certificate's, or else the least refusal; memory may run out
+abbrev pub HasFault : ℕ → File → LoadFault → Type 0
+HasFault number file (fault.Syntax n f) = (n ≡ number) × (filter_of file.text ≡ Err f)
+HasFault number file (fault.Cert n f) = (n ≡ number) × HasCertFault file f
+HasFault number file (fault.Refused n r) = (n ≡ number) × IsRefusedFile file r
+HasFault number file fault.OutOfMemory = Unit {0}
+HasFault number file _ = ⊥
+
+-- ---- all files
+
+-- each file is accepted as its filter
+abbrev pub AreAcceptedFiles : List File → List Filter → Type 0
+AreAcceptedFiles files filters = AllZip IsAcceptedFile files filters
+
+-- there are 1 to 16 files
+abbrev pub max_files : ℕ
+max_files = 16
+
+pub record IsCount (n : ℕ) : Type 0 where
+  pub some : 1 ≤ n
+  pub few : n ≤ max_files
+
+-- the file of a number is the first that isn't accepted, and has this fault
+pub record IsFirstFault (files : List File) (f : LoadFault) : Type 0 where
+  pub counted : IsCount (length files)
+  pub number : ℕ
+  pub file : File
+  pub there : slice_get files number ≡ Some file
+  pub before : List Filter
+  pub accepted : AreAcceptedFiles (take number files) before
+  pub wrong : HasFault number file f
+
+-- all files are accepted, and that of the number is the first whose altitude an earlier one has
+pub record IsRepeated (files : List File) (number : ℕ) : Type 0 where
+  pub counted : IsCount (length files)
+  pub filters : List Filter
+  pub accepted : AreAcceptedFiles files filters
+  pub filter : Filter
+  pub there : slice_get filters number ≡ Some filter
+  pub distinct : HasDistinctAltitudes (take number filters)
+  pub earlier : ℕ
+  pub other : Filter
+  pub before : slice_get (take number filters) earlier ≡ Some other
+  pub same : other.altitude ≡ filter.altitude
+
+-- ---- the answer
+
+-- all files are accepted, no two of one altitude, and the filters stand from the highest to the lowest
+pub record AreLoaded (files : List File) (loaded : List Filter) : Type 0 where
+  pub counted : IsCount (length files)
+  pub filters : List Filter
+  pub accepted : AreAcceptedFiles files filters
+  pub distinct : HasDistinctAltitudes filters
+  pub ordered : loaded ≡ by_altitude filters
+
+abbrev pub Fails : List File → LoadFault → Type 0
+Fails files fault.Count = (length files ≡ 0) ⊎ (max_files < length files)
+Fails files (fault.Altitude n) = IsRepeated files n
+Fails files fault.OutOfMemory = Unit {0}
+Fails files f = IsFirstFault files f
+
+-- what is answered of the files: the filters from the highest altitude to the lowest, or the first fault; memory may run out
+abbrev pub Answers : List File → Result (List Filter) LoadFault → Type 0
+Answers files (Ok loaded) = AreLoaded files loaded
+Answers files (Err f) = Fails files f
