@@ -1,3 +1,4 @@
+pub mod Altitudes
 pub mod CleanRuns
 pub mod LocalLaws
 mod JournalLaws

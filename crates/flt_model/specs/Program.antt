@@ -1,6 +1,6 @@
 -- The filters of a run, as their texts declare them. They are numbered from the highest altitude, from 0.
 -- Source: the driver kit's pages on altitudes and on registering pre- and postoperation callbacks.
-use Rattle.std.specs.Prelude.{ℕ, ◌≢◌, Bool, true, false, not, ◌||◌, ◌==◌, nat_lt, if◌then◌else◌, List, [], ◌∷◌, Option, Some, None, AllPairs, find, get_or, option_map, slice_get}
+use Rattle.std.specs.Prelude.{ℕ, ◌≡◌, ◌≢◌, Bool, true, false, not, ◌||◌, ◌==◌, nat_lt, if◌then◌else◌, List, [], ◌∷◌, ◌++◌, length, Option, Some, None, AllPairs, find, get_or, map, option_map, slice_get}
 use Rattle.std.specs.List.{list_any, list_all, position_or_len}
 use Rattle.flt_rules.specs.Call.{place_of}
 use Rattle.flt_rules.specs.Place.{same_operation}
@@ -17,17 +17,36 @@ use Rattle.flt_syntax.specs.declared.filter.Head.{Head}
 use Rattle.flt_syntax.specs.declared.filter.Head.TheVariants as head
 use Rattle.flt_syntax.specs.declared.filter.Routine.{Routine}
 use Rattle.flt_syntax.specs.declared.filter.Statement.{Statement}
+use Rattle.flt_syntax.specs.declared.tree.Tree.{Tree}
 
 -- ---- filters by number
+
+-- the filters of trees
+abbrev pub filters_of : List Tree → List Filter
+filters_of trees = map (λ t. t.filter) trees
 
 -- no two filters have one altitude
 abbrev pub HasDistinctAltitudes : List Filter → Type 0
 HasDistinctAltitudes filters = AllPairs (λ (f g : Filter). f.altitude ≢ g.altitude) filters
 
+-- the filter of a number, from 0, is the first whose altitude an earlier one has
+pub record IsRepeated (filters : List Filter) (number : ℕ) : Type 0 where
+  pub before : List Filter
+  pub filter : Filter
+  pub after : List Filter
+  pub parts : filters ≡ before ++ filter ∷ after
+  pub counted : number ≡ length before
+  pub distinct : HasDistinctAltitudes before
+  pub earlier : (at : ℕ) × (other : Filter) × (slice_get before at ≡ Some other) × (other.altitude ≡ filter.altitude)
+
 -- a filter goes before the first one that is lower
 abbrev pub put_by_altitude : Filter → List Filter → List Filter
 put_by_altitude f [] = f ∷ []
 put_by_altitude f (g ∷ rest) = if nat_lt g.altitude f.altitude then f ∷ g ∷ rest else g ∷ put_by_altitude f rest
+
+-- where that is
+abbrev pub first_lower : Filter → List Filter → ℕ
+first_lower f filters = position_or_len (λ (g : Filter). nat_lt g.altitude f.altitude) filters
 
 -- the filters from the highest altitude to the lowest
 abbrev pub by_altitude : List Filter → List Filter

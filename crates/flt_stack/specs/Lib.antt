@@ -1,2 +1,2 @@
+pub mod Loaded
 pub mod Loading
-pub mod Members

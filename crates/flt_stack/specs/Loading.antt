@@ -3,7 +3,6 @@ use Rattle.std.specs.Prelude.{◌≡◌, ◌⊎◌, ℕ, ◌≤◌, ◌<◌, Lis
 use Rattle.std.specs.List.{AllZip}
 use Rattle.flt_syntax.specs.File.{filter_of}
 use Rattle.flt_syntax.specs.Spelling.{Spells}
-use Rattle.flt_syntax.specs.WellFormed.{IsWellFormed}
 use Rattle.flt_syntax.specs.declared.filter.Filter.{Filter}
 use Rattle.flt_graph.specs.Lowering.{IsLowered}
 use Rattle.flt_graph.specs.declared.graph.Graph.{Graph}
@@ -13,7 +12,7 @@ use Rattle.flt_cert.specs.declared.fault.CertFault.{CertFault}
 use Rattle.flt_cert.specs.declared.fault.CertFault.TheVariants as cert
 use Rattle.flt_check.specs.Checker.{Covers, IsLeastFault}
 use Rattle.flt_check.specs.declared.checker.Refusal.{Refusal}
-use Rattle.flt_model.specs.Program.{HasDistinctAltitudes, by_altitude}
+use Rattle.flt_model.specs.Program.{HasDistinctAltitudes, IsRepeated, by_altitude}
 use Rattle.flt_stack.specs.declared.fault.LoadFault.{LoadFault}
 use Rattle.flt_stack.specs.declared.fault.LoadFault.TheVariants as fault
 
@@ -24,12 +23,8 @@ pub record File : Type 0 where
   pub text : List ℕ
   pub certificate : List ℕ
 
--- a well-formed filter and its graph, which a certificate covers
-pub record IsCovered (filter : Filter) (graph : Graph) : Type 0 where
-  pub well_formed : IsWellFormed filter
-  pub lowered : IsLowered filter graph
-  pub certificate : Certificate
-  pub covers : Covers graph certificate
+abbrev pub file : List ℕ → List ℕ → File
+file text certificate = record { text = text; certificate = certificate }
 
 -- the text spells the filter, the bytes spell a certificate, and it covers the filter's graph
 pub record IsAcceptedFile (file : File) (filter : Filter) : Type 0 where
@@ -86,7 +81,6 @@ pub record IsCount (n : ℕ) : Type 0 where
 
 -- the file of a number is the first that isn't accepted, and has this fault
 pub record IsFirstFault (files : List File) (f : LoadFault) : Type 0 where
-  pub counted : IsCount (length files)
   pub number : ℕ
   pub file : File
   pub there : slice_get files number ≡ Some file
@@ -94,18 +88,18 @@ pub record IsFirstFault (files : List File) (f : LoadFault) : Type 0 where
   pub accepted : AreAcceptedFiles (take number files) before
   pub wrong : HasFault number file f
 
+-- the first file that isn't accepted has this fault; memory may run out
+abbrev pub StopsAt : List File → LoadFault → Type 0
+StopsAt files fault.Count = ⊥
+StopsAt files (fault.Altitude n) = ⊥
+StopsAt files fault.OutOfMemory = Unit {0}
+StopsAt files f = IsFirstFault files f
+
 -- all files are accepted, and that of the number is the first whose altitude an earlier one has
-pub record IsRepeated (files : List File) (number : ℕ) : Type 0 where
-  pub counted : IsCount (length files)
+pub record HasRepeated (files : List File) (number : ℕ) : Type 0 where
   pub filters : List Filter
   pub accepted : AreAcceptedFiles files filters
-  pub filter : Filter
-  pub there : slice_get filters number ≡ Some filter
-  pub distinct : HasDistinctAltitudes (take number filters)
-  pub earlier : ℕ
-  pub other : Filter
-  pub before : slice_get (take number filters) earlier ≡ Some other
-  pub same : other.altitude ≡ filter.altitude
+  pub repeated : IsRepeated filters number
 
 -- ---- the answer
 
@@ -119,9 +113,9 @@ pub record AreLoaded (files : List File) (loaded : List Filter) : Type 0 where
 
 abbrev pub Fails : List File → LoadFault → Type 0
 Fails files fault.Count = (length files ≡ 0) ⊎ (max_files < length files)
-Fails files (fault.Altitude n) = IsRepeated files n
+Fails files (fault.Altitude n) = IsCount (length files) × HasRepeated files n
 Fails files fault.OutOfMemory = Unit {0}
-Fails files f = IsFirstFault files f
+Fails files f = IsCount (length files) × StopsAt files f
 
 -- what is answered of the files: the filters from the highest altitude to the lowest, or the first fault; memory may run out
 abbrev pub Answers : List File → Result (List Filter) LoadFault → Type 0

@@ -1,8 +1,10 @@
-//! The stack: filters that are accepted, and what runs them. Today it loads them; the board, its lock and its workers come on top.
+//! The stack: what is accepted, and what runs it. Today it loads filters; the board, its lock and its workers come on top.
 #![tactic(auto)]
 
 mod fault;
+mod loaded;
 mod loading;
 
 pub use fault::LoadFault;
-pub use loading::Loaded;
+pub use loaded::Loaded;
+pub use loading::load;

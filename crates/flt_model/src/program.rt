@@ -1,0 +1,32 @@
+//! Altitudes: whether two filters of a run have the same one, and where a filter stands.
+
+ghost use Rattle.std.specs.Prelude.{◌≡◌, ◌==◌, List, insert, MatchOption};
+ghost use Rattle.std.specs.List.{list_any};
+ghost use Rattle.flt_model.specs.Program as spec;
+ghost use Rattle.flt_syntax.specs.declared.filter.Filter.{Filter};
+
+use flt_syntax::Tree;
+
+/// Whether one of the filters has this altitude.
+fn has_altitude(trees: &[Tree], altitude: u64) -> bool
+    ensures { result ≡ list_any (λ tree. tree.filter.altitude == altitude) trees.now }
+{
+    trees.iter().any(|tree| tree.filter.altitude == altitude)
+}
+
+/// The first filter whose altitude an earlier one has, by its number from 0; none where all altitudes differ.
+pub fn first_repeated(trees: &[Tree]) -> Option<usize>
+    ensures { MatchOption result (spec.HasDistinctAltitudes (spec.filters_of trees.now)) (spec.IsRepeated (spec.filters_of trees.now)) }
+{
+    for (number, tree) in trees.iter().enumerate() {
+        if has_altitude(&trees[..number], tree.filter.altitude) {
+            return Some(number);
+        }
+    }
+    None
+}
+
+/// A filter goes where the first lower one stands, by its number from 0. It does nothing: its clause is the law.
+pub fn filters_have_places()
+    ensures { (f : Filter) (filters : List Filter) → spec.put_by_altitude f filters ≡ insert filters (spec.first_lower f filters) f }
+{}
