@@ -1,6 +1,6 @@
 //! The order and the join of states on a few of them.
 
-use crate::{Abs, Draining, LockList, Modes, Statuses, join, leq};
+use flt_abs::{Abs, Draining, LockList, Modes, Statuses, join, leq};
 use std::test::Fail;
 
 /// A state with this digit for each variable and for the draining test, and these locks.
@@ -21,11 +21,6 @@ fn order_and_join(rt: HostRuntime) -> Result<(), Fail> {
     assert!(rt; leq(&held, &either));
     assert!(rt; !leq(&held, &stale));
     assert!(rt; leq(&joined, &either) && leq(&either, &joined));
-    Ok(())
-}
-
-#[test]
-fn other_locks(rt: HostRuntime) -> Result<(), Fail> {
     let one = state(&rt, 1, 1, &[1, 0]).ok_or("it is a state")?;
     let other = state(&rt, 1, 1, &[0, 1]).ok_or("it is a state")?;
     assert!(rt; join(&one, &other).is_err());

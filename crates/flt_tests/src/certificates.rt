@@ -1,6 +1,6 @@
 //! The format on texts that are as asked and on texts that aren't.
 
-use crate::{CertFault, read, write};
+use flt_cert::{CertFault, read, write};
 use std::test::Fail;
 
 const WORKED: &str =
@@ -74,7 +74,7 @@ fn worked_certificate(rt: HostRuntime) -> Result<(), Fail> {
     Ok(())
 }
 
-/// `tools/refuse-allocations.sh tests flt_cert memory` refuses each request for memory in turn.
+/// `tools/refuse-allocations.sh tests flt_tests memory` refuses each request for memory in turn.
 #[test]
 fn reads_and_writes_within_memory(rt: HostRuntime) -> Result<(), Fail> {
     let cert = read(rt.alloc(), WORKED.as_bytes())?;
@@ -83,15 +83,12 @@ fn reads_and_writes_within_memory(rt: HostRuntime) -> Result<(), Fail> {
     Ok(())
 }
 
+/// Also the texts that lack a certificate's last bytes.
 #[test]
-fn refused_texts(rt: HostRuntime) {
+fn a_bad_line_is_told(rt: HostRuntime) {
     for (text, line) in REFUSED {
         assert_eq!(rt; line_of(&rt, text.as_bytes()), line, "{text}");
     }
-}
-
-#[test]
-fn proper_prefixes(rt: HostRuntime) {
     let worked = WORKED.as_bytes();
     for len in 0..worked.len() {
         let text = &worked[..len];

@@ -2,7 +2,7 @@
 ghost use Rattle.std.specs.Prelude.{◌≡◌, ◌<◌, All};
 ghost use Rattle.flt_cancel.specs.Seats.{IsSeatOf};
 
-use crate::{Pads, Seat};
+use flt_cancel::{Pads, Seat};
 use std::alloc::AllocError;
 use std::sync::atomic::{AtomicU64, Ordering};
 use std::test::*;

@@ -1,7 +1,6 @@
 //! Texts and what is told of them.
 
-use crate::fault::ParseError;
-use crate::{parse, print};
+use flt_syntax::{ParseError, parse, print};
 use std::alloc::Global;
 use std::test::Fail;
 
@@ -40,7 +39,9 @@ const PENDING_READS: &[u8] =
 const NAMES_AND_BLOCKS: &[u8] =
     b"filter a altitude 100\nlock spin s\nlock fast f\nqueue\npre read {\nif FltQueueDeferredIoWorkItem data w context c0 {\nKeAcquireSpinLock s\nExReleaseFastMutex f\n} else {\nrepeat 2 {\nn0 = n1 + 3\n}\n}\nreturn PENDING\n}\ncanceled {\n}\ndeferred_pre w {\nif FltQueueGenericWorkItem g {\n}\n}\ngeneric g {\n}\n";
 
-const BYTES_AND_WORDS: [(&[u8], &str); 10] = [
+/// Texts, and what is said of each.
+const TEXTS: [(&[u8], &str); 83] = [
+    // Bytes and words that are wrong.
     (
         b"filter a altitude 100\npre read {\nreturn $\n}\n",
         "3:8 E01",
@@ -75,9 +76,7 @@ const BYTES_AND_WORDS: [(&[u8], &str); 10] = [
         "ok",
     ),
     (b"filter a\taltitude\r\n1 pre read { }", "ok"),
-];
-
-const TOKENS: [(&[u8], &str); 22] = [
+    // Tokens that no rule reads.
     (b"", "1:1 E03"),
     (b"filter a altitude 100\n", "1:23 E03"),
     (b"filter a altitude 100\n\n\n", "3:2 E03"),
@@ -151,9 +150,7 @@ const TOKENS: [(&[u8], &str); 22] = [
         b"filter a altitude 100\npre read {\nif data != NULL {\n}\n}\n",
         "3:4 E03",
     ),
-];
-
-const NAMES: [(&[u8], &str); 14] = [
+    // Names that are unknown.
     (
         b"filter a altitude 100\npre read {\nFltReleaseContext c9\n}\n",
         "3:19 E04",
@@ -210,9 +207,7 @@ const NAMES: [(&[u8], &str); 14] = [
         b"filter a altitude 100\ngeneric g {\nif FltQueueDeferredIoWorkItem data w {\n}\n}\ndeferred_post w {\n}\n",
         "ok",
     ),
-];
-
-const TWICE: [(&[u8], &str); 11] = [
+    // What stands twice.
     (
         b"filter a altitude 100\nlock spin s\nlock spin s\npre read {\n}\n",
         "3:11 E05",
@@ -257,9 +252,7 @@ const TWICE: [(&[u8], &str); 11] = [
         b"filter a altitude 100\npre read {\nif FltQueueGenericWorkItem c0 context c0 {\n}\n}\ngeneric c0 {\n}\n",
         "ok",
     ),
-];
-
-const WHOLE: [(&[u8], &str); 8] = [
+    // What is missing, which the end of the text shows.
     (
         b"filter a altitude 100\npost read {\nreturn FINISHED_PROCESSING\n}\n",
         "2:1 E07",
@@ -286,9 +279,7 @@ const WHOLE: [(&[u8], &str); 8] = [
         b"filter q altitude 100\nqueue\npre read {\n  if irp data {\n    if FltCbdqInsertIo data {\n      return PENDING\n    }\n  }\n  return NO_CALLBACK\n}\ncanceled {\n  if arg != NULL {\n    FltReleaseContext arg\n  }\n  FltCompletePendedPreOperation data COMPLETE STATUS_CANCELLED\n}",
         "ok",
     ),
-];
-
-const LIMITS: [(&[u8], &str); 18] = [
+    // Limits, which are told where they are passed.
     (b"filter a altitude 0\npre read {\n}\n", "1:19 E06"),
     (b"filter a altitude 4294967295\npre read {\n}\n", "ok"),
     (b"filter a altitude 4294967296\npre read {\n}\n", "1:19 E06"),
@@ -354,6 +345,7 @@ const LIMITS: [(&[u8], &str); 18] = [
     ),
 ];
 
+/// Texts in which a piece stands many times, how often, and what is said of each.
 const NESTED: [([&[u8]; 5], usize, &str); 13] = [
     (
         [
@@ -477,53 +469,8 @@ const NESTED: [([&[u8]; 5], usize, &str); 13] = [
 ];
 
 #[test]
-fn a_wrong_byte_or_word_is_told(rt: HostRuntime) -> Result<(), Fail> {
-    for (at, (text, want)) in BYTES_AND_WORDS.iter().enumerate() {
-        let told = answer(rt.alloc(), text)?;
-        assert_eq!(rt; told.as_str(), *want, "row {at}");
-    }
-    Ok(())
-}
-
-#[test]
-fn a_token_that_no_rule_reads_is_told(rt: HostRuntime) -> Result<(), Fail> {
-    for (at, (text, want)) in TOKENS.iter().enumerate() {
-        let told = answer(rt.alloc(), text)?;
-        assert_eq!(rt; told.as_str(), *want, "row {at}");
-    }
-    Ok(())
-}
-
-#[test]
-fn an_unknown_name_is_told(rt: HostRuntime) -> Result<(), Fail> {
-    for (at, (text, want)) in NAMES.iter().enumerate() {
-        let told = answer(rt.alloc(), text)?;
-        assert_eq!(rt; told.as_str(), *want, "row {at}");
-    }
-    Ok(())
-}
-
-#[test]
-fn what_stands_twice_is_told(rt: HostRuntime) -> Result<(), Fail> {
-    for (at, (text, want)) in TWICE.iter().enumerate() {
-        let told = answer(rt.alloc(), text)?;
-        assert_eq!(rt; told.as_str(), *want, "row {at}");
-    }
-    Ok(())
-}
-
-#[test]
-fn what_is_missing_is_told_at_the_end(rt: HostRuntime) -> Result<(), Fail> {
-    for (at, (text, want)) in WHOLE.iter().enumerate() {
-        let told = answer(rt.alloc(), text)?;
-        assert_eq!(rt; told.as_str(), *want, "row {at}");
-    }
-    Ok(())
-}
-
-#[test]
-fn a_limit_is_told_where_it_is_passed(rt: HostRuntime) -> Result<(), Fail> {
-    for (at, (text, want)) in LIMITS.iter().enumerate() {
+fn a_fault_is_told_at_its_place(rt: HostRuntime) -> Result<(), Fail> {
+    for (at, (text, want)) in TEXTS.iter().enumerate() {
         let told = answer(rt.alloc(), text)?;
         assert_eq!(rt; told.as_str(), *want, "row {at}");
     }
