@@ -1,5 +1,5 @@
 use Rattle.flt_cancel.specs.Seats.{IsSeatOf}
-use Rattle.flt_cancel.proofs.tests.ten_threads_lose_and_invent_nothing.Given as goal
+use Rattle.flt_thread_tests.proofs.cancel_pads.ten_threads_lose_and_invent_nothing.Given as goal
 
 abbrev pub invariant-loop-word : goal.invariant-loop-word
 invariant-loop-word g l = IsSeatOf l.pads l.last
