@@ -7,6 +7,8 @@
 #   tools/refuse-allocations.sh tests CRATE [WORD]
 #       runs each test of a crate that has WORD in its name. Where a request was refused it must end with the error that
 #       says so, which it carries out by `?`; where none was, it must pass. A failed assertion is a wrong answer.
+#   tools/refuse-allocations.sh all
+#       does so to the program on its stored run, and to all tests that have `memory` in their names, side by side.
 #
 # It runs what `rt run` and `rt test` built, with a C compiler's help ($CC, else cc): malloc and realloc of
 # tools/refuse_allocation.c stand before those of the C library. The same without a C compiler, but with a build for each
@@ -85,6 +87,24 @@ try_tests() {
     done
 }
 
+# The crates with tests that are there for memory.
+crates_of_tests=(flt_tests flt_command_tests)
+
+try_all() {
+    local -a started=()
+    local each status=0
+    "$0" program <"$top/crates/fltstack/stdin" &
+    started+=($!)
+    for each in "${crates_of_tests[@]}"; do
+        "$0" tests "$each" memory &
+        started+=($!)
+    done
+    for each in "${started[@]}"; do
+        wait "$each" || status=1
+    done
+    return $status
+}
+
 : >"$work/in"
 : >"$work/out"
 : >"$work/err"
@@ -99,7 +119,11 @@ tests)
     shift
     try_tests "$@"
     ;;
+all)
+    [ $# -eq 1 ] || fail "usage: tools/refuse-allocations.sh all"
+    try_all
+    ;;
 *)
-    fail "usage: tools/refuse-allocations.sh program [WORD..] | tests CRATE [WORD]"
+    fail "usage: tools/refuse-allocations.sh program [WORD..] | tests CRATE [WORD] | all"
     ;;
 esac

@@ -10,8 +10,6 @@ mod sets;
 mod setting;
 mod state;
 mod step;
-#[cfg(test)]
-mod tests;
 mod variables;
 
 pub use entry::{entry_state, is_entry_below};

@@ -9,8 +9,6 @@ mod pads;
 mod rule;
 mod seat;
 mod step;
-#[cfg(test)]
-mod tests;
 mod words;
 
 pub use laws::{none_invented, none_lost, one_history};

@@ -12,6 +12,3 @@ pub use cert::{Cert, MAX_CALLBACKS, MAX_POINTS};
 pub use fault::CertFault;
 pub use reader::read;
 pub use writer::write;
-
-#[cfg(test)]
-mod tests;

@@ -25,6 +25,3 @@ pub use reader::{MAX_ENTRIES, read};
 pub use streams::{ReadFault, Sink, Source, WriteFault, put_all};
 pub use verdict::{Verdict, Violation};
 pub use writer::write;
-
-#[cfg(test)]
-mod tests;

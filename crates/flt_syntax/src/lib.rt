@@ -21,8 +21,6 @@ mod printer;
 mod scope;
 mod statement;
 mod status;
-#[cfg(test)]
-mod tests;
 mod token;
 mod tree;
 mod variable;

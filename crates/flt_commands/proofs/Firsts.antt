@@ -1,0 +1,179 @@
+-- The first of several: what holds of those before it, and where it stands.
+use Rattle.std.proofs.Common.{◌≡◌, ◌≢◌, ◌==◌, ℕ, zero, suc, ◌+◌, ◌<◌, ◌≤◌, Bool, true, false, ◌&&◌, ◌||◌, List, [], ◌∷◌, ◌++◌, Some, Err, Bor, Vec, Global, length, get_or, take, drop, map, refl, sym, ap, ◌∙◌, arith, count_by, cond, eqb-true, eq-eqb, slice_get}
+use Rattle.std.proofs.lemmas.List.{take-append-drop, drop_more, map-append, map_more, map_push, length-take-le, length-map, take_all}
+use Rattle.std.proofs.lemmas.List.Folds.{list_any-append}
+use Rattle.std.proofs.lemmas.List.Quantifiers.{all_pairs_push}
+use Rattle.std.proofs.lemmas.List.Sums.{sum_by-cons, sum_by_push}
+use Rattle.std.proofs.lemmas.Slice.Zip.{all_zipped_more}
+use Rattle.std.specs.List.{list_any}
+use Rattle.flt_model.specs.Program.{HasDistinctAltitudes}
+use Rattle.flt_replay.specs.Judging.{filters_of}
+use Rattle.flt_syntax.specs.File.{filter_of}
+use Rattle.flt_syntax.specs.Spelling.{Spells}
+use Rattle.flt_syntax.specs.declared.fault.SyntaxFault.{SyntaxFault}
+use Rattle.flt_syntax.specs.declared.filter.Filter.{Filter}
+use Rattle.flt_syntax.specs.declared.tree.Tree.{Tree}
+use Rattle.flt_commands.specs.Failures.{Giving}
+use Rattle.flt_commands.specs.Replaying.{Text, AreGiven, AreSpelled, IsMissing, IsRepeated, IsSyntaxFault, IsUnreadable, is_standard}
+use Rattle.flt_commands.specs.declared.failure.Failure.TheVariants.{CannotRead}
+
+-- ---- the parts of a list at a place
+
+module _ {X Y : Type 0} (f : X → Y) (xs : List X) (i : ℕ) (x d : X) (h : i < length xs) (at : x ≡ get_or xs i d) where
+  pub one_more : map f (take (i + 1) xs) ≡ map f (take i xs) ++ f x ∷ []
+  one_more = rw at (map_more f xs i d h)
+
+  pub parted : map f xs ≡ map f (take i xs) ++ f x ∷ map f (drop (i + 1) xs)
+  parted =
+      let rest : map f (drop i xs) ≡ f (get_or xs i d) ∷ map f (drop (i + 1) xs) = ap (map f) (drop_more xs i d h) in
+      let whole : map f xs ≡ map f (take i xs) ++ map f (drop i xs) = sym (ap (map f) (take-append-drop i xs)) ∙ map-append f (take i xs) (drop i xs) in
+      rw at (rw rest at whole)
+
+  pub places_before : i ≡ length (map f (take i xs))
+  places_before =
+      let front : length (take i xs) ≡ i = length-take-le i xs (omega arith) in
+      sym (length-map (take i xs) f ∙ front)
+
+-- ---- the names
+
+pub and_false : (b : Bool) → b && false ≡ false
+and_false true = refl
+and_false false = refl
+
+module _ {X : Type 0} (p : X → Bool) where
+  none_yet : (b : Bool) (n : ℕ) (rest : Bool) → (b || rest) ≡ false → (rest ≡ false → n ≡ 0) → cond b 1 0 + n ≡ 0
+  none_yet true n rest h none = absurd (cc h)
+  none_yet false n rest h none = omega (arith, none h)
+
+  count_none : (xs : List X) → list_any p xs ≡ false → count_by p xs ≡ 0
+  count_none [] h = refl
+  count_none (y ∷ xs) h =
+      let first : count_by p (y ∷ xs) ≡ cond (p y) 1 0 + count_by p xs = sum_by-cons (λ z. cond (p z) 1 0) y xs in
+      rw first (none_yet (p y) (count_by p xs) (list_any p xs) h (count_none xs))
+
+  still_once : (b rest : Bool) (n : ℕ) → n ≤ 1 → b && rest ≡ false → (rest ≡ false → n ≡ 0) → n + cond b 1 0 ≤ 1
+  still_once true rest n once other none = omega (arith, none other)
+  still_once false rest n once other none = omega arith
+
+  pub once_more : (xs : List X) (x : X) → count_by p xs ≤ 1 → p x && list_any p xs ≡ false → count_by p (xs ++ x ∷ []) ≤ 1
+  once_more xs x once other = rw (sum_by_push (λ y. cond (p y) 1 0) xs x) (still_once (p x) (list_any p xs) (count_by p xs) once other (count_none xs))
+
+  pub any_more : (xs : List X) (x : X) → list_any p (xs ++ x ∷ []) ≡ (list_any p xs || p x)
+  any_more xs x = list_any-append p xs (x ∷ []) ∙ ap (λ b. list_any p xs || b) (or_none (p x))
+    where
+      or_none : (b : Bool) → (b || false) ≡ b
+      or_none true = refl
+      or_none false = refl
+
+module _ (gives : Giving) (names : List (Bor Text)) (i : ℕ) (name d : Bor Text) (h : i < length names) (at : name ≡ get_or names i d) where
+  pub given_more : (texts more : List (Vec ℕ Global)) (text : Vec ℕ Global) → AreGiven gives (map (λ n. n.now) (take i names)) (map (λ t. t.items) texts) →
+      gives name.now (Some text.items) → is_standard name.now && list_any is_standard (map (λ n. n.now) (take i names)) ≡ false →
+      more ≡ texts ++ text ∷ [] → AreGiven gives (map (λ n. n.now) (take (i + 1) names)) (map (λ t. t.items) more)
+  given_more texts more text given one other pushed =
+      let named : map (λ (n : Bor Text). n.now) (take (i + 1) names) ≡ map (λ (n : Bor Text). n.now) (take i names) ++ name.now ∷ [] = one_more (λ n. n.now) names i name d h at in
+      let read : map (λ (t : Vec ℕ Global). t.items) more ≡ map (λ (t : Vec ℕ Global). t.items) texts ++ text.items ∷ [] =
+      ap (map (λ (t : Vec ℕ Global). t.items)) pushed ∙ map_push (λ t. t.items) texts text in
+      rw (named, read) (record {
+        each = all_zipped_more _ _ _ name.now text.items given.each one;
+        once = once_more is_standard (map (λ n. n.now) (take i names)) name.now given.once other;
+      })
+
+  -- the name at a place is the first for which nothing is given
+  pub unreadable : (texts : List Text) → AreGiven gives (map (λ n. n.now) (take i names)) texts → IsMissing gives (map (λ n. n.now) (take i names)) name.now →
+      IsUnreadable gives (map (λ n. n.now) names) (CannotRead name)
+  unreadable texts given missing = record {
+    before = map (λ n. n.now) (take i names);
+    name = name.now;
+    after = map (λ n. n.now) (drop (i + 1) names);
+    parts = parted (λ n. n.now) names i name d h at;
+    texts = texts;
+    given = given;
+    missing = missing;
+    told = refl;
+  }
+
+  pub used_more : (used more : Bool) → used ≡ list_any is_standard (map (λ n. n.now) (take i names)) → more ≡ (used || is_standard name.now) →
+      more ≡ list_any is_standard (map (λ n. n.now) (take (i + 1) names))
+  used_more used more is now =
+      let named : map (λ (n : Bor Text). n.now) (take (i + 1) names) ≡ map (λ (n : Bor Text). n.now) (take i names) ++ name.now ∷ [] = one_more (λ n. n.now) names i name d h at in
+      let any : list_any is_standard (map (λ n. n.now) (take (i + 1) names)) ≡ (list_any is_standard (map (λ n. n.now) (take i names)) || is_standard name.now) =
+      ap (list_any is_standard) named ∙ any_more is_standard (map (λ n. n.now) (take i names)) name.now in
+      now ∙ ap (λ b. b || is_standard name.now) is ∙ sym any
+
+-- ---- the texts
+
+module _ (texts : List (Vec ℕ Global)) (i : ℕ) (text d : Vec ℕ Global) (h : i < length texts) (at : text ≡ get_or texts i d) where
+  pub spelled_more : (trees more : List Tree) (tree : Tree) → AreSpelled (map (λ t. t.items) (take i texts)) (filters_of trees) → Spells text.items tree.filter →
+      more ≡ trees ++ tree ∷ [] → AreSpelled (map (λ t. t.items) (take (i + 1) texts)) (filters_of more)
+  spelled_more trees more tree spelled one pushed =
+      let read : map (λ (t : Vec ℕ Global). t.items) (take (i + 1) texts) ≡ map (λ (t : Vec ℕ Global). t.items) (take i texts) ++ text.items ∷ [] =
+      one_more (λ t. t.items) texts i text d h at in
+      let parsed : filters_of more ≡ filters_of trees ++ tree.filter ∷ [] = ap filters_of pushed ∙ map_push (λ t. t.filter) trees tree in
+      rw (read, parsed) (all_zipped_more _ _ _ text.items tree.filter spelled one)
+
+  pub first_fault : (filters : List Filter) (f : SyntaxFault) → AreSpelled (map (λ t. t.items) (take i texts)) filters → filter_of text.items ≡ Err f →
+      IsSyntaxFault (map (λ t. t.items) texts) i f
+  first_fault filters f spelled fault = record {
+    before = map (λ t. t.items) (take i texts);
+    text = text.items;
+    after = map (λ t. t.items) (drop (i + 1) texts);
+    parts = parted (λ t. t.items) texts i text d h at;
+    filters = filters;
+    spelled = spelled;
+    counted = places_before (λ t. t.items) texts i text d h at;
+    fault = fault;
+  }
+
+-- ---- the altitudes
+
+-- a filter with the altitude is among them
+earlier : (trees : List Tree) (altitude : ℕ) → list_any (λ t. t.filter.altitude == altitude) trees ≡ true →
+    (at : ℕ) × (other : Filter) × (slice_get (filters_of trees) at ≡ Some other) × (other.altitude ≡ altitude)
+earlier [] altitude h = absurd (cc h)
+earlier (t ∷ trees) altitude h = one (t.filter.altitude == altitude) refl h (earlier trees altitude)
+  where
+    one : (b : Bool) → t.filter.altitude == altitude ≡ b → (b || list_any (λ t. t.filter.altitude == altitude) trees) ≡ true →
+        (list_any (λ t. t.filter.altitude == altitude) trees ≡ true →
+        (at : ℕ) × (other : Filter) × (slice_get (filters_of trees) at ≡ Some other) × (other.altitude ≡ altitude)) →
+        (at : ℕ) × (other : Filter) × (slice_get (filters_of (t ∷ trees)) at ≡ Some other) × (other.altitude ≡ altitude)
+    one true same h more = (0, t.filter, refl, eqb-true t.filter.altitude altitude same)
+    one false same h more = let rest = more h in (suc rest.0, rest.1, rest.2, rest.3)
+
+-- no filter with the altitude is among them
+apart : (trees : List Tree) (altitude : ℕ) → list_any (λ t. t.filter.altitude == altitude) trees ≡ false →
+    (k : ℕ) (d : Filter) → k < length (filters_of trees) → (get_or (filters_of trees) k d).altitude ≢ altitude
+apart [] altitude h = λ k d inside. absurd (omega arith)
+apart (t ∷ trees) altitude h = one (t.filter.altitude == altitude) refl h (apart trees altitude)
+  where
+    one : (b : Bool) → t.filter.altitude == altitude ≡ b → (b || list_any (λ t. t.filter.altitude == altitude) trees) ≡ false →
+        (list_any (λ t. t.filter.altitude == altitude) trees ≡ false →
+        (k : ℕ) (d : Filter) → k < length (filters_of trees) → (get_or (filters_of trees) k d).altitude ≢ altitude) →
+        (k : ℕ) (d : Filter) → k < length (filters_of (t ∷ trees)) → (get_or (filters_of (t ∷ trees)) k d).altitude ≢ altitude
+    one true differs h more k d inside = absurd (cc h)
+    one false differs h more zero d inside = λ same. absurd (cc (differs, eq-eqb t.filter.altitude altitude same))
+    one false differs h more (suc k) d inside = more h k d (omega arith)
+
+module _ (trees : List Tree) (i : ℕ) (tree d : Tree) (h : i < length trees) (at : tree ≡ get_or trees i d) where
+  pub distinct_more : HasDistinctAltitudes (filters_of (take i trees)) → list_any (λ t. t.filter.altitude == tree.filter.altitude) (take i trees) ≡ false →
+      HasDistinctAltitudes (filters_of (take (i + 1) trees))
+  distinct_more distinct none =
+      let more : filters_of (take (i + 1) trees) ≡ filters_of (take i trees) ++ tree.filter ∷ [] = one_more (λ t. t.filter) trees i tree d h at in
+      rw more (all_pairs_push (λ (f g : Filter). f.altitude ≢ g.altitude) (filters_of (take i trees)) tree.filter distinct
+      (apart (take i trees) tree.filter.altitude none))
+
+  pub repeated : HasDistinctAltitudes (filters_of (take i trees)) → list_any (λ t. t.filter.altitude == tree.filter.altitude) (take i trees) ≡ true →
+      IsRepeated (filters_of trees) i
+  repeated distinct some = record {
+    before = filters_of (take i trees);
+    filter = tree.filter;
+    after = filters_of (drop (i + 1) trees);
+    parts = parted (λ t. t.filter) trees i tree d h at;
+    counted = places_before (λ t. t.filter) trees i tree d h at;
+    distinct = distinct;
+    earlier = earlier (take i trees) tree.filter.altitude some;
+  }
+
+pub all_distinct : (trees : List Tree) (i : ℕ) → length trees ≤ i → HasDistinctAltitudes (filters_of (take i trees)) → HasDistinctAltitudes (filters_of trees)
+all_distinct trees i h distinct =
+    let whole : take i trees ≡ trees = take_all i trees h in
+    rw whole at distinct

@@ -1,0 +1,10 @@
+use Rattle.std.proofs.Common.{◌≡◌, map, take}
+use Rattle.std.specs.List.{list_any}
+use Rattle.flt_commands.specs.Replaying as spec
+use Rattle.flt_commands.proofs.replaying.read_all.Given as goal
+
+abbrev pub invariant-loop-name : goal.invariant-loop-name
+invariant-loop-name g l = record {
+  given : spec.AreGiven (g.I.Inputs.gives l.inputs) (map (λ name. name.now) (take l.name-index l.names)) (map (λ text. text.items) l.texts.items);
+  used : l.is_used ≡ list_any spec.is_standard (map (λ name. name.now) (take l.name-index l.names));
+}

@@ -1,0 +1,122 @@
+//! The files and the streams of the system.
+
+ghost use Rattle.std.specs.Io.KnownBytes.{Consumes, IsAtEnd};
+ghost use Rattle.std.specs.Prelude.{◌≤◌, length, IfOk, IfSome};
+
+use crate::commands::{CommandFault, command};
+use crate::inputs::{Inputs, MAX_INPUT};
+use flt_model::{Sink, WriteFault};
+use std::alloc::{AllocError, Global};
+use std::io::{Read, Write};
+use std::{env, fs, io};
+
+/// Files by their paths, and the standard input as `-`.
+#[derive(Drop)]
+struct Files<'a> {
+    rt: &'a HostRuntime,
+}
+
+/// The bytes that a reader has; none if it fails or has too many.
+fn read_within<R: Read>(alloc: Global, reader: &mut R) -> Result<Option<Vec<u8>>, AllocError>
+    ensures all { IfOk result (λ found. IfSome found (λ v. Consumes (R.remaining reader.old) (R.remaining reader.new) v.items × IsAtEnd (R.remaining reader.new))) }
+    ensures few { IfOk result (λ found. IfSome found (λ v. length v.items ≤ 67108864)) }
+{
+    let mut found = Vec::new(alloc);
+    let mut buffer = [0u8; 4096];
+    for _ in 0..u64::MAX {
+        match reader.read(&mut buffer) {
+            Err(_) => return Ok(None),
+            Ok(0) => return Ok(Some(found)),
+            Ok(n) => found.extend_from_slice(&buffer[..n])?,
+        }
+        if MAX_INPUT < found.len() {
+            return Ok(None);
+        }
+    }
+    Ok(None)
+}
+
+impl Inputs for Files<'_> {
+    ghost use Rattle.std.specs.Prelude.{⊤};
+
+    // A file system gives what it likes.
+    ghost gives = { λ _ _ _. ⊤ };
+
+    fn read(&self, alloc: Global, name: &str) -> Result<Option<Vec<u8>>, AllocError> {
+        if name == "-" {
+            return read_within(alloc, &mut self.rt.stdin());
+        }
+        match fs::open(self.rt, name) {
+            Ok(mut file) => read_within(alloc, &mut file),
+            Err(_) => Ok(None),
+        }
+    }
+}
+
+/// A stream of the system, with a count of its failures.
+#[derive(Drop)]
+struct Stream<W: Write + Drop> {
+    inner: W,
+    failures: u64,
+}
+
+impl<W: Write + Drop> Stream<W> {
+    fn new(inner: W) -> Stream<W> {
+        Stream { inner, failures: 0 }
+    }
+}
+
+impl<W: Write + Drop> Sink for Stream<W> {
+    ghost taken = { λ s. W.contents s.inner };
+
+    ghost failures = { λ s. s.failures };
+
+    fn put(&mut self, bytes: &[u8]) -> Result<usize, WriteFault> {
+        match self.inner.write(bytes) {
+            Ok(n) if 0 < n || bytes.is_empty() => Ok(n),
+            _ => {
+                self.failures = self.failures.wrapping_add(1);
+                Err(WriteFault)
+            }
+        }
+    }
+}
+
+/// The words of the command line, the program's own name left out; none if one of them isn't UTF-8.
+fn arguments(rt: &HostRuntime) -> Result<Option<Vec<String>>, AllocError> {
+    let given = match env::args(rt) {
+        Ok(given) => given,
+        Err(fault) if fault.kind() == io::ErrorKind::InvalidData => return Ok(None),
+        Err(_) => return Err(AllocError),
+    };
+    // `collect` asks for room for all of them first, and goes on where that is refused.
+    let mut words = Vec::new(rt.alloc());
+    for word in given.skip(1) {
+        words.push(word)?;
+    }
+    Ok(Some(words))
+}
+
+/// Runs the command of the program's own words, and gives the exit status. What it reads and where it writes are the system's.
+pub fn run(rt: &HostRuntime) -> u8 {
+    let alloc = rt.alloc();
+    let inputs = Files { rt };
+    let mut out = Stream::new(rt.stdout());
+    let mut err = Stream::new(rt.stderr());
+    let status = match arguments(rt) {
+        Ok(Some(words)) => command(alloc, words.as_slice(), &inputs, &mut out, &mut err),
+        Ok(None) => {
+            let _ = eprintln!(rt; "a word is not UTF-8");
+            Ok(2)
+        }
+        Err(fault) => Err(CommandFault::from(fault)),
+    };
+    match status {
+        Ok(status) => status,
+        Err(CommandFault::Write) => 2,
+        Err(CommandFault::OutOfMemory) => {
+            let _ = eprintln!(rt; "out of memory");
+            2
+        }
+    }
+}

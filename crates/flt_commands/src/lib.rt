@@ -1,0 +1,18 @@
+//! The commands of `fltstack`: what its words ask for, over inputs and writers of any kind, and over the files and streams of
+//! the system.
+#![tactic(auto)]
+
+mod answer;
+mod certify;
+mod commands;
+mod failure;
+mod host;
+mod inputs;
+mod judging;
+mod replaying;
+mod split;
+mod words;
+
+pub use commands::{CommandFault, command};
+pub use host::run;
+pub use inputs::{Inputs, MAX_INPUT};

@@ -1,0 +1,359 @@
+//! Journals from their text and back, texts that are no journals, and streams that fail at each of their calls.
+
+use flt_model::{
+    Journal, JournalEntry, JournalFault, Key, Move, ReadFault, Sink, Source, WriteFault, read,
+    write,
+};
+use flt_rules::{Mode, Operation};
+use std::alloc::{AllocError, Global};
+use std::process::Abort;
+use std::test::Fail;
+
+/// A reader of these bytes. It fails at a call, counted from 0.
+#[derive(Drop)]
+struct Given<'a> {
+    left: &'a [u8],
+    calls: u64,
+    fails_at: Option<u64>,
+    failures: u64,
+}
+
+impl<'a> Given<'a> {
+    fn new(bytes: &'a [u8], fails_at: Option<u64>) -> Given<'a> {
+        Given {
+            left: bytes,
+            calls: 0,
+            fails_at,
+            failures: 0,
+        }
+    }
+}
+
+impl Source for Given<'_> {
+    ghost coming = { λ s. s.left.now };
+
+    ghost failures = { λ s. s.failures };
+
+    ghost reads = { λ s. s.calls };
+
+    fn next(&mut self) -> Result<Option<u8>, ReadFault> {
+        let call = self.calls;
+        self.calls = call.saturating_add(1);
+        if self.fails_at == Some(call) {
+            self.failures = self.failures.wrapping_add(1);
+            return Err(ReadFault);
+        }
+        match self.left {
+            [first, others @ ..] => {
+                self.left = others;
+                Ok(Some(*first))
+            }
+            [] => Ok(None),
+        }
+    }
+}
+
+/// A writer that keeps what it takes, one byte at a time, and fails at a call, counted from 0.
+#[derive(Drop)]
+struct Kept {
+    bytes: Vec<u8>,
+    calls: u64,
+    fails_at: Option<u64>,
+    failures: u64,
+}
+
+impl Kept {
+    fn new(alloc: Global, fails_at: Option<u64>) -> Kept {
+        Kept {
+            bytes: Vec::new(alloc),
+            calls: 0,
+            fails_at,
+            failures: 0,
+        }
+    }
+}
+
+impl Sink for Kept {
+    ghost use Rattle.std.specs.Prelude.{Some};
+
+    ghost taken = { λ s. Some s.bytes.items };
+
+    ghost failures = { λ s. s.failures };
+
+    fn put(&mut self, bytes: &[u8]) -> Result<usize, WriteFault> {
+        let call = self.calls;
+        self.calls = call.wrapping_add(1);
+        let count = if bytes.is_empty() { 0 } else { 1 };
+        if self.fails_at == Some(call) || self.bytes.extend_from_slice(&bytes[..count]).is_err() {
+            self.failures = self.failures.wrapping_add(1);
+            return Err(WriteFault);
+        }
+        Ok(count)
+    }
+}
+
+const READ: Move = Move::Arrive {
+    operation: Operation::Read,
+    mode: Mode::Irp,
+    file: 0,
+};
+
+/// A read that is pended and cancelled before its callback returns.
+const CANCELLED: &str =
+    "fltjournal 1\narrive read irp 0\npre 0\ngo 0 1 yes\ngo 0 1 yes\ncancel 0\ncanceled 100 0\ngo 1 2 yes\ngo 1 1 yes\ngo 0 1 yes\nend\n";
+
+const CANCELLED_ENTRIES: [JournalEntry; 9] = [
+    JournalEntry::Move(READ),
+    JournalEntry::Move(Move::Pre { serial: 0 }),
+    JournalEntry::Go {
+        activation: 0,
+        steps: 1,
+        grant: true,
+    },
+    JournalEntry::Go {
+        activation: 0,
+        steps: 1,
+        grant: true,
+    },
+    JournalEntry::Move(Move::Cancel { serial: 0 }),
+    JournalEntry::Move(Move::Canceled {
+        altitude: 100,
+        serial: 0,
+    }),
+    JournalEntry::Go {
+        activation: 1,
+        steps: 2,
+        grant: true,
+    },
+    JournalEntry::Go {
+        activation: 1,
+        steps: 1,
+        grant: true,
+    },
+    JournalEntry::Go {
+        activation: 0,
+        steps: 1,
+        grant: true,
+    },
+];
+
+/// A line of each kind, with the least and the greatest number.
+const EACH_KIND: &str =
+    "fltjournal 1\narrive create irp 0\narrive cleanup fast 4294967295\narrive write fast 10\npre 4294967295\nskip 1\nlower 2\npost 3\ncancel 4\ncanceled 5 6\nwork 7\ndetach 8\ndrain 9 10\nunlink 11 stream 12\nunlink 13 instance\ndetached 14\ngo 15 16 no\ngo 4294967295 4294967295 yes\nend\n";
+
+const EACH_KIND_ENTRIES: [JournalEntry; 17] = [
+    JournalEntry::Move(Move::Arrive {
+        operation: Operation::Create,
+        mode: Mode::Irp,
+        file: 0,
+    }),
+    JournalEntry::Move(Move::Arrive {
+        operation: Operation::Cleanup,
+        mode: Mode::Fast,
+        file: 4294967295,
+    }),
+    JournalEntry::Move(Move::Arrive {
+        operation: Operation::Write,
+        mode: Mode::Fast,
+        file: 10,
+    }),
+    JournalEntry::Move(Move::Pre { serial: 4294967295 }),
+    JournalEntry::Move(Move::Skip { serial: 1 }),
+    JournalEntry::Move(Move::Lower { serial: 2 }),
+    JournalEntry::Move(Move::Post { serial: 3 }),
+    JournalEntry::Move(Move::Cancel { serial: 4 }),
+    JournalEntry::Move(Move::Canceled {
+        altitude: 5,
+        serial: 6,
+    }),
+    JournalEntry::Move(Move::Work { item: 7 }),
+    JournalEntry::Move(Move::Detach { altitude: 8 }),
+    JournalEntry::Move(Move::Drain {
+        altitude: 9,
+        serial: 10,
+    }),
+    JournalEntry::Move(Move::Unlink {
+        altitude: 11,
+        key: Key::Stream(12),
+    }),
+    JournalEntry::Move(Move::Unlink {
+        altitude: 13,
+        key: Key::Instance,
+    }),
+    JournalEntry::Move(Move::Detached { altitude: 14 }),
+    JournalEntry::Go {
+        activation: 15,
+        steps: 16,
+        grant: false,
+    },
+    JournalEntry::Go {
+        activation: 4294967295,
+        steps: 4294967295,
+        grant: true,
+    },
+];
+
+/// Journals of whole runs: without an entry; a removal that finds no entry, and one that isn't cancelled in time; two
+/// first uses of a stream's context; a detach.
+const WORKED: [&str; 6] = [
+    "fltjournal 1\nend\n",
+    CANCELLED,
+    "fltjournal 1\narrive read irp 0\npre 0\ngo 0 1 yes\ngo 0 1 yes\ngo 0 1 yes\narrive write irp 0\npre 1\ncancel 0\ngo 1 1 yes\ncanceled 100 0\nend\n",
+    "fltjournal 1\narrive read irp 0\npre 0\ngo 0 1 yes\ngo 0 1 yes\ngo 0 1 yes\narrive write irp 0\npre 1\ncancel 0\ncanceled 100 0\ngo 1 1 yes\ngo 1 1 yes\ngo 2 2 yes\ngo 2 1 yes\nlower 1\nend\n",
+    "fltjournal 1\narrive read irp 0\narrive read irp 0\npre 0\npre 1\ngo 0 1 yes\ngo 1 1 yes\ngo 0 1 yes\ngo 1 1 yes\ngo 0 1 yes\ngo 1 1 yes\ngo 0 3 yes\ngo 1 2 yes\ngo 1 2 yes\ngo 0 1 yes\ngo 1 1 yes\nlower 0\nlower 1\nend\n",
+    "fltjournal 1\narrive read irp 0\npre 0\ngo 0 1 yes\ngo 0 1 yes\ngo 0 1 yes\narrive write irp 0\npre 1\ngo 1 1 yes\ngo 1 1 yes\ngo 1 1 yes\ndetach 100\ndrain 100 1\ngo 2 2 yes\ngo 2 1 yes\ncanceled 100 0\ngo 3 2 yes\ngo 3 1 yes\nunlink 100 stream 0\ndetached 100\nlower 1\nend\n",
+];
+
+/// Texts that are no journal, and the first line that isn't as asked.
+const REFUSED: [(&str, usize); 44] = [
+    ("", 1),
+    ("fltjournal 1", 1),
+    ("fltjournal 2\nend\n", 1),
+    ("fltjournal  1\nend\n", 1),
+    ("fltjournal 1\r\nend\n", 1),
+    ("\nfltjournal 1\nend\n", 1),
+    ("fltcert 1\nend\n", 1),
+    ("fltjournal 1\n", 2),
+    ("fltjournal 1\nend", 2),
+    ("fltjournal 1\n\nend\n", 2),
+    ("fltjournal 1\nend \n", 2),
+    ("fltjournal 1\nEND\n", 2),
+    ("fltjournal 1\nstart\nend\n", 2),
+    ("fltjournal 1\n pre 0\nend\n", 2),
+    ("fltjournal 1\npre 0 \nend\n", 2),
+    ("fltjournal 1\npre  0\nend\n", 2),
+    ("fltjournal 1\npre\t0\nend\n", 2),
+    ("fltjournal 1\npre 00\nend\n", 2),
+    ("fltjournal 1\npre 01\nend\n", 2),
+    ("fltjournal 1\npre +1\nend\n", 2),
+    ("fltjournal 1\npre -1\nend\n", 2),
+    ("fltjournal 1\npre 0x1\nend\n", 2),
+    ("fltjournal 1\npre \nend\n", 2),
+    ("fltjournal 1\npre\nend\n", 2),
+    ("fltjournal 1\npre 4294967296\nend\n", 2),
+    ("fltjournal 1\npre 10000000000\nend\n", 2),
+    ("fltjournal 1\npre 0 1\nend\n", 2),
+    ("fltjournal 1\ncanceled 100\nend\n", 2),
+    ("fltjournal 1\narrive open irp 0\nend\n", 2),
+    ("fltjournal 1\narrive read slow 0\nend\n", 2),
+    ("fltjournal 1\narrive read 0\nend\n", 2),
+    ("fltjournal 1\nunlink 100 volume\nend\n", 2),
+    ("fltjournal 1\nunlink 100 instance 0\nend\n", 2),
+    ("fltjournal 1\nunlink 100 stream\nend\n", 2),
+    ("fltjournal 1\ngo 0 1\nend\n", 2),
+    ("fltjournal 1\ngo 0 1 maybe\nend\n", 2),
+    ("fltjournal 1\ngo 0 1 yesterday\nend\n", 2),
+    ("fltjournal 1\ndetaches 1\nend\n", 2),
+    ("fltjournal 1\npre 0\npre 0", 3),
+    ("fltjournal 1\npre 0\nend\n\n", 4),
+    ("fltjournal 1\nend\nx", 3),
+    ("fltjournal 1\nend\nend\n", 3),
+    ("fltjournal 1\narrive read irp 0\npre 0\npost x\nend\n", 4),
+    ("fltjournal 1\narrive read irp 0\npre 0\n", 4),
+];
+
+fn read_text(alloc: Global, text: &[u8]) -> Result<Journal, JournalFault> {
+    read(alloc, &mut Given::new(text, None))
+}
+
+fn line_of(alloc: Global, text: &[u8]) -> usize {
+    match read_text(alloc, text) {
+        Err(JournalFault::Line(line)) => line,
+        _ => 0,
+    }
+}
+
+/// The text reads as these entries, and they are written so.
+fn both_ways(
+    rt: &impl Abort,
+    alloc: Global,
+    text: &str,
+    entries: &[JournalEntry],
+) -> Result<(), Fail> {
+    let journal = read_text(alloc, text.as_bytes())
+        .ok()
+        .ok_or("it is a journal")?;
+    assert!(rt; journal.entries() == entries);
+    let mut made = Journal::new(alloc);
+    for entry in entries {
+        made.push(*entry)?;
+    }
+    assert_eq!(rt; made.len(), entries.len());
+    assert!(rt; made.entry(0) == entries.first().copied());
+    assert!(rt; made.entry(entries.len()).is_none());
+    let mut out = Kept::new(alloc, None);
+    assert!(rt; write(&made, &mut out).is_ok());
+    assert_eq!(rt; out.bytes.as_slice(), text.as_bytes());
+    Ok(())
+}
+
+#[test]
+fn journals_both_ways(rt: HostRuntime) -> Result<(), Fail> {
+    both_ways(&rt, rt.alloc(), CANCELLED, &CANCELLED_ENTRIES)?;
+    both_ways(&rt, rt.alloc(), EACH_KIND, &EACH_KIND_ENTRIES)?;
+    for text in WORKED {
+        let journal = read_text(rt.alloc(), text.as_bytes())
+            .ok()
+            .ok_or("it is a journal")?;
+        let mut out = Kept::new(rt.alloc(), None);
+        assert!(rt; write(&journal, &mut out).is_ok());
+        assert_eq!(rt; out.bytes.as_slice(), text.as_bytes());
+    }
+    Ok(())
+}
+
+/// Also the texts that lack a journal's last bytes.
+#[test]
+fn a_bad_line_is_told(rt: HostRuntime) {
+    for (text, line) in REFUSED {
+        assert_eq!(rt; line_of(rt.alloc(), text.as_bytes()), line, "{text}");
+    }
+    let worked = EACH_KIND.as_bytes();
+    for len in 0..worked.len() {
+        let text = &worked[..len];
+        let lines = text.iter().filter(|b| **b == b'\n').count();
+        assert_eq!(rt; line_of(rt.alloc(), text), lines + 1);
+    }
+}
+
+/// Reading stops at the first byte that isn't as asked: a failure behind it doesn't come.
+#[test]
+fn wrong_byte_is_told_as_it_is_met(rt: HostRuntime) {
+    let mut reader = Given::new(b"fltjournal 1\npre 0x", Some(19));
+    assert!(rt; matches!(read(rt.alloc(), &mut reader), Err(JournalFault::Line(2))));
+    assert_eq!(rt; reader.calls, 19);
+    assert_eq!(rt; reader.failures, 0);
+}
+
+/// A journal of n bytes takes n reads, and one that finds the end.
+#[test]
+fn reader_that_fails_at_each_call(rt: HostRuntime) {
+    let text = EACH_KIND.as_bytes();
+    let last = text.len() as u64;
+    for call in 0..last + 2 {
+        let mut reader = Given::new(text, Some(call));
+        let told = match read(rt.alloc(), &mut reader) {
+            Ok(_) => 1,
+            Err(JournalFault::Read) => 0,
+            Err(_) => 2,
+        };
+        assert_eq!(rt; told, if call <= last { 0 } else { 1 });
+        assert_eq!(rt; reader.failures, if call <= last { 1 } else { 0 });
+    }
+}
+
+/// A journal of n bytes takes n writes of a byte.
+#[test]
+fn writer_that_fails_at_each_call(rt: HostRuntime) -> Result<(), Fail> {
+    let text = EACH_KIND.as_bytes();
+    let journal = read_text(rt.alloc(), text).ok().ok_or("it is a journal")?;
+    let last = text.len() as u64;
+    for call in 0..last + 1 {
+        let mut out = Kept::new(rt.alloc(), Some(call));
+        let written = write(&journal, &mut out).is_ok();
+        assert_eq!(rt; written, call == last);
+        assert_eq!(rt; out.failures, if call < last { 1 } else { 0 });
+    }
+    assert!(rt; journal.entries() == EACH_KIND_ENTRIES.as_slice());
+    Ok(())
+}

@@ -1,0 +1,14 @@
+//! Tests of the crates that read, write and keep: what no clause says, and each public call once on its happy path. They stand
+//! apart from those crates, so that no crate with code is proved twice.
+#![tactic(auto)]
+
+#[cfg(test)]
+mod certificates;
+#[cfg(test)]
+mod journals;
+#[cfg(test)]
+mod lists;
+#[cfg(test)]
+mod states;
+#[cfg(test)]
+mod texts;

@@ -1,0 +1,5 @@
+//! Tests of what threads share. They stand apart, since they alone start threads.
+#![tactic(auto)]
+
+#[cfg(test)]
+mod cancel_pads;
