@@ -1,7 +1,7 @@
 -- The graphs of one callback more.
 use Rattle.std.proofs.Common.{◌≡◌, ℕ, ◌+◌, ◌<◌, List, [], ◌∷◌, ◌++◌, length, take, get_or}
 use Rattle.std.proofs.lemmas.List.{take_more}
-use Rattle.flt_syntax.specs.declared.filter.Callback.{Callback}
+use Rattle.flt_tree.specs.declared.filter.Callback.{Callback}
 use Rattle.flt_graph.specs.Lowering.{IsGraphOf, AreGraphsOf}
 use Rattle.flt_graph.specs.declared.graph.CallbackGraph.{CallbackGraph}
 

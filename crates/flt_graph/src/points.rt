@@ -6,9 +6,9 @@ ghost use Rattle.flt_graph.specs.Lowering.{IsGraphOf, IsLowered, end_of};
 ghost use Rattle.flt_graph.specs.Points as spec;
 ghost use Rattle.flt_graph.specs.declared.graph.CallbackGraph.{CallbackGraph};
 ghost use Rattle.flt_graph.specs.declared.graph.Graph.{Graph};
-ghost use Rattle.flt_syntax.specs.declared.filter.Callback.{Callback};
-ghost use Rattle.flt_syntax.specs.declared.filter.Filter.{Filter};
-ghost use Rattle.flt_syntax.specs.declared.filter.Statement.{Statement};
+ghost use Rattle.flt_tree.specs.declared.filter.Callback.{Callback};
+ghost use Rattle.flt_tree.specs.declared.filter.Filter.{Filter};
+ghost use Rattle.flt_tree.specs.declared.filter.Statement.{Statement};
 
 /// Each remaining list of a callback has a point, where its first statement is done, and what remains after an outcome
 /// of that statement stands at that outcome's successor. It does nothing: its clauses are the law.

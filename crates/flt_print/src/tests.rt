@@ -1,0 +1,593 @@
+//! Texts and what is told of them.
+
+use crate::print;
+use flt_syntax::{ParseError, parse};
+use std::alloc::Global;
+use std::test::Fail;
+
+/// `ok`, or the fault as it is printed.
+fn answer(alloc: Global, text: &[u8]) -> Result<String, ParseError> {
+    match parse(alloc, text) {
+        Ok(_) => Ok(format!(in alloc; "ok")?),
+        Err(ParseError::Syntax(fault)) => Ok(format!(in alloc; "{fault}")?),
+        Err(ParseError::OutOfMemory) => Err(ParseError::OutOfMemory),
+    }
+}
+
+/// A head, a piece some times, a middle, a closing piece as often, and a tail.
+fn nested(
+    alloc: Global,
+    [head, piece, middle, close, tail]: [&[u8]; 5],
+    count: usize,
+) -> Result<Vec<u8>, ParseError> {
+    let mut text = Vec::from_slice(alloc, head)?;
+    for _ in 0..count {
+        text.extend_from_slice(piece)?;
+    }
+    text.extend_from_slice(middle)?;
+    for _ in 0..count {
+        text.extend_from_slice(close)?;
+    }
+    text.extend_from_slice(tail)?;
+    Ok(text)
+}
+
+/// A filter that pends its reads.
+const PENDING_READS: &[u8] =
+    b"filter q altitude 100\nqueue\npre read {\n  if irp data {\n    if FltCbdqInsertIo data {\n      return PENDING\n    }\n  }\n  return NO_CALLBACK\n}\ncanceled {\n  if arg != NULL {\n    FltReleaseContext arg\n  }\n  FltCompletePendedPreOperation data COMPLETE STATUS_CANCELLED\n}\n";
+
+/// A filter with locks, a queue, routines and nested blocks.
+const NAMES_AND_BLOCKS: &[u8] =
+    b"filter a altitude 100\nlock spin s\nlock fast f\nqueue\npre read {\nif FltQueueDeferredIoWorkItem data w context c0 {\nKeAcquireSpinLock s\nExReleaseFastMutex f\n} else {\nrepeat 2 {\nn0 = n1 + 3\n}\n}\nreturn PENDING\n}\ncanceled {\n}\ndeferred_pre w {\nif FltQueueGenericWorkItem g {\n}\n}\ngeneric g {\n}\n";
+
+const BYTES_AND_WORDS: [(&[u8], &str); 10] = [
+    (
+        b"filter a altitude 100\npre read {\nreturn $\n}\n",
+        "3:8 E01",
+    ),
+    (
+        b"filter a altitude 100\npre read {\nif c0 ! = NULL {\n}\n}\n",
+        "3:7 E01",
+    ),
+    (
+        b"filter a altitude 100\npre read {\nif n0 > 1 {\n}\n}\n",
+        "3:7 E01",
+    ),
+    (b"filter a altitude 007", "1:19 E02"),
+    (
+        b"filter a altitude 100\npre read {\nn0 = 12ab\n}\n",
+        "3:6 E02",
+    ),
+    (
+        b"filter a altitude 100\npre read {\nn0 = 0x1\n}\n",
+        "3:6 E02",
+    ),
+    (
+        b"filter a altitude 100\npre read {\nn0 = 18446744073709551616\n}\n",
+        "3:6 E02",
+    ),
+    (
+        b"filter a altitude 100\npre read {\nn0 = 18446744073709551615\n}\n",
+        "ok",
+    ),
+    (
+        b"filter a altitude 100\npre read {\nn0 = 0 # $ 007 \\u\n}\n",
+        "ok",
+    ),
+    (b"filter a\taltitude\r\n1 pre read { }", "ok"),
+];
+
+const TOKENS: [(&[u8], &str); 22] = [
+    (b"", "1:1 E03"),
+    (b"filter a altitude 100\n", "1:23 E03"),
+    (b"filter a altitude 100\n\n\n", "3:2 E03"),
+    (
+        b"filter filter altitude 1\nlock spin data\npre read {\n}\n",
+        "ok",
+    ),
+    (
+        b"filter a altitude 100\npre read {\nif n0 === 1 {\n}\n}\n",
+        "3:9 E03",
+    ),
+    (
+        b"filter a altitude 100\npre read {\nn0 = foo\n}\n",
+        "3:6 E03",
+    ),
+    (
+        b"filter a altitude 100\npre read {\nn0 = c1\n}\n",
+        "3:6 E03",
+    ),
+    (b"filter a altitude foo", "1:19 E03"),
+    (
+        b"filter a altitude 100\npre read {\nrepeat foo {\n}\n}\n",
+        "3:8 E03",
+    ),
+    (
+        b"filter a altitude 100\npre read {\nif irp o0 {\n}\n}\n",
+        "3:8 E03",
+    ),
+    (
+        b"filter a altitude 100\nqueue\npre read {\nif FltCbdqInsertIo o0 {\n}\n}\ncanceled {\n}\n",
+        "4:20 E03",
+    ),
+    (
+        b"filter a altitude 100\npre read {\nFltReleaseContext 1\n}\n",
+        "3:19 E03",
+    ),
+    (
+        b"filter a altitude 100\npre read {\ndata = NULL\n}\n",
+        "3:1 E03",
+    ),
+    (
+        b"filter a altitude 100\npre read {\nreturn FOO\n}\n",
+        "3:8 E03",
+    ),
+    (
+        b"filter a altitude 100\npre read {\nFltCbdqInsertIo data\n}\n",
+        "3:1 E03",
+    ),
+    (
+        b"filter a altitude 100\nqueue\npre read {\nFltCbdqInsertIo data\n}\ncanceled {\n}\n",
+        "4:1 E03",
+    ),
+    (
+        b"filter a altitude 100\npre read {\nreturn COMPLETE foo\n}\n",
+        "3:17 E03",
+    ),
+    (
+        b"filter a altitude 100\npre read {\nFltCompletePendedPreOperation data foo\n}\n",
+        "3:36 E03",
+    ),
+    (
+        b"filter a altitude 100\npre read {\nif FltSetStreamContext c0 {\n}\n}\n",
+        "3:24 E03",
+    ),
+    (
+        b"filter a altitude 100\npre read {\nreturn\n}\n}",
+        "5:1 E03",
+    ),
+    (b"filter a altitude 100\nqueue\nlock spin s\n", "3:1 E03"),
+    (
+        b"filter a altitude 100\npre read {\nif data != NULL {\n}\n}\n",
+        "3:4 E03",
+    ),
+];
+
+const NAMES: [(&[u8], &str); 14] = [
+    (
+        b"filter a altitude 100\npre read {\nFltReleaseContext c9\n}\n",
+        "3:19 E04",
+    ),
+    (
+        b"filter a altitude 100\npre read {\nn0 = 1 + foo\n}\n",
+        "3:10 E04",
+    ),
+    (
+        b"filter a altitude 100\npre read {\nif n0 == foo {\n}\n}\n",
+        "3:10 E04",
+    ),
+    (
+        b"filter a altitude 100\npre read {\nvalue c0 = foo\n}\n",
+        "3:12 E04",
+    ),
+    (
+        b"filter a altitude 100\npre read {\nn0 = file c0\n}\n",
+        "3:11 E04",
+    ),
+    (
+        b"filter a altitude 100\npre read {\nif FltCbdqInsertIo data {\n}\n}\n",
+        "3:4 E04",
+    ),
+    (
+        b"filter a altitude 100\nqueue\npre read {\nif FltCbdqRemoveNextIo data context c0 {\n}\n}\ncanceled {\n}\n",
+        "4:24 E04",
+    ),
+    (
+        b"filter a altitude 100\nlock fast s\npre read {\nKeAcquireSpinLock s\n}\n",
+        "4:19 E04",
+    ),
+    (
+        b"filter a altitude 100\npre read {\nExReleaseFastMutex s\n}\n",
+        "3:20 E04",
+    ),
+    (
+        b"filter a altitude 100\npre read {\nif FltQueueGenericWorkItem w {\n}\n}\n",
+        "3:28 E04",
+    ),
+    (
+        b"filter a altitude 100\npre read {\nif FltQueueGenericWorkItem w {\n}\n}\ngeneric w {\n}\n",
+        "ok",
+    ),
+    (
+        b"filter a altitude 100\npre read {\nif FltQueueDeferredIoWorkItem data w {\n}\n}\ndeferred_post w {\n}\n",
+        "3:36 E04",
+    ),
+    (
+        b"filter a altitude 100\npre read {\nif FltQueueDeferredIoWorkItem data w {\n}\n}\ndeferred_pre w {\n}\n",
+        "ok",
+    ),
+    (
+        b"filter a altitude 100\ngeneric g {\nif FltQueueDeferredIoWorkItem data w {\n}\n}\ndeferred_post w {\n}\n",
+        "ok",
+    ),
+];
+
+const TWICE: [(&[u8], &str); 11] = [
+    (
+        b"filter a altitude 100\nlock spin s\nlock spin s\npre read {\n}\n",
+        "3:11 E05",
+    ),
+    (
+        b"filter a altitude 100\nlock spin s\nlock push s\npre read {\n}\n",
+        "3:11 E05",
+    ),
+    (
+        b"filter a altitude 100\npre read {\n\n}\npre read {\n}\n",
+        "5:1 E05",
+    ),
+    (
+        b"filter a altitude 100\ncanceled {\n}\ncanceled {\n}\n",
+        "4:1 E05",
+    ),
+    (
+        b"filter a altitude 100\ngeneric w {\n}\ndeferred_pre w {\n}\n",
+        "4:14 E05",
+    ),
+    (
+        b"filter a altitude 100\nlock spin w\ngeneric w {\n}\n",
+        "ok",
+    ),
+    (
+        b"filter a altitude 100\npre read {\nif FltSetInstanceContext KEEP_IF_EXISTS c0 old c0 {\n}\n}\n",
+        "3:48 E08",
+    ),
+    (
+        b"filter a altitude 100\npre read {\nFltReferenceContext arg as arg\n}\n",
+        "3:28 E08",
+    ),
+    (
+        b"filter a altitude 100\npre read {\nFltReferenceContext arg as c0\n}\n",
+        "ok",
+    ),
+    (
+        b"filter a altitude 100\npre read {\nif FltDeleteStreamContext old c0 {\n}\n}\n",
+        "ok",
+    ),
+    (
+        b"filter a altitude 100\npre read {\nif FltQueueGenericWorkItem c0 context c0 {\n}\n}\ngeneric c0 {\n}\n",
+        "ok",
+    ),
+];
+
+const WHOLE: [(&[u8], &str); 8] = [
+    (
+        b"filter a altitude 100\npost read {\nreturn FINISHED_PROCESSING\n}\n",
+        "2:1 E07",
+    ),
+    (b"filter a altitude 100\nqueue\npre read {\n}\n", "2:1 E07"),
+    (b"filter a altitude 100\ncanceled {\n}\n", "ok"),
+    (
+        b"filter a altitude 100\npost read {\n}\npre read {\n}\n",
+        "ok",
+    ),
+    (
+        b"filter a altitude 100\npre read {\nif FltQueueGenericWorkItem w {\n}\n}\npost write {\n}\n",
+        "3:28 E04",
+    ),
+    (
+        b"filter a altitude 100\npost write {\nif FltQueueGenericWorkItem w {\n}\n}\n",
+        "2:1 E07",
+    ),
+    (
+        b"filter q altitude 100\nqueue\npre read {\n  if irp data {\n    if FltCbdqInsertIo data {\n      return PENDING\n    }\n  }\n  return NO_CALLBACK\n}\n",
+        "2:1 E07",
+    ),
+    (
+        b"filter q altitude 100\nqueue\npre read {\n  if irp data {\n    if FltCbdqInsertIo data {\n      return PENDING\n    }\n  }\n  return NO_CALLBACK\n}\ncanceled {\n  if arg != NULL {\n    FltReleaseContext arg\n  }\n  FltCompletePendedPreOperation data COMPLETE STATUS_CANCELLED\n}",
+        "ok",
+    ),
+];
+
+const LIMITS: [(&[u8], &str); 18] = [
+    (b"filter a altitude 0\npre read {\n}\n", "1:19 E06"),
+    (b"filter a altitude 4294967295\npre read {\n}\n", "ok"),
+    (b"filter a altitude 4294967296\npre read {\n}\n", "1:19 E06"),
+    (
+        b"filter a altitude 100\npre read {\nrepeat 1000 {\n}\n}\n",
+        "ok",
+    ),
+    (
+        b"filter a altitude 100\npre read {\nrepeat 1001 {\n}\n}\n",
+        "3:8 E06",
+    ),
+    (
+        b"filter a altitude 100\nlock spin l0\nlock spin l1\nlock spin l2\nlock spin l3\nlock spin l4\nlock spin l5\nlock spin l6\nlock spin l7\npre read {\n}\n",
+        "ok",
+    ),
+    (
+        b"filter a altitude 100\nlock spin l0\nlock spin l1\nlock spin l2\nlock spin l3\nlock spin l4\nlock spin l5\nlock spin l6\nlock spin l7\nlock spin l8\n",
+        "10:11 E06",
+    ),
+    (
+        b"filter a altitude 100\nlock spin l0\nlock spin l1\nlock spin l2\nlock spin l3\nlock spin l4\nlock spin l5\nlock spin l6\nlock spin l7\nlock fast l7\n",
+        "10:11 E05",
+    ),
+    (
+        b"filter a altitude 100\npre create {\n}\npre read {\n}\npre write {\n}\npre cleanup {\n}\npost create {\n}\npost read {\n}\npost write {\n}\npost cleanup {\n}\ncanceled {\n}\ngeneric g0 {\n}\ngeneric g1 {\n}\ngeneric g2 {\n}\ngeneric g3 {\n}\ngeneric g4 {\n}\ngeneric g5 {\n}\ngeneric g6 {\n}\n",
+        "ok",
+    ),
+    (
+        b"filter a altitude 100\npre create {\n}\npre read {\n}\npre write {\n}\npre cleanup {\n}\npost create {\n}\npost read {\n}\npost write {\n}\npost cleanup {\n}\ncanceled {\n}\ngeneric g0 {\n}\ngeneric g1 {\n}\ngeneric g2 {\n}\ngeneric g3 {\n}\ngeneric g4 {\n}\ngeneric g5 {\n}\ngeneric g6 {\n}\ngeneric 1",
+        "34:1 E06",
+    ),
+    (
+        b"filter a altitude 100\npre create {\n}\npre read {\n}\npre write {\n}\npre cleanup {\n}\npost create {\n}\npost read {\n}\npost write {\n}\npost cleanup {\n}\ncanceled {\n}\ngeneric g0 {\n}\ngeneric g1 {\n}\ngeneric g2 {\n}\ngeneric g3 {\n}\ngeneric g4 {\n}\ngeneric g5 {\n}\ngeneric g6 {\n}\npre read $",
+        "34:1 E05",
+    ),
+    (
+        b"filter a altitude 100\npre create {\n}\npre read {\n}\npre write {\n}\npre cleanup {\n}\npost create {\n}\npost read {\n}\npost write {\n}\npost cleanup {\n}\ncanceled {\n}\ngeneric g0 {\n}\ngeneric g1 {\n}\ngeneric g2 {\n}\ngeneric g3 {\n}\ngeneric g4 {\n}\ngeneric g5 {\n}\ngeneric g6 {\n}\npre $",
+        "34:1 E06",
+    ),
+    (
+        b"filter a altitude 100\npre create {\n}\npre read {\n}\npre write {\n}\npre cleanup {\n}\npost create {\n}\npost read {\n}\npost write {\n}\npost cleanup {\n}\ncanceled {\n}\ngeneric g0 {\n}\ngeneric g1 {\n}\ngeneric g2 {\n}\ngeneric g3 {\n}\ngeneric g4 {\n}\ngeneric g5 {\n}\ngeneric g6 {\n}\ngeneric g0",
+        "34:1 E06",
+    ),
+    (
+        b"filter a altitude 100\npre create {\n}\npre read {\n}\npre write {\n}\npre cleanup {\n}\npost create {\n}\npost read {\n}\npost write {\n}\npost cleanup {\n}\ncanceled {\n}\ngeneric g0 {\n}\ngeneric g1 {\n}\ngeneric g2 {\n}\ngeneric g3 {\n}\ngeneric g4 {\n}\ngeneric g5 {\n}\ngeneric g6 {\n}\nqueue",
+        "34:1 E03",
+    ),
+    (
+        b"filter a altitude 100\npre read {\nn0 = 0\nrepeat 998 {\nrepeat 500 {\nn0 = 1\n}\n}\nreturn NO_CALLBACK\n}\n",
+        "ok",
+    ),
+    (
+        b"filter a altitude 100\npre read {\nn0 = 0\nn0 = 0\nrepeat 998 {\nrepeat 500 {\nn0 = 1\n}\n}\nreturn NO_CALLBACK\n}\n",
+        "2:1 E06",
+    ),
+    (
+        b"filter a altitude 100\npre read {\nrepeat 1000 {\nrepeat 1000 {\n}\n}\nreturn foo\n}\n",
+        "7:8 E03",
+    ),
+    (
+        b"filter a altitude 100\npre read {\nrepeat 1000 {\nrepeat 1000 {\n}\n}\n}\n$",
+        "2:1 E06",
+    ),
+];
+
+const NESTED: [([&[u8]; 5], usize, &str); 13] = [
+    (
+        [
+            b"filter a altitude 100\npre read {\n",
+            b"n0 = 1\n",
+            b"",
+            b"",
+            b"}\n",
+        ],
+        511,
+        "ok",
+    ),
+    (
+        [
+            b"filter a altitude 100\npre read {\n",
+            b"n0 = 1\n",
+            b"",
+            b"",
+            b"}\n",
+        ],
+        512,
+        "2:1 E06",
+    ),
+    (
+        [
+            b"filter a altitude 100\npre read {\n",
+            b"if draining {\n",
+            b"",
+            b"}\n",
+            b"}\n",
+        ],
+        31,
+        "ok",
+    ),
+    (
+        [
+            b"filter a altitude 100\npre read {\n",
+            b"if draining {\n",
+            b"",
+            b"}\n",
+            b"}\n",
+        ],
+        32,
+        "34:13 E06",
+    ),
+    (
+        [
+            b"filter a altitude 100\npre read {\n",
+            b"if draining {\n",
+            b"if irp data { } else { }",
+            b"}\n",
+            b"}\n",
+        ],
+        31,
+        "34:13 E06",
+    ),
+    (
+        [
+            b"filter a altitude 100\npre read {\n",
+            b"repeat 1 {\n",
+            b"",
+            b"}\n",
+            b"}\n",
+        ],
+        4,
+        "ok",
+    ),
+    (
+        [
+            b"filter a altitude 100\npre read {\n",
+            b"repeat 1 {\n",
+            b"",
+            b"}\n",
+            b"}\n",
+        ],
+        5,
+        "7:1 E06",
+    ),
+    (
+        [b"filter ", b"a", b" altitude 1\npre read {\n}\n", b"", b""],
+        64,
+        "ok",
+    ),
+    (
+        [b"filter ", b"a", b" altitude 1\npre read {\n}\n", b"", b""],
+        65,
+        "1:8 E02",
+    ),
+    (
+        [b"filter a altitude 100\n", b"a", b"", b"", b""],
+        64,
+        "2:1 E03",
+    ),
+    (
+        [b"filter a altitude 100\n", b"a", b"", b"", b""],
+        65,
+        "2:1 E02",
+    ),
+    (
+        [
+            b"filter a altitude 100\npre read {\n}\n",
+            b" ",
+            b"",
+            b"",
+            b"",
+        ],
+        65501,
+        "ok",
+    ),
+    (
+        [
+            b"filter a altitude 100\npre read {\n}\n",
+            b" ",
+            b"",
+            b"",
+            b"",
+        ],
+        65502,
+        "1:1 E06",
+    ),
+];
+
+#[test]
+fn a_wrong_byte_or_word_is_told(rt: HostRuntime) -> Result<(), Fail> {
+    for (at, (text, want)) in BYTES_AND_WORDS.iter().enumerate() {
+        let told = answer(rt.alloc(), text)?;
+        assert_eq!(rt; told.as_str(), *want, "row {at}");
+    }
+    Ok(())
+}
+
+#[test]
+fn a_token_that_no_rule_reads_is_told(rt: HostRuntime) -> Result<(), Fail> {
+    for (at, (text, want)) in TOKENS.iter().enumerate() {
+        let told = answer(rt.alloc(), text)?;
+        assert_eq!(rt; told.as_str(), *want, "row {at}");
+    }
+    Ok(())
+}
+
+#[test]
+fn an_unknown_name_is_told(rt: HostRuntime) -> Result<(), Fail> {
+    for (at, (text, want)) in NAMES.iter().enumerate() {
+        let told = answer(rt.alloc(), text)?;
+        assert_eq!(rt; told.as_str(), *want, "row {at}");
+    }
+    Ok(())
+}
+
+#[test]
+fn what_stands_twice_is_told(rt: HostRuntime) -> Result<(), Fail> {
+    for (at, (text, want)) in TWICE.iter().enumerate() {
+        let told = answer(rt.alloc(), text)?;
+        assert_eq!(rt; told.as_str(), *want, "row {at}");
+    }
+    Ok(())
+}
+
+#[test]
+fn what_is_missing_is_told_at_the_end(rt: HostRuntime) -> Result<(), Fail> {
+    for (at, (text, want)) in WHOLE.iter().enumerate() {
+        let told = answer(rt.alloc(), text)?;
+        assert_eq!(rt; told.as_str(), *want, "row {at}");
+    }
+    Ok(())
+}
+
+#[test]
+fn a_limit_is_told_where_it_is_passed(rt: HostRuntime) -> Result<(), Fail> {
+    for (at, (text, want)) in LIMITS.iter().enumerate() {
+        let told = answer(rt.alloc(), text)?;
+        assert_eq!(rt; told.as_str(), *want, "row {at}");
+    }
+    Ok(())
+}
+
+#[test]
+fn a_limit_on_many_is_told_where_it_is_passed(rt: HostRuntime) -> Result<(), Fail> {
+    for (at, (parts, count, want)) in NESTED.iter().enumerate() {
+        let text = nested(rt.alloc(), *parts, *count)?;
+        let told = answer(rt.alloc(), text.as_slice())?;
+        assert_eq!(rt; told.as_str(), *want, "row {at}");
+    }
+    Ok(())
+}
+
+#[test]
+fn a_prefix_of_a_text_is_a_fault(rt: HostRuntime) -> Result<(), Fail> {
+    for (end, _) in PENDING_READS.iter().enumerate() {
+        let told = answer(rt.alloc(), &PENDING_READS[..end])?;
+        let lacks_its_last_line_feed = end + 1 == PENDING_READS.len();
+        assert_eq!(rt;
+            told.as_str() == "ok",
+            lacks_its_last_line_feed,
+            "{end} bytes"
+        );
+    }
+    let told = answer(rt.alloc(), PENDING_READS)?;
+    assert_eq!(rt; told.as_str(), "ok");
+    Ok(())
+}
+
+#[test]
+fn names_and_blocks_are_read_within_memory(rt: HostRuntime) -> Result<(), Fail> {
+    let told = answer(rt.alloc(), NAMES_AND_BLOCKS)?;
+    assert_eq!(rt; told.as_str(), "ok");
+    Ok(())
+}
+
+/// Texts, and their canonical texts.
+const LAYOUTS: [(&[u8], &[u8]); 3] = [
+    (PENDING_READS, PENDING_READS),
+    (
+        b"# one line\nfilter a\taltitude 7 pre read{if draining{}else{}if n0==18446744073709551615{n0=n0-10}else{return # no status\n}repeat 3{}}",
+        b"filter a altitude 7\npre read {\n  if draining {\n  }\n  if n0 == 18446744073709551615 {\n    n0 = n0 - 10\n  } else {\n    return\n  }\n  repeat 3 {\n  }\n}\n",
+    ),
+    (
+        b"filter a altitude 100 lock push p lock spin s\r\ngeneric w { KeAcquireSpinLock s if FltSetStreamContext KEEP_IF_EXISTS c0 old c1 { } FltReferenceContext arg as c2 if FltQueueGenericWorkItem w context c2 { } return SYNCHRONIZE context c3 }",
+        b"filter a altitude 100\nlock push p\nlock spin s\ngeneric w {\n  KeAcquireSpinLock s\n  if FltSetStreamContext KEEP_IF_EXISTS c0 old c1 {\n  }\n  FltReferenceContext arg as c2\n  if FltQueueGenericWorkItem w context c2 {\n  }\n  return SYNCHRONIZE context c3\n}\n",
+    ),
+];
+
+/// The canonical text of what a text spells.
+fn printed(alloc: Global, text: &[u8]) -> Result<Vec<u8>, ParseError> {
+    Ok(print(alloc, &parse(alloc, text)?)?)
+}
+
+#[test]
+fn a_tree_is_printed_in_the_canonical_layout(rt: HostRuntime) -> Result<(), Fail> {
+    for (at, (text, want)) in LAYOUTS.iter().enumerate() {
+        let once = printed(rt.alloc(), text)?;
+        assert_eq!(rt; once.as_slice(), *want, "row {at}");
+        let twice = printed(rt.alloc(), once.as_slice())?;
+        assert_eq!(rt; twice.as_slice(), *want, "row {at}");
+    }
+    Ok(())
+}
