@@ -1,5 +1,5 @@
 -- How a whole text is read.
-use Rattle.std.specs.Prelude.{◌≡◌, ℕ, zero, suc, ◌-◌, Bool, if◌then◌else◌, nat_lt, List, [], ◌∷◌, ◌++◌, length, is_some, Option, Some, None, Result, Ok, Err}
+use Rattle.std.specs.Prelude.{◌≡◌, ℕ, zero, suc, ◌-◌, if◌then◌else◌, nat_lt, List, [], ◌∷◌, ◌++◌, length, is_some, Option, Some, None, Result, Ok, Err}
 use Rattle.flt_rules.specs.declared.call.LockKind.{LockKind}
 use Rattle.flt_syntax.specs.Cursor.{Outcome, Parser, ◌>>=◌, ◌>>◌, pure, kind, place, refusal, refuse, fault, known_or, sees, eat, expect, number_within}
 use Rattle.flt_syntax.specs.Head.{head}
