@@ -4,7 +4,10 @@ ghost use Rattle.std.specs.Prelude.{◌≡◌};
 ghost use Rattle.flt_graph.specs.Instruction as spec;
 
 use flt_rules::{Call, LockNumber};
-use flt_tree::{Action, Callback, ContextVariable, FallibleCall, OperationVariable, PlainCall, RemovedVariable, Routine, Status, Test};
+use flt_tree::{
+    Action, Callback, ContextVariable, FallibleCall, OperationVariable, PlainCall, RemovedVariable,
+    Routine, Status, Test,
+};
 
 /// A call with its operands by what they are to it.
 #[derive(Clone, Copy)]

@@ -7,7 +7,9 @@ mod lowering;
 mod points;
 
 pub use flt_rules::{Call, LockKind, LockNumber, Operation, Place};
-pub use flt_tree::{Action, ContextVariable, NumberVariable, OperationVariable, RemovedVariable, Status, Test, Tree};
+pub use flt_tree::{
+    Action, ContextVariable, NumberVariable, OperationVariable, RemovedVariable, Status, Test, Tree,
+};
 pub use graph::{CallbackGraph, Graph, Point};
 pub use instruction::{Instruction, Invocation};
 pub use lowering::lower;

@@ -7,7 +7,10 @@ ghost use Rattle.flt_replay.specs.Writes.{written};
 
 use crate::rest::Rest;
 use flt_rules::LockNumber;
-use flt_tree::{Atom, ContextVariable, Expression, NumberVariable, OperationVariable, RemovedVariable, Statement};
+use flt_tree::{
+    Atom, ContextVariable, Expression, NumberVariable, OperationVariable, RemovedVariable,
+    Statement,
+};
 use sqlite_items::Items;
 use std::alloc::{AllocError, Global};
 use std::marker::Model;

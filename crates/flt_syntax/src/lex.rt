@@ -13,6 +13,7 @@ use std::alloc::{AllocError, Global};
 
 const MAX_WORD: usize = 64;
 
+/// Whether both are one kind.
 #[tactic(auto, unfolding(crate::specs::Lex::same_kind))]
 pub fn same_kind(a: Kind, b: Kind) -> bool
     ensures value { result ≡ spec.same_kind a b }
