@@ -22,16 +22,16 @@ use Rattle.flt_rules.specs.declared.rule.Rule.TheVariants.{R01, R02, R03, R04, R
 use Rattle.flt_rules.specs.declared.status.Possession.{Possession}
 use Rattle.flt_rules.specs.declared.status.Possession.TheVariants as possession
 use Rattle.flt_rules.specs.declared.status.StatusRow.{StatusRow}
-use Rattle.flt_syntax.specs.Filter.{word_of, completes_pending, named_context}
-use Rattle.flt_syntax.specs.Variable.{context_place, operation_place}
-use Rattle.flt_syntax.specs.declared.filter.Action.{Action}
-use Rattle.flt_syntax.specs.declared.filter.Action.TheVariants as action
-use Rattle.flt_syntax.specs.declared.filter.Status.{Status}
-use Rattle.flt_syntax.specs.declared.filter.Test.{Test}
-use Rattle.flt_syntax.specs.declared.filter.Test.TheVariants as test
-use Rattle.flt_syntax.specs.declared.variable.ContextVariable.{ContextVariable}
-use Rattle.flt_syntax.specs.declared.variable.OperationVariable.{OperationVariable}
-use Rattle.flt_syntax.specs.declared.variable.OperationVariable.TheVariants.{Removed, Data}
+use Rattle.flt_tree.specs.Filter.{word_of, completes_pending, named_context}
+use Rattle.flt_tree.specs.Variable.{context_place, operation_place}
+use Rattle.flt_tree.specs.declared.filter.Action.{Action}
+use Rattle.flt_tree.specs.declared.filter.Action.TheVariants as action
+use Rattle.flt_tree.specs.declared.filter.Status.{Status}
+use Rattle.flt_tree.specs.declared.filter.Test.{Test}
+use Rattle.flt_tree.specs.declared.filter.Test.TheVariants as test
+use Rattle.flt_tree.specs.declared.variable.ContextVariable.{ContextVariable}
+use Rattle.flt_tree.specs.declared.variable.OperationVariable.{OperationVariable}
+use Rattle.flt_tree.specs.declared.variable.OperationVariable.TheVariants.{Removed, Data}
 use Rattle.flt_graph.specs.Graph.{instruction_at}
 use Rattle.flt_graph.specs.declared.graph.Graph.{Graph}
 use Rattle.flt_graph.specs.declared.instruction.Instruction.{Instruction}

@@ -9,13 +9,13 @@ use Rattle.flt_rules.specs.declared.columns.Effects.{Effects}
 use Rattle.flt_rules.specs.declared.columns.LockChange.{LockChange}
 use Rattle.flt_rules.specs.declared.columns.LockChange.TheVariants as list
 use Rattle.flt_rules.specs.declared.rule.Rule.{Rule}
-use Rattle.flt_syntax.specs.declared.filter.Action.{Action}
-use Rattle.flt_syntax.specs.declared.filter.Action.TheVariants as action
-use Rattle.flt_syntax.specs.declared.filter.Test.{Test}
-use Rattle.flt_syntax.specs.declared.filter.Test.TheVariants as test
-use Rattle.flt_syntax.specs.declared.variable.ContextVariable.{ContextVariable}
-use Rattle.flt_syntax.specs.declared.variable.OperationVariable.{OperationVariable}
-use Rattle.flt_syntax.specs.declared.variable.OperationVariable.TheVariants.{Removed}
+use Rattle.flt_tree.specs.declared.filter.Action.{Action}
+use Rattle.flt_tree.specs.declared.filter.Action.TheVariants as action
+use Rattle.flt_tree.specs.declared.filter.Test.{Test}
+use Rattle.flt_tree.specs.declared.filter.Test.TheVariants as test
+use Rattle.flt_tree.specs.declared.variable.ContextVariable.{ContextVariable}
+use Rattle.flt_tree.specs.declared.variable.OperationVariable.{OperationVariable}
+use Rattle.flt_tree.specs.declared.variable.OperationVariable.TheVariants.{Removed}
 use Rattle.flt_graph.specs.Graph.{instruction_at}
 use Rattle.flt_graph.specs.declared.graph.Graph.{Graph}
 use Rattle.flt_graph.specs.declared.instruction.Instruction.{Instruction}

@@ -1,8 +1,8 @@
 -- The variables of a state, by name.
 use Rattle.std.specs.Prelude.{slice_index_or, slice_set}
-use Rattle.flt_syntax.specs.Variable.{context_place, operation_place}
-use Rattle.flt_syntax.specs.declared.variable.ContextVariable.{ContextVariable}
-use Rattle.flt_syntax.specs.declared.variable.OperationVariable.{OperationVariable}
+use Rattle.flt_tree.specs.Variable.{context_place, operation_place}
+use Rattle.flt_tree.specs.declared.variable.ContextVariable.{ContextVariable}
+use Rattle.flt_tree.specs.declared.variable.OperationVariable.{OperationVariable}
 use Rattle.flt_abs.specs.Sets.{StatusSet, null_alone}
 use Rattle.flt_abs.specs.State.{State}
 

@@ -13,7 +13,7 @@ use flt_graph::{
 use flt_rules::{
     LockNeed, Mode, Need, Possession, Rule, StatusRow, is_legal_in_draining, row, status_row,
 };
-use flt_syntax::named_context;
+use flt_tree::named_context;
 
 /// Whether a context is named that isn't surely held.
 fn lacks_context(state: &Abs, variable: Option<ContextVariable>) -> bool

@@ -10,7 +10,7 @@ use std::marker::Model;
 
 /// The locks that are held, the oldest first, by their places among the filter's locks, from 0. None stands
 /// in it twice, so there are eight at most and it never takes memory.
-#[derive(Debug, Drop)]
+#[derive(Drop)]
 pub struct LockList {
     places: SmallVec<u8, 8>,
 }

@@ -4,7 +4,7 @@ use bitflags::{Flag, Flags, bitflag_items};
 use std::marker::Model;
 
 /// The bits of `Statuses`, as a certificate writes them.
-#[derive(Clone, Copy, PartialEq, Eq, Debug)]
+#[derive(Clone, Copy)]
 pub struct StatusBits(u8);
 
 bitflag_items! {
@@ -40,7 +40,7 @@ impl Flags for StatusBits {
 }
 
 /// What may be so of a variable: it is NULL, it is held, or it was released or handed over.
-#[derive(Clone, Copy, Debug)]
+#[derive(Clone, Copy)]
 pub struct Statuses {
     bits: StatusBits,
 }
@@ -193,7 +193,7 @@ impl Statuses {
 }
 
 /// The bits of `Modes`, as a certificate writes them.
-#[derive(Clone, Copy, PartialEq, Eq, Debug)]
+#[derive(Clone, Copy)]
 pub struct ModeBits(u8);
 
 bitflag_items! {
@@ -228,7 +228,7 @@ impl Flags for ModeBits {
 }
 
 /// Which modes the operation may have.
-#[derive(Clone, Copy, Debug)]
+#[derive(Clone, Copy)]
 pub struct Modes {
     bits: ModeBits,
 }
@@ -333,7 +333,7 @@ impl Modes {
 }
 
 /// The bits of `Draining`, as a certificate writes them.
-#[derive(Clone, Copy, PartialEq, Eq, Debug)]
+#[derive(Clone, Copy)]
 pub struct DrainingBits(u8);
 
 bitflag_items! {
@@ -368,7 +368,7 @@ impl Flags for DrainingBits {
 }
 
 /// Whether FLTFL_POST_OPERATION_DRAINING may be set, and whether it may not be.
-#[derive(Clone, Copy, Debug)]
+#[derive(Clone, Copy)]
 pub struct Draining {
     bits: DrainingBits,
 }

@@ -8,7 +8,7 @@ use flt_graph::{CallbackGraph, Graph, LockKind, Operation, Place};
 use flt_rules::{Level, entry_level, raised_by};
 
 /// Where a point stands.
-#[derive(Clone, Copy, Debug)]
+#[derive(Clone, Copy)]
 pub struct Setting {
     pub place: Place,
     /// The greatest of the entry level and the levels of the held locks.

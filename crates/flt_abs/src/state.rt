@@ -17,7 +17,7 @@ pub const OPERATIONS: usize = 5;
 
 /// What may be so at a point of a callback: a status of each variable, the mode of its operation, whether
 /// draining is set, and the locks that it holds. No set is empty, so it means some situation.
-#[derive(Debug, Drop)]
+#[derive(Drop)]
 pub struct Abs {
     pub(crate) contexts: [Statuses; CONTEXTS],
     pub(crate) operations: [Statuses; OPERATIONS],
@@ -118,7 +118,7 @@ fn are_possible(sets: &[Statuses]) -> bool
 }
 
 /// The lock lists of two states are not the same, so they have no join.
-#[derive(Clone, Copy, Debug, PartialEq, Eq)]
+#[derive(Clone, Copy, Debug)]
 pub struct LocksDiffer;
 
 #[tactic(auto, using(crate::proofs::Order::more_not_within))]

@@ -15,14 +15,14 @@ use flt_graph::{Action, Graph, Instruction, Invocation, LockNumber, OperationVar
 use flt_rules::{Change, Effects, LockChange, Rule, row};
 
 /// A point that follows, from 0, and the state with which it is reached.
-#[derive(Debug, Drop)]
+#[derive(Drop)]
 pub struct Successor {
     pub point: usize,
     pub state: Abs,
 }
 
 /// Where an instruction leads: first where a call succeeds or a test holds, then otherwise.
-#[derive(Debug, Drop)]
+#[derive(Drop)]
 pub struct Successors {
     pub first: Option<Successor>,
     pub second: Option<Successor>,

@@ -13,7 +13,7 @@ const BITS: usize = 64;
 
 /// Which of the points below 512 are pending: point `p` is bit `p % 64` of word `p / 64`. The least one is found by the
 /// words and one count of trailing zeros.
-#[derive(Debug, Drop)]
+#[derive(Drop)]
 pub(crate) struct Pending {
     words: [u64; POINTS / BITS],
 }

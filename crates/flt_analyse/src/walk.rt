@@ -23,7 +23,7 @@ use std::alloc::{AllocError, Global};
 use std::sync::ledger::Ledger;
 
 /// What was found so far at the points of a callback, and which of them are to be looked at.
-#[derive(Debug, Drop)]
+#[derive(Drop)]
 pub(crate) struct Walk {
     pub(crate) points: Items<Option<Abs>>,
     pub(crate) pending: Pending,

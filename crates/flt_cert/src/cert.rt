@@ -17,7 +17,7 @@ pub const MAX_POINTS: usize = 512;
 
 /// What may be so at each point of each callback; nothing where the point isn't reached. It has 1 to 16
 /// callbacks, and each of them 1 to 512 points.
-#[derive(Debug, Drop)]
+#[derive(Drop)]
 pub struct Cert {
     callbacks: Items<Items<Option<Abs>>>,
 }

@@ -9,7 +9,7 @@ use crate::fault::CertFault;
 use std::marker::Model;
 
 /// What is left of a text, and how many lines were taken from it.
-#[derive(Debug, Drop)]
+#[derive(Drop)]
 pub(crate) struct Lines<'a> {
     number: usize,
     rest: &'a [u8],

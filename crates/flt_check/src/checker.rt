@@ -11,7 +11,7 @@ use flt_graph::{Graph, Place};
 use flt_rules::Rule;
 
 /// Why a certificate isn't accepted: the least fault. Callbacks and points count from 0, lines from 1.
-#[derive(Clone, Copy, Debug, PartialEq, Eq)]
+#[derive(Clone, Copy, Debug)]
 pub struct Refusal {
     pub callback: usize,
     pub point: usize,

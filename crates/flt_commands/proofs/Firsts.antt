@@ -11,8 +11,8 @@ use Rattle.flt_replay.specs.Judging.{filters_of}
 use Rattle.flt_syntax.specs.File.{filter_of}
 use Rattle.flt_syntax.specs.Spelling.{Spells}
 use Rattle.flt_syntax.specs.declared.fault.SyntaxFault.{SyntaxFault}
-use Rattle.flt_syntax.specs.declared.filter.Filter.{Filter}
-use Rattle.flt_syntax.specs.declared.tree.Tree.{Tree}
+use Rattle.flt_tree.specs.declared.filter.Filter.{Filter}
+use Rattle.flt_tree.specs.declared.tree.Tree.{Tree}
 use Rattle.flt_commands.specs.Failures.{Giving}
 use Rattle.flt_commands.specs.Replaying.{Text, AreGiven, AreSpelled, IsMissing, IsRepeated, IsSyntaxFault, IsUnreadable, is_standard}
 use Rattle.flt_commands.specs.declared.failure.Failure.TheVariants.{CannotRead}

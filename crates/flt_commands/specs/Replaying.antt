@@ -5,7 +5,7 @@ use Rattle.std.specs.Str.{bytes_eq}
 use Rattle.flt_syntax.specs.Spelling.{Spells}
 use Rattle.flt_syntax.specs.File.{filter_of}
 use Rattle.flt_syntax.specs.declared.fault.SyntaxFault.{SyntaxFault}
-use Rattle.flt_syntax.specs.declared.filter.Filter.{Filter}
+use Rattle.flt_tree.specs.declared.filter.Filter.{Filter}
 use Rattle.flt_model.specs.Expansion.{verdict}
 use Rattle.flt_model.specs.JournalText.{Entries, IsJournal, IsFirstFault, spelling}
 use Rattle.flt_model.specs.Program.{HasDistinctAltitudes}

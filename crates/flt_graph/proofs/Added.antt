@@ -1,14 +1,14 @@
 -- What the functions that add points add.
 use Rattle.std.proofs.Common.{◌≡◌, ℕ, ◌+◌, ◌≤◌, ◌<◌, List, [], ◌∷◌, ◌++◌, ◌∙◌, length, drop, get_or, append_assoc, ap, sym, refl, arith}
 use Rattle.std.proofs.lemmas.List.{length-append, length-drop, append-nil, drop_more, drop_all}
-use Rattle.flt_syntax.specs.Measures.{points_of, points, points_step}
-use Rattle.flt_syntax.specs.declared.filter.Callback.{Callback}
-use Rattle.flt_syntax.specs.declared.filter.Condition.{Condition}
-use Rattle.flt_syntax.specs.declared.filter.Statement.{Statement, out-Statement, roll-Statement}
-use Rattle.flt_syntax.specs.declared.filter.Statement.TheOpen.{Statement-F}
-use Rattle.flt_syntax.specs.declared.filter.Statement.TheVariants as tree
-use Rattle.flt_syntax.specs.declared.filter.Statement.TheViews.{outs-If, outs-Repeat, rolls-If, rolls-Repeat, roll-out-Statement}
-use Rattle.flt_syntax.specs.declared.filter.Statement.TheFolds.{map-Statement}
+use Rattle.flt_tree.specs.Measures.{points_of, points, points_step}
+use Rattle.flt_tree.specs.declared.filter.Callback.{Callback}
+use Rattle.flt_tree.specs.declared.filter.Condition.{Condition}
+use Rattle.flt_tree.specs.declared.filter.Statement.{Statement, out-Statement, roll-Statement}
+use Rattle.flt_tree.specs.declared.filter.Statement.TheOpen.{Statement-F}
+use Rattle.flt_tree.specs.declared.filter.Statement.TheVariants as tree
+use Rattle.flt_tree.specs.declared.filter.Statement.TheViews.{outs-If, outs-Repeat, rolls-If, rolls-Repeat, roll-out-Statement}
+use Rattle.flt_tree.specs.declared.filter.Statement.TheFolds.{map-Statement}
 use Rattle.flt_graph.proofs.Codes.{block_nil, block_cons, inner_code, out_code, code_length, block_length, points_cons, out_points}
 use Rattle.flt_graph.specs.Codes.{statement_code, block_code}
 use Rattle.flt_graph.specs.Points.{entry, line_of, instruction_of, point_of}

@@ -2,12 +2,12 @@
 use Rattle.std.proofs.Common.{◌≡◌, ℕ, ◌+◌, List, [], ◌∷◌, ◌++◌, ◌∙◌, length, map, ap, sym, subst, refl, arith}
 use Rattle.std.proofs.lemmas.List.{length-append}
 use Rattle.std.proofs.lemmas.List.Sums.{sum-map, sum_by-cons}
-use Rattle.flt_syntax.specs.Measures.{points_of, points, points_step}
-use Rattle.flt_syntax.specs.declared.filter.Callback.{Callback}
-use Rattle.flt_syntax.specs.declared.filter.Statement.{Statement, out-Statement, roll-Statement}
-use Rattle.flt_syntax.specs.declared.filter.Statement.TheFolds.{map-Statement, para-Statement, para-roll-Statement, fold-roll-Statement, fold_out-Statement, ind-Statement}
-use Rattle.flt_syntax.specs.declared.filter.Statement.TheOpen.{Statement-F}
-use Rattle.flt_syntax.specs.declared.filter.Statement.TheViews.{roll-out-Statement}
+use Rattle.flt_tree.specs.Measures.{points_of, points, points_step}
+use Rattle.flt_tree.specs.declared.filter.Callback.{Callback}
+use Rattle.flt_tree.specs.declared.filter.Statement.{Statement, out-Statement, roll-Statement}
+use Rattle.flt_tree.specs.declared.filter.Statement.TheFolds.{map-Statement, para-Statement, para-roll-Statement, fold-roll-Statement, fold_out-Statement, ind-Statement}
+use Rattle.flt_tree.specs.declared.filter.Statement.TheOpen.{Statement-F}
+use Rattle.flt_tree.specs.declared.filter.Statement.TheViews.{roll-out-Statement}
 use Rattle.flt_graph.specs.Codes.{Code, codes, codes_in, code_step, statement_code, block_code}
 use Rattle.flt_graph.specs.Points.{entry, point_of}
 use Rattle.flt_graph.specs.declared.graph.Point.{Point}

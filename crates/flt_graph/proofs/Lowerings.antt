@@ -1,8 +1,8 @@
 -- The graphs of callbacks: of one more, and of all that a filter has.
 use Rattle.std.proofs.Common.{◌≡◌, ℕ, ◌+◌, ◌<◌, List, [], ◌∷◌, ◌++◌, length, map, take, get_or, refl}
 use Rattle.std.proofs.lemmas.List.{take_more}
-use Rattle.flt_syntax.specs.declared.filter.Callback.{Callback}
-use Rattle.flt_syntax.specs.declared.filter.Filter.{Filter}
+use Rattle.flt_tree.specs.declared.filter.Callback.{Callback}
+use Rattle.flt_tree.specs.declared.filter.Filter.{Filter}
 use Rattle.flt_graph.specs.Lowering.{IsGraphOf, AreGraphsOf, IsLowered, callback_graph_of, graph_of}
 use Rattle.flt_graph.specs.declared.graph.CallbackGraph.{CallbackGraph}
 use Rattle.flt_graph.proofs.Places.{graph_made}

@@ -1,11 +1,11 @@
 -- What a block adds stands where the text has it.
 use Rattle.std.proofs.Common.{◌≡◌, ℕ, ◌+◌, List, [], ◌∷◌, ◌++◌, ◌∙◌, length, get_or, ap, subst, refl, arith}
 use Rattle.std.proofs.lemmas.List.{length-append, get_or_push}
-use Rattle.flt_syntax.specs.Filter.{head_place}
-use Rattle.flt_syntax.specs.Measures.{points_of, points}
-use Rattle.flt_syntax.specs.declared.filter.Callback.{Callback}
-use Rattle.flt_syntax.specs.declared.filter.Statement.{Statement, out-Statement}
-use Rattle.flt_syntax.specs.declared.filter.Statement.TheOpen.{Statement-F}
+use Rattle.flt_tree.specs.Filter.{head_place}
+use Rattle.flt_tree.specs.Measures.{points_of, points}
+use Rattle.flt_tree.specs.declared.filter.Callback.{Callback}
+use Rattle.flt_tree.specs.declared.filter.Statement.{Statement, out-Statement}
+use Rattle.flt_tree.specs.declared.filter.Statement.TheOpen.{Statement-F}
 use Rattle.flt_graph.proofs.Codes.{block_cons, inner_code, out_code, code_length, block_length}
 use Rattle.flt_graph.proofs.Segments.{IsAt, at_first, at_second, at_tail, at_head}
 use Rattle.flt_graph.specs.Codes.{statement_code, block_code}

@@ -6,30 +6,29 @@ use Rattle.std.proofs.lemmas.Bool.{and_parts, cases_lt, cases_eq}
 use Rattle.std.proofs.lemmas.List.{get_or_past, ext_get_or}
 use Rattle.flt_rules.specs.declared.call.LockKind.{LockKind}
 use Rattle.flt_rules.specs.declared.place.Place.{Place}
-use Rattle.flt_syntax.specs.Filter.{head_place}
-use Rattle.flt_syntax.specs.Head.{has_event}
-use Rattle.flt_syntax.specs.Limits.{max_depth, max_repeats}
-use Rattle.flt_syntax.specs.Measures.{points_of, points, points_step}
-use Rattle.flt_syntax.specs.Spelling.{AreNewCallbacks, AreWhole, IsServed, finds_routine, test_finds, finds_step, statement_finds, finds_routines}
-use Rattle.flt_syntax.specs.WellFormed as fine
-use Rattle.flt_syntax.specs.WellFormed.{IsWellFormed, IsCondition, IsFallible, IsStatement, IsElse, AreStatements, AreCallbacks}
-use Rattle.flt_syntax.specs.declared.filter.Callback.{Callback}
-use Rattle.flt_syntax.specs.declared.filter.Condition.{Condition}
-use Rattle.flt_syntax.specs.declared.filter.Condition.TheVariants as condition
-use Rattle.flt_syntax.specs.declared.filter.FallibleCall.{FallibleCall}
-use Rattle.flt_syntax.specs.declared.filter.FallibleCall.TheVariants as fallible_call
-use Rattle.flt_syntax.specs.declared.filter.Filter.{Filter}
-use Rattle.flt_syntax.specs.declared.filter.Head.{Head}
-use Rattle.flt_syntax.specs.declared.filter.Head.TheVariants.{Canceled}
-use Rattle.flt_syntax.specs.declared.filter.Lock.{Lock}
-use Rattle.flt_syntax.specs.declared.filter.PlainCall.{PlainCall}
-use Rattle.flt_syntax.specs.declared.filter.PlainCall.TheVariants as plain_call
-use Rattle.flt_syntax.specs.declared.filter.Position.{Position}
-use Rattle.flt_syntax.specs.declared.filter.Statement.{Statement, out-Statement}
-use Rattle.flt_syntax.specs.declared.filter.Statement.TheFolds.{map-Statement, fold_out-Statement}
-use Rattle.flt_syntax.specs.declared.filter.Statement.TheOpen.{Statement-F}
-use Rattle.flt_syntax.specs.declared.filter.Statement.TheVariants as tree
-use Rattle.flt_syntax.specs.declared.filter.Statement.TheViews.{outs-Act, outs-Call, outs-Return, outs-If, outs-Repeat}
+use Rattle.flt_tree.specs.Filter.{head_place}
+use Rattle.flt_tree.specs.Declarations.{has_event, AreNewCallbacks, AreWhole, IsServed, finds_routine, test_finds, finds_step, statement_finds, finds_routines}
+use Rattle.flt_tree.specs.Limits.{max_depth, max_repeats}
+use Rattle.flt_tree.specs.Measures.{points_of, points, points_step}
+use Rattle.flt_tree.specs.WellFormed as fine
+use Rattle.flt_tree.specs.WellFormed.{IsWellFormed, IsCondition, IsFallible, IsStatement, IsElse, AreStatements, AreCallbacks}
+use Rattle.flt_tree.specs.declared.filter.Callback.{Callback}
+use Rattle.flt_tree.specs.declared.filter.Condition.{Condition}
+use Rattle.flt_tree.specs.declared.filter.Condition.TheVariants as condition
+use Rattle.flt_tree.specs.declared.filter.FallibleCall.{FallibleCall}
+use Rattle.flt_tree.specs.declared.filter.FallibleCall.TheVariants as fallible_call
+use Rattle.flt_tree.specs.declared.filter.Filter.{Filter}
+use Rattle.flt_tree.specs.declared.filter.Head.{Head}
+use Rattle.flt_tree.specs.declared.filter.Head.TheVariants.{Canceled}
+use Rattle.flt_tree.specs.declared.filter.Lock.{Lock}
+use Rattle.flt_tree.specs.declared.filter.PlainCall.{PlainCall}
+use Rattle.flt_tree.specs.declared.filter.PlainCall.TheVariants as plain_call
+use Rattle.flt_tree.specs.declared.filter.Position.{Position}
+use Rattle.flt_tree.specs.declared.filter.Statement.{Statement, out-Statement}
+use Rattle.flt_tree.specs.declared.filter.Statement.TheFolds.{map-Statement, fold_out-Statement}
+use Rattle.flt_tree.specs.declared.filter.Statement.TheOpen.{Statement-F}
+use Rattle.flt_tree.specs.declared.filter.Statement.TheVariants as tree
+use Rattle.flt_tree.specs.declared.filter.Statement.TheViews.{outs-Act, outs-Call, outs-Return, outs-If, outs-Repeat}
 use Rattle.flt_graph.specs.Graph.{callback_at, place_at, instruction_at, point_in, no_callback, no_point}
 use Rattle.flt_graph.specs.Instruction.{plain, fallible}
 use Rattle.flt_graph.specs.Lowering.{IsGraphOf, AreGraphsOf, IsLowered, end_of}

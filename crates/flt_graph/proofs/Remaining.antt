@@ -1,14 +1,14 @@
 -- Which remaining lists stand where, and what is there.
 use Rattle.std.proofs.Common.{◌≡◌, ℕ, zero, suc, ◌+◌, ◌≤◌, Bool, true, false, List, [], ◌∷◌, length, slice_get, slice_index_or, ◌++◌, Option, Some, None, ap, sym, subst, refl, arith}
 use Rattle.std.proofs.lemmas.List.{append-nil}
-use Rattle.flt_syntax.specs.Measures.{points_of}
-use Rattle.flt_syntax.specs.declared.filter.Callback.{Callback}
-use Rattle.flt_syntax.specs.declared.filter.Condition.{Condition}
-use Rattle.flt_syntax.specs.declared.filter.Condition.TheVariants as condition
-use Rattle.flt_syntax.specs.declared.filter.Filter.{Filter}
-use Rattle.flt_syntax.specs.declared.filter.Statement.{Statement, out-Statement}
-use Rattle.flt_syntax.specs.declared.filter.Statement.TheOpen.{Statement-F}
-use Rattle.flt_syntax.specs.declared.filter.Statement.TheViews.{outs-Repeat}
+use Rattle.flt_tree.specs.Measures.{points_of}
+use Rattle.flt_tree.specs.declared.filter.Callback.{Callback}
+use Rattle.flt_tree.specs.declared.filter.Condition.{Condition}
+use Rattle.flt_tree.specs.declared.filter.Condition.TheVariants as condition
+use Rattle.flt_tree.specs.declared.filter.Filter.{Filter}
+use Rattle.flt_tree.specs.declared.filter.Statement.{Statement, out-Statement}
+use Rattle.flt_tree.specs.declared.filter.Statement.TheOpen.{Statement-F}
+use Rattle.flt_tree.specs.declared.filter.Statement.TheViews.{outs-Repeat}
 use Rattle.flt_graph.specs.Graph.{point_in, no_callback, callback_at}
 use Rattle.flt_graph.specs.Lowering.{IsGraphOf, AreGraphsOf, IsLowered, end_of}
 use Rattle.flt_graph.specs.Points.{entry, instruction_of, choice, In, top, later, granted_block, refused_block, turn, Stands, end, before, again, remaining_turns, remaining_of, remaining, successor, StandsAt, IsLeftOf, IsFirst}

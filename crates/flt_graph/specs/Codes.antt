@@ -1,11 +1,11 @@
 -- The points of a block one after another, as a body that adds them statement by statement leaves them: what `add_block`
 -- adds. That these are the points that the text asks for is a theorem (`IsGraphOf`).
 use Rattle.std.specs.Prelude.{ℕ, ◌+◌, List, [], ◌∷◌, ◌++◌, map}
-use Rattle.flt_syntax.specs.Measures.{points_of, points}
-use Rattle.flt_syntax.specs.declared.filter.Callback.{Callback}
-use Rattle.flt_syntax.specs.declared.filter.Statement.{Statement}
-use Rattle.flt_syntax.specs.declared.filter.Statement.TheFolds.{map-Statement, para-Statement}
-use Rattle.flt_syntax.specs.declared.filter.Statement.TheOpen.{Statement-F}
+use Rattle.flt_tree.specs.Measures.{points_of, points}
+use Rattle.flt_tree.specs.declared.filter.Callback.{Callback}
+use Rattle.flt_tree.specs.declared.filter.Statement.{Statement}
+use Rattle.flt_tree.specs.declared.filter.Statement.TheFolds.{map-Statement, para-Statement}
+use Rattle.flt_tree.specs.declared.filter.Statement.TheOpen.{Statement-F}
 use Rattle.flt_graph.specs.Points.{entry, point_of}
 use Rattle.flt_graph.specs.declared.graph.Point.{Point}
 

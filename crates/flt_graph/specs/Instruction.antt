@@ -2,15 +2,15 @@
 use Rattle.std.specs.Prelude.{ℕ, List, Option, Some, None, position}
 use Rattle.flt_rules.specs.declared.call.Call.{Call}
 use Rattle.flt_rules.specs.declared.call.Call.TheVariants as call
-use Rattle.flt_syntax.specs.Filter.{context_of, is_named}
-use Rattle.flt_syntax.specs.Variable.{whose}
-use Rattle.flt_syntax.specs.declared.filter.Callback.{Callback}
-use Rattle.flt_syntax.specs.declared.filter.FallibleCall.{FallibleCall}
-use Rattle.flt_syntax.specs.declared.filter.FallibleCall.TheVariants as fallible_call
-use Rattle.flt_syntax.specs.declared.filter.PlainCall.{PlainCall}
-use Rattle.flt_syntax.specs.declared.filter.PlainCall.TheVariants as plain_call
-use Rattle.flt_syntax.specs.declared.filter.Routine.{Routine}
-use Rattle.flt_syntax.specs.declared.variable.OperationVariable.TheVariants as operation
+use Rattle.flt_tree.specs.Filter.{context_of, is_named}
+use Rattle.flt_tree.specs.Variable.{whose}
+use Rattle.flt_tree.specs.declared.filter.Callback.{Callback}
+use Rattle.flt_tree.specs.declared.filter.FallibleCall.{FallibleCall}
+use Rattle.flt_tree.specs.declared.filter.FallibleCall.TheVariants as fallible_call
+use Rattle.flt_tree.specs.declared.filter.PlainCall.{PlainCall}
+use Rattle.flt_tree.specs.declared.filter.PlainCall.TheVariants as plain_call
+use Rattle.flt_tree.specs.declared.filter.Routine.{Routine}
+use Rattle.flt_tree.specs.declared.variable.OperationVariable.TheVariants as operation
 use Rattle.flt_graph.specs.declared.instruction.Invocation.{Invocation}
 
 -- an invocation that names no operand

@@ -1,11 +1,11 @@
 -- From a tree to its points.
 use Rattle.std.specs.Prelude.{◌≡◌, ℕ, ◌+◌, List, [], ◌∷◌, ◌++◌, length, map}
-use Rattle.flt_syntax.specs.Filter.{head_place}
-use Rattle.flt_syntax.specs.Measures.{points_of, points}
-use Rattle.flt_syntax.specs.declared.filter.Callback.{Callback}
-use Rattle.flt_syntax.specs.declared.filter.Filter.{Filter}
-use Rattle.flt_syntax.specs.declared.filter.Lock.{Lock}
-use Rattle.flt_syntax.specs.declared.filter.Statement.{Statement, out-Statement}
+use Rattle.flt_tree.specs.Filter.{head_place}
+use Rattle.flt_tree.specs.Measures.{points_of, points}
+use Rattle.flt_tree.specs.declared.filter.Callback.{Callback}
+use Rattle.flt_tree.specs.declared.filter.Filter.{Filter}
+use Rattle.flt_tree.specs.declared.filter.Lock.{Lock}
+use Rattle.flt_tree.specs.declared.filter.Statement.{Statement, out-Statement}
 use Rattle.flt_graph.specs.Codes.{block_code}
 use Rattle.flt_graph.specs.Graph.{point_in}
 use Rattle.flt_graph.specs.Points.{entry, point_of, In}

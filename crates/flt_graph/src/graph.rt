@@ -8,21 +8,21 @@ use flt_rules::{LockKind, Place};
 use sqlite_items::Items;
 
 /// A point: what is done there, and the line of its first token, from 1.
-#[derive(Clone, Copy, Debug)]
+#[derive(Clone, Copy)]
 pub struct Point {
     pub line: usize,
     pub instruction: Instruction,
 }
 
 /// A callback's place and its points, from 0. The last one is the end of the body.
-#[derive(Debug, Drop)]
+#[derive(Drop)]
 pub struct CallbackGraph {
     pub place: Place,
     pub points: Items<Point>,
 }
 
 /// The kinds of a filter's locks, and its callbacks in order of the text, from 0.
-#[derive(Debug, Drop)]
+#[derive(Drop)]
 pub struct Graph {
     pub locks: Items<LockKind>,
     pub callbacks: Items<CallbackGraph>,

@@ -4,13 +4,13 @@ ghost use Rattle.std.specs.Prelude.{◌≡◌};
 ghost use Rattle.flt_graph.specs.Instruction as spec;
 
 use flt_rules::{Call, LockNumber};
-use flt_syntax::{
+use flt_tree::{
     Action, Callback, ContextVariable, FallibleCall, OperationVariable, PlainCall, RemovedVariable,
     Routine, Status, Test,
 };
 
 /// A call with its operands by what they are to it.
-#[derive(Clone, Copy, Debug)]
+#[derive(Clone, Copy)]
 pub struct Invocation {
     pub call: Call,
     /// The context that it works on or hands over.
@@ -26,7 +26,7 @@ pub struct Invocation {
 }
 
 /// What is done at a point, with the points that follow it, from 0.
-#[derive(Clone, Copy, Debug)]
+#[derive(Clone, Copy)]
 pub enum Instruction {
     /// A statement that neither calls nor branches, and the next point.
     Act(Action, usize),

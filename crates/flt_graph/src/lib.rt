@@ -7,7 +7,7 @@ mod lowering;
 mod points;
 
 pub use flt_rules::{Call, LockKind, LockNumber, Operation, Place};
-pub use flt_syntax::{
+pub use flt_tree::{
     Action, ContextVariable, NumberVariable, OperationVariable, RemovedVariable, Status, Test, Tree,
 };
 pub use graph::{CallbackGraph, Graph, Point};

@@ -1,15 +1,15 @@
 //! From a tree to its points.
 
 ghost use Rattle.std.specs.Prelude.{◌≡◌, ◌≤◌, ◌+◌, ◌++◌, length, map, IsTrue, OnOk, IfOk};
-ghost use Rattle.flt_syntax.specs.Measures.{points_of, points, max_points, is_small};
-ghost use Rattle.flt_syntax.specs.declared.filter.Statement.{out-Statement};
+ghost use Rattle.flt_tree.specs.Measures.{points_of, points, max_points, is_small};
+ghost use Rattle.flt_tree.specs.declared.filter.Statement.{out-Statement};
 ghost use Rattle.flt_graph.specs.Codes as code;
 ghost use Rattle.flt_graph.specs.Lowering as spec;
 ghost use Rattle.flt_graph.specs.Points.{entry as entry_of, line_of, instruction_of};
 
 use crate::graph::{CallbackGraph, Graph, Point};
 use crate::instruction::{Instruction, fallible, plain};
-use flt_syntax::{Callback, Condition, Statement, Tree};
+use flt_tree::{Callback, Condition, Statement, Tree};
 use sqlite_items::Items;
 use std::alloc::{AllocError, Global};
 

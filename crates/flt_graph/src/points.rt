@@ -7,10 +7,10 @@ ghost use Rattle.flt_graph.specs.Points as spec;
 ghost use Rattle.flt_graph.specs.Served.{IsInstructionServed};
 ghost use Rattle.flt_graph.specs.declared.graph.CallbackGraph.{CallbackGraph};
 ghost use Rattle.flt_graph.specs.declared.graph.Graph.{Graph};
-ghost use Rattle.flt_syntax.specs.WellFormed.{IsWellFormed};
-ghost use Rattle.flt_syntax.specs.declared.filter.Callback.{Callback};
-ghost use Rattle.flt_syntax.specs.declared.filter.Filter.{Filter};
-ghost use Rattle.flt_syntax.specs.declared.filter.Statement.{Statement};
+ghost use Rattle.flt_tree.specs.WellFormed.{IsWellFormed};
+ghost use Rattle.flt_tree.specs.declared.filter.Callback.{Callback};
+ghost use Rattle.flt_tree.specs.declared.filter.Filter.{Filter};
+ghost use Rattle.flt_tree.specs.declared.filter.Statement.{Statement};
 
 /// Each remaining list of a callback has a point, where its first statement is done, and what remains after an outcome
 /// of that statement stands at that outcome's successor. It does nothing: its clauses are the law.

@@ -1,7 +1,7 @@
 -- The verdict about a journal, and the run that its transitions are.
 use Rattle.std.proofs.Common.{◌≡◌, ℕ, zero, suc, ◌+◌, Bool, true, false, List, [], ◌∷◌, ◌++◌, Option, Some, None, ap, arith, sym, subst, refl, ◌∙◌, append_assoc, append-nil}
 use Rattle.std.specs.Prelude.{not, cond, replicate, take, drop, find, option_map, option_and_then, ◌↔◌}
-use Rattle.flt_syntax.specs.declared.filter.Filter.{Filter}
+use Rattle.flt_tree.specs.declared.filter.Filter.{Filter}
 use Rattle.flt_model.proofs.LocalLaws.{local_quiet}
 use Rattle.flt_model.specs.declared.moves.JournalEntry.{JournalEntry}
 use Rattle.flt_model.specs.declared.moves.JournalEntry.TheVariants.{Move, Go}

@@ -5,7 +5,7 @@ use Rattle.flt_rules.specs.Place.{entry_level, raised_by, greater_level}
 use Rattle.flt_rules.specs.declared.call.LockNumber.{LockNumber}
 use Rattle.flt_rules.specs.declared.place.Level.{Level}
 use Rattle.flt_rules.specs.declared.place.Place.{Place}
-use Rattle.flt_syntax.specs.declared.filter.Filter.{Filter}
+use Rattle.flt_tree.specs.declared.filter.Filter.{Filter}
 use Rattle.flt_model.specs.Program.{kind_of_lock}
 
 -- the greatest of a level and those of the locks

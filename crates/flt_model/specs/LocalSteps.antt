@@ -1,16 +1,16 @@
 -- The steps of an activation that nobody else can see: arithmetic, tests of its own variables, and the turns of a `repeat`.
 -- They change the activation alone. This project's own rule.
 use Rattle.std.specs.Prelude.{ℕ, zero, suc, Bool, ◌==◌, nat_lt, if◌then◌else◌, List, [], ◌∷◌, ◌++◌, Option, Some, None, is_some, option_map}
-use Rattle.flt_syntax.specs.declared.filter.Action.{Action}
-use Rattle.flt_syntax.specs.declared.filter.Action.TheVariants as action
-use Rattle.flt_syntax.specs.declared.filter.Condition.{Condition}
-use Rattle.flt_syntax.specs.declared.filter.Condition.TheVariants as condition
-use Rattle.flt_syntax.specs.declared.filter.Statement.{Statement, out-Statement}
-use Rattle.flt_syntax.specs.declared.filter.Statement.TheOpen.{Statement-F}
-use Rattle.flt_syntax.specs.declared.filter.Statement.TheVariants as tree
-use Rattle.flt_syntax.specs.declared.filter.Test.{Test}
-use Rattle.flt_syntax.specs.declared.filter.Test.TheVariants as test
-use Rattle.flt_syntax.specs.declared.variable.OperationVariable.TheVariants.{Removed}
+use Rattle.flt_tree.specs.declared.filter.Action.{Action}
+use Rattle.flt_tree.specs.declared.filter.Action.TheVariants as action
+use Rattle.flt_tree.specs.declared.filter.Condition.{Condition}
+use Rattle.flt_tree.specs.declared.filter.Condition.TheVariants as condition
+use Rattle.flt_tree.specs.declared.filter.Statement.{Statement, out-Statement}
+use Rattle.flt_tree.specs.declared.filter.Statement.TheOpen.{Statement-F}
+use Rattle.flt_tree.specs.declared.filter.Statement.TheVariants as tree
+use Rattle.flt_tree.specs.declared.filter.Test.{Test}
+use Rattle.flt_tree.specs.declared.filter.Test.TheVariants as test
+use Rattle.flt_tree.specs.declared.variable.OperationVariable.TheVariants.{Removed}
 use Rattle.flt_model.specs.World.{Activation}
 use Rattle.flt_model.specs.Variables.{number_in, context_in, operation_in, with_number, with_context_in, with_operation_in, atom_value, expression_value}
 

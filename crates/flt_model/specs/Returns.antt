@@ -2,10 +2,10 @@
 -- Source: "Returning status from preoperation callback routines" and the same of postoperation ones.
 use Rattle.std.specs.Prelude.{ℕ, Bool, true, false, ◌||◌, if◌then◌else◌, List, [], ◌∷◌, ◌++◌, Option, Some, None, is_some, set}
 use Rattle.flt_rules.specs.Place.{answers}
-use Rattle.flt_syntax.specs.Filter.{named_context}
-use Rattle.flt_syntax.specs.declared.filter.Filter.{Filter}
-use Rattle.flt_syntax.specs.declared.filter.Status.{Status}
-use Rattle.flt_syntax.specs.declared.variable.OperationVariable.TheVariants.{Data}
+use Rattle.flt_tree.specs.Filter.{named_context}
+use Rattle.flt_tree.specs.declared.filter.Filter.{Filter}
+use Rattle.flt_tree.specs.declared.filter.Status.{Status}
+use Rattle.flt_tree.specs.declared.variable.OperationVariable.TheVariants.{Data}
 use Rattle.flt_model.specs.declared.event.Answer.TheVariants.{Returned}
 use Rattle.flt_model.specs.declared.event.Event.{Event}
 use Rattle.flt_model.specs.declared.event.Event.TheVariants as event

@@ -17,10 +17,10 @@ use Rattle.flt_rules.specs.declared.status.Possession.{Possession}
 use Rattle.flt_rules.specs.declared.status.Possession.TheVariants as possession
 use Rattle.flt_rules.specs.declared.status.StatusRow.{StatusRow}
 use Rattle.flt_rules.specs.declared.status.StatusWord.{StatusWord}
-use Rattle.flt_syntax.specs.Filter.{word_of, completes_pending}
-use Rattle.flt_syntax.specs.declared.filter.Filter.{Filter}
-use Rattle.flt_syntax.specs.declared.filter.Status.{Status}
-use Rattle.flt_syntax.specs.declared.variable.OperationVariable.TheVariants.{Data}
+use Rattle.flt_tree.specs.Filter.{word_of, completes_pending}
+use Rattle.flt_tree.specs.declared.filter.Filter.{Filter}
+use Rattle.flt_tree.specs.declared.filter.Status.{Status}
+use Rattle.flt_tree.specs.declared.variable.OperationVariable.TheVariants.{Data}
 use Rattle.flt_model.specs.declared.event.Answer.{Answer}
 use Rattle.flt_model.specs.declared.event.Answer.TheVariants.{Returned, CompletesPre, CompletesPost}
 use Rattle.flt_model.specs.declared.event.Event.{Event}

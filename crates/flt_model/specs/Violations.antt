@@ -6,7 +6,7 @@ use Rattle.flt_rules.specs.Call.{is_legal_in_draining}
 use Rattle.flt_rules.specs.Columns.{has_place}
 use Rattle.flt_rules.specs.Place.{is_above}
 use Rattle.flt_rules.specs.Table.{row}
-use Rattle.flt_syntax.specs.declared.filter.Filter.{Filter}
+use Rattle.flt_tree.specs.declared.filter.Filter.{Filter}
 use Rattle.flt_model.specs.declared.event.Event.{Event}
 use Rattle.flt_model.specs.declared.event.Event.TheVariants.{Call, Status, Lock, Unlock, Use, Empty, Gain, Lose, Settle, End}
 use Rattle.flt_model.specs.declared.event.Object.{Object}

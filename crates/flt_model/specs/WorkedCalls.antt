@@ -5,22 +5,22 @@ use Rattle.flt_rules.specs.declared.call.Anchor.TheVariants.{Instance}
 use Rattle.flt_rules.specs.declared.call.Existing.TheVariants.{Replace}
 use Rattle.flt_rules.specs.declared.place.Mode.TheVariants.{Fast}
 use Rattle.flt_rules.specs.declared.place.Operation.TheVariants.{Create, Read, Write, Cleanup}
-use Rattle.flt_syntax.specs.declared.filter.Action.TheVariants as action
-use Rattle.flt_syntax.specs.declared.filter.Callback.{Callback}
-use Rattle.flt_syntax.specs.declared.filter.FallibleCall.TheVariants as fallible
-use Rattle.flt_syntax.specs.declared.filter.Filter.{Filter}
-use Rattle.flt_syntax.specs.declared.filter.Head.TheVariants as head
-use Rattle.flt_syntax.specs.declared.filter.PlainCall.TheVariants as plain
-use Rattle.flt_syntax.specs.declared.filter.Statement.{Statement}
-use Rattle.flt_syntax.specs.declared.filter.Statement.TheVariants as tree
-use Rattle.flt_syntax.specs.declared.filter.Status.TheVariants as status
-use Rattle.flt_syntax.specs.declared.filter.Test.TheVariants as test
-use Rattle.flt_syntax.specs.declared.variable.Atom.TheVariants as atom
-use Rattle.flt_syntax.specs.declared.variable.ContextVariable.TheVariants.{C0, C1, Arg}
-use Rattle.flt_syntax.specs.declared.variable.Expression.TheVariants as expression
-use Rattle.flt_syntax.specs.declared.variable.NumberVariable.TheVariants.{N0, N1}
-use Rattle.flt_syntax.specs.declared.variable.OperationVariable.TheVariants.{Removed}
-use Rattle.flt_syntax.specs.declared.variable.RemovedVariable.TheVariants.{O0}
+use Rattle.flt_tree.specs.declared.filter.Action.TheVariants as action
+use Rattle.flt_tree.specs.declared.filter.Callback.{Callback}
+use Rattle.flt_tree.specs.declared.filter.FallibleCall.TheVariants as fallible
+use Rattle.flt_tree.specs.declared.filter.Filter.{Filter}
+use Rattle.flt_tree.specs.declared.filter.Head.TheVariants as head
+use Rattle.flt_tree.specs.declared.filter.PlainCall.TheVariants as plain
+use Rattle.flt_tree.specs.declared.filter.Statement.{Statement}
+use Rattle.flt_tree.specs.declared.filter.Statement.TheVariants as tree
+use Rattle.flt_tree.specs.declared.filter.Status.TheVariants as status
+use Rattle.flt_tree.specs.declared.filter.Test.TheVariants as test
+use Rattle.flt_tree.specs.declared.variable.Atom.TheVariants as atom
+use Rattle.flt_tree.specs.declared.variable.ContextVariable.TheVariants.{C0, C1, Arg}
+use Rattle.flt_tree.specs.declared.variable.Expression.TheVariants as expression
+use Rattle.flt_tree.specs.declared.variable.NumberVariable.TheVariants.{N0, N1}
+use Rattle.flt_tree.specs.declared.variable.OperationVariable.TheVariants.{Removed}
+use Rattle.flt_tree.specs.declared.variable.RemovedVariable.TheVariants.{O0}
 use Rattle.flt_model.specs.declared.moves.JournalEntry.{JournalEntry}
 use Rattle.flt_model.specs.declared.moves.JournalEntry.TheVariants.{Move, Go}
 use Rattle.flt_model.specs.declared.moves.Move.TheVariants as move

@@ -3,16 +3,16 @@ use Rattle.std.specs.Prelude.{◌≡◌, refl, List, [], ◌∷◌, ◌++◌, So
 use Rattle.flt_rules.specs.declared.call.Anchor.TheVariants.{Stream, Instance}
 use Rattle.flt_rules.specs.declared.call.Existing.TheVariants.{Keep}
 use Rattle.flt_rules.specs.declared.place.Operation.TheVariants.{Read, Write, Cleanup}
-use Rattle.flt_syntax.specs.declared.filter.Action.TheVariants as action
-use Rattle.flt_syntax.specs.declared.filter.Callback.{Callback}
-use Rattle.flt_syntax.specs.declared.filter.FallibleCall.TheVariants as fallible
-use Rattle.flt_syntax.specs.declared.filter.Filter.{Filter}
-use Rattle.flt_syntax.specs.declared.filter.Head.TheVariants as head
-use Rattle.flt_syntax.specs.declared.filter.PlainCall.TheVariants as plain
-use Rattle.flt_syntax.specs.declared.filter.Statement.TheVariants as tree
-use Rattle.flt_syntax.specs.declared.filter.Status.TheVariants as status
-use Rattle.flt_syntax.specs.declared.variable.ContextVariable.TheVariants.{C0, C1}
-use Rattle.flt_syntax.specs.declared.variable.NumberVariable.TheVariants.{N0}
+use Rattle.flt_tree.specs.declared.filter.Action.TheVariants as action
+use Rattle.flt_tree.specs.declared.filter.Callback.{Callback}
+use Rattle.flt_tree.specs.declared.filter.FallibleCall.TheVariants as fallible
+use Rattle.flt_tree.specs.declared.filter.Filter.{Filter}
+use Rattle.flt_tree.specs.declared.filter.Head.TheVariants as head
+use Rattle.flt_tree.specs.declared.filter.PlainCall.TheVariants as plain
+use Rattle.flt_tree.specs.declared.filter.Statement.TheVariants as tree
+use Rattle.flt_tree.specs.declared.filter.Status.TheVariants as status
+use Rattle.flt_tree.specs.declared.variable.ContextVariable.TheVariants.{C0, C1}
+use Rattle.flt_tree.specs.declared.variable.NumberVariable.TheVariants.{N0}
 use Rattle.flt_model.specs.declared.moves.JournalEntry.{JournalEntry}
 use Rattle.flt_model.specs.declared.moves.JournalEntry.TheVariants.{Move}
 use Rattle.flt_model.specs.declared.moves.Key.TheVariants as key

@@ -4,15 +4,15 @@ use Rattle.flt_rules.specs.declared.call.Anchor.TheVariants.{Instance}
 use Rattle.flt_rules.specs.declared.call.LockNumber.TheVariants.{L1}
 use Rattle.flt_rules.specs.declared.place.Operation.TheVariants.{Create, Read, Write}
 use Rattle.flt_rules.specs.declared.status.FinalStatus.TheVariants as final
-use Rattle.flt_syntax.specs.declared.filter.FallibleCall.TheVariants as fallible
-use Rattle.flt_syntax.specs.declared.filter.Filter.{Filter}
-use Rattle.flt_syntax.specs.declared.filter.Head.TheVariants as head
-use Rattle.flt_syntax.specs.declared.filter.PlainCall.TheVariants as plain
-use Rattle.flt_syntax.specs.declared.filter.Statement.{Statement}
-use Rattle.flt_syntax.specs.declared.filter.Status.{Status}
-use Rattle.flt_syntax.specs.declared.filter.Status.TheVariants as status
-use Rattle.flt_syntax.specs.declared.variable.ContextVariable.TheVariants.{C0}
-use Rattle.flt_syntax.specs.declared.variable.OperationVariable.TheVariants.{Data}
+use Rattle.flt_tree.specs.declared.filter.FallibleCall.TheVariants as fallible
+use Rattle.flt_tree.specs.declared.filter.Filter.{Filter}
+use Rattle.flt_tree.specs.declared.filter.Head.TheVariants as head
+use Rattle.flt_tree.specs.declared.filter.PlainCall.TheVariants as plain
+use Rattle.flt_tree.specs.declared.filter.Statement.{Statement}
+use Rattle.flt_tree.specs.declared.filter.Status.{Status}
+use Rattle.flt_tree.specs.declared.filter.Status.TheVariants as status
+use Rattle.flt_tree.specs.declared.variable.ContextVariable.TheVariants.{C0}
+use Rattle.flt_tree.specs.declared.variable.OperationVariable.TheVariants.{Data}
 use Rattle.flt_model.specs.declared.moves.JournalEntry.{JournalEntry}
 use Rattle.flt_model.specs.declared.moves.JournalEntry.TheVariants.{Move}
 use Rattle.flt_model.specs.declared.moves.Move.TheVariants as move

@@ -4,25 +4,25 @@ use Rattle.flt_rules.specs.declared.call.LockKind.{LockKind}
 use Rattle.flt_rules.specs.declared.call.LockNumber.{LockNumber}
 use Rattle.flt_rules.specs.declared.place.Mode.TheVariants.{Irp}
 use Rattle.flt_rules.specs.declared.place.Operation.{Operation}
-use Rattle.flt_syntax.specs.declared.filter.Callback.{Callback}
-use Rattle.flt_syntax.specs.declared.filter.Condition.TheVariants as condition
-use Rattle.flt_syntax.specs.declared.filter.FallibleCall.{FallibleCall}
-use Rattle.flt_syntax.specs.declared.filter.Filter.{Filter}
-use Rattle.flt_syntax.specs.declared.filter.Head.{Head}
-use Rattle.flt_syntax.specs.declared.filter.Head.TheVariants as head
-use Rattle.flt_syntax.specs.declared.filter.Lock.{Lock}
-use Rattle.flt_syntax.specs.declared.filter.PlainCall.{PlainCall}
-use Rattle.flt_syntax.specs.declared.filter.PlainCall.TheVariants as plain
-use Rattle.flt_syntax.specs.declared.filter.Position.{Position as Place}
-use Rattle.flt_syntax.specs.declared.filter.Routine.{Routine}
-use Rattle.flt_syntax.specs.declared.filter.Statement.{Statement, out-Statement}
-use Rattle.flt_syntax.specs.declared.filter.Statement.TheVariants as tree
-use Rattle.flt_syntax.specs.declared.filter.Status.{Status}
-use Rattle.flt_syntax.specs.declared.filter.Status.TheVariants as status
-use Rattle.flt_syntax.specs.declared.filter.Test.{Test}
-use Rattle.flt_syntax.specs.declared.filter.Test.TheVariants as test
-use Rattle.flt_syntax.specs.declared.variable.ContextVariable.{ContextVariable}
-use Rattle.flt_syntax.specs.declared.variable.ContextVariable.TheVariants.{Arg}
+use Rattle.flt_tree.specs.declared.filter.Callback.{Callback}
+use Rattle.flt_tree.specs.declared.filter.Condition.TheVariants as condition
+use Rattle.flt_tree.specs.declared.filter.FallibleCall.{FallibleCall}
+use Rattle.flt_tree.specs.declared.filter.Filter.{Filter}
+use Rattle.flt_tree.specs.declared.filter.Head.{Head}
+use Rattle.flt_tree.specs.declared.filter.Head.TheVariants as head
+use Rattle.flt_tree.specs.declared.filter.Lock.{Lock}
+use Rattle.flt_tree.specs.declared.filter.PlainCall.{PlainCall}
+use Rattle.flt_tree.specs.declared.filter.PlainCall.TheVariants as plain
+use Rattle.flt_tree.specs.declared.filter.Position.{Position as Place}
+use Rattle.flt_tree.specs.declared.filter.Routine.{Routine}
+use Rattle.flt_tree.specs.declared.filter.Statement.{Statement, out-Statement}
+use Rattle.flt_tree.specs.declared.filter.Statement.TheVariants as tree
+use Rattle.flt_tree.specs.declared.filter.Status.{Status}
+use Rattle.flt_tree.specs.declared.filter.Status.TheVariants as status
+use Rattle.flt_tree.specs.declared.filter.Test.{Test}
+use Rattle.flt_tree.specs.declared.filter.Test.TheVariants as test
+use Rattle.flt_tree.specs.declared.variable.ContextVariable.{ContextVariable}
+use Rattle.flt_tree.specs.declared.variable.ContextVariable.TheVariants.{Arg}
 use Rattle.flt_model.specs.declared.moves.JournalEntry.{JournalEntry}
 use Rattle.flt_model.specs.declared.moves.JournalEntry.TheVariants.{Move, Go}
 use Rattle.flt_model.specs.declared.moves.Move.TheVariants as move
@@ -129,5 +129,5 @@ broken_by filters entries = option_and_then (breaks (by_altitude filters)) (expa
 
 -- the definitions that a worked run computes with
 unfoldable pub computed : List Filter → List JournalEntry → Verdict
-unfolding out-Statement one_if of_actor gains loses frees settles is_held is_live holding in_queue owners denote.Hole.Carrier.out Rattle.flt_syntax.specs.declared.filter.Statement.TheBlock.shown-the_row-Statement-0 denote.Hole.Carrier.shown denote.Hole.Carrier.hidden
+unfolding out-Statement one_if of_actor gains loses frees settles is_held is_live holding in_queue owners denote.Hole.Carrier.out Rattle.flt_tree.specs.declared.filter.Statement.TheBlock.shown-the_row-Statement-0 denote.Hole.Carrier.shown denote.Hole.Carrier.hidden
 computed filters entries = verdict filters entries

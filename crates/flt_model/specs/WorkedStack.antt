@@ -2,9 +2,9 @@
 use Rattle.std.specs.Prelude.{◌≡◌, refl, ℕ, List, [], ◌∷◌, Some}
 use Rattle.flt_rules.specs.declared.place.Operation.TheVariants.{Read}
 use Rattle.flt_rules.specs.declared.status.FinalStatus.TheVariants as final
-use Rattle.flt_syntax.specs.declared.filter.Filter.{Filter}
-use Rattle.flt_syntax.specs.declared.filter.Head.TheVariants as head
-use Rattle.flt_syntax.specs.declared.filter.Status.TheVariants as status
+use Rattle.flt_tree.specs.declared.filter.Filter.{Filter}
+use Rattle.flt_tree.specs.declared.filter.Head.TheVariants as head
+use Rattle.flt_tree.specs.declared.filter.Status.TheVariants as status
 use Rattle.flt_model.specs.declared.moves.JournalEntry.{JournalEntry}
 use Rattle.flt_model.specs.declared.verdict.Verdict.TheVariants.{Legal, NotARun}
 use Rattle.flt_model.specs.Expansion.{verdict}

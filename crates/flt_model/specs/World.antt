@@ -12,8 +12,8 @@ use Rattle.flt_rules.specs.declared.place.Place.TheVariants.{Generic}
 use Rattle.flt_rules.specs.declared.place.Stage.{Stage}
 use Rattle.flt_rules.specs.declared.place.Stage.TheVariants.{Post}
 use Rattle.flt_rules.specs.declared.status.FinalStatus.{FinalStatus}
-use Rattle.flt_syntax.specs.declared.filter.Filter.{Filter}
-use Rattle.flt_syntax.specs.declared.filter.Statement.{Statement}
+use Rattle.flt_tree.specs.declared.filter.Filter.{Filter}
+use Rattle.flt_tree.specs.declared.filter.Statement.{Statement}
 use Rattle.flt_model.specs.declared.moves.Key.{Key}
 use Rattle.flt_model.specs.declared.moves.Key.TheVariants.{Stream, Instance}
 

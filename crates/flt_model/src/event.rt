@@ -4,17 +4,17 @@
 //! call of a filter for one operation, before the filters below it or after them.
 
 use flt_rules::{Call, LockNumber, Possessed};
-use flt_syntax::Status;
+use flt_tree::Status;
 
 /// What an activation can hold.
-#[derive(Clone, Copy, Debug, PartialEq, Eq)]
+#[derive(Clone, Copy)]
 pub enum Object {
     Context(usize),
     Visit(usize),
 }
 
 /// How a status reaches the filter manager.
-#[derive(Clone, Copy, Debug, PartialEq, Eq)]
+#[derive(Clone, Copy)]
 pub enum Answer {
     /// Returned by the callback, or missing where one is wanted.
     Returned(Option<Status>),
@@ -31,7 +31,7 @@ pub enum Answer {
 }
 
 /// One thing that happens in a step. The first number is the activation's.
-#[derive(Clone, Copy, Debug, PartialEq, Eq)]
+#[derive(Clone, Copy)]
 pub enum Event {
     /// A call of the driver kit is made.
     Call(usize, Call),

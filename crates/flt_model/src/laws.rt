@@ -1,7 +1,7 @@
 //! Laws of the machine's definitions: what ties the verdict about a journal to runs, and what local steps leave as it is.
 
 ghost use Rattle.std.specs.Prelude.{◌≡◌, ◌↔◌, ℕ, true, List, [], Some, None};
-ghost use Rattle.flt_syntax.specs.declared.filter.Filter.{Filter};
+ghost use Rattle.flt_tree.specs.declared.filter.Filter.{Filter};
 ghost use Rattle.flt_model.specs.Effects.{Step};
 ghost use Rattle.flt_model.specs.Expansion.{IsCleanRun, IsStoppedAt, IsBrokenAt, verdict};
 ghost use Rattle.flt_model.specs.Runs.{Moment, broken, next};

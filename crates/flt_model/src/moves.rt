@@ -6,7 +6,7 @@
 use flt_rules::{Mode, Operation};
 
 /// What a context is linked to.
-#[derive(Clone, Copy, Debug, PartialEq, Eq)]
+#[derive(Clone, Copy, PartialEq, Eq)]
 pub enum Key {
     /// A stream, by the number of its file.
     Stream(u32),
@@ -15,7 +15,7 @@ pub enum Key {
 }
 
 /// One move of the machine: what the filter manager or a thread may do next.
-#[derive(Clone, Copy, Debug, PartialEq, Eq)]
+#[derive(Clone, Copy, PartialEq, Eq)]
 pub enum Move {
     /// An operation on a file comes in at the top of the stack.
     Arrive {
@@ -73,7 +73,7 @@ pub enum Move {
 }
 
 /// One line of a journal.
-#[derive(Clone, Copy, Debug, PartialEq, Eq)]
+#[derive(Clone, Copy, PartialEq, Eq)]
 pub enum JournalEntry {
     /// A move.
     Move(Move),

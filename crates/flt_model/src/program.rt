@@ -3,9 +3,9 @@
 ghost use Rattle.std.specs.Prelude.{◌≡◌, ◌==◌, List, insert, MatchOption};
 ghost use Rattle.std.specs.List.{list_any};
 ghost use Rattle.flt_model.specs.Program as spec;
-ghost use Rattle.flt_syntax.specs.declared.filter.Filter.{Filter};
+ghost use Rattle.flt_tree.specs.declared.filter.Filter.{Filter};
 
-use flt_syntax::Tree;
+use flt_tree::Tree;
 
 /// Whether one of the filters has this altitude.
 fn has_altitude(trees: &[Tree], altitude: u64) -> bool

@@ -6,7 +6,7 @@ ghost use Rattle.flt_model.specs.JournalTextReading as spec;
 use crate::streams::{ReadFault, Source};
 
 /// Why reading stopped.
-#[derive(Clone, Copy, Debug, PartialEq, Eq)]
+#[derive(Clone, Copy)]
 pub(crate) enum Stop {
     /// The latest byte isn't as asked, or one is missing.
     Wrong,

@@ -1,7 +1,7 @@
 //! What can be wrong with a run, and what is answered about a journal.
 
 /// A violation, named by its number as it is printed. At one moment the least is told.
-#[derive(Clone, Copy, Debug, PartialEq, Eq)]
+#[derive(Clone, Copy)]
 pub enum Violation {
     /// A context or an operation is used that isn't held, a context that was freed or is another filter's, or nothing.
     V1,
@@ -22,7 +22,7 @@ pub enum Violation {
 }
 
 /// What is answered about a journal. Entries are numbered from 0.
-#[derive(Clone, Copy, Debug, PartialEq, Eq)]
+#[derive(Clone, Copy)]
 pub enum Verdict {
     /// It is a run that breaks nothing.
     Legal,

@@ -1,6 +1,6 @@
 -- A ledger before all events.
 use Rattle.std.proofs.Common.{◌≡◌, ℕ, List, [], Bool, ap, sym, refl, ◌∙◌, arith}
-use Rattle.flt_syntax.specs.declared.filter.Filter.{Filter}
+use Rattle.flt_tree.specs.declared.filter.Filter.{Filter}
 use Rattle.flt_model.specs.declared.event.Object.{Object}
 use Rattle.flt_model.specs.declared.event.Object.TheVariants.{Context, Visit}
 use Rattle.flt_model.specs.Runs.{start}

@@ -3,7 +3,7 @@ use Rattle.std.proofs.Common.{◌≡◌, ◌<◌, ◌-◌, ◌+◌, ℕ, zero, s
 use Rattle.std.specs.List.{list_all}
 use Rattle.std.specs.Option.{option_or}
 use Rattle.flt_rules.specs.declared.call.LockNumber.{LockNumber}
-use Rattle.flt_syntax.specs.declared.filter.Filter.{Filter}
+use Rattle.flt_tree.specs.declared.filter.Filter.{Filter}
 use Rattle.flt_model.specs.declared.event.Event.{Event}
 use Rattle.flt_model.specs.declared.moves.JournalEntry.{JournalEntry}
 use Rattle.flt_model.specs.declared.moves.Move.{Move}

@@ -1,17 +1,17 @@
 -- What a local step does to the variables doesn't depend on the statements that remain.
 use Rattle.std.proofs.Common.{◌≡◌, Bool, List, option_map, refl}
-use Rattle.flt_syntax.specs.declared.filter.Action.{Action}
-use Rattle.flt_syntax.specs.declared.filter.Action.TheVariants as action
-use Rattle.flt_syntax.specs.declared.filter.Condition.{Condition}
-use Rattle.flt_syntax.specs.declared.filter.Condition.TheVariants as condition
-use Rattle.flt_syntax.specs.declared.filter.Statement.{Statement}
-use Rattle.flt_syntax.specs.declared.filter.Statement.TheOpen.{Statement-F}
-use Rattle.flt_syntax.specs.declared.filter.Test.{Test}
-use Rattle.flt_syntax.specs.declared.filter.Test.TheVariants as test
-use Rattle.flt_syntax.specs.declared.variable.Atom.{Atom}
-use Rattle.flt_syntax.specs.declared.variable.Atom.TheVariants as atom
-use Rattle.flt_syntax.specs.declared.variable.Expression.{Expression}
-use Rattle.flt_syntax.specs.declared.variable.Expression.TheVariants as expression
+use Rattle.flt_tree.specs.declared.filter.Action.{Action}
+use Rattle.flt_tree.specs.declared.filter.Action.TheVariants as action
+use Rattle.flt_tree.specs.declared.filter.Condition.{Condition}
+use Rattle.flt_tree.specs.declared.filter.Condition.TheVariants as condition
+use Rattle.flt_tree.specs.declared.filter.Statement.{Statement}
+use Rattle.flt_tree.specs.declared.filter.Statement.TheOpen.{Statement-F}
+use Rattle.flt_tree.specs.declared.filter.Test.{Test}
+use Rattle.flt_tree.specs.declared.filter.Test.TheVariants as test
+use Rattle.flt_tree.specs.declared.variable.Atom.{Atom}
+use Rattle.flt_tree.specs.declared.variable.Atom.TheVariants as atom
+use Rattle.flt_tree.specs.declared.variable.Expression.{Expression}
+use Rattle.flt_tree.specs.declared.variable.Expression.TheVariants as expression
 use Rattle.flt_model.specs.LocalSteps.{after_action, holds_test, holds_condition, after_statement, goes_on_to}
 use Rattle.flt_model.specs.Variables.{atom_value, expression_value}
 use Rattle.flt_model.specs.World.{Activation}

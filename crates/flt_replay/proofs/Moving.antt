@@ -1,7 +1,7 @@
 -- Moves that take something out first and then start a callback with it, and scans that are through.
 use Rattle.std.proofs.Common.{◌≡◌, ℕ, ◌≤◌, Bool, true, false, List, [], ◌∷◌, Some, length, drop, find, refl}
 use Rattle.std.proofs.lemmas.List.{drop_all}
-use Rattle.flt_syntax.specs.declared.filter.Filter.{Filter}
+use Rattle.flt_tree.specs.declared.filter.Filter.{Filter}
 use Rattle.flt_model.specs.declared.event.Event.{Event}
 use Rattle.flt_model.specs.Moves.{post_by, last_frame, without_last, are_settled, has_active, drain_by, is_frame_of, other_frames}
 use Rattle.flt_model.specs.World.{World, Activation, Actor, Frame, Visit, Visiting, route_at, with_route}

@@ -1,6 +1,6 @@
 -- The world before the first move doesn't depend on the filters but for how many they are.
 use Rattle.std.proofs.Common.{◌≡◌, ℕ, List, [], ◌∷◌, Option, None, length, map, replicate, refl, ap}
-use Rattle.flt_syntax.specs.declared.filter.Filter.{Filter}
+use Rattle.flt_tree.specs.declared.filter.Filter.{Filter}
 use Rattle.flt_model.specs.World.{Attached, Entry, opening}
 use Rattle.flt_replay.specs.Opening.{opened}
 

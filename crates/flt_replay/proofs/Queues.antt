@@ -2,9 +2,9 @@
 use Rattle.std.proofs.Common.{◌≡◌, ℕ, List, [], ◌∷◌, ◌++◌, Some, None, OnOk, Result, append_assoc}
 use Rattle.std.proofs.lemmas.Result.{on_ok_weaker}
 use Rattle.flt_rules.specs.declared.call.Call.TheVariants.{RemoveNextIo}
-use Rattle.flt_syntax.specs.declared.filter.Statement.{Statement}
-use Rattle.flt_syntax.specs.declared.variable.ContextVariable.{ContextVariable}
-use Rattle.flt_syntax.specs.declared.variable.RemovedVariable.{RemovedVariable}
+use Rattle.flt_tree.specs.declared.filter.Statement.{Statement}
+use Rattle.flt_tree.specs.declared.variable.ContextVariable.{ContextVariable}
+use Rattle.flt_tree.specs.declared.variable.RemovedVariable.{RemovedVariable}
 use Rattle.flt_model.specs.declared.event.Event.{Event}
 use Rattle.flt_model.specs.declared.event.Event.TheVariants.{Call, Gain}
 use Rattle.flt_model.specs.declared.event.Object.TheVariants.{Visit}

@@ -1,8 +1,8 @@
 -- One part more, and one turn less.
 use Rattle.std.proofs.Common.{◌≡◌, ℕ, zero, suc, ◌-◌, ◌<◌, List, [], ◌∷◌, ◌++◌, length, refl, sym, ap, ◌∙◌, arith, sub-one}
 use Rattle.flt_model.specs.LocalSteps.{turns_left}
-use Rattle.flt_syntax.specs.declared.filter.Statement.{Statement}
-use Rattle.flt_syntax.specs.declared.filter.Statement.TheVariants as tree
+use Rattle.flt_tree.specs.declared.filter.Statement.{Statement}
+use Rattle.flt_tree.specs.declared.filter.Statement.TheVariants as tree
 use Rattle.flt_replay.specs.Rest.{statements_of, before, remaining, others}
 use Rattle.flt_replay.specs.declared.rest.Part.{Part}
 

@@ -1,6 +1,6 @@
 -- The statements that remain, by the first one and those after it.
 use Rattle.std.specs.Prelude.{List, [], ◌∷◌, Option, Some, None}
-use Rattle.flt_syntax.specs.declared.filter.Statement.{Statement}
+use Rattle.flt_tree.specs.declared.filter.Statement.{Statement}
 use Rattle.flt_replay.specs.declared.rest.Upcoming.{Upcoming}
 use Rattle.flt_replay.specs.Rest.{statement_of}
 

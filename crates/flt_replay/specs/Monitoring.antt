@@ -1,6 +1,6 @@
 -- How far the monitor has come, and what comes of transitions.
 use Rattle.std.specs.Prelude.{◌≡◌, Bool, true, false, List}
-use Rattle.flt_syntax.specs.declared.filter.Filter.{Filter}
+use Rattle.flt_tree.specs.declared.filter.Filter.{Filter}
 use Rattle.flt_model.specs.Expansion as spec
 use Rattle.flt_model.specs.Runs.{Moment}
 use Rattle.flt_model.specs.Steps.{Transition}

@@ -1,7 +1,7 @@
 -- What the places in a callback's blocks say: the statements that remain, in order.
 use Rattle.std.specs.Prelude.{List, [], ◌∷◌, ◌++◌}
-use Rattle.flt_syntax.specs.declared.filter.Statement.{Statement}
-use Rattle.flt_syntax.specs.declared.filter.Statement.TheVariants as tree
+use Rattle.flt_tree.specs.declared.filter.Statement.{Statement}
+use Rattle.flt_tree.specs.declared.filter.Statement.TheVariants as tree
 use Rattle.flt_replay.specs.declared.rest.Part.{Part}
 use Rattle.flt_replay.specs.declared.rest.Part.TheVariants.{Block, Repeat}
 use Rattle.flt_replay.specs.declared.rest.Upcoming.{Upcoming}

@@ -2,7 +2,7 @@
 use Rattle.std.specs.Prelude.{ℕ, Bool, List, Some, length}
 use Rattle.flt_rules.specs.declared.place.Place.TheVariants as place
 use Rattle.flt_rules.specs.declared.place.Stage.TheVariants as stage
-use Rattle.flt_syntax.specs.declared.filter.Filter.{Filter}
+use Rattle.flt_tree.specs.declared.filter.Filter.{Filter}
 use Rattle.flt_model.specs.Effects.{Step}
 use Rattle.flt_model.specs.Moves.{starts, with_visit}
 use Rattle.flt_model.specs.Program.{callbacks_at, is_post_of, body_for}

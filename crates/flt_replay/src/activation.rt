@@ -7,7 +7,7 @@ ghost use Rattle.flt_replay.specs.Writes.{written};
 
 use crate::rest::Rest;
 use flt_rules::LockNumber;
-use flt_syntax::{
+use flt_tree::{
     Atom, ContextVariable, Expression, NumberVariable, OperationVariable, RemovedVariable,
     Statement,
 };

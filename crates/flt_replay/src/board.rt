@@ -9,15 +9,15 @@ ghost use Rattle.flt_model.specs.declared.event.Event.{Event};
 ghost use Rattle.flt_replay.specs.Rest.{statement_of};
 ghost use Rattle.flt_replay.specs.Boards.{coming};
 ghost use Rattle.flt_replay.specs.Writes.{later, Happened, ComesOf, holds_given};
-ghost use Rattle.flt_syntax.specs.declared.filter.Filter.{Filter};
-ghost use Rattle.flt_syntax.specs.declared.filter.Statement.{out-Statement};
+ghost use Rattle.flt_tree.specs.declared.filter.Filter.{Filter};
+ghost use Rattle.flt_tree.specs.declared.filter.Statement.{out-Statement};
 
 use crate::contexts::{Branches, Setting};
 use crate::rest::Upcoming;
 use crate::stack::Stack;
 use crate::world::World;
 use flt_model::Event;
-use flt_syntax::{Action, Condition, FallibleCall, PlainCall, Routine, Statement, Test};
+use flt_tree::{Action, Condition, FallibleCall, PlainCall, Routine, Statement, Test};
 use std::alloc::{AllocError, Global};
 
 /// What a step is made from: its activation, the choice that it leaves to the system, and whether the activation holds the visit

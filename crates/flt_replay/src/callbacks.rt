@@ -5,7 +5,7 @@ ghost use Rattle.flt_model.specs.Levels as levels;
 ghost use Rattle.flt_model.specs.Program as spec;
 
 use flt_rules::{Level, LockKind, LockNumber, Operation, Place, entry_level, raised_by};
-use flt_syntax::{Callback, Filter, Head, Routine, Statement};
+use flt_tree::{Callback, Filter, Head, Routine, Statement};
 
 fn is_pre_of(kind: Operation, head: &Head) -> bool
     ensures { result ≡ spec.is_pre_of kind head.now }

@@ -7,7 +7,7 @@ ghost use Rattle.flt_model.specs.Effects as effects;
 ghost use Rattle.flt_model.specs.Variables as variables;
 ghost use Rattle.flt_model.specs.World as spec;
 ghost use Rattle.flt_replay.specs.Writes.{later, Happened};
-ghost use Rattle.flt_syntax.specs.declared.variable.OperationVariable.TheVariants.{Data};
+ghost use Rattle.flt_tree.specs.declared.variable.OperationVariable.TheVariants.{Data};
 
 use crate::activation::Write;
 use crate::effects::{context, need, operation};
@@ -15,7 +15,7 @@ use crate::parts::Link;
 use crate::world::World;
 use flt_model::{Event, Key, Object};
 use flt_rules::{Anchor, Call, Existing};
-use flt_syntax::{ContextVariable, OperationVariable, Statement};
+use flt_tree::{ContextVariable, OperationVariable, Statement};
 use std::alloc::AllocError;
 
 /// The two blocks of a call that can fail, or of a test.

@@ -9,7 +9,7 @@ ghost use Rattle.flt_model.specs.Variables.{named_in};
 ghost use Rattle.flt_model.specs.World as machine;
 ghost use Rattle.flt_replay.specs.Parts.{way_meant};
 ghost use Rattle.flt_replay.specs.Writes.{holds_given, Happened};
-ghost use Rattle.flt_syntax.specs.Filter.{named_context};
+ghost use Rattle.flt_tree.specs.Filter.{named_context};
 
 use crate::effects::{context, lose_context, need};
 use crate::rest::Rest;
@@ -17,7 +17,7 @@ use crate::settling::{Way, settles_visit};
 use crate::stack::Stack;
 use crate::world::World;
 use flt_model::{Answer, Event, Object};
-use flt_syntax::{OperationVariable, Status, named_context};
+use flt_tree::{OperationVariable, Status, named_context};
 use std::alloc::{AllocError, Global};
 
 /// The visit that an activation was given, and whether it holds it.

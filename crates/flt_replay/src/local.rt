@@ -3,11 +3,11 @@
 ghost use Rattle.std.specs.Prelude.{◌≡◌, Some, None, if◌then◌else◌, IfOk};
 ghost use Rattle.flt_model.specs.LocalSteps as spec;
 ghost use Rattle.flt_replay.specs.Rest.{statement_of};
-ghost use Rattle.flt_syntax.specs.declared.filter.Statement.{out-Statement};
+ghost use Rattle.flt_tree.specs.declared.filter.Statement.{out-Statement};
 
 use crate::activation::Activation;
 use crate::rest::Upcoming;
-use flt_syntax::{Action, Condition, OperationVariable, Statement, Test};
+use flt_tree::{Action, Condition, OperationVariable, Statement, Test};
 use std::alloc::AllocError;
 
 impl<'a> Activation<'a> {

@@ -10,7 +10,7 @@ ghost use Rattle.flt_replay.specs.Ledger.{Agrees};
 ghost use Rattle.flt_replay.specs.Judging.{Follows, first_of, of_rules, filters_of};
 ghost use Rattle.flt_replay.specs.Monitoring.{IsAt, ComesTo, GoesOn};
 ghost use Rattle.flt_replay.specs.Writes.{holds_given};
-ghost use Rattle.flt_syntax.specs.declared.filter.Filter.{Filter};
+ghost use Rattle.flt_tree.specs.declared.filter.Filter.{Filter};
 
 use crate::board::Setup;
 use crate::ledger::Ledger;
@@ -20,7 +20,7 @@ use crate::world::World;
 use flt_model::{
     Event, Journal, JournalEntry, Move, Object, Verdict, Violation, local_steps_are_quiet,
 };
-use flt_syntax::{OperationVariable, Tree};
+use flt_tree::{OperationVariable, Tree};
 use std::alloc::{AllocError, Global};
 
 /// What comes of an entry.

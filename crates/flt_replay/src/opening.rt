@@ -2,7 +2,7 @@
 
 ghost use Rattle.std.specs.Prelude.{◌≡◌, length, replicate, [], ◌∷◌, ◌++◌, None, IfOk, OnOk, List};
 ghost use Rattle.flt_model.specs.World as spec;
-ghost use Rattle.flt_syntax.specs.declared.filter.Filter.{Filter};
+ghost use Rattle.flt_tree.specs.declared.filter.Filter.{Filter};
 
 use crate::world::World;
 use std::alloc::{AllocError, Global};

@@ -7,7 +7,7 @@ ghost use Rattle.flt_model.specs.Variables as variables;
 ghost use Rattle.flt_model.specs.World as spec;
 ghost use Rattle.flt_replay.specs.Queueing.{gives_entry};
 ghost use Rattle.flt_replay.specs.Writes.{later, Happened};
-ghost use Rattle.flt_syntax.specs.declared.variable.OperationVariable.TheVariants.{Data};
+ghost use Rattle.flt_tree.specs.declared.variable.OperationVariable.TheVariants.{Data};
 
 use crate::activation::Write;
 use crate::contexts::Branches;
@@ -16,7 +16,7 @@ use crate::parts::{Entry, Item};
 use crate::world::World;
 use flt_model::{Event, Object};
 use flt_rules::Call;
-use flt_syntax::{ContextVariable, OperationVariable, RemovedVariable, Statement};
+use flt_tree::{ContextVariable, OperationVariable, RemovedVariable, Statement};
 use std::alloc::AllocError;
 
 /// A context that a call need not have.

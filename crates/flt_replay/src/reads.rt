@@ -10,7 +10,7 @@ use crate::contexts::Branches;
 use crate::effects::{context, need, operation};
 use crate::world::World;
 use flt_model::Event;
-use flt_syntax::{Atom, ContextVariable, NumberVariable, OperationVariable};
+use flt_tree::{Atom, ContextVariable, NumberVariable, OperationVariable};
 use std::alloc::AllocError;
 
 impl<'a> World<'a> {

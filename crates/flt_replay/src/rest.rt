@@ -4,7 +4,7 @@ ghost use Rattle.std.specs.Prelude.{◌≡◌, [], ◌∷◌, ◌++◌, MatchOpt
 ghost use Rattle.flt_model.specs.LocalSteps.{turns_left};
 ghost use Rattle.flt_replay.specs.Rest.{statement_of, before, others};
 
-use flt_syntax::Statement;
+use flt_tree::Statement;
 use std::alloc::{AllocError, Global};
 use std::marker::Model;
 
@@ -35,12 +35,12 @@ pub(crate) struct Rest<'a> {
 
 impl<'a> Model for Rest<'a> {
     ghost use Rattle.std.specs.Prelude.{List};
-    ghost use Rattle.flt_syntax.specs.declared.filter.Statement.{Statement};
+    ghost use Rattle.flt_tree.specs.declared.filter.Statement.{Statement};
 
     ghost Value = { List Statement };
 
     ghost use Rattle.std.specs.Coded.{codes};
-    ghost use Rattle.flt_syntax.specs.contracts.filter.Statement as tree;
+    ghost use Rattle.flt_tree.specs.contracts.filter.Statement as tree;
 
     ghost coded = { Prim.hlevel (codes, tree.the_row.coded) };
 

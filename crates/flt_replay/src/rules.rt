@@ -18,8 +18,8 @@ ghost use Rattle.flt_replay.specs.Writes.{holds_visit, holds_given};
 ghost use Rattle.flt_rules.specs.Place as places;
 ghost use Rattle.flt_rules.specs.Status.{is_with_callback, status_row};
 ghost use Rattle.flt_rules.specs.declared.place.Stage.TheVariants as stage;
-ghost use Rattle.flt_syntax.specs.Filter.{completes_pending, word_of};
-ghost use Rattle.flt_syntax.specs.declared.variable.OperationVariable.TheVariants as variable;
+ghost use Rattle.flt_tree.specs.Filter.{completes_pending, word_of};
+ghost use Rattle.flt_tree.specs.declared.variable.OperationVariable.TheVariants as variable;
 
 use crate::lock_list::holds_lock;
 use crate::stack::Stack;
@@ -30,7 +30,7 @@ use flt_rules::{
     Call, Level, LockNumber, Mode, Operation, Place, Possessed, Stage, StatusRow, StatusWord,
     is_legal_in_draining, row, status_row,
 };
-use flt_syntax::{OperationVariable, Status};
+use flt_tree::{OperationVariable, Status};
 
 /// Whether the lock is the latest taken.
 fn is_latest(lock: LockNumber, held: &[LockNumber]) -> bool

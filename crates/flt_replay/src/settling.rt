@@ -8,7 +8,7 @@ ghost use Rattle.flt_model.specs.World as machine;
 ghost use Rattle.flt_model.specs.declared.event.Answer.TheVariants.{CompletesPre};
 ghost use Rattle.flt_replay.specs.Parts.{position_of, way_meant};
 ghost use Rattle.flt_replay.specs.Writes.{later, Happened};
-ghost use Rattle.flt_syntax.specs.Variable.{whose};
+ghost use Rattle.flt_tree.specs.Variable.{whose};
 
 use crate::activation::Write;
 use crate::effects::{Named, lose_context, need, need_named, operation};
@@ -17,7 +17,7 @@ use crate::stack::Stack;
 use crate::world::World;
 use flt_model::{Answer, Event, Object};
 use flt_rules::{Call, Stage};
-use flt_syntax::{ContextVariable, OperationVariable, Status};
+use flt_tree::{ContextVariable, OperationVariable, Status};
 use std::alloc::AllocError;
 
 /// Where a status leads the operation.

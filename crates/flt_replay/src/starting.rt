@@ -11,7 +11,7 @@ use crate::stack::Stack;
 use crate::world::World;
 use flt_model::{Event, Object};
 use flt_rules::{Operation, Place, Stage};
-use flt_syntax::Statement;
+use flt_tree::Statement;
 use std::alloc::{AllocError, Global};
 
 /// Whose callback starts, what it runs, and what it is given.

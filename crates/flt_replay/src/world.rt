@@ -22,7 +22,7 @@ use crate::parts::{
 use crate::visit_list::Visits;
 use crate::waiting_list::Waiting;
 use flt_rules::{LockNumber, Mode, Operation, Place, Stage};
-use flt_syntax::{Atom, ContextVariable, OperationVariable, Statement};
+use flt_tree::{Atom, ContextVariable, OperationVariable, Statement};
 use sqlite_items::{Items, at};
 use std::alloc::{AllocError, Global};
 use std::marker::Model;

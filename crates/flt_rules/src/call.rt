@@ -4,21 +4,21 @@ ghost use Rattle.std.specs.Prelude.{◌≡◌};
 ghost use Rattle.flt_rules.specs.Call as spec;
 
 /// What a context is set on.
-#[derive(Clone, Copy, Debug, PartialEq, Eq)]
+#[derive(Clone, Copy)]
 pub enum Anchor {
     Stream,
     Instance,
 }
 
 /// What a set does where a context is there already.
-#[derive(Clone, Copy, Debug, PartialEq, Eq)]
+#[derive(Clone, Copy)]
 pub enum Existing {
     Keep,
     Replace,
 }
 
 /// The kinds of lock: spin locks, fast mutexes and push locks.
-#[derive(Clone, Copy, Debug, PartialEq, Eq)]
+#[derive(Clone, Copy, PartialEq, Eq)]
 pub enum LockKind {
     Spin,
     Fast,
@@ -26,7 +26,7 @@ pub enum LockKind {
 }
 
 /// A lock, by its place among the locks that a filter declares, from `L0`.
-#[derive(Clone, Copy, Debug, PartialEq, Eq)]
+#[derive(Clone, Copy)]
 pub enum LockNumber {
     L0,
     L1,
@@ -39,14 +39,14 @@ pub enum LockNumber {
 }
 
 /// Which operation a call names: the one that the callback was given, or one that it removed from the queue.
-#[derive(Clone, Copy, Debug, PartialEq, Eq)]
+#[derive(Clone, Copy)]
 pub enum Possessed {
     Given,
     Removed,
 }
 
 /// A call of the FltXxx and FltCbdqXxx interface, or of a lock routine, with what decides its row.
-#[derive(Clone, Copy, Debug, PartialEq, Eq)]
+#[derive(Clone, Copy)]
 pub enum Call {
     /// FltAllocateContext
     AllocateContext,

@@ -5,7 +5,7 @@ ghost use Rattle.std.specs.Prelude.{◌≡◌};
 use crate::place::{Level, Operation, Place};
 
 /// The places at which a call is legal.
-#[derive(Clone, Copy, Debug, PartialEq, Eq)]
+#[derive(Clone, Copy)]
 pub enum Places {
     All,
     /// All but the pre callback of a create, which has no stream yet.
@@ -17,7 +17,7 @@ pub enum Places {
 }
 
 /// What a call asks of a variable before it is made.
-#[derive(Clone, Copy, Debug, PartialEq, Eq)]
+#[derive(Clone, Copy)]
 pub enum Need {
     Nothing,
     /// It is surely held.
@@ -29,7 +29,7 @@ pub enum Need {
 }
 
 /// What a call asks of the lock that it names.
-#[derive(Clone, Copy, Debug, PartialEq, Eq)]
+#[derive(Clone, Copy)]
 pub enum LockNeed {
     Nothing,
     /// The callback doesn't hold it.
@@ -39,7 +39,7 @@ pub enum LockNeed {
 }
 
 /// What a call asks of its operands.
-#[derive(Clone, Copy, Debug)]
+#[derive(Clone, Copy)]
 pub struct Needs {
     /// Of the context that it works on or hands over.
     pub context: Need,
@@ -55,7 +55,7 @@ pub struct Needs {
 }
 
 /// What becomes of a variable.
-#[derive(Clone, Copy, Debug, PartialEq, Eq)]
+#[derive(Clone, Copy)]
 pub enum Change {
     Stays,
     Null,
@@ -65,7 +65,7 @@ pub enum Change {
 }
 
 /// What becomes of the lock list.
-#[derive(Clone, Copy, Debug, PartialEq, Eq)]
+#[derive(Clone, Copy)]
 pub enum LockChange {
     Stays,
     Taken,
@@ -73,7 +73,7 @@ pub enum LockChange {
 }
 
 /// What becomes of the operands.
-#[derive(Clone, Copy, Debug)]
+#[derive(Clone, Copy)]
 pub struct Effects {
     pub context: Change,
     pub output: Change,
@@ -82,7 +82,7 @@ pub struct Effects {
 }
 
 /// A row of the call table.
-#[derive(Clone, Copy, Debug)]
+#[derive(Clone, Copy)]
 pub struct Row {
     /// The greatest level at which the call may be made.
     pub greatest: Level,

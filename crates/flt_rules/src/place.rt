@@ -6,7 +6,7 @@ ghost use Rattle.flt_rules.specs.Place as spec;
 use crate::call::LockKind;
 
 /// The operations that a filter can register callbacks for.
-#[derive(Clone, Copy, Debug, PartialEq, Eq)]
+#[derive(Clone, Copy, PartialEq, Eq)]
 pub enum Operation {
     Create,
     Read,
@@ -15,21 +15,21 @@ pub enum Operation {
 }
 
 /// How an operation came: as an I/O request packet or as fast I/O. Create and cleanup are always `Irp`.
-#[derive(Clone, Copy, Debug, PartialEq, Eq)]
+#[derive(Clone, Copy, PartialEq, Eq)]
 pub enum Mode {
     Irp,
     Fast,
 }
 
 /// Whether a callback runs on the way down or on the way up.
-#[derive(Clone, Copy, Debug, PartialEq, Eq)]
+#[derive(Clone, Copy, PartialEq, Eq)]
 pub enum Stage {
     Pre,
     Post,
 }
 
 /// What kind of callback runs.
-#[derive(Clone, Copy, Debug, PartialEq, Eq)]
+#[derive(Clone, Copy)]
 pub enum Place {
     Pre(Operation),
     Post(Operation),
@@ -44,7 +44,7 @@ pub enum Place {
 }
 
 /// Interrupt request levels, from the lowest.
-#[derive(Clone, Copy, Debug, PartialEq, Eq)]
+#[derive(Clone, Copy)]
 pub enum Level {
     Passive,
     Apc,

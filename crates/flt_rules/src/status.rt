@@ -6,7 +6,7 @@ ghost use Rattle.flt_rules.specs.Status as spec;
 use crate::place::{Mode, Stage};
 
 /// The final statuses that COMPLETE can name. `Pending` can be written and is never legal.
-#[derive(Clone, Copy, Debug, PartialEq, Eq)]
+#[derive(Clone, Copy)]
 pub enum FinalStatus {
     Success,
     AccessDenied,
@@ -17,7 +17,7 @@ pub enum FinalStatus {
 }
 
 /// The callback statuses, FLT_PREOP_CALLBACK_STATUS first. The prefixes are left out.
-#[derive(Clone, Copy, Debug, PartialEq, Eq)]
+#[derive(Clone, Copy)]
 pub enum StatusWord {
     WithCallback,
     Synchronize,
@@ -30,14 +30,14 @@ pub enum StatusWord {
 }
 
 /// What a returned status asks of the operation that the callback was given.
-#[derive(Clone, Copy, Debug, PartialEq, Eq)]
+#[derive(Clone, Copy)]
 pub enum Possession {
     Held,
     GivenAway,
 }
 
 /// Where a status may be returned, and whether it may be handed to a pended operation.
-#[derive(Clone, Copy, Debug)]
+#[derive(Clone, Copy)]
 pub struct StatusRow {
     /// The stage of the callback that may return it.
     pub stage: Stage,

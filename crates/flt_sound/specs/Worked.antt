@@ -6,20 +6,20 @@ use Rattle.flt_rules.specs.declared.call.LockNumber.TheVariants.{L0}
 use Rattle.flt_rules.specs.declared.place.Operation.TheVariants.{Read, Write}
 use Rattle.flt_rules.specs.declared.place.Place.TheVariants as place
 use Rattle.flt_rules.specs.declared.status.FinalStatus.TheVariants as final
-use Rattle.flt_syntax.specs.declared.filter.Callback.{Callback}
-use Rattle.flt_syntax.specs.declared.filter.FallibleCall.{FallibleCall}
-use Rattle.flt_syntax.specs.declared.filter.FallibleCall.TheVariants as fallible
-use Rattle.flt_syntax.specs.declared.filter.Filter.{Filter}
-use Rattle.flt_syntax.specs.declared.filter.Head.TheVariants as head
-use Rattle.flt_syntax.specs.declared.filter.PlainCall.{PlainCall}
-use Rattle.flt_syntax.specs.declared.filter.PlainCall.TheVariants as plain
-use Rattle.flt_syntax.specs.declared.filter.Status.{Status}
-use Rattle.flt_syntax.specs.declared.filter.Status.TheVariants as status
-use Rattle.flt_syntax.specs.declared.filter.Test.{Test}
-use Rattle.flt_syntax.specs.declared.filter.Test.TheVariants as test
-use Rattle.flt_syntax.specs.declared.variable.ContextVariable.TheVariants.{C0, Arg}
-use Rattle.flt_syntax.specs.declared.variable.OperationVariable.TheVariants.{Data, Removed}
-use Rattle.flt_syntax.specs.declared.variable.RemovedVariable.TheVariants.{O0}
+use Rattle.flt_tree.specs.declared.filter.Callback.{Callback}
+use Rattle.flt_tree.specs.declared.filter.FallibleCall.{FallibleCall}
+use Rattle.flt_tree.specs.declared.filter.FallibleCall.TheVariants as fallible
+use Rattle.flt_tree.specs.declared.filter.Filter.{Filter}
+use Rattle.flt_tree.specs.declared.filter.Head.TheVariants as head
+use Rattle.flt_tree.specs.declared.filter.PlainCall.{PlainCall}
+use Rattle.flt_tree.specs.declared.filter.PlainCall.TheVariants as plain
+use Rattle.flt_tree.specs.declared.filter.Status.{Status}
+use Rattle.flt_tree.specs.declared.filter.Status.TheVariants as status
+use Rattle.flt_tree.specs.declared.filter.Test.{Test}
+use Rattle.flt_tree.specs.declared.filter.Test.TheVariants as test
+use Rattle.flt_tree.specs.declared.variable.ContextVariable.TheVariants.{C0, Arg}
+use Rattle.flt_tree.specs.declared.variable.OperationVariable.TheVariants.{Data, Removed}
+use Rattle.flt_tree.specs.declared.variable.RemovedVariable.TheVariants.{O0}
 use Rattle.flt_model.specs.WorkedParts.{call, return, if_call, if_test, release_if, corner, on, routine, cleans_up}
 use Rattle.flt_abs.specs.Sets.{ModeSet, DrainingSet, statuses, either_mode, either_draining, irp_alone, fast_alone, no_alone, yes_alone}
 use Rattle.flt_abs.specs.State.{State}
@@ -92,12 +92,12 @@ abbrev pub worked_graph : Graph
 worked_graph = record {
   locks = Push ∷ [];
   callbacks =
-    record { place = place.Pre Read; points = tests test.IsIrp 1 4 ∷ asks (fallible.InsertIo None) 2 4 ∷ asks (fallible.QueueGenericWorkItem (routine 119) None) 3 3 ∷ returns_with status.Pending ∷ returns_with status.NoCallback ∷ point instruction.End ∷ [] }
-    ∷ record { place = place.Pre Write; points = does (plain.AcquireLock Push L0) 1 ∷ does (plain.ReleaseLock Push L0) 2 ∷ asks (fallible.AllocateContext C0) 3 4 ∷ returns_with (status.WithCallback (Some C0)) ∷ returns_with status.NoCallback ∷ point instruction.End ∷ [] }
-    ∷ record { place = place.Post Write; points = tests (test.ContextIsSome Arg) 1 2 ∷ does (plain.ReleaseContext Arg) 2 ∷ returns_with status.FinishedProcessing ∷ point instruction.End ∷ [] }
-    ∷ record { place = place.Generic; points = tests (test.ContextIsSome Arg) 1 2 ∷ does (plain.ReleaseContext Arg) 2 ∷ asks (fallible.RemoveNextIo O0 C0) 3 6 ∷ tests (test.ContextIsSome C0) 4 5 ∷ does (plain.ReleaseContext C0) 5 ∷ does (plain.CompletePendedPreOperation (Removed O0) status.NoCallback) 6 ∷ point instruction.End ∷ [] }
-    ∷ record { place = place.Canceled; points = tests (test.ContextIsSome Arg) 1 2 ∷ does (plain.ReleaseContext Arg) 2 ∷ does (plain.CompletePendedPreOperation Data (status.Complete final.Cancelled)) 3 ∷ point instruction.End ∷ [] }
-    ∷ [];
+      record { place = place.Pre Read; points = tests test.IsIrp 1 4 ∷ asks (fallible.InsertIo None) 2 4 ∷ asks (fallible.QueueGenericWorkItem (routine 119) None) 3 3 ∷ returns_with status.Pending ∷ returns_with status.NoCallback ∷ point instruction.End ∷ [] }
+      ∷ record { place = place.Pre Write; points = does (plain.AcquireLock Push L0) 1 ∷ does (plain.ReleaseLock Push L0) 2 ∷ asks (fallible.AllocateContext C0) 3 4 ∷ returns_with (status.WithCallback (Some C0)) ∷ returns_with status.NoCallback ∷ point instruction.End ∷ [] }
+      ∷ record { place = place.Post Write; points = tests (test.ContextIsSome Arg) 1 2 ∷ does (plain.ReleaseContext Arg) 2 ∷ returns_with status.FinishedProcessing ∷ point instruction.End ∷ [] }
+      ∷ record { place = place.Generic; points = tests (test.ContextIsSome Arg) 1 2 ∷ does (plain.ReleaseContext Arg) 2 ∷ asks (fallible.RemoveNextIo O0 C0) 3 6 ∷ tests (test.ContextIsSome C0) 4 5 ∷ does (plain.ReleaseContext C0) 5 ∷ does (plain.CompletePendedPreOperation (Removed O0) status.NoCallback) 6 ∷ point instruction.End ∷ [] }
+      ∷ record { place = place.Canceled; points = tests (test.ContextIsSome Arg) 1 2 ∷ does (plain.ReleaseContext Arg) 2 ∷ does (plain.CompletePendedPreOperation Data (status.Complete final.Cancelled)) 3 ∷ point instruction.End ∷ [] }
+      ∷ [];
 }
 
 -- ---- its certificate: in each state a digit for each variable, as a certificate's text has it

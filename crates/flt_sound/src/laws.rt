@@ -10,7 +10,7 @@ ghost use Rattle.flt_model.specs.declared.verdict.Verdict.TheVariants.{Breaks};
 ghost use Rattle.flt_model.specs.declared.verdict.Violation.{Violation};
 ghost use Rattle.flt_sound.specs.Accepted.{IsAccepted, AreAccepted};
 ghost use Rattle.flt_sound.specs.Worked.{worked};
-ghost use Rattle.flt_syntax.specs.declared.filter.Filter.{Filter};
+ghost use Rattle.flt_tree.specs.declared.filter.Filter.{Filter};
 
 use flt_abs::{is_partial_order, transfer_follows_situations};
 use flt_check::covering_is_faultless;

@@ -4,10 +4,10 @@ use Rattle.std.proofs.lemmas.List.{length-append, get_or_append_left, get_or_at}
 use Rattle.std.proofs.lemmas.List.Elements.{All-nil, All-cons}
 use Rattle.std.proofs.lemmas.Option.{get_or_from_slice_get, slice_get_within}
 use Rattle.std.proofs.Props.{props}
-use Rattle.flt_syntax.specs.Lex.{Text}
+use Rattle.flt_tree.specs.Names.{Text}
 use Rattle.flt_syntax.specs.Spelling.{Spells, SpellsAtMostOne}
-use Rattle.flt_syntax.specs.WellFormed.{IsWellFormed}
-use Rattle.flt_syntax.specs.declared.filter.Filter.{Filter}
+use Rattle.flt_tree.specs.WellFormed.{IsWellFormed}
+use Rattle.flt_tree.specs.declared.filter.Filter.{Filter}
 use Rattle.flt_graph.specs.Lowering.{IsLowered}
 use Rattle.flt_graph.specs.declared.graph.Graph.{Graph}
 use Rattle.flt_cert.specs.Format.{Certificate}

@@ -19,12 +19,12 @@ pub struct Loaded {
 
 impl Model for Loaded {
     ghost use Rattle.std.specs.Prelude.{List};
-    ghost use Rattle.flt_syntax.specs.declared.filter.Filter.{Filter};
+    ghost use Rattle.flt_tree.specs.declared.filter.Filter.{Filter};
 
     ghost Value = { List Filter };
 
     ghost use Rattle.std.specs.Coded.{codes};
-    ghost use Rattle.flt_syntax.specs.contracts.filter.Filter as filter;
+    ghost use Rattle.flt_tree.specs.contracts.filter.Filter as filter;
 
     ghost coded = { Prim.hlevel (codes, filter.the_row.coded) };
 

@@ -7,17 +7,18 @@ use Rattle.flt_rules.specs.declared.call.LockKind.{LockKind}
 use Rattle.flt_rules.specs.declared.call.LockKind.TheVariants.{Spin, Fast, Push}
 use Rattle.flt_rules.specs.declared.call.LockNumber.{LockNumber}
 use Rattle.flt_rules.specs.declared.status.FinalStatus.{FinalStatus}
-use Rattle.flt_syntax.specs.contracts.variable.ContextVariable.{the_type}
+use Rattle.flt_tree.specs.contracts.variable.ContextVariable.{the_type}
 use Rattle.flt_syntax.specs.declared.token.Kind.{Kind}
 use Rattle.flt_syntax.specs.declared.token.Kind.TheVariants as k
-use Rattle.flt_syntax.specs.declared.filter.Routine.{Routine}
-use Rattle.flt_syntax.specs.declared.filter.Status.{Status}
-use Rattle.flt_syntax.specs.declared.filter.FallibleCall.{FallibleCall}
-use Rattle.flt_syntax.specs.declared.filter.PlainCall.{PlainCall}
-use Rattle.flt_syntax.specs.declared.variable.ContextVariable.{ContextVariable}
-use Rattle.flt_syntax.specs.declared.variable.OperationVariable.{OperationVariable}
-use Rattle.flt_syntax.specs.declared.variable.RemovedVariable.{RemovedVariable}
-use Rattle.flt_syntax.specs.Lex.{Text, same_kind}
+use Rattle.flt_tree.specs.declared.filter.Routine.{Routine}
+use Rattle.flt_tree.specs.declared.filter.Status.{Status}
+use Rattle.flt_tree.specs.declared.filter.FallibleCall.{FallibleCall}
+use Rattle.flt_tree.specs.declared.filter.PlainCall.{PlainCall}
+use Rattle.flt_tree.specs.declared.variable.ContextVariable.{ContextVariable}
+use Rattle.flt_tree.specs.declared.variable.OperationVariable.{OperationVariable}
+use Rattle.flt_tree.specs.declared.variable.RemovedVariable.{RemovedVariable}
+use Rattle.flt_tree.specs.Names.{Text}
+use Rattle.flt_syntax.specs.Lex.{same_kind}
 use Rattle.flt_syntax.specs.Words as words
 use Rattle.flt_syntax.specs.CallGrammar as g
 use Rattle.flt_syntax.specs.CallGrammar.{StatusAt, OptionalStatusAt, RoutineAt, LockAt, FallibleAt, PlainAt}

@@ -8,22 +8,25 @@ use Rattle.flt_rules.specs.declared.call.LockKind.{LockKind}
 use Rattle.flt_rules.specs.declared.place.Operation.{Operation}
 use Rattle.flt_syntax.specs.declared.token.Kind.{Kind}
 use Rattle.flt_syntax.specs.declared.token.Kind.TheVariants as k
-use Rattle.flt_syntax.specs.declared.filter.Callback.{Callback}
-use Rattle.flt_syntax.specs.declared.filter.Filter.{Filter}
-use Rattle.flt_syntax.specs.declared.filter.Head.{Head}
-use Rattle.flt_syntax.specs.declared.filter.Head.TheVariants.{Canceled}
-use Rattle.flt_syntax.specs.declared.filter.Lock.{Lock}
-use Rattle.flt_syntax.specs.declared.filter.Position.{Position}
-use Rattle.flt_syntax.specs.Lex.{Text, same_kind, tokens}
+use Rattle.flt_tree.specs.declared.filter.Callback.{Callback}
+use Rattle.flt_tree.specs.declared.filter.Filter.{Filter}
+use Rattle.flt_tree.specs.declared.filter.Head.{Head}
+use Rattle.flt_tree.specs.declared.filter.Head.TheVariants.{Canceled}
+use Rattle.flt_tree.specs.declared.filter.Lock.{Lock}
+use Rattle.flt_tree.specs.declared.filter.Position.{Position}
+use Rattle.flt_tree.specs.Names.{Text}
+use Rattle.flt_syntax.specs.Lex.{same_kind, tokens}
 use Rattle.flt_syntax.specs.Grammar as g
 use Rattle.flt_syntax.specs.Grammar.{line, HeadAt, CallbackAt, CallbacksAt, LocksAt, QueueAt, FileAt}
-use Rattle.flt_syntax.specs.Spelling.{AreNewLocks, is_declared, AreNewCallbacks, AreWhole, IsServed, Spells}
+use Rattle.flt_tree.specs.Declarations.{AreNewLocks, is_declared, AreNewCallbacks, AreWhole, IsServed, has_event, has_routine, lacks_pre, has_lock}
+use Rattle.flt_syntax.specs.Spelling.{Spells}
 use Rattle.flt_syntax.specs.Words.{Next, Meant, NameAt}
 use Rattle.flt_syntax.specs.Scope.{Scope}
-use Rattle.flt_syntax.specs.Measures.{is_small, are_small}
-use Rattle.flt_syntax.specs.Head.{max_callbacks, operation_of, operation, has_event, has_routine, event_by, event, new_event, new_name, new_routine, new_head_by, new_head, begins_head, head}
-use Rattle.flt_syntax.specs.Whole.{missing, lacks_pre, callback_fault, first_fault, queue_fault, whole_fault}
-use Rattle.flt_syntax.specs.File.{max_altitude, max_locks, lock_kind_of, lock_kind, has_lock, lock, locks_from, locks, queue, callback, callbacks_from, callbacks, file, unless_fault, whole, filter_of}
+use Rattle.flt_tree.specs.Measures.{is_small, are_small}
+use Rattle.flt_tree.specs.Limits.{max_callbacks, max_altitude, max_locks}
+use Rattle.flt_syntax.specs.Head.{operation_of, operation, event_by, event, new_event, new_name, new_routine, new_head_by, new_head, begins_head, head}
+use Rattle.flt_syntax.specs.Whole.{missing, callback_fault, first_fault, queue_fault, whole_fault}
+use Rattle.flt_syntax.specs.File.{lock_kind_of, lock_kind, lock, locks_from, locks, queue, callback, callbacks_from, callbacks, file, unless_fault, whole, filter_of}
 use Rattle.flt_syntax.specs.Cursor.{Input, Outcome, kind, refusal, sees}
 use Rattle.flt_syntax.proofs.Routines.{none_missing}
 use Rattle.flt_syntax.proofs.Sound.{differ}

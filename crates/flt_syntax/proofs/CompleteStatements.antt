@@ -6,22 +6,22 @@ use Rattle.std.proofs.lemmas.List.{append-nil}
 use Rattle.flt_syntax.specs.declared.token.Kind.{Kind}
 use Rattle.flt_syntax.specs.declared.token.Kind.TheVariants as k
 use Rattle.flt_syntax.specs.declared.fault.SyntaxFault.{SyntaxFault}
-use Rattle.flt_syntax.specs.declared.filter.Action.{Action}
-use Rattle.flt_syntax.specs.declared.filter.Action.TheVariants.{SetNumber}
-use Rattle.flt_syntax.specs.declared.filter.Condition.{Condition}
-use Rattle.flt_syntax.specs.declared.filter.Condition.TheVariants as made
-use Rattle.flt_syntax.specs.declared.filter.PlainCall.{PlainCall}
-use Rattle.flt_syntax.specs.declared.filter.Statement.{Statement}
-use Rattle.flt_syntax.specs.declared.filter.Statement.TheVariants as statements_made
-use Rattle.flt_syntax.specs.declared.filter.Test.{Test}
-use Rattle.flt_syntax.specs.declared.filter.Test.TheVariants.{IsDraining}
-use Rattle.flt_syntax.specs.declared.variable.Atom.{Atom}
-use Rattle.flt_syntax.specs.declared.variable.Atom.TheVariants as atoms
-use Rattle.flt_syntax.specs.declared.variable.ContextVariable.{ContextVariable}
-use Rattle.flt_syntax.specs.declared.variable.Expression.{Expression}
-use Rattle.flt_syntax.specs.declared.variable.Expression.TheVariants as expressions
-use Rattle.flt_syntax.specs.declared.variable.NumberVariable.{NumberVariable}
-use Rattle.flt_syntax.specs.declared.variable.RemovedVariable.{RemovedVariable}
+use Rattle.flt_tree.specs.declared.filter.Action.{Action}
+use Rattle.flt_tree.specs.declared.filter.Action.TheVariants.{SetNumber}
+use Rattle.flt_tree.specs.declared.filter.Condition.{Condition}
+use Rattle.flt_tree.specs.declared.filter.Condition.TheVariants as made
+use Rattle.flt_tree.specs.declared.filter.PlainCall.{PlainCall}
+use Rattle.flt_tree.specs.declared.filter.Statement.{Statement}
+use Rattle.flt_tree.specs.declared.filter.Statement.TheVariants as statements_made
+use Rattle.flt_tree.specs.declared.filter.Test.{Test}
+use Rattle.flt_tree.specs.declared.filter.Test.TheVariants.{IsDraining}
+use Rattle.flt_tree.specs.declared.variable.Atom.{Atom}
+use Rattle.flt_tree.specs.declared.variable.Atom.TheVariants as atoms
+use Rattle.flt_tree.specs.declared.variable.ContextVariable.{ContextVariable}
+use Rattle.flt_tree.specs.declared.variable.Expression.{Expression}
+use Rattle.flt_tree.specs.declared.variable.Expression.TheVariants as expressions
+use Rattle.flt_tree.specs.declared.variable.NumberVariable.{NumberVariable}
+use Rattle.flt_tree.specs.declared.variable.RemovedVariable.{RemovedVariable}
 use Rattle.flt_syntax.specs.Lex.{same_kind}
 use Rattle.flt_syntax.specs.ActionGrammar as g
 use Rattle.flt_syntax.specs.ActionGrammar.{AtomAt, ExpressionAt, ActionAt, TestAt, ConditionAt}
@@ -36,7 +36,8 @@ use Rattle.flt_syntax.specs.Status.{optional_status}
 use Rattle.flt_syntax.specs.Action.{expression_by, expression, number_by, set_number, clear_context, clear_operation, write_value, word_statement_by, word_statement, simple_statement}
 use Rattle.flt_syntax.specs.Call.{fallible_call, plain_call}
 use Rattle.flt_syntax.specs.Condition.{context_test, operation_test, comparison_by, number_test, word_test_by, word_test, condition}
-use Rattle.flt_syntax.specs.Statement.{max_turns, otherwise, choice, repetition, statement_by, statement, statements_from, statements, block}
+use Rattle.flt_tree.specs.Limits.{max_turns}
+use Rattle.flt_syntax.specs.Statement.{otherwise, choice, repetition, statement_by, statement, statements_from, statements, block}
 use Rattle.flt_syntax.specs.Cursor.{Input, Parser, and_then, ◌<$>◌, kind, next, refusal, unknown, sees, expect, number_within}
 use Rattle.flt_syntax.proofs.Sound.{differ}
 use Rattle.flt_syntax.proofs.SoundStatements.{suc_some}

@@ -15,26 +15,25 @@ use Rattle.flt_syntax.specs.ActionGrammar as actions
 use Rattle.flt_syntax.specs.ActionGrammar.{AtomAt, ExpressionAt, ActionAt, TestAt, ConditionAt}
 use Rattle.flt_syntax.specs.CallGrammar as calls
 use Rattle.flt_syntax.specs.CallGrammar.{StatusAt, OptionalStatusAt, RoutineAt, LockAt, FallibleAt, PlainAt}
-use Rattle.flt_syntax.specs.CallWords.{name_of, lock_name}
+use Rattle.flt_tree.specs.Declarations.{name_of, lock_name, same_lock_kind, lock_place, lock_at_place, lock_number}
 use Rattle.flt_syntax.specs.Cursor.{Input}
-use Rattle.flt_syntax.specs.Lex.{Text}
-use Rattle.flt_syntax.specs.Scope.{Scope, same_lock_kind, lock_place, lock_at_place, lock_number}
-use Rattle.flt_syntax.specs.WellFormed.{is_name, IsAtom, IsExpression, IsAction, IsTest, IsFallible, IsCondition, IsLock, IsPlain}
+use Rattle.flt_tree.specs.Names.{Text, is_name}
+use Rattle.flt_syntax.specs.Scope.{Scope}
+use Rattle.flt_tree.specs.WellFormed.{IsAtom, IsExpression, IsAction, IsTest, IsFallible, IsCondition, IsLock, IsPlain}
 use Rattle.flt_syntax.specs.Words as words
 use Rattle.flt_syntax.specs.Words.{Next, Meant, NameAt, NumberAt, OptionalAt}
-use Rattle.flt_syntax.specs.declared.filter.Action.{Action}
-use Rattle.flt_syntax.specs.declared.filter.Condition.{Condition}
-use Rattle.flt_syntax.specs.declared.filter.FallibleCall.{FallibleCall}
-use Rattle.flt_syntax.specs.declared.filter.Lock.{Lock}
-use Rattle.flt_syntax.specs.declared.filter.PlainCall.{PlainCall}
-use Rattle.flt_syntax.specs.declared.filter.Routine.{Routine}
-use Rattle.flt_syntax.specs.declared.filter.Status.{Status}
-use Rattle.flt_syntax.specs.declared.filter.Test.{Test}
+use Rattle.flt_tree.specs.declared.filter.Action.{Action}
+use Rattle.flt_tree.specs.declared.filter.Condition.{Condition}
+use Rattle.flt_tree.specs.declared.filter.FallibleCall.{FallibleCall}
+use Rattle.flt_tree.specs.declared.filter.Lock.{Lock}
+use Rattle.flt_tree.specs.declared.filter.PlainCall.{PlainCall}
+use Rattle.flt_tree.specs.declared.filter.Routine.{Routine}
+use Rattle.flt_tree.specs.declared.filter.Status.{Status}
+use Rattle.flt_tree.specs.declared.filter.Test.{Test}
 use Rattle.flt_syntax.specs.declared.token.Kind.{Kind}
-use Rattle.flt_syntax.specs.declared.variable.Atom.{Atom}
-use Rattle.flt_syntax.specs.declared.variable.ContextVariable.{ContextVariable}
-use Rattle.flt_syntax.specs.declared.variable.Expression.{Expression}
-use Rattle.flt_syntax.proofs.Pieces.{some_same}
+use Rattle.flt_tree.specs.declared.variable.Atom.{Atom}
+use Rattle.flt_tree.specs.declared.variable.ContextVariable.{ContextVariable}
+use Rattle.flt_tree.specs.declared.variable.Expression.{Expression}
 use Rattle.flt_syntax.proofs.Sound.{none_some}
 use Rattle.flt_syntax.proofs.TokenBytes.{AreTokens, more}
 
@@ -72,7 +71,7 @@ optional_status_on (calls.some_status p) h = status_on p h
 
 place_if : (c : Bool) (n m : ℕ) (a l : LockNumber) (rest : Option LockNumber) → (n == m) ≡ c → place_of a ≡ m →
     (rest ≡ Some l → place_of l ≡ n) → (if c then Some a else rest) ≡ Some l → place_of l ≡ n
-place_if true n m a l rest e h f s = sym (ap place_of (some_same a l s)) ∙ h ∙ sym (eqb-true n m e)
+place_if true n m a l rest e h f s = let same : a ≡ l = cc in sym (ap place_of same) ∙ h ∙ sym (eqb-true n m e)
 place_if false n m a l rest e h f s = f s
 
 -- the place of the lock at a place

@@ -6,20 +6,19 @@ use Rattle.std.specs.Prelude.{Option, is_some}
 use Rattle.flt_syntax.specs.Cursor.{Input}
 use Rattle.flt_syntax.specs.Grammar as g
 use Rattle.flt_syntax.specs.Grammar.{StatementAt, ElseAt, BlockAt, StatementsAt, HeadAt, CallbackAt, CallbacksAt, LocksAt, QueueAt, FileAt}
-use Rattle.flt_syntax.specs.Lex.{Text}
-use Rattle.flt_syntax.specs.Limits.{max_depth, max_repeats}
-use Rattle.flt_syntax.specs.Reprinting.{SpelledIsWellFormed, PrintAndParse}
+use Rattle.flt_tree.specs.Names.{Text, is_name}
+use Rattle.flt_tree.specs.Limits.{max_depth, max_repeats}
+use Rattle.flt_syntax.specs.Spelling.{SpelledIsWellFormed}
 use Rattle.flt_syntax.specs.Scope.{Scope}
-use Rattle.flt_syntax.specs.WellFormed as fine
-use Rattle.flt_syntax.specs.WellFormed.{is_name, IsStatement, IsElse, IsBlock, AreStatements, IsHead, AreCallbacks, IsWellFormed}
-use Rattle.flt_syntax.specs.declared.filter.Callback.{Callback}
-use Rattle.flt_syntax.specs.declared.filter.Filter.{Filter}
-use Rattle.flt_syntax.specs.declared.filter.Head.{Head}
-use Rattle.flt_syntax.specs.declared.filter.Lock.{Lock}
-use Rattle.flt_syntax.specs.declared.filter.Position.{Position}
-use Rattle.flt_syntax.specs.declared.filter.Statement.{Statement}
+use Rattle.flt_tree.specs.WellFormed as fine
+use Rattle.flt_tree.specs.WellFormed.{IsStatement, IsElse, IsBlock, AreStatements, IsHead, AreCallbacks, IsWellFormed}
+use Rattle.flt_tree.specs.declared.filter.Callback.{Callback}
+use Rattle.flt_tree.specs.declared.filter.Filter.{Filter}
+use Rattle.flt_tree.specs.declared.filter.Head.{Head}
+use Rattle.flt_tree.specs.declared.filter.Lock.{Lock}
+use Rattle.flt_tree.specs.declared.filter.Position.{Position}
+use Rattle.flt_tree.specs.declared.filter.Statement.{Statement}
 use Rattle.flt_syntax.proofs.FineCalls.{next_on, meant_on, fine_name, fine_number, optional_status_on, fine_plain, fine_action, fine_condition}
-use Rattle.flt_syntax.proofs.Reprinted.{parses_again}
 use Rattle.flt_syntax.proofs.TokenBytes.{AreTokens, are_tokens}
 
 -- ---- statements
@@ -128,6 +127,3 @@ is_well_formed text f s =
       served = s.served;
       whole = s.whole;
     }
-
-pub prints_and_parses : PrintAndParse
-prints_and_parses text f s = parses_again f (is_well_formed text f s)

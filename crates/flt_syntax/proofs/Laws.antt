@@ -2,13 +2,13 @@
 use Rattle.std.proofs.Common.{◌≡◌, Result, Ok, Err, refl}
 use Rattle.std.specs.Prelude.{IfOk, IfErr, MatchResult}
 use Rattle.flt_syntax.specs.File.{filter_of, IsFaultOf}
-use Rattle.flt_syntax.specs.Lex.{Text}
+use Rattle.flt_tree.specs.Names.{Text}
 use Rattle.flt_syntax.specs.Spelling.{Spells, SpellsAtMostOne}
 use Rattle.flt_syntax.specs.declared.fault.ParseError.{ParseError}
 use Rattle.flt_syntax.specs.declared.fault.ParseError.TheVariants.{OutOfMemory, Syntax}
 use Rattle.flt_syntax.specs.declared.fault.SyntaxFault.{SyntaxFault}
-use Rattle.flt_syntax.specs.declared.filter.Filter.{Filter}
-use Rattle.flt_syntax.specs.declared.tree.Tree.{Tree}
+use Rattle.flt_tree.specs.declared.filter.Filter.{Filter}
+use Rattle.flt_tree.specs.declared.tree.Tree.{Tree}
 use Rattle.flt_syntax.proofs.CompleteFiles.{is_found}
 use Rattle.flt_syntax.proofs.SoundFiles.{is_spelled, same_ok}
 

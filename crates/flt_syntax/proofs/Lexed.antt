@@ -3,39 +3,13 @@ use Rattle.std.proofs.Common.{◌≡◌, ℕ, zero, suc, ◌+◌, ◌-◌, ◌�
 use Rattle.std.proofs.Math.Seq.{take-append_seam, drop-append_seam}
 use Rattle.std.proofs.lemmas.List.{length-append}
 use Rattle.std.specs.Prelude.{◌==◌, slice_range}
-use Rattle.flt_syntax.specs.Cursor.{Input, kind, bytes_of}
-use Rattle.flt_syntax.specs.Lex.{Text, past, is_blank, is_fault, token, tokens_from}
-use Rattle.flt_syntax.specs.declared.filter.Position.{Position}
-use Rattle.flt_syntax.specs.declared.token.Kind.TheVariants as k
+use Rattle.flt_syntax.specs.Cursor.{Input, bytes_of}
+use Rattle.flt_syntax.specs.Lex.{past, is_blank, is_fault, token, tokens_from, tokens}
+use Rattle.flt_syntax.specs.Written.{Gap, blank, feed, piece, Written, done, gap, said, told, tell, Lexed, ReadsBackWords}
 use Rattle.flt_syntax.specs.declared.token.Token.{Token}
 use Rattle.flt_syntax.specs.declared.token.Word.{Word}
-
--- what may stand behind a word
-pub data Gap : ℕ → Type 0 where
-  blank : Gap 32
-  feed : Gap 10
-
--- a text that is read as one word, where a blank or line feed follows
-pub data Piece : Text → Word → Type 0 where
-  piece : {c : ℕ} {w : Text} {v : Word} → (c == 35) ≡ false → is_blank c ≡ false →
-      ((b : ℕ) (z : Text) → Gap b → token (c ∷ (w ++ b ∷ z)) ≡ (v, suc (length w))) → is_fault v.kind ≡ false → Piece (c ∷ w) v
-
-pub data Pieces : List Text → List Word → Type 0 where
-  none : Pieces [] []
-  more : {w : Text} {v : Word} {ws : List Text} {vs : List Word} → Piece w v → Pieces ws vs → Pieces (w ∷ ws) (v ∷ vs)
-
--- a text that consists of pieces, with blanks and line feeds between them
-pub data Written : List Text → List Word → Text → Type 0 where
-  done : Written [] [] []
-  gap : {b : ℕ} {ws : List Text} {vs : List Word} {z : Text} → Gap b → Written ws vs z → Written ws vs (b ∷ z)
-  said : {w : Text} {v : Word} {b : ℕ} {ws : List Text} {vs : List Word} {z : Text} →
-      Piece w v → Gap b → Written ws vs z → Written (w ∷ ws) (v ∷ vs) (w ++ b ∷ z)
-
--- the tokens of i up to o are the pieces
-pub data Tells (text : Text) : List Text → List Word → Input → Input → Type 0 where
-  told : {i : Input} → Tells text [] [] i i
-  tell : {w : Text} {v : Word} {ws : List Text} {vs : List Word} {t : Token} {i o : Input} →
-      t.word ≡ v → bytes_of text t ≡ w → Tells text ws vs i o → Tells text (w ∷ ws) (v ∷ vs) (t ∷ i) o
+use Rattle.flt_tree.specs.Names.{Text}
+use Rattle.flt_tree.specs.declared.filter.Position.{Position}
 
 -- ---- one word
 
@@ -94,11 +68,6 @@ bytes text pre w y t e s n =
 
 -- ---- a whole text
 
-pub record Lexed (text : Text) (ws : List Text) (vs : List Word) (i : Input) : Type 0 where
-  pub rest : Input
-  pub ends : kind rest ≡ k.End
-  pub tells : Tells text ws vs i rest
-
 pub one_on : (pre : Text) (b off : ℕ) → off ≡ length pre → off + 1 ≡ length (pre ++ b ∷ [])
 one_on pre b off e = omega (arith, length-append pre (b ∷ []))
 
@@ -123,7 +92,7 @@ one_more : {text : Text} {ws : List Text} {vs : List Word} {i : Input} (w : Text
     Lexed text ws vs i → Lexed text (w ∷ ws) (v ∷ vs) (t ∷ i)
 one_more w v t e h r = record { rest = r.rest; ends = r.ends; tells = tell e h r.tells }
 
-pub lexes : (text pre z : Text) (ws : List Text) (vs : List Word) → Written ws vs z → text ≡ pre ++ z → (last : ℕ) (at : Position) (off : ℕ) → off ≡ length pre →
+lexes : (text pre z : Text) (ws : List Text) (vs : List Word) → Written ws vs z → text ≡ pre ++ z → (last : ℕ) (at : Position) (off : ℕ) → off ≡ length pre →
     Lexed text ws vs (tokens_from zero false last at off z)
 lexes text pre _ _ _ done e last at off h = record { rest = _; ends = refl; tells = told }
 lexes text pre _ ws vs (gap {b} {z = z} g r) e last at off h =
@@ -138,3 +107,7 @@ lexes text pre _ _ _ (said {b = b} {ws} {vs} {z} (piece {c} {w} {v} e1 e2 e3 e4)
     (one_more (c ∷ w) v t refl (bytes text pre (c ∷ w) (b ∷ z) t e h (ap (λ n. n + suc (length w)) h))
     (lexes text (pre ++ ((c ∷ w) ++ b ∷ [])) z ws vs r (lexed_word text pre (c ∷ w) z b e) b (past s.then_last s.then_at) (off + 1 + length w + 1)
     (ap (λ n. n + 1) (plus_more off (length w)) ∙ some_on pre (c ∷ w) b off h)))
+
+pub reads_back : ReadsBackWords
+unfolding tokens
+reads_back text ws vs w = lexes text [] text ws vs w refl 0 (record { line = 1; column = 0 }) 0 refl

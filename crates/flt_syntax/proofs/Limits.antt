@@ -3,8 +3,8 @@ use Rattle.std.proofs.Common.{List, [], ◌∷◌, ◌++◌, arith}
 use Rattle.std.proofs.lemmas.Grind.{common_steps}
 use Rattle.std.specs.List.{list_all}
 use Rattle.std.specs.Prelude.{IsTrue}
-use Rattle.flt_syntax.specs.Measures.{is_small}
-use Rattle.flt_syntax.specs.declared.filter.Callback.{Callback}
+use Rattle.flt_tree.specs.Measures.{is_small}
+use Rattle.flt_tree.specs.declared.filter.Callback.{Callback}
 
 pub all_small : (found : List Callback) (c : Callback) → IsTrue (list_all is_small found) → IsTrue (is_small c) →
     IsTrue (list_all is_small (found ++ c ∷ []))

@@ -9,15 +9,13 @@ use Rattle.std.specs.Str.{bytes_eq}
 use Rattle.std.specs.List.{list_any, position_or_len, IsDistinct, AllByRecursion}
 use Rattle.std.proofs.lemmas.Grind.{common_steps}
 use Rattle.flt_rules.specs.declared.call.LockKind.{LockKind}
-use Rattle.flt_syntax.specs.File.{has_lock}
-use Rattle.flt_syntax.specs.Lex.{Text}
-use Rattle.flt_syntax.specs.Head.{is_named, has_routine}
-use Rattle.flt_syntax.specs.Names.{has_name, lock_names, names_of, routine_names}
-use Rattle.flt_syntax.specs.Scope.{same_lock_kind, lock_place}
-use Rattle.flt_syntax.specs.declared.filter.Callback.{Callback}
-use Rattle.flt_syntax.specs.declared.filter.Head.{Head}
-use Rattle.flt_syntax.specs.declared.filter.Head.TheVariants.{Pre, Post, Canceled, DeferredPre, DeferredPost, Generic}
-use Rattle.flt_syntax.specs.declared.filter.Lock.{Lock}
+use Rattle.flt_tree.specs.Declarations.{has_lock, has_routine, same_lock_kind, lock_place}
+use Rattle.flt_tree.specs.Names.{Text, has_name, lock_names, names_of, routine_names}
+use Rattle.flt_tree.specs.Filter.{is_named}
+use Rattle.flt_tree.specs.declared.filter.Callback.{Callback}
+use Rattle.flt_tree.specs.declared.filter.Head.{Head}
+use Rattle.flt_tree.specs.declared.filter.Head.TheVariants.{Pre, Post, Canceled, DeferredPre, DeferredPost, Generic}
+use Rattle.flt_tree.specs.declared.filter.Lock.{Lock}
 
 any_of : {X Y : Type 0} (f : X → Y) (p : Y → Bool) (xs : List X) → list_any p (map f xs) ≡ list_any (λ x. p (f x)) xs
 any_of f p [] = refl

@@ -2,18 +2,18 @@
 use Rattle.std.proofs.Common.{◌≡◌, Bool, true, false, List, [], ◌∷◌, map, refl, sym, ap, subst, ◌∙◌}
 use Rattle.std.specs.Prelude.{Option, Some, None, is_none, ◌&&◌}
 use Rattle.std.specs.List.{list_all}
-use Rattle.flt_syntax.specs.Spelling.{finds_routine, test_finds, finds_step, statement_finds, finds_routines}
-use Rattle.flt_syntax.specs.Whole.{first_of, first_some, has_deferred, has_generic, unless, missing_in, missing_by, missing_step, missing_of, missing}
-use Rattle.flt_syntax.specs.declared.filter.Callback.{Callback}
-use Rattle.flt_syntax.specs.declared.filter.Condition.{Condition}
-use Rattle.flt_syntax.specs.declared.filter.Condition.TheVariants.{Succeeds}
-use Rattle.flt_syntax.specs.declared.filter.FallibleCall.{FallibleCall}
-use Rattle.flt_syntax.specs.declared.filter.FallibleCall.TheVariants.{QueueDeferredIoWorkItem, QueueGenericWorkItem}
-use Rattle.flt_syntax.specs.declared.filter.Head.{Head}
-use Rattle.flt_syntax.specs.declared.filter.Position.{Position}
-use Rattle.flt_syntax.specs.declared.filter.Statement.{Statement}
-use Rattle.flt_syntax.specs.declared.filter.Statement.TheOpen.{Statement-F}
-use Rattle.flt_syntax.specs.declared.filter.Statement.TheFolds.{map-Statement, fold-roll-Statement, ind-Statement}
+use Rattle.flt_tree.specs.Declarations.{finds_routine, test_finds, finds_step, statement_finds, finds_routines, has_deferred, has_generic}
+use Rattle.flt_syntax.specs.Whole.{first_of, first_some, unless, missing_in, missing_by, missing_step, missing_of, missing}
+use Rattle.flt_tree.specs.declared.filter.Callback.{Callback}
+use Rattle.flt_tree.specs.declared.filter.Condition.{Condition}
+use Rattle.flt_tree.specs.declared.filter.Condition.TheVariants.{Succeeds}
+use Rattle.flt_tree.specs.declared.filter.FallibleCall.{FallibleCall}
+use Rattle.flt_tree.specs.declared.filter.FallibleCall.TheVariants.{QueueDeferredIoWorkItem, QueueGenericWorkItem}
+use Rattle.flt_tree.specs.declared.filter.Head.{Head}
+use Rattle.flt_tree.specs.declared.filter.Position.{Position}
+use Rattle.flt_tree.specs.declared.filter.Statement.{Statement}
+use Rattle.flt_tree.specs.declared.filter.Statement.TheOpen.{Statement-F}
+use Rattle.flt_tree.specs.declared.filter.Statement.TheFolds.{map-Statement, fold-roll-Statement, ind-Statement}
 use Rattle.flt_syntax.proofs.Sound.{differ}
 
 first_is_none : {A : Type 0} (a b : Option A) → is_none (first_of a b) ≡ (is_none a && is_none b)

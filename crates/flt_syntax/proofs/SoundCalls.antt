@@ -6,19 +6,21 @@ use denote.Enum.Bare.{true_same}
 use Rattle.flt_rules.specs.declared.call.LockKind.{LockKind}
 use Rattle.flt_rules.specs.declared.call.LockKind.TheVariants.{Spin, Fast, Push}
 use Rattle.flt_rules.specs.declared.call.LockNumber.{LockNumber}
-use Rattle.flt_syntax.specs.contracts.variable.ContextVariable.{the_type}
+use Rattle.flt_tree.specs.contracts.variable.ContextVariable.{the_type}
 use Rattle.flt_syntax.specs.declared.token.Kind.{Kind}
 use Rattle.flt_syntax.specs.declared.token.Kind.TheVariants as k
 use Rattle.flt_syntax.specs.declared.token.Token.{Token}
 use Rattle.flt_syntax.specs.declared.fault.FaultKind.TheVariants.{E04, E06, E08}
-use Rattle.flt_syntax.specs.declared.variable.ContextVariable.{ContextVariable}
-use Rattle.flt_syntax.specs.Lex.{Text, same_kind}
+use Rattle.flt_tree.specs.declared.variable.ContextVariable.{ContextVariable}
+use Rattle.flt_tree.specs.Names.{Text}
+use Rattle.flt_syntax.specs.Lex.{same_kind}
 use Rattle.flt_syntax.specs.Words as words
 use Rattle.flt_syntax.specs.CallGrammar as g
 use Rattle.flt_syntax.specs.CallGrammar.{StatusAt, OptionalStatusAt, RoutineAt, LockAt, FallibleAt, PlainAt}
 use Rattle.flt_syntax.specs.Words.{Next, Meant, NameAt, NumberAt, ContextAt, OptionalAt}
 use Rattle.flt_syntax.specs.Operand.{context_variable, removed_variable, removed_variable_of, operation_variable, operation_variable_of, same_context, other_context, with_context}
-use Rattle.flt_syntax.specs.Scope.{Scope, lock_number, lock_named, spelled, routine}
+use Rattle.flt_syntax.specs.Scope.{Scope, lock_named, spelled, routine}
+use Rattle.flt_tree.specs.Declarations.{lock_number}
 use Rattle.flt_syntax.specs.Status.{final_status_of, final_status, bare_status_of, bare_status, status_by, status, begins_status, optional_status}
 use Rattle.flt_syntax.specs.Call.{existing_of, existing, old, other_old, get_context, set_context, delete_context_of, insert_io, remove_next_io, queue_call, queue_deferred, queue_generic, fallible_by, fallible_call, reference_context, acquire_lock, release_lock, complete_pre, complete_post, plain_by, plain_call}
 use Rattle.flt_syntax.specs.Cursor.{Input, ◌<$>◌, pure, front, kind, next, bytes_of, refusal, refuse, unknown, fault_at, fail, sees, number_within, found_or}

@@ -7,9 +7,9 @@ use Rattle.std.specs.List.{list_all, prefix_len}
 use Rattle.std.specs.Prelude.{◌==◌, ◌&&◌, not, nat_lt, slice_index, if◌then◌else◌, Option, Some, None, IfSome}
 use Rattle.flt_syntax.specs.Cursor as cursor
 use Rattle.flt_syntax.specs.Cursor.{Input, bytes_of}
-use Rattle.flt_syntax.specs.Lex.{Text, past, word, is_word, is_blank, is_fault, keyword, value_from, number_by, number, run, pair_or, token, tokens_from, tokens}
-use Rattle.flt_syntax.specs.WellFormed.{is_name}
-use Rattle.flt_syntax.specs.declared.filter.Position.{Position}
+use Rattle.flt_tree.specs.Names.{Text, is_word, is_name}
+use Rattle.flt_syntax.specs.Lex.{past, word, is_blank, is_fault, keyword, value_from, number_by, number, run, pair_or, token, tokens_from, tokens}
+use Rattle.flt_tree.specs.declared.filter.Position.{Position}
 use Rattle.flt_syntax.specs.declared.token.Kind.{Kind}
 use Rattle.flt_syntax.specs.declared.token.Kind.TheVariants as k
 use Rattle.flt_syntax.specs.declared.token.Token.{Token}

@@ -5,22 +5,22 @@ use Rattle.flt_syntax.specs.Cursor.{Input}
 use Rattle.flt_syntax.specs.Tables.{number_variable_of, removed_variable_of, operation_variable_of}
 use Rattle.flt_syntax.specs.Scope.{Scope}
 use Rattle.flt_syntax.specs.Words.{Next, Meant, NumberAt, ContextAt}
-use Rattle.flt_syntax.specs.declared.filter.Action.{Action}
-use Rattle.flt_syntax.specs.declared.filter.Action.TheVariants.{SetNumber, ReadValue, ReadFile, WriteValue, ClearContext, ClearOperation}
-use Rattle.flt_syntax.specs.declared.filter.Condition.{Condition}
-use Rattle.flt_syntax.specs.declared.filter.Condition.TheVariants as made
-use Rattle.flt_syntax.specs.declared.filter.FallibleCall.{FallibleCall}
-use Rattle.flt_syntax.specs.declared.filter.Test.{Test}
-use Rattle.flt_syntax.specs.declared.filter.Test.TheVariants.{ContextIsSome, OperationIsSome, Equal, Less, IsIrp, IsDraining}
+use Rattle.flt_tree.specs.declared.filter.Action.{Action}
+use Rattle.flt_tree.specs.declared.filter.Action.TheVariants.{SetNumber, ReadValue, ReadFile, WriteValue, ClearContext, ClearOperation}
+use Rattle.flt_tree.specs.declared.filter.Condition.{Condition}
+use Rattle.flt_tree.specs.declared.filter.Condition.TheVariants as made
+use Rattle.flt_tree.specs.declared.filter.FallibleCall.{FallibleCall}
+use Rattle.flt_tree.specs.declared.filter.Test.{Test}
+use Rattle.flt_tree.specs.declared.filter.Test.TheVariants.{ContextIsSome, OperationIsSome, Equal, Less, IsIrp, IsDraining}
 use Rattle.flt_syntax.specs.declared.token.Kind.TheVariants as k
-use Rattle.flt_syntax.specs.declared.variable.Atom.{Atom}
-use Rattle.flt_syntax.specs.declared.variable.Atom.TheVariants as atoms
-use Rattle.flt_syntax.specs.declared.variable.ContextVariable.{ContextVariable}
-use Rattle.flt_syntax.specs.declared.variable.Expression.{Expression}
-use Rattle.flt_syntax.specs.declared.variable.Expression.TheVariants as expressions
-use Rattle.flt_syntax.specs.declared.variable.NumberVariable.{NumberVariable}
-use Rattle.flt_syntax.specs.declared.variable.OperationVariable.{OperationVariable}
-use Rattle.flt_syntax.specs.declared.variable.RemovedVariable.{RemovedVariable}
+use Rattle.flt_tree.specs.declared.variable.Atom.{Atom}
+use Rattle.flt_tree.specs.declared.variable.Atom.TheVariants as atoms
+use Rattle.flt_tree.specs.declared.variable.ContextVariable.{ContextVariable}
+use Rattle.flt_tree.specs.declared.variable.Expression.{Expression}
+use Rattle.flt_tree.specs.declared.variable.Expression.TheVariants as expressions
+use Rattle.flt_tree.specs.declared.variable.NumberVariable.{NumberVariable}
+use Rattle.flt_tree.specs.declared.variable.OperationVariable.{OperationVariable}
+use Rattle.flt_tree.specs.declared.variable.RemovedVariable.{RemovedVariable}
 
 -- atom
 pub data AtomAt : Input → Atom → Input → Type 0 where

@@ -9,13 +9,13 @@ use Rattle.flt_syntax.specs.Cursor.{Parser, ◌>>=◌, ◌>>◌, pure, ◌<$>◌
 use Rattle.flt_syntax.specs.Operand.{context_variable, removed_variable, operation_variable, other_context, with_context}
 use Rattle.flt_syntax.specs.Scope.{Scope, in_queue, lock_named, routine}
 use Rattle.flt_syntax.specs.Status.{status}
-use Rattle.flt_syntax.specs.declared.filter.FallibleCall.{FallibleCall}
-use Rattle.flt_syntax.specs.declared.filter.FallibleCall.TheVariants as fallible
-use Rattle.flt_syntax.specs.declared.filter.PlainCall.{PlainCall}
-use Rattle.flt_syntax.specs.declared.filter.PlainCall.TheVariants as plain
+use Rattle.flt_tree.specs.declared.filter.FallibleCall.{FallibleCall}
+use Rattle.flt_tree.specs.declared.filter.FallibleCall.TheVariants as fallible
+use Rattle.flt_tree.specs.declared.filter.PlainCall.{PlainCall}
+use Rattle.flt_tree.specs.declared.filter.PlainCall.TheVariants as plain
 use Rattle.flt_syntax.specs.declared.token.Kind.{Kind}
 use Rattle.flt_syntax.specs.declared.token.Kind.TheVariants as k
-use Rattle.flt_syntax.specs.declared.variable.ContextVariable.{ContextVariable}
+use Rattle.flt_tree.specs.declared.variable.ContextVariable.{ContextVariable}
 pub use Rattle.flt_syntax.specs.Tables.{existing_of}
 
 -- ---- parts of calls

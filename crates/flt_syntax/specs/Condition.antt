@@ -3,15 +3,15 @@ use Rattle.flt_syntax.specs.Call.{fallible_call}
 use Rattle.flt_syntax.specs.Cursor.{Parser, ◌>>=◌, ◌>>◌, pure, ◌<$>◌, kind, refuse, peek, take_token, given, expect}
 use Rattle.flt_syntax.specs.Operand.{atom, context_variable_of, number_variable_of, removed_variable_of}
 use Rattle.flt_syntax.specs.Scope.{Scope}
-use Rattle.flt_syntax.specs.declared.filter.Condition.{Condition}
-use Rattle.flt_syntax.specs.declared.filter.Condition.TheVariants as made
-use Rattle.flt_syntax.specs.declared.filter.Test.{Test}
-use Rattle.flt_syntax.specs.declared.filter.Test.TheVariants.{ContextIsSome, OperationIsSome, Equal, Less, IsIrp, IsDraining}
+use Rattle.flt_tree.specs.declared.filter.Condition.{Condition}
+use Rattle.flt_tree.specs.declared.filter.Condition.TheVariants as made
+use Rattle.flt_tree.specs.declared.filter.Test.{Test}
+use Rattle.flt_tree.specs.declared.filter.Test.TheVariants.{ContextIsSome, OperationIsSome, Equal, Less, IsIrp, IsDraining}
 use Rattle.flt_syntax.specs.declared.token.Kind.{Kind}
 use Rattle.flt_syntax.specs.declared.token.Kind.TheVariants as k
-use Rattle.flt_syntax.specs.declared.variable.ContextVariable.{ContextVariable}
-use Rattle.flt_syntax.specs.declared.variable.NumberVariable.{NumberVariable}
-use Rattle.flt_syntax.specs.declared.variable.RemovedVariable.{RemovedVariable}
+use Rattle.flt_tree.specs.declared.variable.ContextVariable.{ContextVariable}
+use Rattle.flt_tree.specs.declared.variable.NumberVariable.{NumberVariable}
+use Rattle.flt_tree.specs.declared.variable.RemovedVariable.{RemovedVariable}
 
 -- C "!=" "NULL"
 unfoldable pub context_test : ContextVariable → Parser Test

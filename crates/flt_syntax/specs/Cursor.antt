@@ -1,12 +1,13 @@
 -- How the tokens of a text are read, from left to right, up to the first fault that is met.
 use Rattle.std.specs.Prelude.{◌≡◌, ℕ, Bool, true, false, not, ◌&&◌, if◌then◌else◌, List, [], ◌∷◌, length, min, slice_range, nat_le, Option, Some, None, Result, Ok, Err}
-use Rattle.flt_syntax.specs.Lex.{Text, word, same_kind}
+use Rattle.flt_tree.specs.Names.{Text}
+use Rattle.flt_syntax.specs.Lex.{word, same_kind}
 use Rattle.flt_syntax.specs.declared.fault.FaultKind.{FaultKind}
 use Rattle.flt_syntax.specs.declared.fault.FaultKind.TheVariants.{E01, E02, E03, E04, E06}
 use Rattle.flt_syntax.specs.declared.fault.ParseError.{ParseError}
 use Rattle.flt_syntax.specs.declared.fault.ParseError.TheVariants.{OutOfMemory, Syntax}
 use Rattle.flt_syntax.specs.declared.fault.SyntaxFault.{SyntaxFault}
-use Rattle.flt_syntax.specs.declared.filter.Position.{Position}
+use Rattle.flt_tree.specs.declared.filter.Position.{Position}
 use Rattle.flt_syntax.specs.declared.token.Kind.{Kind}
 use Rattle.flt_syntax.specs.declared.token.Kind.TheVariants as k
 use Rattle.flt_syntax.specs.declared.token.Token.{Token}

@@ -1,12 +1,13 @@
 -- How a whole text is read.
-use Rattle.std.specs.Prelude.{◌≡◌, ℕ, zero, suc, ◌-◌, Bool, if◌then◌else◌, nat_lt, List, [], ◌∷◌, ◌++◌, length, is_some, Option, Some, None, Result, Ok, Err}
-use Rattle.std.specs.List.{list_any}
-use Rattle.std.specs.Str.{bytes_eq}
+use Rattle.std.specs.Prelude.{◌≡◌, ℕ, zero, suc, ◌-◌, if◌then◌else◌, nat_lt, List, [], ◌∷◌, ◌++◌, length, is_some, Option, Some, None, Result, Ok, Err}
 use Rattle.flt_rules.specs.declared.call.LockKind.{LockKind}
 use Rattle.flt_syntax.specs.Cursor.{Outcome, Parser, ◌>>=◌, ◌>>◌, pure, kind, place, refusal, refuse, fault, known_or, sees, eat, expect, number_within}
 use Rattle.flt_syntax.specs.Head.{head}
-use Rattle.flt_syntax.specs.Lex.{Text, tokens}
-use Rattle.flt_syntax.specs.Measures.{is_small}
+use Rattle.flt_tree.specs.Declarations.{has_lock}
+use Rattle.flt_tree.specs.Limits.{max_text, max_altitude, max_locks, max_depth, max_repeats}
+use Rattle.flt_tree.specs.Names.{Text}
+use Rattle.flt_syntax.specs.Lex.{tokens}
+use Rattle.flt_tree.specs.Measures.{is_small}
 use Rattle.flt_syntax.specs.Scope.{Scope, spelled}
 use Rattle.flt_syntax.specs.Statement.{statements, block}
 use Rattle.flt_syntax.specs.Whole.{whole_fault}
@@ -14,12 +15,11 @@ use Rattle.flt_syntax.specs.declared.fault.FaultKind.TheVariants.{E05, E06}
 use Rattle.flt_syntax.specs.declared.fault.ParseError.{ParseError}
 use Rattle.flt_syntax.specs.declared.fault.ParseError.TheVariants.{Syntax, OutOfMemory}
 use Rattle.flt_syntax.specs.declared.fault.SyntaxFault.{SyntaxFault}
-use Rattle.flt_syntax.specs.declared.filter.Callback.{Callback}
-use Rattle.flt_syntax.specs.declared.filter.Filter.{Filter}
-use Rattle.flt_syntax.specs.declared.filter.Lock.{Lock}
-use Rattle.flt_syntax.specs.declared.filter.Position.{Position}
+use Rattle.flt_tree.specs.declared.filter.Callback.{Callback}
+use Rattle.flt_tree.specs.declared.filter.Filter.{Filter}
+use Rattle.flt_tree.specs.declared.filter.Lock.{Lock}
+use Rattle.flt_tree.specs.declared.filter.Position.{Position}
 use Rattle.flt_syntax.specs.declared.token.Kind.TheVariants as k
-pub use Rattle.flt_syntax.specs.Limits.{max_text, max_altitude, max_locks, max_depth, max_repeats}
 pub use Rattle.flt_syntax.specs.Tables.{lock_kind_of}
 
 -- ---- locks
@@ -27,10 +27,6 @@ pub use Rattle.flt_syntax.specs.Tables.{lock_kind_of}
 -- "spin" | "fast" | "push"
 unfoldable pub lock_kind : Parser LockKind
 lock_kind = λ i. known_or (refusal i) (lock_kind_of (kind i)) i
-
--- whether one of the locks has the name
-abbrev pub has_lock : Text → List Lock → Bool
-has_lock name = list_any (λ l. bytes_eq l.name name)
 
 -- a lock behind those before, unless its name, which stands at a place, is used or they are enough
 abbrev pub new_lock : List Lock → LockKind → Text → Position → Parser Lock

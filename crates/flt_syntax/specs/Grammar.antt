@@ -5,23 +5,23 @@ use Rattle.flt_rules.specs.declared.place.Operation.{Operation}
 use Rattle.flt_syntax.specs.ActionGrammar.{ActionAt, ConditionAt}
 use Rattle.flt_syntax.specs.CallGrammar.{PlainAt, OptionalStatusAt}
 use Rattle.flt_syntax.specs.Cursor.{Input, kind, position}
-use Rattle.flt_syntax.specs.Lex.{Text}
+use Rattle.flt_tree.specs.Names.{Text}
 use Rattle.flt_syntax.specs.Scope.{Scope}
-use Rattle.flt_syntax.specs.Limits.{max_depth, max_repeats, max_turns}
+use Rattle.flt_tree.specs.Limits.{max_depth, max_repeats, max_turns}
 use Rattle.flt_syntax.specs.Tables.{lock_kind_of, operation_of}
 use Rattle.flt_syntax.specs.Words.{Next, Meant, NameAt, NumberAt}
-use Rattle.flt_syntax.specs.declared.filter.Action.{Action}
-use Rattle.flt_syntax.specs.declared.filter.Callback.{Callback}
-use Rattle.flt_syntax.specs.declared.filter.Condition.{Condition}
-use Rattle.flt_syntax.specs.declared.filter.Filter.{Filter}
-use Rattle.flt_syntax.specs.declared.filter.Head.{Head}
-use Rattle.flt_syntax.specs.declared.filter.Head.TheVariants.{Pre, Post, Canceled, DeferredPre, DeferredPost, Generic}
-use Rattle.flt_syntax.specs.declared.filter.Lock.{Lock}
-use Rattle.flt_syntax.specs.declared.filter.PlainCall.{PlainCall}
-use Rattle.flt_syntax.specs.declared.filter.Position.{Position}
-use Rattle.flt_syntax.specs.declared.filter.Statement.{Statement}
-use Rattle.flt_syntax.specs.declared.filter.Statement.TheVariants.{Act, Call, Return, If, Repeat}
-use Rattle.flt_syntax.specs.declared.filter.Status.{Status}
+use Rattle.flt_tree.specs.declared.filter.Action.{Action}
+use Rattle.flt_tree.specs.declared.filter.Callback.{Callback}
+use Rattle.flt_tree.specs.declared.filter.Condition.{Condition}
+use Rattle.flt_tree.specs.declared.filter.Filter.{Filter}
+use Rattle.flt_tree.specs.declared.filter.Head.{Head}
+use Rattle.flt_tree.specs.declared.filter.Head.TheVariants.{Pre, Post, Canceled, DeferredPre, DeferredPost, Generic}
+use Rattle.flt_tree.specs.declared.filter.Lock.{Lock}
+use Rattle.flt_tree.specs.declared.filter.PlainCall.{PlainCall}
+use Rattle.flt_tree.specs.declared.filter.Position.{Position}
+use Rattle.flt_tree.specs.declared.filter.Statement.{Statement}
+use Rattle.flt_tree.specs.declared.filter.Statement.TheVariants.{Act, Call, Return, If, Repeat}
+use Rattle.flt_tree.specs.declared.filter.Status.{Status}
 use Rattle.flt_syntax.specs.declared.token.Kind.TheVariants as k
 
 -- the line of the first token

@@ -1,42 +1,23 @@
 -- How the heads of callbacks are read.
 use Rattle.std.specs.Prelude.{Bool, true, false, if◌then◌else◌, nat_lt, List, length, Option, Some, None, option_map, Ok, Err}
-use Rattle.std.specs.List.{list_any}
-use Rattle.flt_rules.specs.Place.{same_operation}
 use Rattle.flt_rules.specs.declared.place.Operation.{Operation}
 use Rattle.flt_syntax.specs.Cursor.{Input, Parser, and_then, ◌>>=◌, ◌>>◌, pure, ◌<$>◌, kind, next, refusal, refuse, fault_at, fail, peek, take_token, known_or}
-use Rattle.flt_syntax.specs.Lex.{Text}
+use Rattle.flt_tree.specs.Declarations.{has_event, has_routine}
+use Rattle.flt_tree.specs.Limits.{max_callbacks}
+use Rattle.flt_tree.specs.Names.{Text}
 use Rattle.flt_syntax.specs.Scope.{spelled}
 use Rattle.flt_syntax.specs.declared.fault.FaultKind.TheVariants.{E05, E06}
 use Rattle.flt_syntax.specs.declared.fault.SyntaxFault.{SyntaxFault}
-use Rattle.flt_syntax.specs.declared.filter.Callback.{Callback}
-use Rattle.flt_syntax.specs.declared.filter.Head.{Head}
-use Rattle.flt_syntax.specs.declared.filter.Head.TheVariants.{Pre, Post, Canceled, DeferredPre, DeferredPost, Generic}
+use Rattle.flt_tree.specs.declared.filter.Callback.{Callback}
+use Rattle.flt_tree.specs.declared.filter.Head.{Head}
+use Rattle.flt_tree.specs.declared.filter.Head.TheVariants.{Pre, Post, Canceled, DeferredPre, DeferredPost, Generic}
 use Rattle.flt_syntax.specs.declared.token.Kind.{Kind}
 use Rattle.flt_syntax.specs.declared.token.Kind.TheVariants as k
-pub use Rattle.flt_syntax.specs.Filter.{is_named}
-pub use Rattle.flt_syntax.specs.Limits.{max_callbacks}
 pub use Rattle.flt_syntax.specs.Tables.{operation_of}
 
 -- OP
 unfoldable pub operation : Parser Operation
 operation = λ i. known_or (refusal i) (operation_of (kind i)) i
-
--- ---- what is declared
-
--- whether two heads are for the same event; routines are for none
-abbrev pub same_event : Head → Head → Bool
-same_event (Pre a) (Pre b) = same_operation a b
-same_event (Post a) (Post b) = same_operation a b
-same_event Canceled Canceled = true
-same_event _ _ = false
-
--- whether one of the callbacks is for the event
-abbrev pub has_event : Head → List Callback → Bool
-has_event head = list_any (λ c. same_event c.head head)
-
--- whether one of the callbacks is a routine of the name
-abbrev pub has_routine : Text → List Callback → Bool
-has_routine name = list_any (λ c. is_named name c.head)
 
 -- ---- heads
 

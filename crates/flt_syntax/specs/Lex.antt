@@ -1,9 +1,10 @@
 -- The tokens of a text. Each stands at a line and a column; only a line feed ends a line.
 use Rattle.std.specs.Prelude.{ℕ, zero, suc, ◌+◌, ◌-◌, ◌*◌, ◌^◌, Bool, true, false, not, ◌&&◌, ◌||◌, if◌then◌else◌, ◌==◌, nat_lt, List, [], ◌∷◌, length, take, map, slice_index, Option, Some, None}
-use Rattle.std.specs.Char.{is_ascii_digit, is_ascii_alphanumeric}
+use Rattle.std.specs.Char.{is_ascii_digit}
 use Rattle.std.specs.List.{prefix_len}
 use Rattle.std.specs.Str.{bytes_eq}
-use Rattle.flt_syntax.specs.declared.filter.Position.{Position}
+use Rattle.flt_tree.specs.Names.{Text, is_word}
+use Rattle.flt_tree.specs.declared.filter.Position.{Position}
 use Rattle.flt_syntax.specs.declared.token.Kind.{Kind}
 use Rattle.flt_syntax.specs.declared.token.Kind.TheVariants as k
 use Rattle.flt_syntax.specs.declared.token.Token.{Token}
@@ -11,10 +12,6 @@ use Rattle.flt_syntax.specs.declared.token.Word.{Word}
 use Rattle.flt_syntax.specs.contracts.token.Kind.{the_type}
 use denote.Enum.Bare.{sameb}
 use Rattle.flt_syntax.specs.declared.token.TheConstants.{KEYWORDS}
-
--- a text is its bytes
-abbrev pub Text : Type 0
-Text = List ℕ
 
 -- ---- places
 
@@ -39,10 +36,6 @@ word kind = record { kind = kind; value = 0 }
 -- blanks are space, tab, line feed and carriage return
 abbrev pub is_blank : ℕ → Bool
 is_blank b = b == 32 || b == 9 || b == 10 || b == 13
-
--- letters, digits and `_`
-abbrev pub is_word : ℕ → Bool
-is_word b = is_ascii_alphanumeric b || b == 95
 
 -- the kind that a table has for a word, else a name
 abbrev pub lookup : List (Text × Kind) → Text → Kind

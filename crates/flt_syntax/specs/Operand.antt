@@ -2,16 +2,16 @@
 use Rattle.std.specs.Prelude.{Bool, if◌then◌else◌, Option, Some, None, Ok, Err}
 use denote.Enum.Bare.{sameb}
 use Rattle.flt_syntax.specs.Cursor.{Parser, and_then, ◌>>=◌, pure, ◌<$>◌, front, next, kind, unknown, refusal, fail, sees, known_or, eat}
-use Rattle.flt_syntax.specs.contracts.variable.ContextVariable.{the_type}
+use Rattle.flt_tree.specs.contracts.variable.ContextVariable.{the_type}
 use Rattle.flt_syntax.specs.declared.fault.FaultKind.TheVariants.{E08}
 use Rattle.flt_syntax.specs.declared.fault.SyntaxFault.{SyntaxFault}
 use Rattle.flt_syntax.specs.declared.token.Kind.TheVariants as k
-use Rattle.flt_syntax.specs.declared.variable.Atom.{Atom}
-use Rattle.flt_syntax.specs.declared.variable.Atom.TheVariants as atoms
-use Rattle.flt_syntax.specs.declared.variable.ContextVariable.{ContextVariable}
-use Rattle.flt_syntax.specs.declared.variable.NumberVariable.{NumberVariable}
-use Rattle.flt_syntax.specs.declared.variable.OperationVariable.{OperationVariable}
-use Rattle.flt_syntax.specs.declared.variable.RemovedVariable.{RemovedVariable}
+use Rattle.flt_tree.specs.declared.variable.Atom.{Atom}
+use Rattle.flt_tree.specs.declared.variable.Atom.TheVariants as atoms
+use Rattle.flt_tree.specs.declared.variable.ContextVariable.{ContextVariable}
+use Rattle.flt_tree.specs.declared.variable.NumberVariable.{NumberVariable}
+use Rattle.flt_tree.specs.declared.variable.OperationVariable.{OperationVariable}
+use Rattle.flt_tree.specs.declared.variable.RemovedVariable.{RemovedVariable}
 pub use Rattle.flt_syntax.specs.Tables.{number_variable_of, context_variable_of, removed_variable_of, operation_variable_of}
 
 -- a variable of contexts where nothing else may stand

@@ -1,16 +1,13 @@
 -- What a text declares before its callbacks, and how the names are read that its calls use.
-use Rattle.std.specs.Prelude.{ℕ, Bool, ◌&&◌, if◌then◌else◌, List, Option, Some, None, position}
-use Rattle.std.specs.Str.{bytes_eq}
-use denote.Enum.Bare.{sameb}
-use Rattle.flt_rules.specs.contracts.call.LockKind.{the_type}
-use Rattle.flt_rules.specs.Call.{lock_at}
+use Rattle.std.specs.Prelude.{Bool, if◌then◌else◌, List}
 use Rattle.flt_rules.specs.declared.call.LockKind.{LockKind}
 use Rattle.flt_rules.specs.declared.call.LockNumber.{LockNumber}
 use Rattle.flt_syntax.specs.Cursor.{Parser, and_then, ◌>>=◌, pure, place, bytes_of, fault_at, found_or, name, fail}
-use Rattle.flt_syntax.specs.Lex.{Text}
+use Rattle.flt_tree.specs.Declarations.{lock_number}
+use Rattle.flt_tree.specs.Names.{Text}
 use Rattle.flt_syntax.specs.declared.fault.FaultKind.TheVariants.{E04}
-use Rattle.flt_syntax.specs.declared.filter.Lock.{Lock}
-use Rattle.flt_syntax.specs.declared.filter.Routine.{Routine}
+use Rattle.flt_tree.specs.declared.filter.Lock.{Lock}
+use Rattle.flt_tree.specs.declared.filter.Routine.{Routine}
 use Rattle.flt_syntax.specs.declared.scope.Scope as declared
 
 -- what the calls of a text may name: the text, its locks in order of declaration, and whether there is a queue
@@ -22,22 +19,6 @@ pub record Scope : Type 0 where
 -- the scope that a value of the code stands for
 abbrev pub scope_of : declared.Scope → Scope
 scope_of s = record { text = s.text.now; locks = s.locks.now; queue = s.has_queue }
-
--- `==` on kinds of lock
-unfoldable pub same_lock_kind : LockKind → LockKind → Bool
-same_lock_kind = sameb the_type
-
--- the place, from 0, of the lock of a kind and a name
-abbrev pub lock_place : LockKind → Text → List Lock → Option ℕ
-lock_place kind name = position (λ l. same_lock_kind l.kind kind && bytes_eq l.name name)
-
-abbrev pub lock_at_place : Option ℕ → Option LockNumber
-lock_at_place (Some place) = lock_at place
-lock_at_place None = None
-
--- the lock of a kind and a name
-abbrev pub lock_number : LockKind → Text → List Lock → Option LockNumber
-lock_number kind name locks = lock_at_place (lock_place kind name locks)
 
 -- NAME where only a declared lock of the kind may stand
 unfoldable pub lock_named : Scope → LockKind → Parser LockNumber

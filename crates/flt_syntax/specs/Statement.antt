@@ -5,11 +5,11 @@ use Rattle.flt_syntax.specs.Condition.{condition}
 use Rattle.flt_syntax.specs.Cursor.{Parser, ◌>>=◌, ◌>>◌, pure, place, refuse, fail, peek, take_token, sees, eat, expect, number_within, too_deep}
 use Rattle.flt_syntax.specs.Scope.{Scope}
 use Rattle.flt_syntax.specs.declared.fault.FaultKind.TheVariants.{E06}
-use Rattle.flt_syntax.specs.declared.filter.Statement.{Statement}
-use Rattle.flt_syntax.specs.declared.filter.Statement.TheVariants.{If, Repeat}
+use Rattle.flt_tree.specs.declared.filter.Statement.{Statement}
+use Rattle.flt_tree.specs.declared.filter.Statement.TheVariants.{If, Repeat}
 use Rattle.flt_syntax.specs.declared.token.Kind.{Kind}
 use Rattle.flt_syntax.specs.declared.token.Kind.TheVariants as k
-pub use Rattle.flt_syntax.specs.Limits.{max_turns}
+pub use Rattle.flt_tree.specs.Limits.{max_turns}
 
 -- `inner` reads the blocks inside, given how many repeats may stand in one another there.
 module _ (scope : Scope) (inner : ℕ → Parser (List Statement)) where

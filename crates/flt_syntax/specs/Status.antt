@@ -3,8 +3,8 @@ use Rattle.std.specs.Prelude.{Bool, true, false, ◌||◌, is_some, if◌then◌
 use Rattle.flt_rules.specs.declared.status.FinalStatus.{FinalStatus}
 use Rattle.flt_syntax.specs.Cursor.{Parser, ◌>>=◌, ◌>>◌, ◌<$>◌, kind, refusal, peek, take_token, known_or}
 use Rattle.flt_syntax.specs.Operand.{with_context}
-use Rattle.flt_syntax.specs.declared.filter.Status.{Status}
-use Rattle.flt_syntax.specs.declared.filter.Status.TheVariants as statuses
+use Rattle.flt_tree.specs.declared.filter.Status.{Status}
+use Rattle.flt_tree.specs.declared.filter.Status.TheVariants as statuses
 use Rattle.flt_syntax.specs.declared.token.Kind.{Kind}
 use Rattle.flt_syntax.specs.declared.token.Kind.TheVariants as k
 pub use Rattle.flt_syntax.specs.Tables.{final_status_of, bare_status_of}

@@ -8,18 +8,18 @@ use Rattle.flt_rules.specs.declared.place.Operation.{Operation}
 use Rattle.flt_rules.specs.declared.place.Operation.TheVariants as operating
 use Rattle.flt_rules.specs.declared.status.FinalStatus.{FinalStatus}
 use Rattle.flt_rules.specs.declared.status.FinalStatus.TheVariants as finals
-use Rattle.flt_syntax.specs.declared.filter.Status.{Status}
-use Rattle.flt_syntax.specs.declared.filter.Status.TheVariants as statuses
+use Rattle.flt_tree.specs.declared.filter.Status.{Status}
+use Rattle.flt_tree.specs.declared.filter.Status.TheVariants as statuses
 use Rattle.flt_syntax.specs.declared.token.Kind.{Kind}
 use Rattle.flt_syntax.specs.declared.token.Kind.TheVariants as k
-use Rattle.flt_syntax.specs.declared.variable.ContextVariable.{ContextVariable}
-use Rattle.flt_syntax.specs.declared.variable.ContextVariable.TheVariants as contexts
-use Rattle.flt_syntax.specs.declared.variable.NumberVariable.{NumberVariable}
-use Rattle.flt_syntax.specs.declared.variable.NumberVariable.TheVariants as numbers
-use Rattle.flt_syntax.specs.declared.variable.OperationVariable.{OperationVariable}
-use Rattle.flt_syntax.specs.declared.variable.OperationVariable.TheVariants as operations
-use Rattle.flt_syntax.specs.declared.variable.RemovedVariable.{RemovedVariable}
-use Rattle.flt_syntax.specs.declared.variable.RemovedVariable.TheVariants as removed
+use Rattle.flt_tree.specs.declared.variable.ContextVariable.{ContextVariable}
+use Rattle.flt_tree.specs.declared.variable.ContextVariable.TheVariants as contexts
+use Rattle.flt_tree.specs.declared.variable.NumberVariable.{NumberVariable}
+use Rattle.flt_tree.specs.declared.variable.NumberVariable.TheVariants as numbers
+use Rattle.flt_tree.specs.declared.variable.OperationVariable.{OperationVariable}
+use Rattle.flt_tree.specs.declared.variable.OperationVariable.TheVariants as operations
+use Rattle.flt_tree.specs.declared.variable.RemovedVariable.{RemovedVariable}
+use Rattle.flt_tree.specs.declared.variable.RemovedVariable.TheVariants as removed
 
 -- N: the variable that a word is
 abbrev pub number_variable_of : Kind → Option NumberVariable

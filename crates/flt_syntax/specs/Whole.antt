@@ -1,25 +1,22 @@
 -- The faults that are told once a text is read to its end. They are looked for in the order of the text: the queue stands
 -- before the callbacks, and a head before its body; so the first one has the least position.
-use Rattle.std.specs.Prelude.{Bool, true, false, not, ◌&&◌, if◌then◌else◌, List, [], ◌∷◌, map, Option, Some, None, option_map}
-use Rattle.std.specs.List.{list_any}
-use Rattle.std.specs.Str.{bytes_eq}
+use Rattle.std.specs.Prelude.{Bool, if◌then◌else◌, List, [], ◌∷◌, map, Option, Some, None, option_map}
 use Rattle.flt_syntax.specs.Cursor.{fault}
-use Rattle.flt_syntax.specs.Head.{has_event}
-use Rattle.flt_syntax.specs.Lex.{Text}
 use Rattle.flt_syntax.specs.declared.fault.FaultKind.TheVariants.{E04, E07}
 use Rattle.flt_syntax.specs.declared.fault.SyntaxFault.{SyntaxFault}
-use Rattle.flt_syntax.specs.declared.filter.Callback.{Callback}
-use Rattle.flt_syntax.specs.declared.filter.Condition.{Condition}
-use Rattle.flt_syntax.specs.declared.filter.Condition.TheVariants.{Succeeds}
-use Rattle.flt_syntax.specs.declared.filter.FallibleCall.{FallibleCall}
-use Rattle.flt_syntax.specs.declared.filter.FallibleCall.TheVariants.{QueueDeferredIoWorkItem, QueueGenericWorkItem}
-use Rattle.flt_syntax.specs.declared.filter.Filter.{Filter}
-use Rattle.flt_syntax.specs.declared.filter.Head.{Head}
-use Rattle.flt_syntax.specs.declared.filter.Head.TheVariants.{Pre, Post, Canceled, DeferredPre, DeferredPost, Generic}
-use Rattle.flt_syntax.specs.declared.filter.Position.{Position}
-use Rattle.flt_syntax.specs.declared.filter.Statement.{Statement}
-use Rattle.flt_syntax.specs.declared.filter.Statement.TheOpen.{Statement-F}
-use Rattle.flt_syntax.specs.declared.filter.Statement.TheFolds.{fold-Statement}
+use Rattle.flt_tree.specs.Declarations.{has_event, has_deferred, has_generic, lacks_pre}
+use Rattle.flt_tree.specs.declared.filter.Callback.{Callback}
+use Rattle.flt_tree.specs.declared.filter.Condition.{Condition}
+use Rattle.flt_tree.specs.declared.filter.Condition.TheVariants.{Succeeds}
+use Rattle.flt_tree.specs.declared.filter.FallibleCall.{FallibleCall}
+use Rattle.flt_tree.specs.declared.filter.FallibleCall.TheVariants.{QueueDeferredIoWorkItem, QueueGenericWorkItem}
+use Rattle.flt_tree.specs.declared.filter.Filter.{Filter}
+use Rattle.flt_tree.specs.declared.filter.Head.{Head}
+use Rattle.flt_tree.specs.declared.filter.Head.TheVariants.{Canceled}
+use Rattle.flt_tree.specs.declared.filter.Position.{Position}
+use Rattle.flt_tree.specs.declared.filter.Statement.{Statement}
+use Rattle.flt_tree.specs.declared.filter.Statement.TheOpen.{Statement-F}
+use Rattle.flt_tree.specs.declared.filter.Statement.TheFolds.{fold-Statement}
 
 -- ---- the first of several
 
@@ -32,37 +29,6 @@ first_of (Some a) b = Some a
 abbrev pub first_some : {A : Type 0} → List (Option A) → Option A
 first_some [] = None
 first_some (a ∷ rest) = first_of a (first_some rest)
-
--- ---- routines
-
--- an operation before its filters are passed is deferred to `deferred_pre`: from everywhere but a post callback
-abbrev pub may_be_pre : Head → Bool
-may_be_pre (Post operation) = false
-may_be_pre _ = true
-
--- and one after to `deferred_post`: from everywhere but a pre callback
-abbrev pub may_be_post : Head → Bool
-may_be_post (Pre operation) = false
-may_be_post _ = true
-
--- whether a deferred work item that is queued in a callback of the first head may run one of the other, by its name
-abbrev pub runs_deferred : Head → Text → Head → Bool
-runs_deferred from name (DeferredPre routine) = may_be_pre from && bytes_eq routine name
-runs_deferred from name (DeferredPost routine) = may_be_post from && bytes_eq routine name
-runs_deferred from name _ = false
-
--- whether a generic work item may run a callback of the head, by its name
-abbrev pub runs_generic : Text → Head → Bool
-runs_generic name (Generic routine) = bytes_eq routine name
-runs_generic name _ = false
-
--- whether one of the callbacks is a routine that a deferred work item may run
-abbrev pub has_deferred : Head → Text → List Callback → Bool
-has_deferred from name = list_any (λ c. runs_deferred from name c.head)
-
--- whether one of the callbacks is a routine that a generic work item may run
-abbrev pub has_generic : Text → List Callback → Bool
-has_generic name = list_any (λ c. runs_generic name c.head)
 
 -- the place, unless something is found
 abbrev pub unless : Bool → Position → Option Position
@@ -97,11 +63,6 @@ abbrev pub missing : List Callback → Head → List Statement → Option Positi
 missing cs from body = first_some (map (missing_of cs from) body)
 
 -- ---- callbacks that others need
-
--- whether it is a post callback without a pre callback of its operation
-abbrev pub lacks_pre : List Callback → Head → Bool
-lacks_pre cs (Post operation) = not (has_event (Pre operation) cs)
-lacks_pre cs _ = false
 
 -- the first fault of a callback among the others
 unfoldable pub callback_fault : List Callback → Callback → Option SyntaxFault

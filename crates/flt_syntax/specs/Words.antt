@@ -1,12 +1,12 @@
 -- The grammar of single tokens. A relation `X i x o` says that the tokens of i, up to where o goes on, spell x.
 use Rattle.std.specs.Prelude.{◌≡◌, ℕ, true, ◌∷◌, Option, Some, None}
 use Rattle.flt_syntax.specs.Cursor.{Input, is_word, bytes_of}
-use Rattle.flt_syntax.specs.Lex.{Text}
+use Rattle.flt_tree.specs.Names.{Text}
 use Rattle.flt_syntax.specs.Tables.{context_variable_of}
 use Rattle.flt_syntax.specs.declared.token.Kind.{Kind}
 use Rattle.flt_syntax.specs.declared.token.Kind.TheVariants as k
 use Rattle.flt_syntax.specs.declared.token.Token.{Token}
-use Rattle.flt_syntax.specs.declared.variable.ContextVariable.{ContextVariable}
+use Rattle.flt_tree.specs.declared.variable.ContextVariable.{ContextVariable}
 
 -- a token of the kind
 pub data Next : Kind → Input → Input → Type 0 where

@@ -7,7 +7,6 @@ ghost use Rattle.flt_syntax.specs.Scope.{scope_of};
 use crate::call::plain_call;
 use crate::cursor::Tokens;
 use crate::fault::ParseError;
-use crate::filter::{Action, Statement};
 use crate::operand::{
     atom, context_variable, context_variable_of, leading_atom, number_variable_of,
     operation_variable, removed_variable_of,
@@ -15,7 +14,7 @@ use crate::operand::{
 use crate::scope::Scope;
 use crate::status::optional_status;
 use crate::token::Kind;
-use crate::variable::{ContextVariable, Expression, NumberVariable, RemovedVariable};
+use flt_tree::{Action, ContextVariable, Expression, NumberVariable, RemovedVariable, Statement};
 
 #[tactic(auto, unfolding(crate::specs::Action::expression))]
 fn expression(tokens: &mut Tokens<'_>) -> Result<Expression, ParseError>

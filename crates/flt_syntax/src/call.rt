@@ -7,7 +7,6 @@ ghost use Rattle.std.specs.Prelude.{◌≡◌};
 
 use crate::cursor::Tokens;
 use crate::fault::{FaultKind, ParseError};
-use crate::filter::{FallibleCall, PlainCall};
 use crate::naming::{lock_named, routine};
 use crate::operand::{
     context_variable, operation_variable, other_context, removed_variable, with_context,
@@ -15,8 +14,8 @@ use crate::operand::{
 use crate::scope::Scope;
 use crate::status::status;
 use crate::token::Kind;
-use crate::variable::ContextVariable;
 use flt_rules::{Anchor, Existing, LockKind};
+use flt_tree::{ContextVariable, FallibleCall, PlainCall};
 use std::alloc::Global;
 
 fn existing_of(kind: Kind) -> Option<Existing>

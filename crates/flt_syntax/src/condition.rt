@@ -7,11 +7,10 @@ ghost use Rattle.flt_syntax.specs.Scope.{scope_of};
 use crate::call::fallible_call;
 use crate::cursor::Tokens;
 use crate::fault::ParseError;
-use crate::filter::{Condition, Test};
 use crate::operand::{atom, context_variable_of, number_variable_of, removed_variable_of};
 use crate::scope::Scope;
 use crate::token::Kind;
-use crate::variable::{ContextVariable, NumberVariable, RemovedVariable};
+use flt_tree::{Condition, ContextVariable, NumberVariable, RemovedVariable, Test};
 use std::alloc::Global;
 
 #[tactic(auto, unfolding(crate::specs::Condition::context_test))]

@@ -5,9 +5,9 @@ ghost use Rattle.flt_syntax.specs.Cursor.{Reads};
 ghost use Rattle.std.specs.Prelude.{◌≡◌, length};
 
 use crate::fault::{FaultKind, ParseError, SyntaxFault};
-use crate::filter::Position;
 use crate::lex::same_kind;
 use crate::token::{Kind, Token, Word};
+use flt_tree::Position;
 
 /// The tokens that are left.
 #[derive(Drop)]

@@ -4,7 +4,7 @@ use std::alloc::AllocError;
 use thiserror::Error;
 
 /// What is wrong.
-#[derive(Clone, Copy, Debug, PartialEq, Eq, Error)]
+#[derive(Clone, Copy, Debug, Error)]
 pub enum FaultKind {
     /// A byte with which no token begins.
     #[error("E01")]
@@ -33,7 +33,7 @@ pub enum FaultKind {
 }
 
 /// The first fault of a text, at the first byte of a token. Lines and columns count from 1.
-#[derive(Clone, Copy, Debug, PartialEq, Eq, Error)]
+#[derive(Clone, Copy, Debug, Error)]
 #[error("{line}:{column} {kind}")]
 pub struct SyntaxFault {
     pub line: usize,
@@ -42,7 +42,7 @@ pub struct SyntaxFault {
 }
 
 /// Why there is no tree.
-#[derive(Clone, Copy, Debug, PartialEq, Eq, Error)]
+#[derive(Clone, Copy, Debug, Error)]
 pub enum ParseError {
     #[error("{0}")]
     Syntax(SyntaxFault),

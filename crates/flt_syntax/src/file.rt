@@ -2,28 +2,26 @@
 
 ghost use Rattle.flt_syntax.specs.Cursor.{Reads};
 ghost use Rattle.flt_syntax.specs.Lex.{tokens};
-ghost use Rattle.flt_syntax.specs.Measures.{is_small, are_small};
+ghost use Rattle.flt_tree.specs.Measures.{is_small, are_small};
 ghost use Rattle.flt_syntax.specs.File as spec;
-ghost use Rattle.flt_syntax.specs.Names.{lock_names, names_of, routine_names};
+ghost use Rattle.flt_tree.specs.Names.{lock_names, names_of, routine_names};
 ghost use Rattle.flt_syntax.specs.Scope.{scope_of};
-ghost use Rattle.flt_syntax.specs.Spelling.{Spells, SpellsAtMostOne};
+ghost use Rattle.flt_syntax.specs.Spelling.{Spells, SpelledIsWellFormed, SpellsAtMostOne};
 ghost use Rattle.std.specs.List.{list_all};
 ghost use Rattle.std.specs.Prelude.{◌≡◌, ◌≤◌, [], ◌∷◌, ◌++◌, length, IsTrue, IfOk, IfErr, MatchResult, Ok};
 
 use crate::cursor::{Tokens, bytes_of, fault};
 use crate::fault::{FaultKind, ParseError};
-use crate::filter::{Callback, Filter, Lock, Position};
 use crate::head::head;
 use crate::lex;
-use crate::measure::is_small;
 use crate::names::Names;
 use crate::naming::spelled;
 use crate::scope::Scope;
 use crate::statement::statements;
 use crate::token::Kind;
-use crate::tree::Tree;
 use crate::whole::whole_fault;
 use flt_rules::LockKind;
+use flt_tree::{Callback, Filter, Lock, Position, Tree, is_small};
 use sqlite_items::Items;
 use std::alloc::Global;
 
@@ -245,4 +243,10 @@ pub fn parse(alloc: Global, text: &[u8]) -> Result<Tree, ParseError>
 #[tactic(auto, using(crate::proofs::Laws::only_one))]
 pub fn spells_at_most_one()
     ensures { SpellsAtMostOne }
+{}
+
+/// What a text spells is well-formed.
+#[tactic(auto, using(crate::proofs::FineFiles::is_well_formed))]
+pub fn spelled_is_well_formed()
+    ensures { SpelledIsWellFormed }
 {}

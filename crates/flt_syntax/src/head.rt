@@ -2,15 +2,16 @@
 
 ghost use Rattle.flt_syntax.specs.Cursor.{Reads};
 ghost use Rattle.flt_syntax.specs.Head as spec;
-ghost use Rattle.flt_syntax.specs.Names.{names_of, routine_names};
+ghost use Rattle.flt_tree.specs.Declarations as declared;
+ghost use Rattle.flt_tree.specs.Names.{names_of, routine_names};
 ghost use Rattle.std.specs.Prelude.{◌≡◌, [], ◌∷◌, ◌++◌, IfOk};
 
 use crate::cursor::{Tokens, bytes_of};
 use crate::fault::{FaultKind, ParseError};
-use crate::filter::{Callback, Head};
 use crate::names::Names;
 use crate::token::Kind;
 use flt_rules::Operation;
+use flt_tree::{Callback, Head};
 use sqlite_items::Items;
 use std::alloc::Global;
 
@@ -43,7 +44,7 @@ fn operation(tokens: &mut Tokens<'_>) -> Result<Operation, ParseError>
 
 /// Whether both are for the same event. Routines are for none.
 fn same_event(a: &Head, b: &Head) -> bool
-    ensures { result ≡ spec.same_event a.now b.now }
+    ensures { result ≡ declared.same_event a.now b.now }
 {
     match (a, b) {
         (Head::Pre(a), Head::Pre(b)) | (Head::Post(a), Head::Post(b)) => a.is_same(*b),
@@ -53,7 +54,7 @@ fn same_event(a: &Head, b: &Head) -> bool
 }
 
 pub fn has_event(head: &Head, callbacks: &[Callback]) -> bool
-    ensures { result ≡ spec.has_event head.now callbacks.now }
+    ensures { result ≡ declared.has_event head.now callbacks.now }
 {
     callbacks.iter().any(|c| same_event(&c.head, head))
 }

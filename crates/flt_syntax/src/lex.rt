@@ -3,14 +3,17 @@
 ghost use Rattle.std.specs.Prelude.{◌≡◌, ◌≢◌, ◌<◌, ◌≤◌, ◌+◌, ◌^◌, length, map, slice_index, IfOk, true, false};
 ghost use Rattle.std.specs.List.{prefix_len};
 ghost use Rattle.flt_syntax.specs.Lex as spec;
+ghost use Rattle.flt_syntax.specs.Written.{ReadsBackWords};
+ghost use Rattle.flt_tree.specs.Names as names;
 
-use crate::filter::Position;
 use crate::token::{KEYWORDS, Kind, Token, Word};
+use flt_tree::Position;
 use sqlite_items::Items;
 use std::alloc::{AllocError, Global};
 
 const MAX_WORD: usize = 64;
 
+/// Whether both are one kind.
 #[tactic(auto, unfolding(crate::specs::Lex::same_kind))]
 pub fn same_kind(a: Kind, b: Kind) -> bool
     ensures value { result ≡ spec.same_kind a b }
@@ -52,7 +55,7 @@ fn is_blank(b: u8) -> bool
 }
 
 fn is_word(b: u8) -> bool
-    ensures { result ≡ spec.is_word b }
+    ensures { result ≡ names.is_word b }
 {
     b.is_ascii_alphanumeric() || b == b'_'
 }
@@ -115,9 +118,9 @@ fn number(digits: &[u8]) -> Word
 }
 
 fn run_len(z: &[u8]) -> usize
-    ensures value { result ≡ prefix_len spec.is_word z.now }
+    ensures value { result ≡ prefix_len names.is_word z.now }
     ensures within { result ≤ length z.now }
-    ensures moves { 0 < length z.now → spec.is_word (slice_index z.now 0) ≡ true → 0 < result }
+    ensures moves { 0 < length z.now → names.is_word (slice_index z.now 0) ≡ true → 0 < result }
 {
     let mut end = 0;
     while end < z.len() && is_word(z[end]) {
@@ -143,7 +146,7 @@ fn pair_or(pair: Kind, alone: Kind, z: &[u8]) -> (Word, usize)
 #[tactic(auto, unfolding(crate::specs::Lex::run))]
 fn run(z: &[u8]) -> (Word, usize)
     requires some { 0 < length z.now }
-    requires begins { spec.is_word (slice_index z.now 0) ≡ true }
+    requires begins { names.is_word (slice_index z.now 0) ≡ true }
     ensures value { result ≡ spec.run z.now }
     ensures within { (1 ≤ result.1) × (result.1 ≤ length z.now) }
 {
@@ -230,3 +233,9 @@ pub fn tokens(alloc: Global, text: &[u8]) -> Result<Items<Token>, AllocError>
     })?;
     Ok(found)
 }
+
+/// A text of words with blanks and line feeds between them is read back word by word. It does nothing: its clause is the law.
+#[tactic(auto, using(crate::proofs::Lexed::reads_back))]
+pub fn reads_back_words()
+    ensures { ReadsBackWords }
+{}

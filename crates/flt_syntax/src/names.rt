@@ -1,6 +1,6 @@
 //! Names that a text declares, by number.
 
-ghost use Rattle.flt_syntax.specs.Names as spec;
+ghost use Rattle.flt_tree.specs.Names as spec;
 ghost use Rattle.std.specs.List.{IsDistinct};
 ghost use Rattle.std.specs.Prelude.{◌≡◌, [], ◌∷◌, ◌++◌, if◌then◌else◌, not, position, IfOk};
 ghost use Rattle.std.specs.Str.{bytes_eq};
@@ -17,7 +17,7 @@ pub struct Names<'a> {
 
 impl<'a> Model for Names<'a> {
     ghost use Rattle.std.specs.Prelude.{List, map};
-    ghost use Rattle.flt_syntax.specs.Lex.{Text};
+    ghost use Rattle.flt_tree.specs.Names.{Text};
 
     ghost Value = { List Text };
 

@@ -2,20 +2,21 @@
 
 ghost use Rattle.flt_syntax.specs.Cursor.{Reads};
 ghost use Rattle.flt_syntax.specs.Scope as spec;
+ghost use Rattle.flt_tree.specs.Declarations as declared;
 ghost use Rattle.flt_syntax.specs.Scope.{scope_of};
 ghost use Rattle.std.specs.Prelude.{◌≡◌};
 
 use crate::cursor::{Tokens, bytes_of};
 use crate::fault::{FaultKind, ParseError};
-use crate::filter::Routine;
 use crate::scope::Scope;
 use flt_rules::{LockKind, LockNumber};
+use flt_tree::Routine;
 use sqlite_items::Items;
 use std::alloc::Global;
 
-#[tactic(auto, unfolding(crate::specs::Scope::same_lock_kind))]
+#[tactic(auto, unfolding(flt_tree::specs::Declarations::same_lock_kind))]
 fn same_lock_kind(a: LockKind, b: LockKind) -> bool
-    ensures { result ≡ spec.same_lock_kind a b }
+    ensures { result ≡ declared.same_lock_kind a b }
 {
     a == b
 }
@@ -23,7 +24,7 @@ fn same_lock_kind(a: LockKind, b: LockKind) -> bool
 /// The place of a lock among the locks of a filter.
 #[tactic(auto, using(crate::proofs::Numbers::place_by_name))]
 fn lock_place(scope: &Scope<'_>, kind: LockKind, name: &[u8]) -> Option<usize>
-    ensures { result ≡ spec.lock_place kind name.now scope.now.locks.now }
+    ensures { result ≡ declared.lock_place kind name.now scope.now.locks.now }
 {
     let place = scope.names.number(name)?;
     let lock = scope.locks.get(place)?;
@@ -35,7 +36,7 @@ fn lock_place(scope: &Scope<'_>, kind: LockKind, name: &[u8]) -> Option<usize>
 }
 
 fn lock_number(scope: &Scope<'_>, kind: LockKind, name: &[u8]) -> Option<LockNumber>
-    ensures { result ≡ spec.lock_number kind name.now scope.now.locks.now }
+    ensures { result ≡ declared.lock_number kind name.now scope.now.locks.now }
 {
     match lock_place(scope, kind, name) {
         Some(place) => LockNumber::at(place),

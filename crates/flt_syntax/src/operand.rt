@@ -7,7 +7,7 @@ ghost use Rattle.std.specs.Prelude.{◌≡◌};
 use crate::cursor::Tokens;
 use crate::fault::{FaultKind, ParseError};
 use crate::token::Kind;
-use crate::variable::{Atom, ContextVariable, NumberVariable, OperationVariable, RemovedVariable};
+use flt_tree::{Atom, ContextVariable, NumberVariable, OperationVariable, RemovedVariable};
 
 pub fn number_variable_of(kind: Kind) -> Option<NumberVariable>
     ensures { result ≡ spec.number_variable_of kind }

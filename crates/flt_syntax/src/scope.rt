@@ -1,10 +1,10 @@
 //! What a text declares before its callbacks.
 
-ghost use Rattle.flt_syntax.specs.Names.{lock_names};
+ghost use Rattle.flt_tree.specs.Names.{lock_names};
 ghost use Rattle.std.specs.Prelude.{◌≡◌};
 
-use crate::filter::Lock;
 use crate::names::Names;
+use flt_tree::Lock;
 
 /// What the calls of a text may name.
 #[derive(Drop)]

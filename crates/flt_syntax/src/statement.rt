@@ -8,9 +8,9 @@ use crate::action::simple_statement;
 use crate::condition::condition;
 use crate::cursor::Tokens;
 use crate::fault::{FaultKind, ParseError};
-use crate::filter::Statement;
 use crate::scope::Scope;
 use crate::token::Kind;
+use flt_tree::Statement;
 use sqlite_items::Items;
 use std::alloc::Global;
 

@@ -6,10 +6,10 @@ ghost use Rattle.std.specs.Prelude.{◌≡◌};
 
 use crate::cursor::Tokens;
 use crate::fault::ParseError;
-use crate::filter::Status;
 use crate::operand::with_context;
 use crate::token::Kind;
 use flt_rules::FinalStatus;
+use flt_tree::Status;
 
 fn final_status_of(kind: Kind) -> Option<FinalStatus>
     ensures { result ≡ spec.final_status_of kind }

@@ -1,6 +1,6 @@
 //! What a token is, and where it stands.
 
-use crate::filter::Position;
+use flt_tree::Position;
 
 /// The kinds of token. Each word that the grammar names is one, and each variable.
 #[derive(Clone, Copy, PartialEq, Eq)]

@@ -1,16 +1,17 @@
 //! What is tested once a text is read: that the callbacks are there that others, the queue and work items need.
 
 ghost use Rattle.flt_syntax.specs.Whole as spec;
+ghost use Rattle.flt_tree.specs.Declarations as declared;
 ghost use Rattle.std.specs.Prelude.{◌≡◌};
 
 use crate::cursor::fault;
 use crate::fault::{FaultKind, SyntaxFault};
-use crate::filter::{Callback, Condition, FallibleCall, Filter, Head, Position, Statement};
 use crate::head::has_event;
+use flt_tree::{Callback, Condition, FallibleCall, Filter, Head, Position, Statement};
 
 /// Whether a deferred work item that is queued in a callback of the head `from` may run this callback.
 fn runs_deferred(from: &Head, name: &[u8], head: &Head) -> bool
-    ensures { result ≡ spec.runs_deferred from.now name.now head.now }
+    ensures { result ≡ declared.runs_deferred from.now name.now head.now }
 {
     match head {
         Head::DeferredPre(routine) => !matches!(from, Head::Post(_)) && routine.as_slice() == name,
@@ -21,7 +22,7 @@ fn runs_deferred(from: &Head, name: &[u8], head: &Head) -> bool
 
 /// Whether a generic work item may run this callback.
 fn runs_generic(name: &[u8], head: &Head) -> bool
-    ensures { result ≡ spec.runs_generic name.now head.now }
+    ensures { result ≡ declared.runs_generic name.now head.now }
 {
     match head {
         Head::Generic(routine) => routine.as_slice() == name,
@@ -30,13 +31,13 @@ fn runs_generic(name: &[u8], head: &Head) -> bool
 }
 
 fn has_deferred(from: &Head, name: &[u8], callbacks: &[Callback]) -> bool
-    ensures { result ≡ spec.has_deferred from.now name.now callbacks.now }
+    ensures { result ≡ declared.has_deferred from.now name.now callbacks.now }
 {
     callbacks.iter().any(|c| runs_deferred(from, name, &c.head))
 }
 
 fn has_generic(name: &[u8], callbacks: &[Callback]) -> bool
-    ensures { result ≡ spec.has_generic name.now callbacks.now }
+    ensures { result ≡ declared.has_generic name.now callbacks.now }
 {
     callbacks.iter().any(|c| runs_generic(name, &c.head))
 }
@@ -107,7 +108,7 @@ fn missing_by(callbacks: &[Callback], from: &Head, condition: &Condition) -> Opt
 
 /// Whether it is a post callback without its pre callback.
 fn lacks_pre(callbacks: &[Callback], head: &Head) -> bool
-    ensures { result ≡ spec.lacks_pre callbacks.now head.now }
+    ensures { result ≡ declared.lacks_pre callbacks.now head.now }
 {
     match head {
         Head::Post(operation) => !has_event(&Head::Pre(*operation), callbacks),

@@ -1,6 +1,7 @@
 //! Texts and what is told of them.
 
-use flt_syntax::{ParseError, parse, print};
+use flt_print::print;
+use flt_syntax::{ParseError, parse};
 use std::alloc::Global;
 use std::test::Fail;
 

@@ -8,14 +8,14 @@ use Rattle.flt_rules.specs.declared.call.Anchor.TheVariants as anchor
 use Rattle.flt_rules.specs.declared.call.Call.TheVariants as call
 use Rattle.flt_rules.specs.declared.call.Existing.{Existing}
 use Rattle.flt_rules.specs.declared.call.Existing.TheVariants.{Keep, Replace}
-use Rattle.flt_syntax.specs.Variable.{context_place, operation_place}
-use Rattle.flt_syntax.specs.declared.filter.Callback.{Callback}
-use Rattle.flt_syntax.specs.declared.filter.FallibleCall.TheVariants as fallible_call
-use Rattle.flt_syntax.specs.declared.filter.Filter.{Filter}
-use Rattle.flt_syntax.specs.declared.filter.PlainCall.TheVariants as plain_call
-use Rattle.flt_syntax.specs.declared.filter.Statement.{Statement}
-use Rattle.flt_syntax.specs.declared.variable.ContextVariable.{ContextVariable}
-use Rattle.flt_syntax.specs.declared.variable.OperationVariable.TheVariants.{Data}
+use Rattle.flt_tree.specs.Variable.{context_place, operation_place}
+use Rattle.flt_tree.specs.declared.filter.Callback.{Callback}
+use Rattle.flt_tree.specs.declared.filter.FallibleCall.TheVariants as fallible_call
+use Rattle.flt_tree.specs.declared.filter.Filter.{Filter}
+use Rattle.flt_tree.specs.declared.filter.PlainCall.TheVariants as plain_call
+use Rattle.flt_tree.specs.declared.filter.Statement.{Statement}
+use Rattle.flt_tree.specs.declared.variable.ContextVariable.{ContextVariable}
+use Rattle.flt_tree.specs.declared.variable.OperationVariable.TheVariants.{Data}
 use Rattle.flt_graph.specs.Instruction as graph
 use Rattle.flt_abs.specs.Breaks.{may_hold_context, lacks_context, lacks_operation}
 use Rattle.flt_abs.specs.Outcome.{put_context as put}
@@ -56,8 +56,8 @@ module _ {p : List Filter} {m : Moment} {a : ℕ} {s : Shadow} (at : IsAt p m a 
       let has = has_context at (context_place c) x o.is in
       let has' = has_after m.trace (event.Call a call.ReleaseContext) a (Context x) refl has in
       let release_ledger : Ledger a m.world.store (drop_reference m.world.store x) (event.Call a call.ReleaseContext ∷ event.Use a (Context x) ∷ event.Lose a (Context x) ∷ freed_by_drop m.world.store x) =
-          ledger_behind a m.world.store (drop_reference m.world.store x) (event.Call a call.ReleaseContext ∷ event.Use a (Context x) ∷ []) (event.Lose a (Context x) ∷ freed_by_drop m.world.store x) (λ y. simp counts) (λ y. simp counts) (λ y. simp counts)
-          (ledger.lets_go a m.world.store at.kept.mine x (held_refs at x has)) in
+      ledger_behind a m.world.store (drop_reference m.world.store x) (event.Call a call.ReleaseContext ∷ event.Use a (Context x) ∷ []) (event.Lose a (Context x) ∷ freed_by_drop m.world.store x) (λ y. simp counts) (λ y. simp counts) (λ y. simp counts)
+      (ledger.lets_go a m.world.store at.kept.mine x (held_refs at x has)) in
       let has'' = has_after (m.trace ++ event.Call a call.ReleaseContext ∷ []) (event.Use a (Context x)) a (Context x) refl has' in
       rw (context_is at c (Owns x) o.is)
       (row_good at (put_context (with_rest s list) c (Past x)) (drop_reference m.world.store x)

@@ -15,14 +15,14 @@ use Rattle.flt_rules.specs.declared.place.Mode.TheVariants.{Irp, Fast}
 use Rattle.flt_rules.specs.declared.place.Place.{Place}
 use Rattle.flt_rules.specs.declared.place.Place.TheVariants as place
 use Rattle.flt_rules.specs.declared.place.Stage.TheVariants as stage
-use Rattle.flt_syntax.specs.Variable.{context_place, operation_place}
-use Rattle.flt_syntax.specs.declared.filter.Callback.{Callback}
-use Rattle.flt_syntax.specs.declared.filter.FallibleCall.TheVariants as fallible_call
-use Rattle.flt_syntax.specs.declared.filter.Filter.{Filter}
-use Rattle.flt_syntax.specs.declared.filter.Statement.{Statement}
-use Rattle.flt_syntax.specs.declared.variable.ContextVariable.{ContextVariable}
-use Rattle.flt_syntax.specs.declared.variable.OperationVariable.{OperationVariable}
-use Rattle.flt_syntax.specs.declared.variable.OperationVariable.TheVariants.{Data}
+use Rattle.flt_tree.specs.Variable.{context_place, operation_place}
+use Rattle.flt_tree.specs.declared.filter.Callback.{Callback}
+use Rattle.flt_tree.specs.declared.filter.FallibleCall.TheVariants as fallible_call
+use Rattle.flt_tree.specs.declared.filter.Filter.{Filter}
+use Rattle.flt_tree.specs.declared.filter.Statement.{Statement}
+use Rattle.flt_tree.specs.declared.variable.ContextVariable.{ContextVariable}
+use Rattle.flt_tree.specs.declared.variable.OperationVariable.{OperationVariable}
+use Rattle.flt_tree.specs.declared.variable.OperationVariable.TheVariants.{Data}
 use Rattle.flt_graph.specs.Instruction as graph
 use Rattle.flt_abs.specs.Breaks.{is_mode_alone}
 use Rattle.flt_abs.specs.Outcome.{put_context as put, put_operation as put_op}
@@ -72,7 +72,7 @@ module _ {p : List Filter} {m : Moment} {a : ℕ} {s : Shadow} (at : IsAt p m a 
       let ops : map value_of (set s.operations (operation_place d) (Past v)) ≡ map value_of s.operations = map-set_same value_of s.operations (operation_place d) (Past v) Unset (sym (ap value_of owns)) in
       let new = after_hand d v c x list in
       let seen : put_op (Some d) (Some Stale) (put c (Some Stale) (before at)) ≡ situation (draining_of at) new =
-          rw (handed_situation at c x n (before at) refl, map-set status_of s.operations (operation_place d) (Past v)) refl in
+      rw (handed_situation at c x n (before at) refl, map-set status_of s.operations (operation_place d) (Past v)) refl in
       row_good at new store (pre ++ event.Lose a (Visit v) ∷ tail) (onward m.world a list)
       (onward_is at list ∙ rw (handed_values at c x n, ops) refl)
       (o.events (event.Lose a (Visit v) ∷ tail) (λ t k. lost (k (Visit v) (has_visit at (operation_place d) v owns)) (f (t ++ event.Lose a (Visit v) ∷ []) (λ y h. has_after t (event.Lose a (Visit v)) a (Context y) (of_actor-same a 0) (k (Context y) h)))))

@@ -11,14 +11,14 @@ use Rattle.flt_rules.specs.declared.columns.Places.TheVariants as places
 use Rattle.flt_rules.specs.declared.place.Mode.TheVariants.{Irp}
 use Rattle.flt_rules.specs.declared.place.Place.{Place}
 use Rattle.flt_rules.specs.declared.place.Place.TheVariants as place
-use Rattle.flt_syntax.specs.Variable.{context_place, operation_place}
-use Rattle.flt_syntax.specs.declared.filter.Callback.{Callback}
-use Rattle.flt_syntax.specs.declared.filter.FallibleCall.TheVariants as fallible_call
-use Rattle.flt_syntax.specs.declared.filter.Filter.{Filter}
-use Rattle.flt_syntax.specs.declared.filter.Routine.{Routine}
-use Rattle.flt_syntax.specs.declared.filter.Statement.{Statement}
-use Rattle.flt_syntax.specs.declared.variable.ContextVariable.{ContextVariable}
-use Rattle.flt_syntax.specs.declared.variable.OperationVariable.TheVariants.{Data}
+use Rattle.flt_tree.specs.Variable.{context_place, operation_place}
+use Rattle.flt_tree.specs.declared.filter.Callback.{Callback}
+use Rattle.flt_tree.specs.declared.filter.FallibleCall.TheVariants as fallible_call
+use Rattle.flt_tree.specs.declared.filter.Filter.{Filter}
+use Rattle.flt_tree.specs.declared.filter.Routine.{Routine}
+use Rattle.flt_tree.specs.declared.filter.Statement.{Statement}
+use Rattle.flt_tree.specs.declared.variable.ContextVariable.{ContextVariable}
+use Rattle.flt_tree.specs.declared.variable.OperationVariable.TheVariants.{Data}
 use Rattle.flt_graph.specs.Instruction as graph
 use Rattle.flt_model.specs.Calls.{with_item, deferred, queued, queue_deferred, queue_generic}
 use Rattle.flt_model.specs.declared.event.Event.{Event}
@@ -129,9 +129,9 @@ module _ {p : List Filter} {m : Moment} {a : ℕ} {s : Shadow} (at : IsAt p m a 
       let i : Item = record { filter = filter; routine = routine; visit = Some v; context = None } in
       rw e
       (if_good at pre grant (deferred m.world a routine granted v None) (unchanged m.world a refused)
-        (hand_good at pre [] Data v None None granted (with_item m.world a i) o d.is tt (λ t k. none t) (λ q. simp counts) (λ u. simp counts) (λ y. simp counts (omega arith)) (item_parts i (item_fits routine v None d.is here irp fits)) (defer_turned a m.world.store i v refl)
-          (item_ledger i (event.Lose a (Visit v) ∷ []) tt (λ y. simp (counts, of_actor-same)) (λ y. simp counts)) tt (k.ok true))
-        (refused_good pre refused o (k.fails _ refl true)))
+      (hand_good at pre [] Data v None None granted (with_item m.world a i) o d.is tt (λ t k. none t) (λ q. simp counts) (λ u. simp counts) (λ y. simp counts (omega arith)) (item_parts i (item_fits routine v None d.is here irp fits)) (defer_turned a m.world.store i v refl)
+      (item_ledger i (event.Lose a (Visit v) ∷ []) tt (λ y. simp (counts, of_actor-same)) (λ y. simp counts)) tt (k.ok true))
+      (refused_good pre refused o (k.fails _ refl true)))
   deferred_good cs r routine (Some c) grant granted refused k fits =
       let d = owned_operation at Data k.fine.r04 in
       let v = d.object in
@@ -145,9 +145,9 @@ module _ {p : List Filter} {m : Moment} {a : ℕ} {s : Shadow} (at : IsAt p m a 
       let i : Item = record { filter = filter; routine = routine; visit = Some v; context = Some x } in
       rw (e, context_is at c (Owns x) q.is)
       (if_good at pre grant (deferred m.world a routine granted v (Some x)) (unchanged m.world a refused)
-        (hand_good at pre (loses_context a (Some x)) Data v (Some c) (Some x) granted (with_item m.world a i) o d.is q.is (lose_handed at (Some c) (Some x) q.is) (gains-handed at (Some x) a) (visits-handed at (Some x)) (λ y. omega (arith, loses-handed at (Some x) y)) (item_parts i (item_fits routine v (Some x) d.is here irp fits)) (defer_turned a m.world.store i v refl)
-          (item_ledger i (event.Lose a (Visit v) ∷ event.Lose a (Context x) ∷ []) (own_item c x q.is) (λ y. simp (counts, of_actor-same) (omega arith)) (λ y. simp counts)) (held_touch at (with_item m.world a i) (λ f x b. b) x (has_context at (context_place c) x q.is), tt) (k.ok true))
-        (refused_good pre refused o (k.fails _ refl true)))
+      (hand_good at pre (loses_context a (Some x)) Data v (Some c) (Some x) granted (with_item m.world a i) o d.is q.is (lose_handed at (Some c) (Some x) q.is) (gains-handed at (Some x) a) (visits-handed at (Some x)) (λ y. omega (arith, loses-handed at (Some x) y)) (item_parts i (item_fits routine v (Some x) d.is here irp fits)) (defer_turned a m.world.store i v refl)
+      (item_ledger i (event.Lose a (Visit v) ∷ event.Lose a (Context x) ∷ []) (own_item c x q.is) (λ y. simp (counts, of_actor-same) (omega arith)) (λ y. simp counts)) (held_touch at (with_item m.world a i) (λ f x b. b) x (has_context at (context_place c) x q.is), tt) (k.ok true))
+      (refused_good pre refused o (k.fails _ refl true)))
 
   -- ---- FltQueueGenericWorkItem
 
@@ -163,8 +163,8 @@ module _ {p : List Filter} {m : Moment} {a : ℕ} {s : Shadow} (at : IsAt p m a 
       let o = opened_call at call.QueueGenericWorkItem k.clear refl in
       let i : Item = record { filter = filter; routine = routine; visit = None; context = None } in
       if_good at pre grant (queued m.world a routine granted None) (unchanged m.world a refused)
-        (given_good at pre [] None Unset granted (with_item m.world a i) o (λ t. none t) (item_parts i (generic_fits routine None b there is)) (item_turned a m.world.store i [] refl (λ u. simp counts) (λ u. simp counts) (λ u. simp counts)) (item_ledger i [] tt (λ y. simp counts) (λ y. simp counts)) tt (λ q. simp counts) (λ u. simp counts) (λ y. simp counts (omega arith)) (k.ok true))
-        (refused_good pre refused o (k.fails _ refl true))
+      (given_good at pre [] None Unset granted (with_item m.world a i) o (λ t. none t) (item_parts i (generic_fits routine None b there is)) (item_turned a m.world.store i [] refl (λ u. simp counts) (λ u. simp counts) (λ u. simp counts)) (item_ledger i [] tt (λ y. simp counts) (λ y. simp counts)) tt (λ q. simp counts) (λ u. simp counts) (λ y. simp counts (omega arith)) (k.ok true))
+      (refused_good pre refused o (k.fails _ refl true))
   generic_good cs r routine (Some c) grant granted refused k b there is =
       let q = owned_context at c k.fine.r13 in
       let x = q.object in
@@ -173,16 +173,16 @@ module _ {p : List Filter} {m : Moment} {a : ℕ} {s : Shadow} (at : IsAt p m a 
       let i : Item = record { filter = filter; routine = routine; visit = None; context = Some x } in
       rw (context_is at c (Owns x) q.is)
       (if_good at pre grant (queued m.world a routine granted (Some x)) (unchanged m.world a refused)
-            (row_good at (put_context (with_rest s granted) c (Past x)) (with_item m.world a i) (pre ++ event.Lose a (Context x) ∷ []) (onward m.world a granted)
-            (onward_is at granted ∙ plain-past_context (with_rest s granted) c x q.is)
-            (o.events (event.Lose a (Context x) ∷ []) (λ t f. lost (f (Context x) (has_context at (context_place c) x q.is)) (none _)))
-            (stood_contexts at (put_context (with_rest s granted) c (Past x)) refl refl (length-set s.contexts (context_place c) (Past x))
-            (subst (λ t. PlacedAt at granted t) (situation-put_context (draining_of at) (with_rest s granted) c (Past x)) (k.ok true)))
-            (item_parts i (generic_fits routine (Some x) b there is))
-            (λ v. simp (counts, of_actor-same) (omega arith))
-            (λ y. simp (counts, of_actor-same) (let h = own_all-set y s.contexts (context_place c) (Past x) (owned_there s.contexts (context_place c) x q.is) in let h' = rw q.is at h in omega (arith, h')))
-            (behind at pre (event.Lose a (Context x) ∷ []) (with_item m.world a i) o (item_turned a m.world.store i (event.Lose a (Context x) ∷ []) refl (λ u. simp counts) (λ u. simp (counts, of_actor-same)) (λ u. simp counts)))
-            (running at (put_context (with_rest s granted) c (Past x)) refl)
-            (ledger_after at pre (event.Lose a (Context x) ∷ []) (with_item m.world a i) o (item_ledger i (event.Lose a (Context x) ∷ []) (own_item c x q.is) (λ y. simp (counts, of_actor-same) (omega arith)) (λ y. simp counts)))
-            (o.clean (with_item m.world a i) (λ f x b. b) (event.Lose a (Context x) ∷ []) (held_touch at (with_item m.world a i) (λ f x b. b) x (has_context at (context_place c) x q.is), tt)))
-        (refused_good pre refused o (k.fails _ refl true)))
+      (row_good at (put_context (with_rest s granted) c (Past x)) (with_item m.world a i) (pre ++ event.Lose a (Context x) ∷ []) (onward m.world a granted)
+      (onward_is at granted ∙ plain-past_context (with_rest s granted) c x q.is)
+      (o.events (event.Lose a (Context x) ∷ []) (λ t f. lost (f (Context x) (has_context at (context_place c) x q.is)) (none _)))
+      (stood_contexts at (put_context (with_rest s granted) c (Past x)) refl refl (length-set s.contexts (context_place c) (Past x))
+      (subst (λ t. PlacedAt at granted t) (situation-put_context (draining_of at) (with_rest s granted) c (Past x)) (k.ok true)))
+      (item_parts i (generic_fits routine (Some x) b there is))
+      (λ v. simp (counts, of_actor-same) (omega arith))
+      (λ y. simp (counts, of_actor-same) (let h = own_all-set y s.contexts (context_place c) (Past x) (owned_there s.contexts (context_place c) x q.is) in let h' = rw q.is at h in omega (arith, h')))
+      (behind at pre (event.Lose a (Context x) ∷ []) (with_item m.world a i) o (item_turned a m.world.store i (event.Lose a (Context x) ∷ []) refl (λ u. simp counts) (λ u. simp (counts, of_actor-same)) (λ u. simp counts)))
+      (running at (put_context (with_rest s granted) c (Past x)) refl)
+      (ledger_after at pre (event.Lose a (Context x) ∷ []) (with_item m.world a i) o (item_ledger i (event.Lose a (Context x) ∷ []) (own_item c x q.is) (λ y. simp (counts, of_actor-same) (omega arith)) (λ y. simp counts)))
+      (o.clean (with_item m.world a i) (λ f x b. b) (event.Lose a (Context x) ∷ []) (held_touch at (with_item m.world a i) (λ f x b. b) x (has_context at (context_place c) x q.is), tt)))
+      (refused_good pre refused o (k.fails _ refl true)))

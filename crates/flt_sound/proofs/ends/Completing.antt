@@ -16,17 +16,17 @@ use Rattle.flt_rules.specs.declared.place.Place.TheVariants as place
 use Rattle.flt_rules.specs.declared.place.Stage.{Stage}
 use Rattle.flt_rules.specs.declared.place.Stage.TheVariants as stage
 use Rattle.flt_rules.specs.declared.status.StatusWord.{StatusWord}
-use Rattle.flt_syntax.specs.Filter.{word_of, context_of}
-use Rattle.flt_syntax.specs.Variable.{context_place, operation_place, whose}
-use Rattle.flt_syntax.specs.declared.filter.Filter.{Filter}
-use Rattle.flt_syntax.specs.declared.filter.PlainCall.TheVariants as plain_call
-use Rattle.flt_syntax.specs.declared.filter.Statement.{Statement}
-use Rattle.flt_syntax.specs.declared.filter.Callback.{Callback}
-use Rattle.flt_syntax.specs.declared.filter.Status.{Status}
-use Rattle.flt_syntax.specs.declared.filter.Status.TheVariants as status
-use Rattle.flt_syntax.specs.declared.variable.ContextVariable.{ContextVariable}
-use Rattle.flt_syntax.specs.declared.variable.OperationVariable.{OperationVariable}
-use Rattle.flt_syntax.specs.declared.variable.OperationVariable.TheVariants.{Removed, Data}
+use Rattle.flt_tree.specs.Filter.{word_of, context_of}
+use Rattle.flt_tree.specs.Variable.{context_place, operation_place, whose}
+use Rattle.flt_tree.specs.declared.filter.Filter.{Filter}
+use Rattle.flt_tree.specs.declared.filter.PlainCall.TheVariants as plain_call
+use Rattle.flt_tree.specs.declared.filter.Statement.{Statement}
+use Rattle.flt_tree.specs.declared.filter.Callback.{Callback}
+use Rattle.flt_tree.specs.declared.filter.Status.{Status}
+use Rattle.flt_tree.specs.declared.filter.Status.TheVariants as status
+use Rattle.flt_tree.specs.declared.variable.ContextVariable.{ContextVariable}
+use Rattle.flt_tree.specs.declared.variable.OperationVariable.{OperationVariable}
+use Rattle.flt_tree.specs.declared.variable.OperationVariable.TheVariants.{Removed, Data}
 use Rattle.flt_graph.specs.Instruction as graph
 use Rattle.flt_abs.specs.Breaks.{is_given_in_canceled, is_handed_legally}
 use Rattle.flt_abs.specs.Outcome.{put_context as put, put_operation as put_op}
@@ -64,7 +64,7 @@ use Rattle.flt_sound.proofs.ends.Settling.{frames_by, settled_parts, paired_same
 use Rattle.flt_sound.proofs.sums.Shadows.{Owns, value_of, Shadow, operation_slot}
 use Rattle.flt_rules.specs.declared.call.Call.{Call}
 
-or_both : (a b : Bool) → (a || b) ≡ true → (b ≡ false → a ≡ true) 
+or_both : (a b : Bool) → (a || b) ≡ true → (b ≡ false → a ≡ true)
 or_both true b e h = refl
 or_both false b e h = let no : true ≡ false = sym e ∙ h in absurd (cc)
 
@@ -198,7 +198,7 @@ module _ {p : List Filter} {m : Moment} {a : ℕ} {s : Shadow} (at : IsAt p m a 
   visit_whole (Removed o) v e = let h = (was at).removed o v e in (h.there, (h.filter, omega (arith, h.operation, at.kept.stored.paths)))
   visit_whole Data v e =
       let g = given_is m.world.store.visits m.world.store.arrivals (actor_at m.world a).filter s.mode (actor_at m.world a).place v
-          (subst (λ x. Given m.world.store.visits m.world.store.arrivals (actor_at m.world a).filter s.mode (actor_at m.world a).place x) (ap value_of e) (was at).given) in
+      (subst (λ x. Given m.world.store.visits m.world.store.arrivals (actor_at m.world a).filter s.mode (actor_at m.world a).place x) (ap value_of e) (was at).given) in
       (g.visit.there, (g.visit.filter, omega (arith, g.visit.operation, at.kept.stored.paths)))
 
   completed_good : (pre : List Event) (d : OperationVariable) (v : ℕ) (c : Option ContextVariable) (x : Option ℕ) (answer : Answer) (list : List Statement) → Opened at pre → operation_slot s d ≡ Owns v → Names at c x →
@@ -286,9 +286,9 @@ module _ {p : List Filter} {m : Moment} {a : ℕ} {s : Shadow} (at : IsAt p m a 
       let one = and_parts _ _ two.0 in
       let stage_is : same_stage (visit_at m.world.store v).stage stage.Pre ≡ true = rw (pre_stage d v e h) refl in
       let fits : fits_canceled p m.world m.trace a (actor_at m.world a).place (whose d) (word_of st) ≡ true =
-          canceled_fits (actor_at m.world a).place d (word_of st) (subst (λ q. (not (is_given_in_canceled q (Some d)) || is_complete (word_of st)) ≡ true) (place_same q) two.1) in
+      canceled_fits (actor_at m.world a).place d (word_of st) (subst (λ q. (not (is_given_in_canceled q (Some d)) || is_complete (word_of st)) ≡ true) (place_same q) two.1) in
       let pairs : abs.are_paired q.graph.callbacks ≡ true → are_paired (callbacks_at p (actor_at m.world a).filter) ≡ true =
-          λ x. subst (λ f. are_paired f.callbacks ≡ true) (sym (filter_there p (actor_at m.world a).filter q.filter q.there)) (paired_same q.filter.callbacks q.graph.callbacks q.lowered.callbacks x) in
+      λ x. subst (λ f. are_paired f.callbacks ≡ true) (sym (filter_there p (actor_at m.world a).filter q.filter q.there)) (paired_same q.filter.callbacks q.graph.callbacks q.lowered.callbacks x) in
       and_from _ _ (and_from _ _ (and_from _ _ (and_from _ _ stage_is one.0) one.1) fits) (paired_fits (abs.are_paired q.graph.callbacks) (are_paired (callbacks_at p (actor_at m.world a).filter)) (is_with_callback (word_of st)) pairs three.1)
 
   -- the visit is one of the filter
@@ -296,7 +296,7 @@ module _ {p : List Filter} {m : Moment} {a : ℕ} {s : Shadow} (at : IsAt p m a 
   visit_of (Removed o) v e = let h = (was at).removed o v e in (h.there, h.filter)
   visit_of Data v e =
       let g = given_is m.world.store.visits m.world.store.arrivals (actor_at m.world a).filter s.mode (actor_at m.world a).place v
-          (subst (λ x. Given m.world.store.visits m.world.store.arrivals (actor_at m.world a).filter s.mode (actor_at m.world a).place x) (ap value_of e) (was at).given) in
+      (subst (λ x. Given m.world.store.visits m.world.store.arrivals (actor_at m.world a).filter s.mode (actor_at m.world a).place x) (ap value_of e) (was at).given) in
       (g.visit.there, g.visit.filter)
 
   with_context : (st : Status) (c : ContextVariable) → context_of st ≡ Some c → (status_row (word_of st)).handed ≡ true → is_with_callback (word_of st) ≡ true
@@ -344,7 +344,7 @@ module _ {p : List Filter} {m : Moment} {a : ℕ} {s : Shadow} (at : IsAt p m a 
       let pairs : are_paired (callbacks_at p f) ≡ true = subst (λ f. are_paired f.callbacks ≡ true) (sym (filter_there p f q.filter q.there)) (paired_same q.filter.callbacks q.graph.callbacks q.lowered.callbacks all) in
       let asked : has_pre (callbacks_at p f) (arrival_of m.world.store v).kind ≡ true = subst (λ f. has_pre (callbacks_at p f) (arrival_of m.world.store v).kind ≡ true) visit.1 (at.kept.stored.before v visit.0 stage_is).asked in
       let post : has_post (callbacks_at p (visit_at m.world.store v).filter) (arrival_of m.world.store v).kind ≡ true =
-          subst (λ f. has_post (callbacks_at p f) (arrival_of m.world.store v).kind ≡ true) (sym visit.1) (pair_at (callbacks_at p f) (arrival_of m.world.store v).kind pairs asked) in
+      subst (λ f. has_post (callbacks_at p f) (arrival_of m.world.store v).kind ≡ true) (sym visit.1) (pair_at (callbacks_at p f) (arrival_of m.world.store v).kind pairs asked) in
       and_from _ _ (framed_by v (has_post (callbacks_at p (visit_at m.world.store v).filter) (arrival_of m.world.store v).kind) (visit_at m.world.store v).stage false st c same stage_is post)
       (led_before v visit.0 stage_is (has_visit at (operation_place d) v owns))
 

@@ -19,13 +19,13 @@ use Rattle.flt_rules.specs.declared.place.Stage.{Stage}
 use Rattle.flt_rules.specs.declared.place.Stage.TheVariants as stage
 use Rattle.flt_rules.specs.declared.status.Possession.{Possession}
 use Rattle.flt_rules.specs.declared.status.Possession.TheVariants as possession
-use Rattle.flt_syntax.specs.Filter.{word_of, context_of, named_context}
-use Rattle.flt_syntax.specs.declared.filter.Status.TheVariants as status
-use Rattle.flt_syntax.specs.Variable.{context_place, operation_place}
-use Rattle.flt_syntax.specs.declared.filter.Filter.{Filter}
-use Rattle.flt_syntax.specs.declared.filter.Status.{Status}
-use Rattle.flt_syntax.specs.declared.variable.ContextVariable.{ContextVariable}
-use Rattle.flt_syntax.specs.declared.variable.OperationVariable.TheVariants.{Data}
+use Rattle.flt_tree.specs.Filter.{word_of, context_of, named_context}
+use Rattle.flt_tree.specs.declared.filter.Status.TheVariants as status
+use Rattle.flt_tree.specs.Variable.{context_place, operation_place}
+use Rattle.flt_tree.specs.declared.filter.Filter.{Filter}
+use Rattle.flt_tree.specs.declared.filter.Status.{Status}
+use Rattle.flt_tree.specs.declared.variable.ContextVariable.{ContextVariable}
+use Rattle.flt_tree.specs.declared.variable.OperationVariable.TheVariants.{Data}
 use Rattle.flt_graph.specs.declared.instruction.Instruction.TheVariants as instruction
 use Rattle.flt_abs.specs.Breaks as abs
 use Rattle.flt_abs.specs.Breaks.{return_breaks, owes_data}
@@ -296,10 +296,10 @@ module _ {p : List Filter} {m : Moment} {a : ℕ} {s : Shadow} (at : IsAt p m a 
       let g = subst (λ x. Given m.world.store.visits m.world.store.arrivals (actor_at m.world a).filter s.mode actor_place x) e (was at).given in
       let stage_fits : fits_stage actor_place r.stage ≡ true = subst (λ q. fits_stage q r.stage ≡ true) (place_same q) there'.0 in
       let post : (not r.needs_post || has_post (callbacks_at p (actor_at m.world a).filter) (arrival_of m.world.store v).kind) ≡ true =
-          registered_by actor_place v g (setting at).registered r.needs_post (λ h. subst (λ q'. is_registered q.graph.callbacks q' ≡ true) (place_same q) h) there'.1 in
+      registered_by actor_place v g (setting at).registered r.needs_post (λ h. subst (λ q'. is_registered q.graph.callbacks q' ≡ true) (place_same q) h) there'.1 in
       let create : (r.in_create || not (is_pre_create actor_place)) ≡ true = subst (λ q. (r.in_create || not (is_pre_create q)) ≡ true) (place_same q) there.1 in
       let possessed : is_possessed (is_given_held v) r.data ≡ true =
-          possessed_by (Some st) f v (operation_slot s Data) refl e (slice_index_or x.operations 4 null_alone) (slot_has x.operations s.operations 4 q.means.operations) r.data so'.0 in
+      possessed_by (Some st) f v (operation_slot s Data) refl e (slice_index_or x.operations 4 null_alone) (slot_has x.operations s.operations 4 q.means.operations) r.data so'.0 in
       let mode : is_of_mode (arrival_of m.world.store v).mode r.mode ≡ true = rw (given_is m.world.store.visits m.world.store.arrivals (actor_at m.world a).filter s.mode actor_place v g).mode_is (of_mode x.modes s.mode r.mode so'.1 q.means.mode) in
       let drains : (r.in_draining || not (actor_at m.world a).draining) ≡ true = in_draining_by x.draining r.in_draining (actor_at m.world a).draining so.1 q.means.draining in
       rw (operation_value v e) (and_from _ _ (and_from _ _ (and_from _ _ (and_from _ _ (and_from _ _ (and_from _ _ stage_fits post) create) possessed) mode) drains) all.1)
@@ -424,8 +424,18 @@ module _ {p : List Filter} {m : Moment} {a : ℕ} {s : Shadow} (at : IsAt p m a 
   whole_turned : (st : Status) (x : Option ℕ) (v : ℕ) (h f g : Bool) (store : Store) → Turned a m.world.store store (lost_if h v ++ settled_if g v) →
       Turned a m.world.store store ((event.Status a (Returned (Some st)) ∷ used x ++ ((lost_if h v ++ handed_if f x) ++ settled_if g v)) ++ event.End a ∷ [])
   whole_turned st x v h f g store t = record {
-    turns = λ u. omega (arith, gains-end (event.Status a (Returned (Some st))) (event.End a) (used x) (lost_if h v) (handed_if f x) (settled_if g v) a (Visit u), loses-end (event.Status a (Returned (Some st))) (event.End a) (used x) (lost_if h v) (handed_if f x) (settled_if g v) a (Visit u),
-        t.turns u, gains-append (lost_if h v) (settled_if g v) a (Visit u), loses-append (lost_if h v) (settled_if g v) a (Visit u), used-loses x (Visit u), used-gains x (Visit u), handed-visits f x u, handed-gains f x (Visit u));
+    turns = λ u. omega (
+      arith,
+      gains-end (event.Status a (Returned (Some st))) (event.End a) (used x) (lost_if h v) (handed_if f x) (settled_if g v) a (Visit u),
+      loses-end (event.Status a (Returned (Some st))) (event.End a) (used x) (lost_if h v) (handed_if f x) (settled_if g v) a (Visit u),
+      t.turns u,
+      gains-append (lost_if h v) (settled_if g v) a (Visit u),
+      loses-append (lost_if h v) (settled_if g v) a (Visit u),
+      used-loses x (Visit u),
+      used-gains x (Visit u),
+      handed-visits f x u,
+      handed-gains f x (Visit u),
+    );
     once = λ u. omega (arith, settles-end (event.Status a (Returned (Some st))) (event.End a) (used x) (lost_if h v) (handed_if f x) (settled_if g v) u, t.once u, settles-append (lost_if h v) (settled_if g v) u, used-settles x u, handed-settles f x u);
     seats = t.seats;
     long = t.long;
@@ -522,8 +532,17 @@ module _ {p : List Filter} {m : Moment} {a : ℕ} {s : Shadow} (at : IsAt p m a 
 
   front_free : (st : Status) (x : Option ℕ) (v : ℕ) (h f g : Bool) (y : ℕ) → frees (event.Status a (Returned (Some st)) ∷ used x ++ ((lost_if h v ++ handed_if f x) ++ settled_if g v)) y ≡ 0
   front_free st x v h f g y =
-      omega (arith, frees-cons (event.Status a (Returned (Some st))) (used x ++ ((lost_if h v ++ handed_if f x) ++ settled_if g v)) y, frees-append (used x) ((lost_if h v ++ handed_if f x) ++ settled_if g v) y, frees-append (lost_if h v ++ handed_if f x) (settled_if g v) y, frees-append (lost_if h v) (handed_if f x) y,
-        used-frees x y, lost-frees h v y, handed-frees f x y, settled-frees g v y)
+      omega (
+        arith,
+        frees-cons (event.Status a (Returned (Some st))) (used x ++ ((lost_if h v ++ handed_if f x) ++ settled_if g v)) y,
+        frees-append (used x) ((lost_if h v ++ handed_if f x) ++ settled_if g v) y,
+        frees-append (lost_if h v ++ handed_if f x) (settled_if g v) y,
+        frees-append (lost_if h v) (handed_if f x) y,
+        used-frees x y,
+        lost-frees h v y,
+        handed-frees f x y,
+        settled-frees g v y,
+      )
 
   whole_free : (st : Status) (x : Option ℕ) (v : ℕ) (h f g : Bool) (y : ℕ) → frees ((event.Status a (Returned (Some st)) ∷ used x ++ ((lost_if h v ++ handed_if f x) ++ settled_if g v)) ++ event.End a ∷ []) y ≡ 0
   whole_free st x v h f g y = omega (arith, frees-append (event.Status a (Returned (Some st)) ∷ used x ++ ((lost_if h v ++ handed_if f x) ++ settled_if g v)) (event.End a ∷ []) y, front_free st x v h f g y, frees-cons (event.End a) [] y, frees-nil y)
@@ -559,15 +578,28 @@ module _ {p : List Filter} {m : Moment} {a : ℕ} {s : Shadow} (at : IsAt p m a 
       settle_ledger a m.world.store at.kept.mine v x way ((event.Status a (Returned (Some st)) ∷ used x ++ ((lost_if h v ++ handed_if f x) ++ settled_if g v)) ++ event.End a ∷ [])
       (omega (arith, t.visit.operation, at.kept.stored.paths))
       (subst (λ f. Belongs m.world.store.contexts f x) (sym t.visit.filter) (named_own at x (names_has at c x n)))
-      (λ y. omega (arith, gains-end (event.Status a (Returned (Some st))) (event.End a) (used x) (lost_if h v) (handed_if f x) (settled_if g v) a (Context y), loses-end (event.Status a (Returned (Some st))) (event.End a) (used x) (lost_if h v) (handed_if f x) (settled_if g v) a (Context y),
-        handed-some f x y, used-loses x (Context y), used-gains x (Context y), lost-contexts h v y, lost-gains h v (Context y), handed-gains f x (Context y), settled-loses g v (Context y), settled-gains g v (Context y)))
+      (λ y. omega (
+        arith,
+        gains-end (event.Status a (Returned (Some st))) (event.End a) (used x) (lost_if h v) (handed_if f x) (settled_if g v) a (Context y),
+        loses-end (event.Status a (Returned (Some st))) (event.End a) (used x) (lost_if h v) (handed_if f x) (settled_if g v) a (Context y),
+        handed-some f x y,
+        used-loses x (Context y),
+        used-gains x (Context y),
+        lost-contexts h v y,
+        lost-gains h v (Context y),
+        handed-gains f x (Context y),
+        settled-loses g v (Context y),
+        settled-gains g v (Context y),
+      ))
       (whole_free st x v h f g)
 
   end_good : (st : Status) (c : Option ContextVariable) (x : Option ℕ) (v : ℕ) (h f g : Bool) (ops : List Slot) (store : Store) → AtReturn (Some st) → context_of st ≡ c → Names at c x → value_of (operation_slot s Data) ≡ Some v → is_given_held v ≡ h →
       map value_of s.operations ≡ map value_of ops → ((u : ℕ) → loses (lost_if h v) a (Visit u) + own_all u ops ≡ own_all u s.operations) → (is_some x ≡ true → f ≡ true) → StoreChange p m.world.store store → Turned a m.world.store store (lost_if h v ++ settled_if g v) → ((u : ℕ) → own_all u ops ≡ 0) →
       Ledger a m.world.store store ((event.Status a (Returned (Some st)) ∷ used x ++ ((lost_if h v ++ handed_if f x) ++ settled_if g v)) ++ event.End a ∷ []) →
-      Good p m (record { world = record m.world { activations = set m.world.activations a ended_act; store = store };
-        events = (event.Status a (Returned (Some st)) ∷ used x ++ ((lost_if h v ++ handed_if f x) ++ settled_if g v)) ++ event.End a ∷ [] })
+      Good p m (record {
+        world = record m.world { activations = set m.world.activations a ended_act; store = store };
+        events = (event.Status a (Returned (Some st)) ∷ used x ++ ((lost_if h v ++ handed_if f x) ++ settled_if g v)) ++ event.End a ∷ [];
+      })
   end_good st c x v h f g ops store r named n e held values count framed change turned idle ledger =
       let status = event.Status a (Returned (Some st)) ∷ [] in
       let t1 = m.trace ++ status in
@@ -579,25 +611,63 @@ module _ {p : List Filter} {m : Moment} {a : ℕ} {s : Shadow} (at : IsAt p m a 
       let new : Shadow = record s { rest = []; contexts = handed at c x; operations = ops; ended = true } in
       let last = (lost_if h v ++ handed_if f x) ++ settled_if g v in
       let even : (y : ℕ) → gains (m.trace ++ (status ++ (used x ++ last))) a (Context y) ≤ loses (m.trace ++ (status ++ (used x ++ last))) a (Context y) = λ y.
-          let b = handed-contexts f x framed y in
-          omega (arith, gains-append m.trace (status ++ (used x ++ last)) a (Context y), loses-append m.trace (status ++ (used x ++ last)) a (Context y),
-            gains-last (event.Status a (Returned (Some st))) (used x) (lost_if h v) (handed_if f x) (settled_if g v) a (Context y), loses-last (event.Status a (Returned (Some st))) (used x) (lost_if h v) (handed_if f x) (settled_if g v) a (Context y),
-            b, contexts_at at y, contexts_free (Some st) c x r n named y, handed_count at c x n y, used-loses x (Context y), used-gains x (Context y), lost-contexts h v y, lost-gains h v (Context y), handed-gains f x (Context y), settled-loses g v (Context y), settled-gains g v (Context y)) in
+      let b = handed-contexts f x framed y in
+      omega (
+        arith,
+        gains-append m.trace (status ++ (used x ++ last)) a (Context y),
+        loses-append m.trace (status ++ (used x ++ last)) a (Context y),
+        gains-last (event.Status a (Returned (Some st))) (used x) (lost_if h v) (handed_if f x) (settled_if g v) a (Context y),
+        loses-last (event.Status a (Returned (Some st))) (used x) (lost_if h v) (handed_if f x) (settled_if g v) a (Context y),
+        b,
+        contexts_at at y,
+        contexts_free (Some st) c x r n named y,
+        handed_count at c x n y,
+        used-loses x (Context y),
+        used-gains x (Context y),
+        lost-contexts h v y,
+        lost-gains h v (Context y),
+        handed-gains f x (Context y),
+        settled-loses g v (Context y),
+        settled-gains g v (Context y),
+      ) in
       let events =
-          in_turn m.trace (status ++ (used x ++ last)) (event.End a ∷ [])
-          (in_turn m.trace status (used x ++ last) (event_answered (Returned (Some st)) (legal_by st v r e) (none _))
-          (in_turn t1 (used x) last (used_events c x n t1 k1)
-          (in_turn t2 (lost_if h v ++ handed_if f x) (settled_if g v)
-          (in_turn t2 (lost_if h v) (handed_if f x) (lost_events h v held t2 (k2 (Visit v))) (handed_events f c x n t3 k3))
-          (settled_events g v (t2 ++ (lost_if h v ++ handed_if f x))))))
-          (ended (no_locks (Some st) r) even (none _)) in
+      in_turn m.trace (status ++ (used x ++ last)) (event.End a ∷ [])
+      (in_turn m.trace status (used x ++ last) (event_answered (Returned (Some st)) (legal_by st v r e) (none _))
+      (in_turn t1 (used x) last (used_events c x n t1 k1)
+      (in_turn t2 (lost_if h v ++ handed_if f x) (settled_if g v)
+      (in_turn t2 (lost_if h v) (handed_if f x) (lost_events h v held t2 (k2 (Visit v))) (handed_events f c x n t3 k3))
+      (settled_events g v (t2 ++ (lost_if h v ++ handed_if f x))))))
+      (ended (no_locks (Some st) r) even (none _)) in
       row_good at new store ((status ++ (used x ++ last)) ++ event.End a ∷ []) ended_act
       (ap (λ (act : Activation). record act { rest = []; ended = true }) (activation_is at) ∙ rw (handed_values at c x n, values) refl)
       events (λ on. absurd (cc)) change
-      (λ u. omega (arith, gains-end (event.Status a (Returned (Some st))) (event.End a) (used x) (lost_if h v) (handed_if f x) (settled_if g v) a (Visit u), loses-end (event.Status a (Returned (Some st))) (event.End a) (used x) (lost_if h v) (handed_if f x) (settled_if g v) a (Visit u),
-        count u, used-loses x (Visit u), used-gains x (Visit u), lost-gains h v (Visit u), handed-visits f x u, handed-gains f x (Visit u), settled-loses g v (Visit u), settled-gains g v (Visit u)))
-      (λ y. let b = handed-contexts f x framed y in omega (arith, gains-end (event.Status a (Returned (Some st))) (event.End a) (used x) (lost_if h v) (handed_if f x) (settled_if g v) a (Context y), loses-end (event.Status a (Returned (Some st))) (event.End a) (used x) (lost_if h v) (handed_if f x) (settled_if g v) a (Context y),
-        b, handed_count at c x n y, used-loses x (Context y), used-gains x (Context y), lost-contexts h v y, lost-gains h v (Context y), handed-gains f x (Context y), settled-loses g v (Context y), settled-gains g v (Context y)))
+      (λ u. omega (
+        arith,
+        gains-end (event.Status a (Returned (Some st))) (event.End a) (used x) (lost_if h v) (handed_if f x) (settled_if g v) a (Visit u),
+        loses-end (event.Status a (Returned (Some st))) (event.End a) (used x) (lost_if h v) (handed_if f x) (settled_if g v) a (Visit u),
+        count u,
+        used-loses x (Visit u),
+        used-gains x (Visit u),
+        lost-gains h v (Visit u),
+        handed-visits f x u,
+        handed-gains f x (Visit u),
+        settled-loses g v (Visit u),
+        settled-gains g v (Visit u),
+      ))
+      (λ y. let b = handed-contexts f x framed y in omega (
+        arith,
+        gains-end (event.Status a (Returned (Some st))) (event.End a) (used x) (lost_if h v) (handed_if f x) (settled_if g v) a (Context y),
+        loses-end (event.Status a (Returned (Some st))) (event.End a) (used x) (lost_if h v) (handed_if f x) (settled_if g v) a (Context y),
+        b,
+        handed_count at c x n y,
+        used-loses x (Context y),
+        used-gains x (Context y),
+        lost-contexts h v y,
+        lost-gains h v (Context y),
+        handed-gains f x (Context y),
+        settled-loses g v (Context y),
+        settled-gains g v (Context y),
+      ))
       (whole_turned st x v h f g store turned) (λ on. idle)
       ledger (whole_clean (Touched at store) st x v h f g (λ y e. held_touch at store ledger.older y (names_has at c x n y e)))
 
@@ -649,9 +719,9 @@ module _ {p : List Filter} {m : Moment} {a : ℕ} {s : Shadow} (at : IsAt p m a 
       let visit = pre_visit actor_place v stage_fits g in
       let registered : ((setting at).registered || not true) ≡ true = subst (λ k. ((setting at).registered || not k) ≡ true) ask.needs there'.1 in
       let own_post : has_post (callbacks_at p own_filter) (arrival_of m.world.store v).kind ≡ true =
-          registered_by actor_place v g (setting at).registered true (λ h. subst (λ q'. is_registered q.graph.callbacks q' ≡ true) (place_same q) h) registered in
+      registered_by actor_place v g (setting at).registered true (λ h. subst (λ q'. is_registered q.graph.callbacks q' ≡ true) (place_same q) h) registered in
       let post : has_post (callbacks_at p (world.visit_at m.world.store v).filter) (arrival_of m.world.store v).kind ≡ true =
-          subst (λ f. has_post (callbacks_at p f) (arrival_of m.world.store v).kind ≡ true) (sym visit.filter) own_post in
+      subst (λ f. has_post (callbacks_at p f) (arrival_of m.world.store v).kind ≡ true) (sym visit.filter) own_post in
       and_from _ _ (framed_by at v (has_post (callbacks_at p (world.visit_at m.world.store v).filter) (arrival_of m.world.store v).kind) (world.visit_at m.world.store v).stage true st d.0 named visit.stage post)
       (led_before at v visit.there visit.stage (has_visit at (operation_place Data) v owns))
 
@@ -666,7 +736,7 @@ module _ {p : List Filter} {m : Moment} {a : ℕ} {s : Shadow} (at : IsAt p m a 
       let so = and_parts _ _ both.1 in
       let so' = and_parts _ _ so.0 in
       let possessed : is_possessed (is_given_held v) (status_row (word_of st)).data ≡ true =
-          possessed_by (Some st) f v (operation_slot s Data) refl (ap value_of past) (slice_index_or k.operations 4 null_alone) (slot_has k.operations s.operations 4 q.means.operations) (status_row (word_of st)).data so'.0 in
+      possessed_by (Some st) f v (operation_slot s Data) refl (ap value_of past) (slice_index_or k.operations 4 null_alone) (slot_has k.operations s.operations 4 q.means.operations) (status_row (word_of st)).data so'.0 in
       let held : is_given_held v ≡ true = subst (λ d. is_possessed (is_given_held v) d ≡ true) ask.held possessed in
       let bad : true ≡ false = sym held ∙ gone in absurd (cc)
 
@@ -675,16 +745,20 @@ module _ {p : List Filter} {m : Moment} {a : ℕ} {s : Shadow} (at : IsAt p m a 
   answer_good : (st : Status) (c : Option ContextVariable) (x : Option ℕ) (v : ℕ) (ops : List Slot) → AtReturn (Some st) → context_of st ≡ c → Names at c x → value_of (operation_slot s Data) ≡ Some v →
       map value_of s.operations ≡ map value_of ops → ((u : ℕ) → loses (lost_if (is_given_held v) v) a (Visit u) + own_all u ops ≡ own_all u s.operations) → (is_some x ≡ true → makes_frame m.world.store v (way_of p m.world.store v (Returned (Some st))) ≡ true) →
       Turned a m.world.store (settled_by m.world.store v x (way_of p m.world.store v (Returned (Some st)))) (lost_if (is_given_held v) v ++ settled_if (settles_visit (way_of p m.world.store v (Returned (Some st)))) v) → ((u : ℕ) → own_all u ops ≡ 0) →
-      Good p m (record { world = record m.world { activations = set m.world.activations a ended_act; store = settled_by m.world.store v x (way_of p m.world.store v (Returned (Some st))) };
-        events = (event.Status a (Returned (Some st)) ∷ used x ++ ((lost_if (is_given_held v) v ++ handed_if (makes_frame m.world.store v (way_of p m.world.store v (Returned (Some st)))) x) ++ settled_if (settles_visit (way_of p m.world.store v (Returned (Some st)))) v)) ++ event.End a ∷ [] })
+      Good p m (record {
+        world = record m.world { activations = set m.world.activations a ended_act; store = settled_by m.world.store v x (way_of p m.world.store v (Returned (Some st))) };
+        events = (event.Status a (Returned (Some st)) ∷ used x ++ ((lost_if (is_given_held v) v ++ handed_if (makes_frame m.world.store v (way_of p m.world.store v (Returned (Some st)))) x) ++ settled_if (settles_visit (way_of p m.world.store v (Returned (Some st)))) v)) ++ event.End a ∷ [];
+      })
   answer_good st c x v ops r named n e values count framed turned idle =
       let way = way_of p m.world.store v (Returned (Some st)) in
       end_good st c x v (is_given_held v) (makes_frame m.world.store v way) (settles_visit way) ops (settled_by m.world.store v x way) r named n e refl values count framed
       (settled_parts p m.world.store v x way at.kept.stored (frames_by p m.world.store v (Returned (Some st)))) turned idle (whole_ledger st c x v (is_given_held v) (settles_visit way) way n e)
 
   slot_good : (st : Status) (c : Option ContextVariable) (x : Option ℕ) (v : ℕ) (slot : Slot) → AtReturn (Some st) → context_of st ≡ c → Names at c x → operation_slot s Data ≡ slot → value_of slot ≡ Some v →
-      Good p m (record { world = record m.world { activations = set m.world.activations a ended_act; store = settled_by m.world.store v x (way_of p m.world.store v (Returned (Some st))) };
-        events = (event.Status a (Returned (Some st)) ∷ used x ++ ((lost_if (is_given_held v) v ++ handed_if (makes_frame m.world.store v (way_of p m.world.store v (Returned (Some st)))) x) ++ settled_if (settles_visit (way_of p m.world.store v (Returned (Some st)))) v)) ++ event.End a ∷ [] })
+      Good p m (record {
+        world = record m.world { activations = set m.world.activations a ended_act; store = settled_by m.world.store v x (way_of p m.world.store v (Returned (Some st))) };
+        events = (event.Status a (Returned (Some st)) ∷ used x ++ ((lost_if (is_given_held v) v ++ handed_if (makes_frame m.world.store v (way_of p m.world.store v (Returned (Some st)))) x) ++ settled_if (settles_visit (way_of p m.world.store v (Returned (Some st)))) v)) ++ event.End a ∷ [];
+      })
   slot_good st c x v Unset r named n same e = absurd (cc)
   slot_good st c x v (Owns u) r named n same e =
       let q : u ≡ v = cc in

@@ -10,13 +10,13 @@ use Rattle.flt_rules.specs.declared.place.Operation.{Operation}
 use Rattle.flt_rules.specs.declared.place.Operation.TheVariants.{Create, Read, Write, Cleanup}
 use Rattle.flt_rules.specs.declared.place.Stage.{Stage}
 use Rattle.flt_rules.specs.declared.place.Stage.TheVariants as stage
-use Rattle.flt_syntax.specs.Filter.{head_place}
-use Rattle.flt_syntax.specs.declared.filter.Callback.{Callback}
-use Rattle.flt_syntax.specs.declared.filter.Filter.{Filter}
-use Rattle.flt_syntax.specs.declared.filter.Head.{Head}
-use Rattle.flt_syntax.specs.declared.filter.Head.TheVariants as head
-use Rattle.flt_syntax.specs.declared.filter.Status.{Status}
-use Rattle.flt_syntax.specs.declared.filter.Status.TheVariants as status
+use Rattle.flt_tree.specs.Filter.{head_place}
+use Rattle.flt_tree.specs.declared.filter.Callback.{Callback}
+use Rattle.flt_tree.specs.declared.filter.Filter.{Filter}
+use Rattle.flt_tree.specs.declared.filter.Head.{Head}
+use Rattle.flt_tree.specs.declared.filter.Head.TheVariants as head
+use Rattle.flt_tree.specs.declared.filter.Status.{Status}
+use Rattle.flt_tree.specs.declared.filter.Status.TheVariants as status
 use Rattle.flt_graph.specs.Lowering.{AreGraphsOf}
 use Rattle.flt_graph.specs.declared.graph.CallbackGraph.{CallbackGraph}
 use Rattle.flt_abs.specs.Setting as abs

@@ -12,9 +12,9 @@ use Rattle.flt_rules.specs.declared.place.Place.{Place}
 use Rattle.flt_rules.specs.declared.place.Place.TheVariants as place
 use Rattle.flt_rules.specs.declared.place.Stage.{Stage}
 use Rattle.flt_rules.specs.declared.place.Stage.TheVariants as stage
-use Rattle.flt_syntax.specs.Filter.{head_place}
-use Rattle.flt_syntax.specs.declared.filter.Callback.{Callback}
-use Rattle.flt_syntax.specs.declared.filter.Filter.{Filter}
+use Rattle.flt_tree.specs.Filter.{head_place}
+use Rattle.flt_tree.specs.declared.filter.Callback.{Callback}
+use Rattle.flt_tree.specs.declared.filter.Filter.{Filter}
 use Rattle.flt_model.specs.declared.event.Event.{Event}
 use Rattle.flt_model.specs.declared.moves.Key.{Key}
 use Rattle.flt_model.specs.declared.moves.Move.{Move}
@@ -100,7 +100,8 @@ module _ (laws : Laws) (p : List Filter) (ok : AreAccepted p) (m : Moment) (k : 
           | inl e ↦ rw (e, get_or-append_seam s.routes r [] no_route) tt
           | inr ne ↦ rw (get_or-other p m k s.routes r no_route o ne) (k.mine.frames o)
         ];
-        items = k.mine.items; links = k.mine.links;
+        items = k.mine.items;
+        links = k.mine.links;
       })
       (λ y. simp counts (omega (arith, sum_by_push (in_route y) s.routes r))) (λ y. simp counts)
 

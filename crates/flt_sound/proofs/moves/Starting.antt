@@ -6,12 +6,12 @@ use Rattle.std.proofs.lemmas.Bool.{cases_eq, cases_lt}
 use Rattle.std.proofs.lemmas.List.{get_or_past, length-append, length-map, map-append}
 use Rattle.std.proofs.lemmas.List.Sums.{sum_by-cons, sum_by_push}
 use Rattle.flt_rules.specs.declared.place.Mode.{Mode}
-use Rattle.flt_syntax.specs.Variable.{operation_place}
-use Rattle.flt_syntax.specs.declared.filter.Filter.{Filter}
-use Rattle.flt_syntax.specs.declared.filter.Statement.{Statement}
-use Rattle.flt_syntax.specs.declared.variable.OperationVariable.TheVariants.{Removed}
-use Rattle.flt_syntax.specs.declared.variable.RemovedVariable.{RemovedVariable}
-use Rattle.flt_syntax.specs.declared.variable.RemovedVariable.TheVariants.{O0, O1, O2, O3}
+use Rattle.flt_tree.specs.Variable.{operation_place}
+use Rattle.flt_tree.specs.declared.filter.Filter.{Filter}
+use Rattle.flt_tree.specs.declared.filter.Statement.{Statement}
+use Rattle.flt_tree.specs.declared.variable.OperationVariable.TheVariants.{Removed}
+use Rattle.flt_tree.specs.declared.variable.RemovedVariable.{RemovedVariable}
+use Rattle.flt_tree.specs.declared.variable.RemovedVariable.TheVariants.{O0, O1, O2, O3}
 use Rattle.flt_model.specs.declared.event.Event.{Event}
 use Rattle.flt_model.specs.declared.event.Object.{Object}
 use Rattle.flt_model.specs.declared.event.Object.TheVariants.{Context, Visit}
@@ -134,8 +134,14 @@ module _ (p : List Filter) (m : Moment) (k : Kept p m) where
   own_last : (y : ℕ) (x : Slot) → own_all y (replicate 8 Unset ++ x ∷ []) ≡ own y x
   unfolding own_all
   own_last y x =
-      omega (arith, sum_by-cons (own y) Unset (Unset ∷ Unset ∷ Unset ∷ Unset ∷ Unset ∷ Unset ∷ Unset ∷ x ∷ []), sum_by-cons (own y) Unset (Unset ∷ Unset ∷ Unset ∷ Unset ∷ Unset ∷ Unset ∷ x ∷ []), sum_by-cons (own y) Unset (Unset ∷ Unset ∷ Unset ∷ Unset ∷ Unset ∷ x ∷ []),
-      sum_by-cons (own y) Unset (Unset ∷ Unset ∷ Unset ∷ Unset ∷ x ∷ []), own_first y x)
+      omega (
+        arith,
+        sum_by-cons (own y) Unset (Unset ∷ Unset ∷ Unset ∷ Unset ∷ Unset ∷ Unset ∷ Unset ∷ x ∷ []),
+        sum_by-cons (own y) Unset (Unset ∷ Unset ∷ Unset ∷ Unset ∷ Unset ∷ Unset ∷ x ∷ []),
+        sum_by-cons (own y) Unset (Unset ∷ Unset ∷ Unset ∷ Unset ∷ Unset ∷ x ∷ []),
+        sum_by-cons (own y) Unset (Unset ∷ Unset ∷ Unset ∷ Unset ∷ x ∷ []),
+        own_first y x,
+      )
 
   no_slots : (v : ℕ) → own_all v [] ≡ 0
   no_slots v = own_none v [] (λ i. refl)
@@ -166,13 +172,13 @@ module _ (p : List Filter) (m : Moment) (k : Kept p m) where
       let es = gains_visit a gift ++ gains_context a arg in
       let events = gift_events a gift arg m.trace in
       let counted : (y : ℕ) → (context_at s y).references ≡ elsewhere y s + sum_by (keeps_context y) (k.shadows ++ new ∷ []) = λ y.
-          omega (arith, sum_by_push (keeps_context y) k.shadows new, own_last y (given arg), k.count y, ledger.refs y, gift_contexts a gift arg y, gift_loses a gift arg a (Context y)) in
+      omega (arith, sum_by_push (keeps_context y) k.shadows new, own_last y (given arg), k.count y, ledger.refs y, gift_contexts a gift arg y, gift_loses a gift arg a (Context y)) in
       let frees_all : (y : ℕ) → frees (m.trace ++ es) y + alive (context_at s y).references ≡ made y (length s.contexts) = λ y. omega (arith, frees-append m.trace es y, k.freed y, ledger.freed y) in
       let touch : (y : ℕ) → arg ≡ Some y → Touch (starts m.world s actor body gift arg).world m.trace a y = λ y e.
-          let one : own y (given arg) ≡ 1 = ap (λ x. own y (given x)) e ∙ one_if-same y in
-          let free = not_freed (frees (m.trace ++ es) y) (context_at s y).references y (length s.contexts) (frees_all y) (omega (arith, counted y, sum_by_push (keeps_context y) k.shadows new, own_last y (given arg), one)) in
-          let who : get_or (m.world.actors ++ actor ∷ []) a no_actor ≡ actor = subst (λ i. get_or (m.world.actors ++ actor ∷ []) i no_actor ≡ actor) (k.long ∙ sym long_acts) (get_or-append_seam m.world.actors actor [] no_actor) in
-          (omega (arith, free, frees-append m.trace es y), subst (λ (x : Actor). IsOf s.contexts x.filter y) (sym who) (subst (λ x. Belongs s.contexts actor.filter x) e own_arg)) in
+      let one : own y (given arg) ≡ 1 = ap (λ x. own y (given x)) e ∙ one_if-same y in
+      let free = not_freed (frees (m.trace ++ es) y) (context_at s y).references y (length s.contexts) (frees_all y) (omega (arith, counted y, sum_by_push (keeps_context y) k.shadows new, own_last y (given arg), one)) in
+      let who : get_or (m.world.actors ++ actor ∷ []) a no_actor ≡ actor = subst (λ i. get_or (m.world.actors ++ actor ∷ []) i no_actor ≡ actor) (k.long ∙ sym long_acts) (get_or-append_seam m.world.actors actor [] no_actor) in
+      (omega (arith, free, frees-append m.trace es y), subst (λ (x : Actor). IsOf s.contexts x.filter y) (sym who) (subst (λ x. Belongs s.contexts actor.filter x) e own_arg)) in
       let past : get_or k.shadows n no_one ≡ no_one = get_or_past k.shadows n no_one (omega arith) in
       let stood : Stood s.visits s.arrivals p actor new = record {
         placed = placed;

@@ -7,7 +7,7 @@ use Rattle.std.proofs.lemmas.List.Sums.{get_or-le-sum_by}
 use Rattle.std.specs.List.{list_all}
 use Rattle.flt_rules.specs.declared.call.Call.{Call}
 use Rattle.flt_rules.specs.declared.call.LockNumber.{LockNumber}
-use Rattle.flt_syntax.specs.declared.filter.Filter.{Filter}
+use Rattle.flt_tree.specs.declared.filter.Filter.{Filter}
 use Rattle.flt_model.specs.declared.event.Answer.{Answer}
 use Rattle.flt_model.specs.declared.event.Event.{Event}
 use Rattle.flt_model.specs.declared.event.Event.TheVariants as event
@@ -62,62 +62,122 @@ module _ {p : List Filter} {m : Moment} {a : ℕ} where
   module _ {t es : List Event} where
     pub uses : {o : Object} → Has t a o → Events p m a (t ++ event.Use a o ∷ []) es → Events p m a t (event.Use a o ∷ es)
     uses {o} h e = record {
-      had = use_then h e.had; leak = e.leak; legal = e.legal; low = e.low; disciplined = e.disciplined; in_place = e.in_place;
-      no_gain = λ b ne x. simp counts (omega (arith, e.no_gain b ne x)); no_loss = λ b ne x. simp counts (omega (arith, e.no_loss b ne x));
+      had = use_then h e.had;
+      leak = e.leak;
+      legal = e.legal;
+      low = e.low;
+      disciplined = e.disciplined;
+      in_place = e.in_place;
+      no_gain = λ b ne x. simp counts (omega (arith, e.no_gain b ne x));
+      no_loss = λ b ne x. simp counts (omega (arith, e.no_loss b ne x));
     }
 
     pub lost : {o : Object} → Has t a o → Events p m a (t ++ event.Lose a o ∷ []) es → Events p m a t (event.Lose a o ∷ es)
     lost {o} h e = record {
-      had = lose_then h e.had; leak = e.leak; legal = e.legal; low = e.low; disciplined = e.disciplined; in_place = e.in_place;
-      no_gain = λ b ne x. simp counts (omega (arith, e.no_gain b ne x)); no_loss = λ b ne x. simp counts (omega (arith, of_actor-other a b (same_object o x) ne, e.no_loss b ne x));
+      had = lose_then h e.had;
+      leak = e.leak;
+      legal = e.legal;
+      low = e.low;
+      disciplined = e.disciplined;
+      in_place = e.in_place;
+      no_gain = λ b ne x. simp counts (omega (arith, e.no_gain b ne x));
+      no_loss = λ b ne x. simp counts (omega (arith, of_actor-other a b (same_object o x) ne, e.no_loss b ne x));
     }
 
     pub gained : (o : Object) → Events p m a (t ++ event.Gain a o ∷ []) es → Events p m a t (event.Gain a o ∷ es)
     gained o e = record {
-      had = other_then (event.Gain a o) refl e.had; leak = e.leak; legal = e.legal; low = e.low; disciplined = e.disciplined; in_place = e.in_place;
-      no_gain = λ b ne x. simp counts (omega (arith, of_actor-other a b (same_object o x) ne, e.no_gain b ne x)); no_loss = λ b ne x. simp counts (omega (arith, e.no_loss b ne x));
+      had = other_then (event.Gain a o) refl e.had;
+      leak = e.leak;
+      legal = e.legal;
+      low = e.low;
+      disciplined = e.disciplined;
+      in_place = e.in_place;
+      no_gain = λ b ne x. simp counts (omega (arith, of_actor-other a b (same_object o x) ne, e.no_gain b ne x));
+      no_loss = λ b ne x. simp counts (omega (arith, e.no_loss b ne x));
     }
 
     pub freed : (x : ℕ) → Events p m a (t ++ event.Free x ∷ []) es → Events p m a t (event.Free x ∷ es)
     freed x e = record {
-      had = other_then (event.Free x) refl e.had; leak = e.leak; legal = e.legal; low = e.low; disciplined = e.disciplined; in_place = e.in_place;
-      no_gain = λ b ne x. simp counts (omega (arith, e.no_gain b ne x)); no_loss = λ b ne x. simp counts (omega (arith, e.no_loss b ne x));
+      had = other_then (event.Free x) refl e.had;
+      leak = e.leak;
+      legal = e.legal;
+      low = e.low;
+      disciplined = e.disciplined;
+      in_place = e.in_place;
+      no_gain = λ b ne x. simp counts (omega (arith, e.no_gain b ne x));
+      no_loss = λ b ne x. simp counts (omega (arith, e.no_loss b ne x));
     }
 
     pub settled : (v : ℕ) → Events p m a (t ++ event.Settle v ∷ []) es → Events p m a t (event.Settle v ∷ es)
     settled v e = record {
-      had = other_then (event.Settle v) refl e.had; leak = e.leak; legal = e.legal; low = e.low; disciplined = e.disciplined; in_place = e.in_place;
-      no_gain = λ b ne x. simp counts (omega (arith, e.no_gain b ne x)); no_loss = λ b ne x. simp counts (omega (arith, e.no_loss b ne x));
+      had = other_then (event.Settle v) refl e.had;
+      leak = e.leak;
+      legal = e.legal;
+      low = e.low;
+      disciplined = e.disciplined;
+      in_place = e.in_place;
+      no_gain = λ b ne x. simp counts (omega (arith, e.no_gain b ne x));
+      no_loss = λ b ne x. simp counts (omega (arith, e.no_loss b ne x));
     }
 
     pub called : (k : Call) → Cleared p m a k → may_pend p m.world m.trace a k ≡ true → Events p m a (t ++ event.Call a k ∷ []) es → Events p m a t (event.Call a k ∷ es)
     called k c h e = record {
-      had = other_then (event.Call a k) refl e.had; leak = e.leak; legal = and_from _ _ h e.legal; low = and_from _ _ c.low e.low; disciplined = e.disciplined; in_place = and_from _ _ c.in_place e.in_place;
-      no_gain = λ b ne x. simp counts (omega (arith, e.no_gain b ne x)); no_loss = λ b ne x. simp counts (omega (arith, e.no_loss b ne x));
+      had = other_then (event.Call a k) refl e.had;
+      leak = e.leak;
+      legal = and_from _ _ h e.legal;
+      low = and_from _ _ c.low e.low;
+      disciplined = e.disciplined;
+      in_place = and_from _ _ c.in_place e.in_place;
+      no_gain = λ b ne x. simp counts (omega (arith, e.no_gain b ne x));
+      no_loss = λ b ne x. simp counts (omega (arith, e.no_loss b ne x));
     }
 
     pub answered : (x : Answer) → may_answer p m.world m.trace a x ≡ true → Events p m a (t ++ event.Status a x ∷ []) es → Events p m a t (event.Status a x ∷ es)
     answered x h e = record {
-      had = other_then (event.Status a x) refl e.had; leak = e.leak; legal = and_from _ _ h e.legal; low = e.low; disciplined = e.disciplined; in_place = e.in_place;
-      no_gain = λ b ne x. simp counts (omega (arith, e.no_gain b ne x)); no_loss = λ b ne x. simp counts (omega (arith, e.no_loss b ne x));
+      had = other_then (event.Status a x) refl e.had;
+      leak = e.leak;
+      legal = and_from _ _ h e.legal;
+      low = e.low;
+      disciplined = e.disciplined;
+      in_place = e.in_place;
+      no_gain = λ b ne x. simp counts (omega (arith, e.no_gain b ne x));
+      no_loss = λ b ne x. simp counts (omega (arith, e.no_loss b ne x));
     }
 
     pub locked : (l : LockNumber) → not (holds_lock l (activation_at m.world a).locks) ≡ true → Events p m a (t ++ event.Lock a l ∷ []) es → Events p m a t (event.Lock a l ∷ es)
     locked l h e = record {
-      had = other_then (event.Lock a l) refl e.had; leak = e.leak; legal = e.legal; low = e.low; disciplined = and_from _ _ h e.disciplined; in_place = e.in_place;
-      no_gain = λ b ne x. simp counts (omega (arith, e.no_gain b ne x)); no_loss = λ b ne x. simp counts (omega (arith, e.no_loss b ne x));
+      had = other_then (event.Lock a l) refl e.had;
+      leak = e.leak;
+      legal = e.legal;
+      low = e.low;
+      disciplined = and_from _ _ h e.disciplined;
+      in_place = e.in_place;
+      no_gain = λ b ne x. simp counts (omega (arith, e.no_gain b ne x));
+      no_loss = λ b ne x. simp counts (omega (arith, e.no_loss b ne x));
     }
 
     pub unlocked : (l : LockNumber) → is_latest l (activation_at m.world a).locks ≡ true → Events p m a (t ++ event.Unlock a l ∷ []) es → Events p m a t (event.Unlock a l ∷ es)
     unlocked l h e = record {
-      had = other_then (event.Unlock a l) refl e.had; leak = e.leak; legal = e.legal; low = e.low; disciplined = and_from _ _ h e.disciplined; in_place = e.in_place;
-      no_gain = λ b ne x. simp counts (omega (arith, e.no_gain b ne x)); no_loss = λ b ne x. simp counts (omega (arith, e.no_loss b ne x));
+      had = other_then (event.Unlock a l) refl e.had;
+      leak = e.leak;
+      legal = e.legal;
+      low = e.low;
+      disciplined = and_from _ _ h e.disciplined;
+      in_place = e.in_place;
+      no_gain = λ b ne x. simp counts (omega (arith, e.no_gain b ne x));
+      no_loss = λ b ne x. simp counts (omega (arith, e.no_loss b ne x));
     }
 
     pub ended : is_empty (activation_at m.world a).locks ≡ true → ((x : ℕ) → gains t a (Context x) ≤ loses t a (Context x)) → Events p m a (t ++ event.End a ∷ []) es → Events p m a t (event.End a ∷ es)
     ended h none_left e = record {
-      had = other_then (event.End a) refl e.had; leak = and_from _ _ (let_go t t a none_left) e.leak; legal = e.legal; low = e.low; disciplined = and_from _ _ h e.disciplined; in_place = e.in_place;
-      no_gain = λ b ne x. simp counts (omega (arith, e.no_gain b ne x)); no_loss = λ b ne x. simp counts (omega (arith, e.no_loss b ne x));
+      had = other_then (event.End a) refl e.had;
+      leak = and_from _ _ (let_go t t a none_left) e.leak;
+      legal = e.legal;
+      low = e.low;
+      disciplined = and_from _ _ h e.disciplined;
+      in_place = e.in_place;
+      no_gain = λ b ne x. simp counts (omega (arith, e.no_gain b ne x));
+      no_loss = λ b ne x. simp counts (omega (arith, e.no_loss b ne x));
     }
 
 -- a reference that is dropped

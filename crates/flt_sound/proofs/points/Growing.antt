@@ -7,7 +7,7 @@ use Rattle.flt_rules.specs.declared.place.Place.{Place}
 use Rattle.flt_rules.specs.declared.place.Place.TheVariants as place
 use Rattle.flt_rules.specs.declared.place.Stage.{Stage}
 use Rattle.flt_rules.specs.declared.place.Stage.TheVariants as stage
-use Rattle.flt_syntax.specs.declared.filter.Filter.{Filter}
+use Rattle.flt_tree.specs.declared.filter.Filter.{Filter}
 use Rattle.flt_model.specs.World as world
 use Rattle.flt_model.specs.World.{Actor, Arrival, Entry, Item, no_visit, no_arrival}
 use Rattle.flt_sound.proofs.sums.Eaches.{Each}

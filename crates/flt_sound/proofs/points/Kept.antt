@@ -13,10 +13,10 @@ use Rattle.flt_rules.specs.declared.place.Place.{Place}
 use Rattle.flt_rules.specs.declared.place.Place.TheVariants as place
 use Rattle.flt_rules.specs.declared.place.Stage.{Stage}
 use Rattle.flt_rules.specs.declared.place.Stage.TheVariants as stage
-use Rattle.flt_syntax.specs.declared.filter.Callback.{Callback}
-use Rattle.flt_syntax.specs.declared.filter.Filter.{Filter}
-use Rattle.flt_syntax.specs.declared.variable.OperationVariable.TheVariants.{Removed, Data}
-use Rattle.flt_syntax.specs.declared.variable.RemovedVariable.{RemovedVariable}
+use Rattle.flt_tree.specs.declared.filter.Callback.{Callback}
+use Rattle.flt_tree.specs.declared.filter.Filter.{Filter}
+use Rattle.flt_tree.specs.declared.variable.OperationVariable.TheVariants.{Removed, Data}
+use Rattle.flt_tree.specs.declared.variable.RemovedVariable.{RemovedVariable}
 use Rattle.flt_model.specs.declared.event.Event.{Event}
 use Rattle.flt_model.specs.declared.event.Object.{Object}
 use Rattle.flt_model.specs.declared.event.Object.TheVariants.{Context, Visit}
@@ -266,7 +266,6 @@ module _ (p : List Filter) (m : Moment) (a : ℕ) (old new : Shadow) (s : Store)
           | inr ne ↦ rw (get_or-set_other k.shadows a b new no_one ne) (λ has. l.older (actor_at m.world b).filter x (k.owns b x has))
         ];
       }
-
 
 -- ---- what an activation holds it may use
 

@@ -6,16 +6,16 @@ use Rattle.std.proofs.lemmas.List.{get_or_past}
 use Rattle.flt_rules.specs.declared.place.Place.{Place}
 use Rattle.flt_rules.specs.declared.rule.Rule.{Rule}
 use Rattle.flt_rules.specs.declared.rule.Rule.TheVariants.{R01, R02, R03, R04, R05, R06, R07, R08, R09, R10, R11, R13, R15}
-use Rattle.flt_syntax.specs.Filter.{head_place}
-use Rattle.flt_syntax.specs.WellFormed.{IsWellFormed}
-use Rattle.flt_syntax.specs.declared.filter.Action.{Action}
-use Rattle.flt_syntax.specs.declared.filter.Callback.{Callback}
-use Rattle.flt_syntax.specs.declared.filter.Condition.{Condition}
-use Rattle.flt_syntax.specs.declared.filter.Filter.{Filter}
-use Rattle.flt_syntax.specs.declared.filter.PlainCall.{PlainCall}
-use Rattle.flt_syntax.specs.declared.filter.Statement.{Statement, out-Statement}
-use Rattle.flt_syntax.specs.declared.filter.Statement.TheOpen.{Statement-F}
-use Rattle.flt_syntax.specs.declared.filter.Status.{Status}
+use Rattle.flt_tree.specs.Filter.{head_place}
+use Rattle.flt_tree.specs.WellFormed.{IsWellFormed}
+use Rattle.flt_tree.specs.declared.filter.Action.{Action}
+use Rattle.flt_tree.specs.declared.filter.Callback.{Callback}
+use Rattle.flt_tree.specs.declared.filter.Condition.{Condition}
+use Rattle.flt_tree.specs.declared.filter.Filter.{Filter}
+use Rattle.flt_tree.specs.declared.filter.PlainCall.{PlainCall}
+use Rattle.flt_tree.specs.declared.filter.Statement.{Statement, out-Statement}
+use Rattle.flt_tree.specs.declared.filter.Statement.TheOpen.{Statement-F}
+use Rattle.flt_tree.specs.declared.filter.Status.{Status}
 use Rattle.flt_graph.specs.Graph.{point_in, callback_at, place_at, instruction_at, points_at}
 use Rattle.flt_graph.specs.Instruction.{plain}
 use Rattle.flt_graph.specs.Lowering.{IsGraphOf, IsLowered, end_of}
@@ -152,9 +152,8 @@ module _ {p : List Filter} {f : ℕ} {place : Place} {rest : List Statement} {t 
   fine i e =
       let steps = q.covers.steps q.number q.point q.state callback_there point_there q.reached in
       let none : first_broken (setting_of q.graph q.number q.state) q.state here ≡ None =
-          none_broken (first_broken (setting_of q.graph q.number q.state) q.state here) (leads_to q.state here) steps.0 steps.1 in
+      none_broken (first_broken (setting_of q.graph q.number q.state) q.state here) (leads_to q.state here) steps.0 steps.1 in
       fine_of (breaks (setting_of q.graph q.number q.state) q.state i) (subst (λ j. first_broken (setting_of q.graph q.number q.state) q.state j ≡ None) e none)
-
 
 -- ---- where it goes on
 
@@ -199,7 +198,7 @@ module _ {p : List Filter} {f : ℕ} {place : Place} {rest : List Statement} {t 
       let may' : may_come_out (here q) t outcome ≡ true = subst (λ j. may_come_out j t outcome ≡ true) (sym e) may in
       let reaches = q.laws.follows q.graph q.number q.point q.state t steps.0 outcome gives steps.1 q.means may' in
       let stands : StandsAt q.callback.body (successor (here q) outcome) (Some list) =
-          subst (λ o. StandsAt q.callback.body (successor (here q) outcome) o) r (q.laws.next q.filter.callbacks q.callback (callback_at q.graph q.number) q.point rest outcome graph_of q.stands) in
+      subst (λ o. StandsAt q.callback.body (successor (here q) outcome) o) r (q.laws.next q.filter.callbacks q.callback (callback_at q.graph q.number) q.point rest outcome graph_of q.stands) in
       subst (λ j. Placed p f place list (leaves j outcome gives t)) e
       (led_on (side steps.0 outcome) (successor (here q) outcome) list (leaves (here q) outcome gives t) reaches (led steps.0 outcome steps.2 steps.3) stands)
 

@@ -6,14 +6,14 @@ use Rattle.std.proofs.Math.Seq.{map-set_same}
 use Rattle.std.proofs.lemmas.List.{map-set, length-set}
 use Rattle.flt_rules.specs.Table.{row}
 use Rattle.flt_rules.specs.declared.columns.Effects.{Effects}
-use Rattle.flt_syntax.specs.Variable.{context_place, operation_place}
-use Rattle.flt_syntax.specs.declared.filter.Action.{Action}
-use Rattle.flt_syntax.specs.declared.filter.Filter.{Filter}
-use Rattle.flt_syntax.specs.declared.filter.Test.{Test}
-use Rattle.flt_syntax.specs.declared.filter.Statement.{Statement}
-use Rattle.flt_syntax.specs.declared.variable.ContextVariable.{ContextVariable}
-use Rattle.flt_syntax.specs.declared.variable.OperationVariable.{OperationVariable}
-use Rattle.flt_syntax.specs.declared.variable.OperationVariable.TheVariants.{Removed, Data}
+use Rattle.flt_tree.specs.Variable.{context_place, operation_place}
+use Rattle.flt_tree.specs.declared.filter.Action.{Action}
+use Rattle.flt_tree.specs.declared.filter.Filter.{Filter}
+use Rattle.flt_tree.specs.declared.filter.Test.{Test}
+use Rattle.flt_tree.specs.declared.filter.Statement.{Statement}
+use Rattle.flt_tree.specs.declared.variable.ContextVariable.{ContextVariable}
+use Rattle.flt_tree.specs.declared.variable.OperationVariable.{OperationVariable}
+use Rattle.flt_tree.specs.declared.variable.OperationVariable.TheVariants.{Removed, Data}
 use Rattle.flt_graph.specs.Points.{remaining}
 use Rattle.flt_graph.specs.declared.instruction.Instruction.TheVariants as instruction
 use Rattle.flt_graph.specs.declared.instruction.Invocation.{Invocation}
@@ -249,7 +249,7 @@ module _ {p : List Filter} {m : Moment} {a : ℕ} {s : Shadow} (at : IsAt p m a 
         events = λ es f. event_called k c h (uses (k1 o has) (f ((m.trace ++ event.Call a k ∷ []) ++ event.Use a o ∷ []) k2));
         gains_none = λ b o. simp counts;
         loses_none = λ b o. simp counts;
-    settles_none = λ v. simp counts;
+        settles_none = λ v. simp counts;
         frees_none = λ x. simp counts;
         clean = λ store older es c. use_clean (Touched store) a o es (λ x e. held_touch store older x (subst (λ o. Has m.trace a o) e has)) c;
       }
@@ -263,7 +263,7 @@ module _ {p : List Filter} {m : Moment} {a : ℕ} {s : Shadow} (at : IsAt p m a 
         events = λ es f. event_called k c h (uses (k1 o has) (uses (k2 q has') (f (((m.trace ++ event.Call a k ∷ []) ++ event.Use a o ∷ []) ++ event.Use a q ∷ []) k3)));
         gains_none = λ b o. simp counts;
         loses_none = λ b o. simp counts;
-    settles_none = λ v. simp counts;
+        settles_none = λ v. simp counts;
         frees_none = λ x. simp counts;
         clean = λ store older es c. use_clean (Touched store) a o (event.Use a q ∷ es) (λ x e. held_touch store older x (subst (λ o. Has m.trace a o) e has)) (use_clean (Touched store) a q es (λ x e. held_touch store older x (subst (λ o. Has m.trace a o) e has')) c);
       }
@@ -392,7 +392,7 @@ module _ {p : List Filter} {m : Moment} {a : ℕ} {s : Shadow} (at : IsAt p m a 
       new.ended ≡ false → Stood m.world.store.visits m.world.store.arrivals p (actor_at m.world a) new
   stood_after new values owned d w b placed on =
       let same : value_of (operation_slot new Data) ≡ value_of (operation_slot s Data) =
-          sym (get_or-map value_of new.operations 4 Unset) ∙ (ap (λ l. get_or l 4 None) values ∙ get_or-map value_of s.operations 4 Unset) in
+      sym (get_or-map value_of new.operations 4 Unset) ∙ (ap (λ l. get_or l 4 None) values ∙ get_or-map value_of s.operations 4 Unset) in
       record {
         placed = placed;
         given = rw (same, d) was.given;

@@ -2,14 +2,14 @@
 use Rattle.std.proofs.Common.{◌≡◌, ℕ, zero, suc, ◌+◌, ◌<◌, ◌≤◌, Bool, true, false, List, [], ◌∷◌, length, Option, Some, None, refl, ap, sym, subst, ◌∙◌, arith, inl, inr, lit≤}
 use Rattle.std.specs.Prelude.{◌&&◌, not, is_none, IsTrue}
 use Rattle.std.proofs.lemmas.Bool.{and_parts, cases_lt, cases_eq}
-use Rattle.flt_syntax.specs.WellFormed as fine
-use Rattle.flt_syntax.specs.WellFormed.{IsWellFormed, IsPlain, IsStatement, AreCallbacks}
-use Rattle.flt_syntax.specs.declared.filter.Callback.{Callback}
-use Rattle.flt_syntax.specs.declared.filter.Filter.{Filter}
-use Rattle.flt_syntax.specs.declared.filter.Head.{Head}
-use Rattle.flt_syntax.specs.declared.filter.Statement.{Statement, out-Statement}
-use Rattle.flt_syntax.specs.declared.filter.Statement.TheFolds.{map-Statement, fold_out-Statement, para-Statement, para-roll-Statement}
-use Rattle.flt_syntax.specs.declared.filter.Statement.TheViews.{roll-out-Statement}
+use Rattle.flt_tree.specs.WellFormed as fine
+use Rattle.flt_tree.specs.WellFormed.{IsWellFormed, IsPlain, IsStatement, AreCallbacks}
+use Rattle.flt_tree.specs.declared.filter.Callback.{Callback}
+use Rattle.flt_tree.specs.declared.filter.Filter.{Filter}
+use Rattle.flt_tree.specs.declared.filter.Head.{Head}
+use Rattle.flt_tree.specs.declared.filter.Statement.{Statement, out-Statement}
+use Rattle.flt_tree.specs.declared.filter.Statement.TheFolds.{map-Statement, fold_out-Statement, para-Statement, para-roll-Statement}
+use Rattle.flt_tree.specs.declared.filter.Statement.TheViews.{roll-out-Statement}
 use Rattle.flt_graph.specs.Codes.{Code, code_step, statement_code, block_code}
 use Rattle.flt_graph.specs.Graph.{points_at}
 use Rattle.flt_graph.specs.Lowering.{IsLowered, graph_of}
@@ -19,13 +19,12 @@ use Rattle.flt_check.specs.Checker.{AgreeOnCounts, Covers, IsFaultless, NoneIn, 
 use Rattle.flt_model.specs.WorkedParts.{computed, release_if}
 use Rattle.flt_rules.specs.declared.call.LockKind.TheVariants.{Push}
 use Rattle.flt_rules.specs.declared.call.LockNumber.TheVariants.{L0}
-use Rattle.flt_syntax.specs.Measures.{are_small, points_of, points_step, cost_of, cost_step}
-use Rattle.flt_syntax.specs.Scope.{same_lock_kind}
-use Rattle.flt_syntax.specs.Spelling.{AreWhole, statement_finds, finds_step}
-use Rattle.flt_syntax.specs.declared.filter.Lock.{Lock}
-use Rattle.flt_syntax.specs.declared.filter.PlainCall.TheVariants as plain
-use Rattle.flt_syntax.specs.declared.variable.ContextVariable.{ContextVariable}
-use Rattle.flt_syntax.specs.declared.variable.ContextVariable.TheVariants.{C0, Arg}
+use Rattle.flt_tree.specs.Measures.{are_small, points_of, points_step, cost_of, cost_step}
+use Rattle.flt_tree.specs.Declarations.{same_lock_kind, AreWhole, statement_finds, finds_step}
+use Rattle.flt_tree.specs.declared.filter.Lock.{Lock}
+use Rattle.flt_tree.specs.declared.filter.PlainCall.TheVariants as plain
+use Rattle.flt_tree.specs.declared.variable.ContextVariable.{ContextVariable}
+use Rattle.flt_tree.specs.declared.variable.ContextVariable.TheVariants.{C0, Arg}
 use Rattle.flt_sound.specs.Accepted.{IsAccepted, AreAccepted}
 use Rattle.flt_sound.specs.Worked.{worked, worked_graph, certificate}
 
@@ -44,23 +43,23 @@ bodies : AreCallbacks worked.locks true worked.callbacks
 bodies = (
   tt,
   fine.go_on
-  (fine.choice tt
-  (fine.block (fine.go_on
-  (fine.choice refl
-  (fine.block (fine.go_on (fine.choice refl (fine.block fine.empty) fine.no_else) (fine.go_on fine.return fine.empty))) fine.no_else) fine.empty)) fine.no_else)
-  (fine.go_on fine.return fine.empty),
+      (fine.choice tt
+      (fine.block (fine.go_on
+      (fine.choice refl
+      (fine.block (fine.go_on (fine.choice refl (fine.block fine.empty) fine.no_else) (fine.go_on fine.return fine.empty))) fine.no_else) fine.empty)) fine.no_else)
+      (fine.go_on fine.return fine.empty),
   (
     tt,
     fine.go_on (fine.call lock_declared)
-    (fine.go_on (fine.call lock_declared)
-    (fine.go_on (fine.choice tt (fine.block (fine.go_on fine.return fine.empty)) fine.no_else) (fine.go_on fine.return fine.empty))),
+        (fine.go_on (fine.call lock_declared)
+        (fine.go_on (fine.choice tt (fine.block (fine.go_on fine.return fine.empty)) fine.no_else) (fine.go_on fine.return fine.empty))),
     (
       tt,
       fine.go_on (releases Arg) (fine.go_on fine.return fine.empty),
       (
         refl,
         fine.go_on (releases Arg)
-        (fine.go_on (fine.choice refl (fine.block (fine.go_on (releases C0) (fine.go_on (fine.call tt) fine.empty))) fine.no_else) fine.empty),
+            (fine.go_on (fine.choice refl (fine.block (fine.go_on (releases C0) (fine.go_on (fine.call tt) fine.empty))) fine.no_else) fine.empty),
         (tt, fine.go_on (releases Arg) (fine.go_on (fine.call tt) fine.empty), tt),
       ),
     ),
@@ -128,7 +127,7 @@ below_holds : (n : ℕ) (test : ℕ → Bool) → all_below n test ≡ true → 
 below_holds zero test h k low = absurd (omega arith)
 below_holds (suc n) test h k low =
     let parts = and_parts (test n) (all_below n test) h in
-    elim (cases_eq k n) [ | inl same ↦ rw same parts.0 | inr other ↦ below_holds n test parts.1 k (omega arith) ]
+    elim (cases_eq k n) [ inl same ↦ rw same parts.0 | inr other ↦ below_holds n test parts.1 k (omega arith) ]
 
 is_none_none : {A : Type 0} (o : Option A) → is_none o ≡ true → o ≡ None
 is_none_none None e = refl

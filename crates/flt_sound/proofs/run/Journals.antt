@@ -2,7 +2,7 @@
 -- anything.
 use Rattle.std.proofs.Common.{◌≡◌, ℕ, zero, suc, ◌<◌, Bool, true, false, List, [], ◌∷◌, length, Option, Some, None, refl, ap, sym, ◌∙◌, arith}
 use Rattle.std.specs.Prelude.{nat_lt, slice_index_or, if◌then◌else◌, option_map}
-use Rattle.flt_syntax.specs.declared.filter.Filter.{Filter}
+use Rattle.flt_tree.specs.declared.filter.Filter.{Filter}
 use Rattle.flt_model.specs.Expansion.{IsBrokenAt, verdict}
 use Rattle.flt_model.specs.Program.{by_altitude, put_by_altitude}
 use Rattle.flt_model.specs.Runs.{Break, breaks}

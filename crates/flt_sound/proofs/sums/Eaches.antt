@@ -78,7 +78,6 @@ each_last P [] y h e = absurd (cc)
 each_last P (f ∷ []) y h e = let same : f ≡ y = cc in subst P same h.0
 each_last P (f ∷ g ∷ xs) y h e = each_last P (g ∷ xs) y h.1 e
 
-
 pub each_map : {X : Type 0} (P Q : X → Type 0) (xs : List X) → ((x : X) → P x → Q x) → Each P xs → Each Q xs
 each_map P Q [] f h = tt
 each_map P Q (x ∷ xs) f h = (f x h.0, each_map P Q xs f h.1)

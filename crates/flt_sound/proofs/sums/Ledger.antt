@@ -472,7 +472,9 @@ module _ (a : ℕ) (s : Store) (k : Mine s) where
   queue_mine : (f : ℕ) (queue : List Entry) → Each (λ (e : Entry). Belongs s.contexts f e.context) queue → Mine (with_queue s f queue)
   queue_mine f queue h = record {
     entries = each_set (λ g (e : Entry). Belongs s.contexts g e.context) s.queues f queue k.entries h;
-    frames = k.frames; items = k.items; links = k.links;
+    frames = k.frames;
+    items = k.items;
+    links = k.links;
   }
 
   pub enqueues : (f : ℕ) (e : Entry) → f < length s.queues → Belongs s.contexts f e.context → Ledger a s (with_queue s f (queue_at s f ++ e ∷ [])) (event.Lose a (Visit e.visit) ∷ loses_context a e.context)
@@ -509,7 +511,8 @@ module _ (a : ℕ) (s : Store) (k : Mine s) where
   route_mine o r h = record {
     entries = k.entries;
     frames = route_set (λ q (r : Frame). Belongs s.contexts r.filter r.context) s.routes o r k.frames h;
-    items = k.items; links = k.links;
+    items = k.items;
+    links = k.links;
   }
 
   and_none : (b : Bool) (n : ℕ) → (if b && false then n else 0) ≡ 0

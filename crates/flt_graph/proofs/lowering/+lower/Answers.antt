@@ -1,7 +1,7 @@
 use Rattle.std.proofs.Common.{◌≡◌, ◌+◌, ◌∙◌, length, drop, sym, ap, arith}
 use Rattle.std.proofs.lemmas.List.{length-append}
 use Rattle.std.proofs.lemmas.Result.{on_ok_weaker}
-use Rattle.flt_syntax.specs.Measures.{points_of}
+use Rattle.flt_tree.specs.Measures.{points_of}
 use Rattle.flt_graph.specs.Points.{entry}
 use Rattle.flt_graph.specs.declared.graph.Point.{Point}
 use Rattle.flt_graph.proofs.Added.{added_if, added_repeat, added_more, added_all, added_plain, entry_last, entry_next, is_plain, points_more, points_plain, points_repeat}

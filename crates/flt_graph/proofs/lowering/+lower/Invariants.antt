@@ -1,5 +1,5 @@
 use Rattle.std.proofs.Common.{◌≡◌, ◌+◌, ◌++◌, drop, length}
-use Rattle.flt_syntax.specs.Measures.{points}
+use Rattle.flt_tree.specs.Measures.{points}
 use Rattle.flt_graph.proofs.lowering.+lower.Given as goal
 use Rattle.flt_graph.specs.Codes.{block_code}
 

@@ -1,5 +1,5 @@
 use Rattle.std.proofs.Common.{◌≡◌, ◌+◌, drop}
-use Rattle.flt_syntax.specs.Measures.{points}
+use Rattle.flt_tree.specs.Measures.{points}
 use Rattle.flt_graph.proofs.lowering.+size.Given as goal
 
 abbrev pub invariant-total-loop-statement : goal.invariant-total-loop-statement

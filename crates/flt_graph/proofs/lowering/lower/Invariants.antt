@@ -1,5 +1,5 @@
 use Rattle.std.proofs.Common.{◌≡◌, map, take}
-use Rattle.flt_syntax.specs.declared.filter.Lock.{Lock}
+use Rattle.flt_tree.specs.declared.filter.Lock.{Lock}
 use Rattle.flt_graph.specs.Lowering.{AreGraphsOf}
 use Rattle.flt_graph.proofs.lowering.lower.Given as goal
 

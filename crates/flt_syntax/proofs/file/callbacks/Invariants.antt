@@ -1,9 +1,9 @@
 use Rattle.std.proofs.Common.{◌≡◌, ◌-◌}
 use Rattle.std.specs.List.{list_all}
 use Rattle.std.specs.Prelude.{IsTrue}
-use Rattle.flt_syntax.specs.Measures.{is_small}
+use Rattle.flt_tree.specs.Measures.{is_small}
 use Rattle.flt_syntax.specs.File.{callbacks, callbacks_from}
-use Rattle.flt_syntax.specs.Names.{routine_names}
+use Rattle.flt_tree.specs.Names.{routine_names}
 use Rattle.flt_syntax.specs.Scope.{scope_of}
 use Rattle.flt_syntax.proofs.file.callbacks.Given as goal
 

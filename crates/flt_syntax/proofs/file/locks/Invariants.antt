@@ -1,6 +1,6 @@
 use Rattle.std.proofs.Common.{◌≡◌, ◌-◌}
 use Rattle.flt_syntax.specs.File.{locks, locks_from}
-use Rattle.flt_syntax.specs.Names.{lock_names}
+use Rattle.flt_tree.specs.Names.{lock_names}
 use Rattle.flt_syntax.proofs.file.locks.Given as goal
 
 abbrev pub invariant-loop-turn : goal.invariant-loop-turn

@@ -1,6 +1,6 @@
 use Rattle.std.proofs.Common.{◌≡◌, ◌-◌, ◌+◌, ◌≤◌, length, drop}
 use Rattle.std.specs.List.{prefix_len}
-use Rattle.flt_syntax.specs.Lex.{is_word}
+use Rattle.flt_tree.specs.Names.{is_word}
 use Rattle.flt_syntax.proofs.lex.run_len.Given as goal
 
 abbrev pub invariant-loop-end : goal.invariant-loop-end

@@ -1,5 +1,5 @@
 use Rattle.std.proofs.Common.{◌-◌, ◌++◌, List, true, replicate}
-use Rattle.flt_syntax.specs.declared.filter.Filter.{Filter}
+use Rattle.flt_tree.specs.declared.filter.Filter.{Filter}
 use Rattle.flt_model.specs.Expansion.{course}
 use Rattle.flt_model.specs.Runs.{Moment}
 use Rattle.flt_model.specs.Steps.{Transition, Local}

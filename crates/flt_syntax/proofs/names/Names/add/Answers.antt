@@ -1,5 +1,5 @@
 use Rattle.std.proofs.Common.{not, ap, ◌∙◌}
-use Rattle.flt_syntax.specs.Names.{has_name}
+use Rattle.flt_tree.specs.Names.{has_name}
 use Rattle.flt_syntax.proofs.Numbers.{is_there}
 use Rattle.flt_syntax.proofs.names.Names.add.Goals.{in-Ok, in-Err}
 use Rattle.flt_syntax.proofs.names.Names.add.Goals as goal

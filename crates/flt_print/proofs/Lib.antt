@@ -1,0 +1,11 @@
+pub mod Alike
+pub mod Appending
+pub mod LaidOut
+pub mod Pieces
+pub mod Reprinted
+pub mod Said
+pub mod SaidCalls
+pub mod SaidFiles
+pub mod SaidStatements
+pub mod SaidWords
+pub mod SameMeaning

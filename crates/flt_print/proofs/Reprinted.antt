@@ -1,0 +1,56 @@
+-- The canonical text of a well-formed filter spells it.
+use Rattle.std.proofs.Common.{◌≤◌, [], length, sym, subst}
+use Rattle.std.specs.Prelude.{IsTrue}
+use Rattle.flt_syntax.specs.Grammar.{FileAt}
+use Rattle.flt_syntax.specs.Lex.{tokens}
+use Rattle.flt_tree.specs.Limits.{max_text, max_altitude, max_locks, max_callbacks}
+use Rattle.flt_print.specs.Line.{lines_text}
+use Rattle.flt_print.specs.Printing.{filter_lines, canonical_text}
+use Rattle.flt_print.specs.Reprinting.{ParsesAgain, PrintAndParse}
+use Rattle.flt_syntax.specs.Spelling.{Spells, SpelledIsWellFormed}
+use Rattle.flt_syntax.specs.Written.{ReadsBackWords}
+use Rattle.flt_tree.specs.Declarations.{AreNewLocks}
+use Rattle.flt_tree.specs.WellFormed.{IsWellFormed}
+use Rattle.flt_tree.specs.declared.filter.Filter.{Filter}
+use Rattle.flt_print.proofs.Alike.{AlikeFilter, no_callback}
+use Rattle.flt_print.proofs.LaidOut.{laid_out}
+use Rattle.flt_print.proofs.SaidFiles.{says_filter}
+use Rattle.flt_print.proofs.SameMeaning.{small_callbacks, new_alike, length_alike, served_alike, whole_alike, places_alike}
+
+-- the filter that the canonical text spells by the grammar
+Found : Filter → Type 0
+Found f = (h : Filter) × FileAt (canonical_text f) (tokens (canonical_text f)) h × AlikeFilter f h
+
+found : ReadsBackWords → (f : Filter) → IsWellFormed f → Found f
+unfolding Found canonical_text
+found law f w =
+    let text = lines_text (filter_lines f) in
+    let s = says_filter text f w in
+    let l = law text _ s.vs (laid_out (filter_lines f) s.vs s.pieces) in
+    s.reads (tokens text) l.rest l.tells l.ends
+
+spells : (f h : Filter) → IsWellFormed f → length (canonical_text f) ≤ max_text → FileAt (canonical_text f) (tokens (canonical_text f)) h → AlikeFilter f h →
+    Spells (canonical_text f) h
+spells f h w short read a =
+    record {
+      short = short;
+      grammar = read;
+      low = subst (λ n. 1 ≤ n) a.altitude w.low;
+      high = subst (λ n. n ≤ max_altitude) a.altitude w.high;
+      few_locks = subst (λ ls. length ls ≤ max_locks) a.locks w.few_locks;
+      new_locks = subst (AreNewLocks []) a.locks w.new_locks;
+      few_callbacks = subst (λ n. n ≤ max_callbacks) (length_alike a.callbacks) w.few_callbacks;
+      new_callbacks = new_alike [] [] f.callbacks h.callbacks no_callback a.callbacks w.new_callbacks;
+      small = subst IsTrue (small_callbacks f.callbacks h.callbacks a.callbacks) w.small;
+      served = served_alike f.queue h.queue f.callbacks h.callbacks a.queue a.callbacks w.served;
+      whole = whole_alike f.callbacks h.callbacks f.callbacks h.callbacks a.callbacks a.callbacks w.whole;
+    }
+
+pub parses_again : ReadsBackWords → ParsesAgain
+unfolding Found
+parses_again law f w short =
+    let r = found law f w in
+    (r.0, spells f r.0 w short r.1 r.2, sym (places_alike f r.0 r.2))
+
+pub prints_and_parses : SpelledIsWellFormed → ParsesAgain → PrintAndParse
+prints_and_parses fine again text f s = again f (fine text f s)

@@ -1,0 +1,6 @@
+pub mod ActionWords
+pub mod CallWords
+pub mod Line
+pub mod Printing
+pub mod Reprinting
+pub mod Vocabulary

@@ -1,0 +1,142 @@
+-- How the words of the grammar are spelled, and which of them stand for variables, statuses and the like.
+use Rattle.std.specs.Prelude.{List, [], ◌∷◌, map, codes, decimal, if◌then◌else◌, Option, Some, None, unwrap_or}
+use Rattle.flt_rules.specs.declared.call.Anchor.{Anchor}
+use Rattle.flt_rules.specs.declared.call.Anchor.TheVariants.{Stream, Instance}
+use Rattle.flt_rules.specs.declared.call.Existing.{Existing}
+use Rattle.flt_rules.specs.declared.call.Existing.TheVariants.{Keep, Replace}
+use Rattle.flt_rules.specs.declared.call.LockKind.{LockKind}
+use Rattle.flt_rules.specs.declared.call.LockKind.TheVariants.{Spin, Fast, Push}
+use Rattle.flt_rules.specs.declared.place.Operation.{Operation}
+use Rattle.flt_rules.specs.declared.place.Operation.TheVariants as operating
+use Rattle.flt_rules.specs.declared.status.FinalStatus.{FinalStatus}
+use Rattle.flt_rules.specs.declared.status.FinalStatus.TheVariants as finals
+use Rattle.flt_tree.specs.Names.{Text}
+use Rattle.flt_syntax.specs.Lex.{same_kind}
+use Rattle.flt_syntax.specs.declared.token.Kind.{Kind}
+use Rattle.flt_syntax.specs.declared.token.Kind.TheVariants as k
+use Rattle.flt_syntax.specs.declared.token.TheConstants.{KEYWORDS}
+use Rattle.flt_tree.specs.declared.variable.Atom.{Atom}
+use Rattle.flt_tree.specs.declared.variable.Atom.TheVariants as atoms
+use Rattle.flt_tree.specs.declared.variable.ContextVariable.{ContextVariable}
+use Rattle.flt_tree.specs.declared.variable.ContextVariable.TheVariants as contexts
+use Rattle.flt_tree.specs.declared.variable.NumberVariable.{NumberVariable}
+use Rattle.flt_tree.specs.declared.variable.NumberVariable.TheVariants as numbers
+use Rattle.flt_tree.specs.declared.variable.OperationVariable.{OperationVariable}
+use Rattle.flt_tree.specs.declared.variable.OperationVariable.TheVariants as operations
+use Rattle.flt_tree.specs.declared.variable.RemovedVariable.{RemovedVariable}
+use Rattle.flt_tree.specs.declared.variable.RemovedVariable.TheVariants as removed
+
+-- the word that a table has for a kind
+abbrev pub word_for : Kind → List (Text × Kind) → Text
+word_for kind [] = []
+word_for kind (entry ∷ entries) = if same_kind entry.1 kind then entry.0 else word_for kind entries
+
+-- the symbol of a kind
+abbrev pub symbol : Kind → Option Text
+symbol k.OpenBrace = Some (codes "{")
+symbol k.CloseBrace = Some (codes "}")
+symbol k.Assign = Some (codes "=")
+symbol k.Equal = Some (codes "==")
+symbol k.NotEqual = Some (codes "!=")
+symbol k.Less = Some (codes "<")
+symbol k.Plus = Some (codes "+")
+symbol k.Minus = Some (codes "-")
+symbol _ = None
+
+-- the symbol or word of a kind
+unfoldable pub spelling : Kind → Text
+spelling kind = unwrap_or (symbol kind) (word_for kind (map (λ e. (e.0.now, e.1)) KEYWORDS))
+
+-- a variable of numbers
+abbrev pub number_kind : NumberVariable → Kind
+number_kind numbers.N0 = k.N0
+number_kind numbers.N1 = k.N1
+number_kind numbers.N2 = k.N2
+number_kind numbers.N3 = k.N3
+number_kind numbers.N4 = k.N4
+number_kind numbers.N5 = k.N5
+number_kind numbers.N6 = k.N6
+number_kind numbers.N7 = k.N7
+
+-- a number in decimal, or a variable of numbers
+abbrev pub atom_word : Atom → Text
+atom_word (atoms.Number n) = decimal n
+atom_word (atoms.Variable n) = spelling (number_kind n)
+
+-- a variable of contexts
+abbrev pub context_kind : ContextVariable → Kind
+context_kind contexts.C0 = k.C0
+context_kind contexts.C1 = k.C1
+context_kind contexts.C2 = k.C2
+context_kind contexts.C3 = k.C3
+context_kind contexts.C4 = k.C4
+context_kind contexts.C5 = k.C5
+context_kind contexts.C6 = k.C6
+context_kind contexts.C7 = k.C7
+context_kind contexts.Arg = k.Arg
+
+-- a variable of operations that were removed from the queue
+abbrev pub removed_kind : RemovedVariable → Kind
+removed_kind removed.O0 = k.O0
+removed_kind removed.O1 = k.O1
+removed_kind removed.O2 = k.O2
+removed_kind removed.O3 = k.O3
+
+-- a variable of operations
+abbrev pub operation_variable_kind : OperationVariable → Kind
+operation_variable_kind (operations.Removed o) = removed_kind o
+operation_variable_kind operations.Data = k.Data
+
+-- the final status of an operation
+abbrev pub final_status_kind : FinalStatus → Kind
+final_status_kind finals.Success = k.StatusSuccess
+final_status_kind finals.AccessDenied = k.StatusAccessDenied
+final_status_kind finals.Cancelled = k.StatusCancelled
+final_status_kind finals.InsufficientResources = k.StatusInsufficientResources
+final_status_kind finals.InvalidParameter = k.StatusInvalidParameter
+final_status_kind finals.Pending = k.StatusPending
+
+-- an operation that a callback is registered for
+abbrev pub operation_kind : Operation → Kind
+operation_kind operating.Create = k.Create
+operation_kind operating.Read = k.Read
+operation_kind operating.Write = k.Write
+operation_kind operating.Cleanup = k.Cleanup
+
+-- a kind of lock, where it is declared
+abbrev pub lock_kind_kind : LockKind → Kind
+lock_kind_kind Spin = k.Spin
+lock_kind_kind Fast = k.Fast
+lock_kind_kind Push = k.Push
+
+-- the call that acquires a lock of a kind
+abbrev pub acquire_kind : LockKind → Kind
+acquire_kind Spin = k.AcquireSpinLock
+acquire_kind Fast = k.AcquireFastMutex
+acquire_kind Push = k.AcquirePushLock
+
+-- the call that releases it
+abbrev pub release_kind : LockKind → Kind
+release_kind Spin = k.ReleaseSpinLock
+release_kind Fast = k.ReleaseFastMutex
+release_kind Push = k.ReleasePushLock
+
+-- the call that gets the context of a stream or of an instance
+abbrev pub get_kind : Anchor → Kind
+get_kind Stream = k.GetStreamContext
+get_kind Instance = k.GetInstanceContext
+
+-- the call that sets it
+abbrev pub set_kind : Anchor → Kind
+set_kind Stream = k.SetStreamContext
+set_kind Instance = k.SetInstanceContext
+
+-- the call that deletes it
+abbrev pub delete_kind : Anchor → Kind
+delete_kind Stream = k.DeleteStreamContext
+delete_kind Instance = k.DeleteInstanceContext
+
+-- what a set does where a context is there already
+abbrev pub existing_kind : Existing → Kind
+existing_kind Keep = k.KeepIfExists
+existing_kind Replace = k.ReplaceIfExists

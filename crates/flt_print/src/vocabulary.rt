@@ -1,0 +1,194 @@
+//! How the words of the grammar are spelled, and which of them stand for variables, statuses and the like.
+
+ghost use Rattle.flt_print.specs.Vocabulary as spec;
+ghost use Rattle.std.specs.Prelude.{◌≡◌, map, option_map};
+
+use flt_rules::{Anchor, Existing, FinalStatus, LockKind, Operation};
+use flt_syntax::{KEYWORDS, Kind, same_kind};
+use flt_tree::{ContextVariable, NumberVariable, OperationVariable, RemovedVariable};
+
+fn word_for(kind: Kind, mut table: &[(&'static [u8], Kind)]) -> &'static [u8]
+    ensures { result.now ≡ spec.word_for kind (map (λ e. (e.0.now, e.1)) table.entry.now) }
+{
+    while let [entry, rest @ ..] = table {
+        if same_kind(entry.1, kind) {
+            return entry.0;
+        }
+        table = rest;
+    }
+    b""
+}
+
+fn symbol(kind: Kind) -> Option<&'static [u8]>
+    ensures { option_map (λ z. z.now) result ≡ spec.symbol kind }
+{
+    match kind {
+        Kind::OpenBrace => Some(b"{"),
+        Kind::CloseBrace => Some(b"}"),
+        Kind::Assign => Some(b"="),
+        Kind::Equal => Some(b"=="),
+        Kind::NotEqual => Some(b"!="),
+        Kind::Less => Some(b"<"),
+        Kind::Plus => Some(b"+"),
+        Kind::Minus => Some(b"-"),
+        _ => None,
+    }
+}
+
+/// The symbol or word of a kind.
+#[tactic(auto, unfolding(crate::specs::Vocabulary::spelling))]
+pub fn spelling(kind: Kind) -> &'static [u8]
+    ensures { result.now ≡ spec.spelling kind }
+{
+    match symbol(kind) {
+        None => word_for(kind, &KEYWORDS),
+        Some(symbol) => symbol,
+    }
+}
+
+pub fn number_kind(n: NumberVariable) -> Kind
+    ensures { result ≡ spec.number_kind n }
+{
+    match n {
+        NumberVariable::N0 => Kind::N0,
+        NumberVariable::N1 => Kind::N1,
+        NumberVariable::N2 => Kind::N2,
+        NumberVariable::N3 => Kind::N3,
+        NumberVariable::N4 => Kind::N4,
+        NumberVariable::N5 => Kind::N5,
+        NumberVariable::N6 => Kind::N6,
+        NumberVariable::N7 => Kind::N7,
+    }
+}
+
+pub fn context_kind(c: ContextVariable) -> Kind
+    ensures { result ≡ spec.context_kind c }
+{
+    match c {
+        ContextVariable::C0 => Kind::C0,
+        ContextVariable::C1 => Kind::C1,
+        ContextVariable::C2 => Kind::C2,
+        ContextVariable::C3 => Kind::C3,
+        ContextVariable::C4 => Kind::C4,
+        ContextVariable::C5 => Kind::C5,
+        ContextVariable::C6 => Kind::C6,
+        ContextVariable::C7 => Kind::C7,
+        ContextVariable::Arg => Kind::Arg,
+    }
+}
+
+pub fn removed_kind(o: RemovedVariable) -> Kind
+    ensures { result ≡ spec.removed_kind o }
+{
+    match o {
+        RemovedVariable::O0 => Kind::O0,
+        RemovedVariable::O1 => Kind::O1,
+        RemovedVariable::O2 => Kind::O2,
+        RemovedVariable::O3 => Kind::O3,
+    }
+}
+
+pub fn operation_variable_kind(d: OperationVariable) -> Kind
+    ensures { result ≡ spec.operation_variable_kind d }
+{
+    match d {
+        OperationVariable::Removed(o) => removed_kind(o),
+        OperationVariable::Data => Kind::Data,
+    }
+}
+
+pub fn final_status_kind(status: FinalStatus) -> Kind
+    ensures { result ≡ spec.final_status_kind status }
+{
+    match status {
+        FinalStatus::Success => Kind::StatusSuccess,
+        FinalStatus::AccessDenied => Kind::StatusAccessDenied,
+        FinalStatus::Cancelled => Kind::StatusCancelled,
+        FinalStatus::InsufficientResources => Kind::StatusInsufficientResources,
+        FinalStatus::InvalidParameter => Kind::StatusInvalidParameter,
+        FinalStatus::Pending => Kind::StatusPending,
+    }
+}
+
+pub fn operation_kind(operation: Operation) -> Kind
+    ensures { result ≡ spec.operation_kind operation }
+{
+    match operation {
+        Operation::Create => Kind::Create,
+        Operation::Read => Kind::Read,
+        Operation::Write => Kind::Write,
+        Operation::Cleanup => Kind::Cleanup,
+    }
+}
+
+/// The kind of a lock where it is declared.
+pub fn lock_kind_kind(kind: LockKind) -> Kind
+    ensures { result ≡ spec.lock_kind_kind kind }
+{
+    match kind {
+        LockKind::Spin => Kind::Spin,
+        LockKind::Fast => Kind::Fast,
+        LockKind::Push => Kind::Push,
+    }
+}
+
+/// The call that acquires a lock of the kind.
+pub fn acquire_kind(kind: LockKind) -> Kind
+    ensures { result ≡ spec.acquire_kind kind }
+{
+    match kind {
+        LockKind::Spin => Kind::AcquireSpinLock,
+        LockKind::Fast => Kind::AcquireFastMutex,
+        LockKind::Push => Kind::AcquirePushLock,
+    }
+}
+
+/// The call that releases a lock of the kind.
+pub fn release_kind(kind: LockKind) -> Kind
+    ensures { result ≡ spec.release_kind kind }
+{
+    match kind {
+        LockKind::Spin => Kind::ReleaseSpinLock,
+        LockKind::Fast => Kind::ReleaseFastMutex,
+        LockKind::Push => Kind::ReleasePushLock,
+    }
+}
+
+/// The call that gets the context of a stream or of an instance.
+pub fn get_kind(anchor: Anchor) -> Kind
+    ensures { result ≡ spec.get_kind anchor }
+{
+    match anchor {
+        Anchor::Stream => Kind::GetStreamContext,
+        Anchor::Instance => Kind::GetInstanceContext,
+    }
+}
+
+/// The call that sets the context of a stream or of an instance.
+pub fn set_kind(anchor: Anchor) -> Kind
+    ensures { result ≡ spec.set_kind anchor }
+{
+    match anchor {
+        Anchor::Stream => Kind::SetStreamContext,
+        Anchor::Instance => Kind::SetInstanceContext,
+    }
+}
+
+/// The call that deletes the context of a stream or of an instance.
+pub fn delete_kind(anchor: Anchor) -> Kind
+    ensures { result ≡ spec.delete_kind anchor }
+{
+    match anchor {
+        Anchor::Stream => Kind::DeleteStreamContext,
+        Anchor::Instance => Kind::DeleteInstanceContext,
+    }
+}
+
+pub fn existing_kind(existing: Existing) -> Kind
+    ensures { result ≡ spec.existing_kind existing }
+{
+    match existing {
+        Existing::Keep => Kind::KeepIfExists,
+        Existing::Replace => Kind::ReplaceIfExists,
+    }
+}

@@ -1,0 +1,7 @@
+pub mod Declarations
+pub mod Filter
+pub mod Limits
+pub mod Measures
+pub mod Names
+pub mod Variable
+pub mod WellFormed
