@@ -36,7 +36,7 @@ fn last_place(lock: LockNumber, locks: &[LockNumber]) -> Option<usize>
 }
 
 impl<'a> Activation<'a> {
-    /// Whether the activation took the lock and did not give it up.
+    /// Whether the activation took the lock and didn't give it up.
     pub fn holds_lock(&self, lock: LockNumber) -> bool
         ensures { result ≡ spec.holds_lock lock self.now.locks }
     {

@@ -86,7 +86,7 @@ impl<'a> World<'a> {
         matches!(self.presence(filter), Presence::Detaching)
     }
 
-    /// What an operation asks for; a read where it is not there.
+    /// What an operation asks for; a read where it isn't there.
     #[tactic(auto, using(crate::proofs::Reading::found, crate::proofs::Reading::missing))]
     pub fn kind(&self, operation: usize) -> Operation
         ensures { result ≡ (spec.arrival_at self.now.store operation).kind }
@@ -97,7 +97,7 @@ impl<'a> World<'a> {
         }
     }
 
-    /// How an operation was sent; as a packet where it is not there.
+    /// How an operation was sent; as a packet where it isn't there.
     #[tactic(auto, using(crate::proofs::Reading::found, crate::proofs::Reading::missing))]
     pub fn mode(&self, operation: usize) -> Mode
         ensures { result ≡ (spec.arrival_at self.now.store operation).mode }
@@ -108,7 +108,7 @@ impl<'a> World<'a> {
         }
     }
 
-    /// The number of an operation's file; 0 where it is not there.
+    /// The number of an operation's file; 0 where it isn't there.
     #[tactic(auto, using(crate::proofs::Reading::found, crate::proofs::Reading::missing))]
     pub fn file(&self, operation: usize) -> u32
         ensures { result ≡ (spec.arrival_at self.now.store operation).file }
@@ -119,7 +119,7 @@ impl<'a> World<'a> {
         }
     }
 
-    /// Where an operation stands; up where it is not there.
+    /// Where an operation stands; up where it isn't there.
     #[tactic(auto, using(crate::proofs::Reading::found, crate::proofs::Reading::missing))]
     pub fn position(&self, operation: usize) -> Position
         ensures { position_of result ≡ (spec.route_at self.now.store operation).position }
@@ -130,7 +130,7 @@ impl<'a> World<'a> {
         }
     }
 
-    /// Whether an operation was cancelled; so is one that is not there.
+    /// Whether an operation was cancelled; so is one that isn't there.
     #[tactic(auto, using(crate::proofs::Reading::found, crate::proofs::Reading::missing))]
     pub fn is_cancelled(&self, operation: usize) -> bool
         ensures { result ≡ (spec.route_at self.now.store operation).cancelled }
@@ -205,7 +205,7 @@ impl<'a> World<'a> {
         }
     }
 
-    /// Whether a visit is before or after the filters below; after where it is not there.
+    /// Whether a visit is before or after the filters below; after where it isn't there.
     #[tactic(auto, using(crate::proofs::Reading::found, crate::proofs::Reading::missing))]
     pub fn stage(&self, visit: usize) -> Stage
         ensures { result ≡ (spec.visit_at self.now.store visit).stage }
@@ -216,7 +216,7 @@ impl<'a> World<'a> {
         }
     }
 
-    /// Whether a visit is one of a teardown; so is one that is not there.
+    /// Whether a visit is one of a teardown; so is one that isn't there.
     #[tactic(auto, using(crate::proofs::Reading::found, crate::proofs::Reading::missing))]
     pub fn is_draining(&self, visit: usize) -> bool
         ensures { result ≡ (spec.visit_at self.now.store visit).draining }
@@ -227,7 +227,7 @@ impl<'a> World<'a> {
         }
     }
 
-    /// Whether the filter's part in the operation is over; so it is of a visit that is not there.
+    /// Whether the filter's part in the operation is over; so it is of a visit that isn't there.
     #[tactic(auto, using(crate::proofs::Reading::found, crate::proofs::Reading::missing))]
     pub fn is_settled(&self, visit: usize) -> bool
         ensures { result ≡ spec.is_settled self.now.store visit }
@@ -288,7 +288,7 @@ impl<'a> World<'a> {
         self.references(context) == 0
     }
 
-    /// The value of a context, which a freed one keeps; 0 where it is not there.
+    /// The value of a context, which a freed one keeps; 0 where it isn't there.
     #[tactic(auto, using(crate::proofs::Reading::found, crate::proofs::Reading::missing))]
     pub fn value(&self, context: usize) -> u64
         ensures { result ≡ (spec.context_at self.now.store context).value }
@@ -310,7 +310,7 @@ impl<'a> World<'a> {
         }
     }
 
-    /// The filter whose callback an activation runs; 0 where it is not there.
+    /// The filter whose callback an activation runs; 0 where it isn't there.
     #[tactic(auto, using(crate::proofs::Reading::found, crate::proofs::Reading::missing))]
     pub fn filter(&self, activation: usize) -> usize
         ensures { result ≡ (spec.actor_at self.now activation).filter }
@@ -354,7 +354,7 @@ impl<'a> World<'a> {
         }
     }
 
-    /// Whether an activation ended; so did one that is not there.
+    /// Whether an activation ended; so did one that isn't there.
     #[tactic(auto, using(crate::proofs::Reading::found, crate::proofs::Reading::missing))]
     pub fn has_ended(&self, activation: usize) -> bool
         ensures { result ≡ (spec.activation_at self.now activation).ended }
@@ -379,7 +379,7 @@ impl<'a> World<'a> {
         }
     }
 
-    /// The context that a variable of an activation names; none where it is NULL or the activation is not there.
+    /// The context that a variable of an activation names; none where it is NULL or the activation isn't there.
     pub fn context_in(&self, activation: usize, variable: ContextVariable) -> Option<usize>
         ensures { result ≡ variables.context_in (spec.activation_at self.now activation) variable }
     {
@@ -403,7 +403,7 @@ impl<'a> World<'a> {
         }
     }
 
-    /// The visit that a variable of an activation names; none where it is NULL or the activation is not there.
+    /// The visit that a variable of an activation names; none where it is NULL or the activation isn't there.
     pub fn operation_in(&self, activation: usize, variable: OperationVariable) -> Option<usize>
         ensures { result ≡ variables.operation_in (spec.activation_at self.now activation) variable }
     {
@@ -413,7 +413,7 @@ impl<'a> World<'a> {
         }
     }
 
-    /// The value of a number or of a variable of an activation; 0 where that is not there.
+    /// The value of a number or of a variable of an activation; 0 where that isn't there.
     pub fn atom_in(&self, activation: usize, atom: Atom) -> u64
         ensures { result ≡ variables.atom_value (spec.activation_at self.now activation) atom }
     {
