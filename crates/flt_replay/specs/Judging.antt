@@ -1,10 +1,7 @@
 -- What the monitor's parts say of a moment and of a step, each of its share of the violations.
-use Rattle.std.specs.Prelude.{◌≡◌, ℕ, Bool, true, not, ◌==◌, nat_lt, List, [], ◌∷◌, Option, Some, find, map, set}
-use Rattle.std.specs.Borrow.{Bor}
-use Rattle.std.specs.List.{position_or_len}
+use Rattle.std.specs.Prelude.{◌≡◌, ℕ, Bool, true, not, ◌==◌, List, [], ◌∷◌, Option, Some, find, set}
 use Rattle.flt_rules.specs.declared.call.LockNumber.{LockNumber}
 use Rattle.flt_tree.specs.declared.filter.Filter.{Filter}
-use Rattle.flt_tree.specs.declared.tree.Tree.{Tree}
 use Rattle.flt_model.specs.declared.event.Event.{Event}
 use Rattle.flt_model.specs.declared.event.Event.TheVariants.{Call, Status, Lock, Unlock, End}
 use Rattle.flt_model.specs.declared.verdict.Violation.{Violation}
@@ -14,6 +11,7 @@ use Rattle.flt_model.specs.Runs.{Moment, next, keeps}
 use Rattle.flt_model.specs.Steps.{Transition}
 use Rattle.flt_model.specs.Violations.{legal_statuses, levels_kept, lock_discipline, legal_places}
 use Rattle.flt_model.specs.World.{World, activation_at}
+pub use Rattle.flt_world.specs.Filters.{filters_of}
 
 -- ---- the violations of who holds what, and those of rules
 
@@ -57,17 +55,3 @@ is_by a (Lock b l) = b == a
 is_by a (Unlock b l) = b == a
 is_by a (End b) = b == a
 is_by a _ = true
-
--- ---- the filters of a run
-
--- the filters behind some references
-abbrev pub filters_behind : List (Bor Filter) → List Filter
-filters_behind fs = map (λ f. f.now) fs
-
--- the filters of some trees
-abbrev pub filters_of : List Tree → List Filter
-filters_of trees = map (λ t. t.filter) trees
-
--- where a filter goes: before the first one that is lower
-abbrev pub first_lower : Filter → List Filter → ℕ
-first_lower f filters = position_or_len (λ (g : Filter). nat_lt g.altitude f.altitude) filters

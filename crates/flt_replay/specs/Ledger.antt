@@ -10,7 +10,8 @@ use Rattle.flt_model.specs.Trace.{gains, loses, frees, settles, is_held}
 use Rattle.flt_model.specs.Violations.{in_queue, in_item, no_stale_use, no_leak, settled_once, one_owner}
 use Rattle.flt_model.specs.World.{World, Store, Activation, is_settled}
 use Rattle.flt_replay.specs.Apart.{is_apart, are_apart, ends_in}
-use Rattle.flt_replay.specs.Counts.{count, count_of, occurs}
+use Rattle.flt_records.specs.Counts.{count, occurs}
+use Rattle.flt_replay.specs.Rows.{count_of}
 
 -- the counts: by activation, how often it holds each context and each visit; how often each context was freed and each visit
 -- settled; by activation, whether it goes on; and how many of those that go on hold each visit

@@ -14,12 +14,13 @@ ghost use Rattle.flt_model.specs.declared.event.Event.TheVariants.{Gain, Lose, F
 ghost use Rattle.flt_model.specs.declared.verdict.Violation.TheVariants.{V1, V2, V3, V4};
 ghost use Rattle.flt_model.specs.World as machine;
 ghost use Rattle.flt_model.specs.Violations as rules;
-ghost use Rattle.flt_replay.specs.Counts.{count, count_of, occurs};
+ghost use Rattle.flt_records.specs.Counts.{count, occurs};
+ghost use Rattle.flt_replay.specs.Rows.{count_of};
 ghost use Rattle.flt_replay.specs.Ledger as spec;
 
-use crate::counts::Counts;
-use crate::world::World;
 use flt_model::{Event, Object, Violation};
+use flt_records::Counts;
+use flt_world::World;
 use std::alloc::{AllocError, Global};
 use std::marker::Model;
 
@@ -95,7 +96,7 @@ impl Ledger {
     }
 
     /// Whether the activation gained the object more often than it lost it.
-    #[tactic(auto, using(crate::proofs::Tallies::held_is))]
+    #[tactic(auto, using(crate::proofs::Counting::Tallies::held_is))]
     pub(crate) fn holds(&self, activation: usize, object: Object) -> bool
         ensures told { (t : List Event) → spec.Tells t self.now → result ≡ is_held t activation object }
         ensures at_moment { (m : Moment) → spec.Agrees m self.now → result ≡ is_held m.trace activation object }
@@ -104,7 +105,7 @@ impl Ledger {
     }
 
     /// Whether the object isn't a context that was freed.
-    #[tactic(auto, using(crate::proofs::Tallies::live_is, crate::proofs::Tallies::live_visit))]
+    #[tactic(auto, using(crate::proofs::Counting::Tallies::live_is, crate::proofs::Counting::Tallies::live_visit))]
     fn is_live(&self, object: Object) -> bool
         ensures { (t : List Event) → spec.Tells t self.now → result ≡ rules.is_live t object }
     {
@@ -129,7 +130,7 @@ impl Ledger {
     }
 
     /// Whether no activation ends here that still holds a context.
-    #[tactic(auto, using(crate::proofs::Tallies::leaks_nothing_is))]
+    #[tactic(auto, using(crate::proofs::Counting::Tallies::leaks_nothing_is))]
     fn leaks_nothing(&self, event: Event) -> bool
         ensures { (t : List Event) → spec.Tells t self.now → result ≡ rules.leaks_nothing t event }
     {
@@ -166,7 +167,7 @@ impl Ledger {
     }
 
     /// An activation holds a visit once more.
-    #[tactic(auto, using(crate::proofs::Holders::gained_first, crate::proofs::Holders::gained_again))]
+    #[tactic(auto, using(crate::proofs::Counting::Holders::gained_first, crate::proofs::Counting::Holders::gained_again))]
     fn gain_visit(&mut self, alloc: Global, a: usize, visit: usize) -> Result<(), AllocError>
         ensures visits { OnOk result ((b v : ℕ) → count_of self.new.visits b v ≡ count_of self.old.visits b v + of_actor a b (one_if visit v)) }
         ensures turned { OnOk result (spec.Turned self.old self.new) }
@@ -181,7 +182,7 @@ impl Ledger {
     }
 
     /// An activation holds a visit once less.
-    #[tactic(auto, using(crate::proofs::Holders::lost_last, crate::proofs::Holders::lost_one, crate::proofs::Holders::some_holder))]
+    #[tactic(auto, using(crate::proofs::Counting::Holders::lost_last, crate::proofs::Counting::Holders::lost_one, crate::proofs::Counting::Holders::some_holder))]
     fn lose_visit(&mut self, a: usize, visit: usize)
         ensures visits { 0 < count_of self.old.visits a visit → (b v : ℕ) → count_of self.old.visits b v ≡ count_of self.new.visits b v + of_actor a b (one_if visit v) }
         ensures turned { 0 < count_of self.old.visits a visit → spec.IsCounted self.old → spec.Turned self.old self.new }
@@ -292,7 +293,7 @@ impl Ledger {
 
     /// Takes in events, up to one that touches something stale, and lists the visits that they name. The answer is the least of
     /// the first three violations that they break.
-    #[tactic(auto, using(crate::proofs::Taking::judged_all))]
+    #[tactic(auto, using(crate::proofs::Counting::Taking::judged_all))]
     fn take_events(
         &mut self,
         alloc: Global,
@@ -357,7 +358,7 @@ impl Ledger {
     }
 
     /// A step makes no more than one activation.
-    #[tactic(auto, using(crate::proofs::Following::joined_one, crate::proofs::Following::joined_none))]
+    #[tactic(auto, using(crate::proofs::Counting::Following::joined_one, crate::proofs::Counting::Following::joined_none))]
     fn follow_new(&mut self, alloc: Global, world: &World<'_>) -> Result<(), AllocError>
         ensures { OnOk result (spec.Joined (length world.now.activations) self.old self.new) }
     {

@@ -7,20 +7,20 @@ ghost use Rattle.flt_model.specs.Expansion as spec;
 ghost use Rattle.flt_model.specs.Runs.{Moment, broken, after};
 ghost use Rattle.flt_model.specs.Steps.{Transition, Make, Local, Board};
 ghost use Rattle.flt_replay.specs.Ledger.{Agrees};
-ghost use Rattle.flt_replay.specs.Judging.{Follows, first_of, of_rules, filters_of};
+ghost use Rattle.flt_replay.specs.Judging.{Follows, first_of, of_rules};
+ghost use Rattle.flt_world.specs.Filters.{filters_of};
 ghost use Rattle.flt_replay.specs.Monitoring.{IsAt, ComesTo, GoesOn};
-ghost use Rattle.flt_replay.specs.Writes.{holds_given};
+ghost use Rattle.flt_world.specs.Happening.{holds_given};
 ghost use Rattle.flt_tree.specs.declared.filter.Filter.{Filter};
 
-use crate::board::Setup;
 use crate::ledger::Ledger;
 use crate::rules::Scene;
-use crate::stack::Stack;
-use crate::world::World;
 use flt_model::{
     Event, Journal, JournalEntry, Move, Object, Verdict, Violation, local_steps_are_quiet,
 };
+use flt_steps::Setup;
 use flt_tree::{OperationVariable, Tree};
+use flt_world::{Stack, World};
 use std::alloc::{AllocError, Global};
 
 /// What comes of an entry.
@@ -69,7 +69,7 @@ impl<'a> Monitor<'a> {
         ensures { IfOk result (λ c. (m : Moment) → IsAt self.old m → ComesTo c self.new (spec.course stack.now m (Make next ∷ []))) }
     {
         let mut events = Vec::new(alloc);
-        if !self.world.make(alloc, stack, next, &mut events)? {
+        if !flt_moves::make(&mut self.world, alloc, stack, next, &mut events)? {
             return Ok(Course::Stops);
         }
         self.judged(alloc, events.as_slice(), None)
@@ -93,7 +93,7 @@ impl<'a> Monitor<'a> {
         };
         let locks = self.world.locks_of(alloc, a)?;
         let mut events = Vec::new(alloc);
-        if !self.world.step_seen(stack, setup, &mut events)? {
+        if !flt_steps::step_seen(&mut self.world, stack, setup, &mut events)? {
             return Ok(Course::Stops);
         }
         let scene = Scene {
@@ -113,7 +113,7 @@ impl<'a> Monitor<'a> {
     {
         local_steps_are_quiet();
         for _ in 0..steps {
-            if !self.world.step_unseen(a)? {
+            if !flt_steps::step_unseen(&mut self.world, a)? {
                 return Ok(false);
             }
         }

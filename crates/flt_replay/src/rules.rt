@@ -14,23 +14,22 @@ ghost use Rattle.flt_model.specs.declared.event.Event.{Event};
 ghost use Rattle.flt_model.specs.declared.event.Object.TheVariants.{Visit};
 ghost use Rattle.flt_replay.specs.Judging.{is_by, keeps_rule, of_rules};
 ghost use Rattle.flt_replay.specs.Scenes.{before};
-ghost use Rattle.flt_replay.specs.Writes.{holds_visit, holds_given};
+ghost use Rattle.flt_world.specs.Happening.{holds_visit, holds_given};
 ghost use Rattle.flt_rules.specs.Place as places;
 ghost use Rattle.flt_rules.specs.Status.{is_with_callback, status_row};
 ghost use Rattle.flt_rules.specs.declared.place.Stage.TheVariants as stage;
 ghost use Rattle.flt_tree.specs.Filter.{completes_pending, word_of};
 ghost use Rattle.flt_tree.specs.declared.variable.OperationVariable.TheVariants as variable;
 
-use crate::lock_list::holds_lock;
-use crate::stack::Stack;
 use crate::statuses::{is_of_mode, is_possessed};
-use crate::world::World;
 use flt_model::{Answer, Event, Violation};
+use flt_records::holds_lock;
 use flt_rules::{
     Call, Level, LockNumber, Mode, Operation, Place, Possessed, Stage, StatusRow, StatusWord,
     is_legal_in_draining, row, status_row,
 };
 use flt_tree::{OperationVariable, Status};
+use flt_world::{Stack, World};
 
 /// Whether the lock is the latest taken.
 fn is_latest(lock: LockNumber, held: &[LockNumber]) -> bool
@@ -60,7 +59,7 @@ pub(crate) struct Scene<'b, 'a> {
 
 impl<'b, 'a> Scene<'b, 'a> {
     /// An activation that isn't there holds no locks.
-    #[tactic(auto, using(crate::proofs::Scenes::found_set, crate::proofs::Scenes::missing_set))]
+    #[tactic(auto, using(crate::proofs::Judging::Scenes::found_set, crate::proofs::Judging::Scenes::missing_set))]
     fn locks(&self) -> &'b [LockNumber]
         ensures { result.now ≡ (activation_at (before self.now) self.now.activation).locks }
     {
@@ -72,7 +71,7 @@ impl<'b, 'a> Scene<'b, 'a> {
     }
 
     /// The visit that the activation was given.
-    #[tactic(auto, using(crate::proofs::Scenes::operations_kept))]
+    #[tactic(auto, using(crate::proofs::Judging::Scenes::operations_kept))]
     fn given(&self) -> Option<usize>
         ensures { result ≡ operation_in (activation_at (before self.now) self.now.activation) variable.Data }
     {

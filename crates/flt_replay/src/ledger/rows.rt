@@ -2,9 +2,10 @@
 
 ghost use Rattle.std.specs.Prelude.{◌≡◌, ◌+◌, ℕ, ◌<◌, length, min, OnOk, IfOk, ◌↔◌, IsTrue};
 ghost use Rattle.flt_model.specs.Trace.{one_if, of_actor};
-ghost use Rattle.flt_replay.specs.Counts as spec;
+ghost use Rattle.flt_records.specs.Counts.{occurs};
+ghost use Rattle.flt_replay.specs.Rows as spec;
 
-use crate::counts::Counts;
+use flt_records::Counts;
 use std::alloc::{AllocError, Global};
 use std::marker::Model;
 
@@ -23,7 +24,7 @@ impl Model for Rows {
 }
 
 impl Rows {
-    #[tactic(auto, unfolding(crate::specs::Counts::count_of, crate::specs::Counts::count))]
+    #[tactic(auto, unfolding(crate::specs::Rows::count_of, flt_records::specs::Counts::count))]
     pub(crate) fn new(alloc: Global) -> Rows
         ensures { (a n : ℕ) → spec.count_of result a n ≡ 0 }
     {
@@ -32,7 +33,7 @@ impl Rows {
         }
     }
 
-    #[tactic(auto, unfolding(crate::specs::Counts::count_of, crate::specs::Counts::count))]
+    #[tactic(auto, unfolding(crate::specs::Rows::count_of, flt_records::specs::Counts::count))]
     pub(crate) fn count(&self, activation: usize, number: usize) -> u64
         ensures { result ≡ spec.count_of self.now activation number }
     {
@@ -42,7 +43,7 @@ impl Rows {
         }
     }
 
-    #[tactic(auto, unfolding(crate::specs::Counts::count_of, crate::specs::Counts::count))]
+    #[tactic(auto, unfolding(crate::specs::Rows::count_of, flt_records::specs::Counts::count))]
     pub(crate) fn is_empty(&self, activation: usize) -> bool
         ensures { IsTrue result ↔ ((n : ℕ) → spec.count_of self.now activation n ≡ 0) }
     {
@@ -53,9 +54,9 @@ impl Rows {
     }
 
     /// The numbers that count of an activation, each once.
-    #[tactic(auto, unfolding(crate::specs::Counts::count_of, crate::specs::Counts::count))]
+    #[tactic(auto, unfolding(crate::specs::Rows::count_of, flt_records::specs::Counts::count))]
     pub(crate) fn numbers(&self, alloc: Global, activation: usize) -> Result<Vec<usize>, AllocError>
-        ensures { IfOk result (λ ns. (n : ℕ) → spec.occurs n ns.items ≡ min 1 (spec.count_of self.now activation n)) }
+        ensures { IfOk result (λ ns. (n : ℕ) → occurs n ns.items ≡ min 1 (spec.count_of self.now activation n)) }
     {
         match self.rows.get(activation) {
             Some(counts) => counts.numbers(alloc),
@@ -64,7 +65,7 @@ impl Rows {
     }
 
     /// Makes room for an activation.
-    #[tactic(auto, using(crate::proofs::Rows::grown))]
+    #[tactic(auto, using(crate::proofs::Counting::Rows::grown))]
     fn grow(&mut self, alloc: Global, activation: usize) -> Result<(), AllocError>
         ensures room { OnOk result (activation < length self.new) }
         ensures same { OnOk result ((a n : ℕ) → spec.count_of self.new a n ≡ spec.count_of self.old a n) }
@@ -76,7 +77,7 @@ impl Rows {
     }
 
     /// Once more of an activation.
-    #[tactic(auto, using(crate::proofs::Rows::added))]
+    #[tactic(auto, using(crate::proofs::Counting::Rows::added))]
     pub(crate) fn add(
         &mut self,
         alloc: Global,
@@ -93,7 +94,7 @@ impl Rows {
     }
 
     /// Once less of an activation, of what counts.
-    #[tactic(auto, using(crate::proofs::Rows::taken, crate::proofs::Rows::counts_no_more, crate::proofs::Rows::row_counts))]
+    #[tactic(auto, using(crate::proofs::Counting::Rows::taken, crate::proofs::Counting::Rows::counts_no_more, crate::proofs::Counting::Rows::row_counts))]
     pub(crate) fn take(&mut self, activation: usize, number: usize)
         ensures { 0 < spec.count_of self.old activation number → (a n : ℕ) → spec.count_of self.old a n ≡ spec.count_of self.new a n + of_actor activation a (one_if number n) }
     {

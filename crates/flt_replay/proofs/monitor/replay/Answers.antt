@@ -2,8 +2,8 @@ use Rattle.std.proofs.Common.{sym, refl}
 use Rattle.flt_model.specs.Expansion.{verdict}
 use Rattle.flt_model.specs.Program.{by_altitude}
 use Rattle.flt_model.specs.Runs.{start}
-use Rattle.flt_replay.specs.Judging.{filters_of}
-use Rattle.flt_replay.proofs.Courses.{stopped, failed, reached, judged_at, begins}
+use Rattle.flt_world.specs.Filters.{filters_of}
+use Rattle.flt_replay.proofs.Judging.Courses.{stopped, failed, reached, judged_at, begins}
 use Rattle.flt_replay.proofs.monitor.replay.Goals as goal
 
 pub loop-number-init : goal.loop-number-init

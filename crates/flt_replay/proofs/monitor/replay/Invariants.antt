@@ -2,7 +2,7 @@ use Rattle.std.proofs.Common.{◌≡◌, drop}
 use Rattle.flt_model.specs.Expansion.{verdict_from}
 use Rattle.flt_model.specs.Program.{by_altitude}
 use Rattle.flt_model.specs.Runs.{Moment, start}
-use Rattle.flt_replay.specs.Judging.{filters_of}
+use Rattle.flt_world.specs.Filters.{filters_of}
 use Rattle.flt_replay.specs.Monitoring.{IsAt}
 use Rattle.flt_replay.proofs.monitor.replay.Given as goal
 

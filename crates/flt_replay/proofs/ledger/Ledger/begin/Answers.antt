@@ -1,6 +1,7 @@
 use Rattle.std.proofs.Common.{◌≡◌, ◌+◌, ℕ, Bool, List, min, length, subst, sym}
-use Rattle.flt_replay.proofs.Holders.{started}
-use Rattle.flt_replay.specs.Counts.{count, count_of, occurs}
+use Rattle.flt_replay.proofs.Counting.Holders.{started}
+use Rattle.flt_records.specs.Counts.{count, occurs}
+use Rattle.flt_replay.specs.Rows.{count_of}
 use Rattle.flt_replay.specs.Ledger.{Tally, Started}
 use Rattle.flt_replay.specs.contracts.ledger.Ledger.{the_view}
 use Rattle.flt_replay.proofs.ledger.Ledger.begin.Goals as goal

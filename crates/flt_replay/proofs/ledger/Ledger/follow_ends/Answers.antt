@@ -3,7 +3,7 @@ use Rattle.std.proofs.lemmas.Grind.{take_at_read}
 use Rattle.flt_rules.specs.declared.call.Call.TheVariants.{AllocateContext}
 use Rattle.flt_model.specs.declared.event.Event.{Event}
 use Rattle.flt_model.specs.declared.event.Event.TheVariants.{Call}
-use Rattle.flt_replay.proofs.Following.{halted_both}
+use Rattle.flt_replay.proofs.Counting.Following.{halted_both}
 use Rattle.flt_replay.specs.Ledger.{Halted}
 use Rattle.flt_replay.proofs.ledger.Ledger.follow_ends.Goals as goal
 

@@ -1,6 +1,6 @@
 use Rattle.std.proofs.Common.{subst}
 use Rattle.flt_model.specs.declared.event.Event.TheVariants.{Free}
-use Rattle.flt_replay.proofs.Noting.{freed_context}
+use Rattle.flt_replay.proofs.Counting.Noting.{freed_context}
 use Rattle.flt_replay.specs.Ledger.{Tally, Tells, IsCounted, Noted}
 use Rattle.flt_replay.specs.contracts.ledger.Ledger.{the_view}
 use Rattle.flt_replay.proofs.ledger.Ledger.free.Goals as goal

@@ -1,6 +1,6 @@
 use Rattle.std.proofs.Common.{◌≡◌, false, get_or, subst, sym, ◌∙◌}
-use Rattle.flt_replay.proofs.Holders.{gained_first, gained_again}
-use Rattle.flt_replay.specs.Counts.{count_of}
+use Rattle.flt_replay.proofs.Counting.Holders.{gained_first, gained_again}
+use Rattle.flt_replay.specs.Rows.{count_of}
 use Rattle.flt_replay.specs.Ledger.{Tally, Turned, is_without}
 use Rattle.flt_replay.specs.contracts.ledger.Ledger.{the_view}
 use Rattle.flt_replay.proofs.ledger.Ledger.gain_visit.Goals as goal

@@ -1,7 +1,7 @@
 use Rattle.std.proofs.Common.{◌≡◌, ℕ, IsTrue, ◌↔◌, subst, sym, ap, ◌∙◌}
 use Rattle.flt_model.specs.Violations.{leaks_nothing}
-use Rattle.flt_replay.proofs.Tallies.{leaks_nothing_is}
-use Rattle.flt_replay.specs.Counts.{count_of}
+use Rattle.flt_replay.proofs.Counting.Tallies.{leaks_nothing_is}
+use Rattle.flt_replay.specs.Rows.{count_of}
 use Rattle.flt_replay.specs.Ledger.{Tally}
 use Rattle.flt_replay.proofs.ledger.Ledger.leaks_nothing.Goals as goal
 

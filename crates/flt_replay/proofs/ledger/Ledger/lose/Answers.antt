@@ -2,7 +2,7 @@ use Rattle.std.proofs.Common.{◌<◌, subst, sym}
 use Rattle.flt_model.specs.declared.event.Event.TheVariants.{Lose}
 use Rattle.flt_model.specs.declared.event.Object.{Object}
 use Rattle.flt_model.specs.declared.event.Object.TheVariants.{Context}
-use Rattle.flt_replay.proofs.Noting.{lost_context, lost_visit}
+use Rattle.flt_replay.proofs.Counting.Noting.{lost_context, lost_visit}
 use Rattle.flt_replay.specs.Ledger.{Tally, Tells, IsCounted, Noted, held}
 use Rattle.flt_replay.specs.contracts.ledger.Ledger.{the_view}
 use Rattle.flt_replay.proofs.ledger.Ledger.lose.Goals as goal

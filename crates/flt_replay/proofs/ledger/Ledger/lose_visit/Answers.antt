@@ -1,8 +1,8 @@
 use Rattle.std.proofs.Common.{◌≡◌, ◌<◌, true, false, get_or, subst, sym, ◌∙◌}
 use Rattle.std.proofs.lemmas.Bool.{and_parts}
 use Rattle.std.specs.Prelude.{◌==◌}
-use Rattle.flt_replay.proofs.Holders.{lost_last, some_holder}
-use Rattle.flt_replay.specs.Counts.{count_of}
+use Rattle.flt_replay.proofs.Counting.Holders.{lost_last, some_holder}
+use Rattle.flt_replay.specs.Rows.{count_of}
 use Rattle.flt_replay.specs.Ledger.{Tally, IsCounted, Turned, is_without}
 use Rattle.flt_replay.specs.contracts.ledger.Ledger.{the_view}
 use Rattle.flt_replay.proofs.ledger.Ledger.lose_visit.Goals as goal

@@ -1,4 +1,4 @@
-use Rattle.flt_replay.proofs.Blank.{agrees_blank}
+use Rattle.flt_replay.proofs.Counting.Blank.{agrees_blank}
 use Rattle.flt_replay.specs.contracts.ledger.Ledger.{the_view}
 use Rattle.flt_replay.proofs.ledger.Ledger.new.Goals as goal
 

@@ -1,7 +1,7 @@
 use Rattle.std.proofs.Common.{◌≡◌, true, subst, sym}
 use Rattle.flt_model.specs.declared.event.Event.{Event}
 use Rattle.flt_model.specs.Violations.{is_fresh}
-use Rattle.flt_replay.proofs.Noting.{held_if_fresh, noted_other}
+use Rattle.flt_replay.proofs.Counting.Noting.{held_if_fresh, noted_other}
 use Rattle.flt_replay.specs.Ledger.{Noted}
 use Rattle.flt_replay.proofs.ledger.Ledger.note.Goals as goal
 

@@ -1,6 +1,6 @@
 use Rattle.std.proofs.Common.{subst}
 use Rattle.flt_model.specs.declared.event.Event.TheVariants.{Settle}
-use Rattle.flt_replay.proofs.Noting.{settled_visit}
+use Rattle.flt_replay.proofs.Counting.Noting.{settled_visit}
 use Rattle.flt_replay.specs.Ledger.{Tally, Tells, IsCounted, Noted}
 use Rattle.flt_replay.specs.contracts.ledger.Ledger.{the_view}
 use Rattle.flt_replay.proofs.ledger.Ledger.settle.Goals as goal

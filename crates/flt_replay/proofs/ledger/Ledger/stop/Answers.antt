@@ -1,6 +1,6 @@
 use Rattle.std.proofs.Common.{◌≡◌, ◌≤◌, ◌+◌, ◌++◌, ℕ, false, List, get_or, subst, sym, ap, ◌∙◌}
-use Rattle.flt_replay.proofs.Holders.{stopped_on}
-use Rattle.flt_replay.specs.Counts.{count, occurs}
+use Rattle.flt_replay.proofs.Counting.Holders.{stopped_on}
+use Rattle.flt_records.specs.Counts.{count, occurs}
 use Rattle.flt_replay.specs.Ledger.{Tally, Stopped}
 use Rattle.flt_replay.specs.contracts.ledger.Ledger.{the_view}
 use Rattle.flt_replay.proofs.ledger.Ledger.stop.Goals as goal

@@ -1,6 +1,6 @@
 use Rattle.std.proofs.Common.{sym, ap, ◌∙◌}
 use Rattle.std.specs.List.{list_all}
-use Rattle.flt_replay.proofs.Concluding.{concluded, refuted}
+use Rattle.flt_replay.proofs.Counting.Concluding.{concluded, refuted}
 use Rattle.flt_replay.specs.Ledger.{owns_any}
 use Rattle.flt_replay.proofs.ledger.Ledger.take.Goals as goal
 

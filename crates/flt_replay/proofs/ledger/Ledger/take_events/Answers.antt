@@ -1,7 +1,7 @@
 use Rattle.std.proofs.Common.{◌++◌, sym, ◌∙◌, take}
 use Rattle.flt_rules.specs.declared.call.Call.TheVariants.{AllocateContext}
 use Rattle.flt_model.specs.declared.event.Event.TheVariants.{Call}
-use Rattle.flt_replay.proofs.Taking.{judged_at, stale_at}
+use Rattle.flt_replay.proofs.Counting.Taking.{judged_at, stale_at}
 use Rattle.flt_replay.proofs.ledger.Ledger.take_events.Goals as goal
 
 pub returns-then-not-is_fresh-clause-first : goal.returns-then-not-is_fresh-clause-first

@@ -2,7 +2,7 @@ use Rattle.std.proofs.Common.{◌∙◌, [], ◌∷◌, sym, ap, subst}
 use Rattle.flt_model.specs.Expansion.{entry_course}
 use Rattle.flt_model.specs.Steps.{Board}
 use Rattle.flt_replay.specs.Monitoring.{ComesTo}
-use Rattle.flt_replay.proofs.Courses.{in_other_words, go_on_more}
+use Rattle.flt_replay.proofs.Judging.Courses.{in_other_words, go_on_more}
 use Rattle.flt_replay.proofs.monitor.Monitor.go.Goals as goal
 
 pub returns : goal.returns

@@ -1,5 +1,5 @@
 use Rattle.std.proofs.Common.{sym, ◌∙◌}
-use Rattle.flt_replay.proofs.Courses.{fails, reaches}
+use Rattle.flt_replay.proofs.Judging.Courses.{fails, reaches}
 use Rattle.flt_replay.proofs.monitor.Monitor.judged.Goals as goal
 
 pub returns-in-Some : goal.returns-in-Some

@@ -1,5 +1,5 @@
 use Rattle.std.proofs.Common.{◌≡◌, ◌+◌, ◌-◌, ℕ, length}
-use Rattle.flt_replay.specs.Counts.{count_of}
+use Rattle.flt_replay.specs.Rows.{count_of}
 use Rattle.flt_replay.proofs.ledger.rows.Rows.grow.Given as goal
 
 abbrev pub invariant-loop-alloc : goal.invariant-loop-alloc

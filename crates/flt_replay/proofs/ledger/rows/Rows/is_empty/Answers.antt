@@ -1,6 +1,7 @@
 use Rattle.std.proofs.Common.{◌≡◌, ℕ, List, [], IsTrue, ◌↔◌, get_or, sym, subst, arith}
 use Rattle.std.proofs.lemmas.Grind.{common_steps}
-use Rattle.flt_replay.specs.Counts.{count, count_of}
+use Rattle.flt_records.specs.Counts.{count}
+use Rattle.flt_replay.specs.Rows.{count_of}
 use Rattle.flt_replay.proofs.ledger.rows.Rows.is_empty.Goals as goal
 
 pub returns-in-Some : goal.returns-in-Some

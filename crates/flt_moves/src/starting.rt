@@ -1,0 +1,131 @@
+//! Callbacks that start: each is a new activation, which gains what it is given.
+
+ghost use Rattle.std.specs.Prelude.{Some, length, OnOk};
+ghost use Rattle.flt_model.specs.Moves as moves;
+ghost use Rattle.flt_moves.specs.Starting.{starts_post};
+ghost use Rattle.flt_world.specs.Happening.{Happened};
+
+use flt_model::{Event, Object};
+use flt_records::{Activation, Actor, Frame, Position, Visit};
+use flt_rules::{Operation, Place, Stage};
+use flt_tree::Statement;
+use flt_world::{Stack, World};
+use std::alloc::{AllocError, Global};
+
+/// Whose callback starts, what it runs, and what it is given.
+#[derive(Drop)]
+pub(crate) struct Start<'a> {
+    pub(crate) actor: Actor,
+    pub(crate) body: &'a [Statement],
+    pub(crate) visit: Option<usize>,
+    pub(crate) context: Option<usize>,
+}
+
+pub(crate) fn start_activation<'a>(
+    world: &mut World<'a>,
+    alloc: Global,
+    start: Start<'a>,
+    events: &mut Vec<Event>,
+) -> Result<(), AllocError>
+    ensures { OnOk result (Happened world.new events.old.items events.new.items (moves.starts world.old world.old.store start.entry.actor start.entry.body.now start.entry.visit start.entry.context)) }
+{
+    let number = world.activations.len();
+    let Start {
+        actor,
+        body,
+        visit,
+        context,
+    } = start;
+    world.actors.push(actor)?;
+    world
+        .activations
+        .push(Activation::starting(alloc, body, visit, context))?;
+    if let Some(visit) = visit {
+        events.push(Event::Gain(number, Object::Visit(visit)))?;
+    }
+    if let Some(context) = context {
+        events.push(Event::Gain(number, Object::Context(context)))?;
+    }
+    Ok(())
+}
+
+/// A visit begins, and its callback starts with it.
+fn start_visit<'a>(
+    world: &mut World<'a>,
+    alloc: Global,
+    visit: Visit,
+    place: Place,
+    body: &'a [Statement],
+    context: Option<usize>,
+    events: &mut Vec<Event>,
+) -> Result<(), AllocError>
+    ensures { OnOk result (Happened world.new events.old.items events.new.items (moves.starts world.old (moves.with_visit world.old.store visit) (record { filter = visit.filter; place = place; draining = visit.draining }) body.now (Some (length world.old.store.visits)) context)) }
+{
+    let actor = Actor {
+        filter: visit.filter,
+        place,
+        draining: visit.draining,
+    };
+    let start = Start {
+        actor,
+        body,
+        visit: Some(world.add_visit(visit)?),
+        context,
+    };
+    start_activation(world, alloc, start, events)
+}
+
+/// The visit of an operation that is down at a filter with a pre callback, and the callback.
+pub(crate) fn start_pre<'a>(
+    world: &mut World<'a>,
+    alloc: Global,
+    stack: &Stack<'a>,
+    operation: usize,
+    kind: Operation,
+    filter: usize,
+    events: &mut Vec<Event>,
+) -> Result<(), AllocError>
+    ensures { OnOk result (Happened world.new events.old.items events.new.items (moves.pre_of stack.now world.old operation kind filter)) }
+{
+    world.set_position(operation, Position::Visiting);
+    let visit = Visit {
+        operation,
+        filter,
+        stage: Stage::Pre,
+        draining: false,
+    };
+    let body = stack.pre_body(filter, kind);
+    start_visit(world, alloc, visit, Place::Pre(kind), body, None, events)
+}
+
+/// The post callback of a frame that was taken out of its operation.
+pub(crate) fn start_post<'a>(
+    world: &mut World<'a>,
+    alloc: Global,
+    stack: &Stack<'a>,
+    operation: usize,
+    frame: Frame,
+    draining: bool,
+    events: &mut Vec<Event>,
+) -> Result<(), AllocError>
+    ensures { OnOk result (Happened world.new events.old.items events.new.items (starts_post stack.now world.old operation frame draining)) }
+{
+    let kind = world.kind(operation);
+    let Frame { filter, context } = frame;
+    let visit = Visit {
+        operation,
+        filter,
+        stage: Stage::Post,
+        draining,
+    };
+    let body = stack.post_body(filter, kind);
+    start_visit(
+        world,
+        alloc,
+        visit,
+        Place::Post(kind),
+        body,
+        context,
+        events,
+    )
+}

@@ -1,0 +1,49 @@
+-- One part more, and one turn less.
+use Rattle.std.proofs.Common.{◌≡◌, ℕ, zero, suc, ◌-◌, ◌<◌, List, [], ◌∷◌, ◌++◌, length, refl, sym, ap, ◌∙◌, arith, sub-one}
+use Rattle.flt_model.specs.LocalSteps.{turns_left}
+use Rattle.flt_tree.specs.declared.filter.Statement.{Statement}
+use Rattle.flt_tree.specs.declared.filter.Statement.TheVariants as tree
+use Rattle.flt_records.specs.Rest.{statements_of, before, remaining, others}
+use Rattle.flt_records.specs.declared.rest.Part.{Part}
+
+pub before_push : (others : List Statement) (parts : List Part) (p : Part) → before others (parts ++ p ∷ []) ≡ statements_of p ++ before others parts
+unfolding before
+before_push others [] p = refl
+before_push others (q ∷ parts) p = before_push (statements_of q ++ others) parts p
+
+pub turn_left : (line turns : ℕ) (body others : List Statement) → (turns ≡ 0 → ⊥) → turns_left line turns body others ≡ body ++ tree.Repeat line (turns - 1) body ∷ others
+turn_left line zero body others h = absurd (h refl)
+turn_left line (suc n) body others h = rw sub-one refl
+
+-- ---- short lists
+
+nothing : (l : List Statement) → length l < 1 → l ≡ []
+nothing [] h = refl
+nothing (x ∷ l) h = absurd (omega arith)
+
+no_part : (l : List Part) → length l < 1 → l ≡ []
+no_part [] h = refl
+no_part (x ∷ l) h = absurd (omega arith)
+
+-- ---- the last part is taken out, where nothing is left of the block
+
+module _ (here now : List Statement) (old new : List Part) (small : length here < 1) (is : remaining here old ≡ now) where
+  pub taken_out : (p : Part) → old ≡ new ++ p ∷ [] → now ≡ statements_of p ++ before [] new
+  taken_out p e =
+      sym is ∙ rw (e, before_push [] new p) (ap (λ (l : List Statement). l ++ (statements_of p ++ before [] new)) (nothing here small))
+
+  pub goes_on_with : (p : Part) → old ≡ new ++ p ∷ [] → statements_of p ++ before [] new ≡ now
+  goes_on_with p e = sym (taken_out p e)
+
+  pub turn_out : (p : Part) → old ≡ new ++ p ∷ [] → now ≡ statements_of p ++ (here ++ before [] new)
+  turn_out p e = taken_out p e ∙ ap (λ (l : List Statement). statements_of p ++ (l ++ before [] new)) (sym (nothing here small))
+
+  pub none_left : length old < 1 → length new < 1 → (now ≡ []) × (here ++ before [] new ≡ [])
+  unfolding before
+  none_left o n =
+      (sym is ∙ rw (nothing here small, no_part old o) refl, rw (nothing here small, no_part new n) refl)
+
+-- ---- the first statement, which stays
+
+pub first_of : (now rest : List Statement) (s : Statement) → now ≡ s ∷ rest → now ≡ s ∷ others now
+first_of now rest s e = e ∙ ap (λ (l : List Statement). s ∷ l) (sym (ap others e))

@@ -1,0 +1,10 @@
+pub mod Coded
+pub mod Counts
+pub mod Links
+pub mod Parts
+pub mod Places
+pub mod Rest
+pub mod Tickets
+pub mod Unsettled
+pub mod Waiting
+pub mod Writes

@@ -1,0 +1,172 @@
+//! An activation: one run of a callback, with its variables and the locks that it holds.
+
+ghost use Rattle.std.specs.Prelude.{◌≡◌, ◌++◌, true, [], replicate, IfOk, OnOk, MatchOption};
+ghost use Rattle.flt_model.specs.Variables as spec;
+ghost use Rattle.flt_records.specs.Rest.{others};
+ghost use Rattle.flt_records.specs.Writes.{written};
+
+use crate::rest::Rest;
+use flt_rules::LockNumber;
+use flt_tree::{
+    Atom, ContextVariable, Expression, NumberVariable, OperationVariable, RemovedVariable,
+    Statement,
+};
+use sqlite_items::Items;
+use std::alloc::{AllocError, Global};
+use std::marker::Model;
+
+/// How far a callback has come. A variable keeps its number when what it names is released or handed over.
+#[derive(Drop)]
+pub struct Activation<'a> {
+    pub rest: Rest<'a>,
+    numbers: [u64; 8],
+    contexts: [Option<usize>; 9],
+    operations: [Option<usize>; 5],
+    pub locks: Items<LockNumber>,
+    pub ended: bool,
+}
+
+impl<'a> Model for Activation<'a> {
+    ghost use Rattle.flt_model.specs.World as machine;
+
+    ghost Value = { machine.Activation };
+
+    ghost use Rattle.flt_records.specs.Coded.{activation_code};
+
+    ghost coded = { activation_code };
+
+    ghost view = { λ a. record { rest = a.rest; numbers = a.numbers; contexts = a.contexts; operations = a.operations; locks = a.locks; ended = a.ended } };
+}
+
+/// What a step writes to an activation.
+#[derive(Clone, Copy)]
+pub enum Write {
+    Nothing,
+    Number(NumberVariable, u64),
+    /// A context or NULL, to a variable that a call need not have.
+    Output(Option<ContextVariable>, Option<usize>),
+    /// A visit and a context, as of an entry of a queue.
+    Entry(RemovedVariable, ContextVariable, Option<usize>, Option<usize>),
+    /// The lock is taken.
+    Lock(LockNumber),
+    /// The last such lock is given up.
+    Unlock(LockNumber),
+}
+
+impl<'a> Activation<'a> {
+    /// At entry all is 0 or NULL but the given operation and the given context.
+    pub fn starting(
+        alloc: Global,
+        body: &'a [Statement],
+        given: Option<usize>,
+        arg: Option<usize>,
+    ) -> Activation<'a>
+        ensures { result ≡ spec.starting body.now given arg }
+    {
+        Activation {
+            rest: Rest::new(alloc, body),
+            numbers: [0; 8],
+            contexts: [None, None, None, None, None, None, None, None, arg],
+            operations: [None, None, None, None, given],
+            locks: Items::new(alloc),
+            ended: false,
+        }
+    }
+
+    /// The value of a number variable.
+    pub fn number(&self, variable: NumberVariable) -> u64
+        ensures { result ≡ spec.number_in self.now variable }
+    {
+        self.numbers[variable.place()]
+    }
+
+    /// The number of the context that a variable names; none where it is NULL.
+    pub fn context(&self, variable: ContextVariable) -> Option<usize>
+        ensures { result ≡ spec.context_in self.now variable }
+    {
+        self.contexts[variable.place()]
+    }
+
+    /// The number of the visit that a variable names; none where it is NULL.
+    pub fn operation(&self, variable: OperationVariable) -> Option<usize>
+        ensures { result ≡ spec.operation_in self.now variable }
+    {
+        self.operations[variable.place()]
+    }
+
+    /// Sets a number variable.
+    pub fn set_number(&mut self, variable: NumberVariable, value: u64)
+        ensures { self.new ≡ spec.with_number self.old variable value }
+    {
+        self.numbers[variable.place()] = value;
+    }
+
+    /// Sets a context variable, or makes it NULL.
+    pub fn set_context(&mut self, variable: ContextVariable, context: Option<usize>)
+        ensures { self.new ≡ spec.with_context_in self.old variable context }
+    {
+        self.contexts[variable.place()] = context;
+    }
+
+    /// Sets an operation variable, or makes it NULL.
+    pub fn set_operation(&mut self, variable: OperationVariable, visit: Option<usize>)
+        ensures { self.new ≡ spec.with_operation_in self.old variable visit }
+    {
+        self.operations[variable.place()] = visit;
+    }
+
+    /// Sets a variable that a call need not have.
+    pub fn set_old(&mut self, variable: Option<ContextVariable>, context: Option<usize>)
+        ensures { self.new ≡ spec.with_old self.old variable context }
+    {
+        if let Some(variable) = variable {
+            self.set_context(variable, context);
+        }
+    }
+
+    /// The value of a number or of a variable.
+    pub fn atom(&self, atom: Atom) -> u64
+        ensures { result ≡ spec.atom_value self.now atom }
+    {
+        match atom {
+            Atom::Number(number) => number,
+            Atom::Variable(variable) => self.number(variable),
+        }
+    }
+
+    /// The value of a number, a sum or a difference; these wrap.
+    pub fn expression(&self, expression: Expression) -> u64
+        ensures { result ≡ spec.expression_value self.now expression }
+    {
+        match expression {
+            Expression::Atom(atom) => self.atom(atom),
+            Expression::Sum(left, right) => self.atom(left).wrapping_add(self.atom(right)),
+            Expression::Difference(left, right) => self.atom(left).wrapping_sub(self.atom(right)),
+        }
+    }
+
+    fn write(&mut self, write: Write) -> Result<(), AllocError>
+        ensures { OnOk result (self.new ≡ written write self.old) }
+    {
+        match write {
+            Write::Nothing => {}
+            Write::Number(variable, value) => self.set_number(variable, value),
+            Write::Output(variable, context) => self.set_old(variable, context),
+            Write::Entry(removed, variable, visit, context) => {
+                self.set_operation(OperationVariable::Removed(removed), visit);
+                self.set_context(variable, context);
+            }
+            Write::Lock(lock) => self.locks.push(lock)?,
+            Write::Unlock(lock) => self.remove_lock(lock),
+        }
+        Ok(())
+    }
+
+    /// Goes on with a block in place of the first statement.
+    pub fn go_on(&mut self, block: &'a [Statement], write: Write) -> Result<(), AllocError>
+        ensures { OnOk result (self.new ≡ written write (record self.old { rest = block.now ++ others self.old.rest })) }
+    {
+        self.rest.replace_first(block)?;
+        self.write(write)
+    }
+}

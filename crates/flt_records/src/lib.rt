@@ -1,0 +1,34 @@
+//! What the monitor's world is kept in: a struct for each record of the machine, and the lists of them, with indices beside them
+//! that save searches.
+//!
+//! `parts` and `route` are the records, `activation`, `rest` and `lock_list` one run of a callback, and `local` its steps that nobody
+//! else sees. `linked` keeps contexts with their links, `visit_list` visits by operation, and `waiting_list` queues and work items;
+//! `place_set` and `counts` are their indices. Contracts see each list as the machine's own, and mention no index.
+#![tactic(auto)]
+
+mod activation;
+mod counts;
+mod laws;
+mod linked;
+mod local;
+mod lock_list;
+mod parts;
+mod place_set;
+mod queue;
+mod rest;
+mod route;
+mod visit_list;
+mod waiting_list;
+
+pub use activation::{Activation, Write};
+pub use counts::Counts;
+pub use laws::same_tests_find_the_same;
+pub use linked::Contexts;
+pub use lock_list::holds_lock;
+pub use parts::{
+    Actor, Arrival, Context, Entry, Frame, Item, Link, Outcome, Position, Presence, Route,
+    Standing, Visit,
+};
+pub use rest::{Rest, Upcoming};
+pub use visit_list::Visits;
+pub use waiting_list::Waiting;

@@ -1,0 +1,106 @@
+//! The steps of an activation that nobody else can see.
+
+ghost use Rattle.std.specs.Prelude.{◌≡◌, Some, None, if◌then◌else◌, IfOk};
+ghost use Rattle.flt_model.specs.LocalSteps as spec;
+ghost use Rattle.flt_records.specs.Rest.{statement_of};
+ghost use Rattle.flt_tree.specs.declared.filter.Statement.{out-Statement};
+
+use crate::activation::Activation;
+use crate::rest::Upcoming;
+use flt_tree::{Action, Condition, OperationVariable, Statement, Test};
+use std::alloc::AllocError;
+
+impl<'a> Activation<'a> {
+    /// Computes a number, or sets a variable to NULL. False where others see the action.
+    fn act(&mut self, action: Action) -> bool
+        ensures after { spec.after_action self.old action ≡ (if result then Some self.new else None) }
+        ensures rest { self.new.rest ≡ self.old.rest }
+    {
+        match action {
+            Action::SetNumber(variable, expression) => {
+                let value = self.expression(expression);
+                self.set_number(variable, value);
+                true
+            }
+            Action::ClearContext(variable) => {
+                self.set_context(variable, None);
+                true
+            }
+            Action::ClearOperation(variable) => {
+                self.set_operation(OperationVariable::Removed(variable), None);
+                true
+            }
+            Action::ReadValue(_, _) | Action::ReadFile(_, _) | Action::WriteValue(_, _) => false,
+        }
+    }
+
+    /// What a test says of the activation's own variables and flag; none where it asks of the operation.
+    fn test(&self, draining: bool, test: Test) -> Option<bool>
+        ensures { result ≡ spec.holds_test draining self.now test }
+    {
+        match test {
+            Test::ContextIsSome(variable) => Some(self.context(variable).is_some()),
+            Test::OperationIsSome(variable) => {
+                Some(
+                    self.operation(OperationVariable::Removed(variable))
+                        .is_some(),
+                )
+            }
+            Test::Equal(variable, atom) => Some(self.number(variable) == self.atom(atom)),
+            Test::Less(variable, atom) => Some(self.number(variable) < self.atom(atom)),
+            Test::IsDraining => Some(draining),
+            Test::IsIrp => None,
+        }
+    }
+
+    fn condition(&self, draining: bool, condition: &Condition) -> Option<bool>
+        ensures { result ≡ spec.holds_condition draining self.now condition.now }
+    {
+        match condition {
+            Condition::Test(test) => self.test(draining, *test),
+            Condition::Succeeds(_) => None,
+        }
+    }
+
+    /// The step of a statement of the text, which was the first one. False where others see it.
+    fn statement(&mut self, draining: bool, statement: &'a Statement) -> Result<bool, AllocError>
+        ensures { IfOk result (λ local. spec.after_statement draining self.old self.old.rest (out-Statement statement.now) ≡ (if local then Some self.new else None)) }
+    {
+        match statement {
+            Statement::Act(_, action) => Ok(self.act(*action)),
+            Statement::Call(_, _) | Statement::Return(_, _) => Ok(false),
+            Statement::If(_, condition, granted, refused) => {
+                match self.condition(draining, condition) {
+                    Some(true) => {
+                        self.rest.enter(granted.as_slice())?;
+                        Ok(true)
+                    }
+                    Some(false) => {
+                        self.rest.enter(refused.as_slice())?;
+                        Ok(true)
+                    }
+                    None => Ok(false),
+                }
+            }
+            Statement::Repeat(line, turns, body) => {
+                self.rest.turn(*line, *turns, body.as_slice())?;
+                Ok(true)
+            }
+        }
+    }
+
+    /// One step that nobody else sees. False where the next one is seen; the first statement is then gone.
+    #[tactic(auto, using(crate::proofs::LocalLaws::statement_same))]
+    pub fn step_locally(&mut self, draining: bool) -> Result<bool, AllocError>
+        ensures { IfOk result (λ local. spec.local_step draining self.old self.old.rest ≡ (if local then Some self.new else None)) }
+    {
+        match self.rest.next() {
+            Some(Upcoming::Statement(statement)) => self.statement(draining, statement),
+            Some(Upcoming::Repeat(line, turns, body)) => {
+                self.rest.turn(line, turns, body)?;
+                Ok(true)
+            }
+            None => Ok(false),
+        }
+    }
+}

@@ -1,0 +1,197 @@
+//! What activations share: operations, visits, contexts and what waits, one struct for each record of the machine.
+
+use flt_model::Key;
+use flt_rules::{FinalStatus, Mode, Operation, Place, Stage};
+use sqlite_items::Items;
+use std::marker::Model;
+
+/// Whether a filter's instance is there.
+#[derive(Clone, Copy, PartialEq, Eq)]
+pub enum Presence {
+    Attached,
+    Detaching,
+    Detached,
+}
+
+/// Where an operation stands.
+#[derive(Clone, Copy)]
+pub enum Position {
+    /// At a filter on its way down, or below the last one.
+    Down(usize),
+    Visiting,
+    Up,
+}
+
+/// How an operation ended at its lowest point.
+#[derive(Clone, Copy)]
+pub enum Outcome {
+    Completed(FinalStatus),
+    Disallowed,
+}
+
+/// The presence of a filter's instance.
+#[derive(Drop)]
+pub struct Standing {
+    pub presence: Presence,
+}
+
+impl Model for Standing {
+    ghost use Rattle.flt_model.specs.World as machine;
+
+    ghost Value = { machine.Presence };
+
+    ghost use Rattle.flt_records.specs.Parts.{presence_of};
+
+    ghost view = { λ s. presence_of s.presence };
+}
+
+/// What stands in a cancel-safe queue.
+#[derive(Drop)]
+pub struct Entry {
+    pub visit: usize,
+    pub context: Option<usize>,
+}
+
+impl Model for Entry {
+    ghost use Rattle.flt_model.specs.World as machine;
+
+    ghost Value = { machine.Entry };
+
+    ghost view = { λ e. record { visit = e.visit; context = e.context } };
+}
+
+/// What an operation is; it never changes.
+#[derive(Drop)]
+pub struct Arrival {
+    pub kind: Operation,
+    pub mode: Mode,
+    pub file: u32,
+}
+
+impl Model for Arrival {
+    ghost use Rattle.flt_model.specs.World as machine;
+
+    ghost Value = { machine.Arrival };
+
+    ghost view = { λ a. record { kind = a.kind; mode = a.mode; file = a.file } };
+}
+
+/// A post callback that is to be called, with its completion context.
+#[derive(Drop)]
+pub struct Frame {
+    pub filter: usize,
+    pub context: Option<usize>,
+}
+
+impl Model for Frame {
+    ghost use Rattle.flt_model.specs.World as machine;
+
+    ghost Value = { machine.Frame };
+
+    ghost view = { λ f. record { filter = f.filter; context = f.context } };
+}
+
+/// How far an operation has come.
+#[derive(Drop)]
+pub struct Route {
+    pub position: Position,
+    /// In the order of the filters.
+    pub frames: Items<Frame>,
+    pub cancelled: bool,
+    pub outcome: Option<Outcome>,
+}
+
+impl Model for Route {
+    ghost use Rattle.flt_model.specs.World as machine;
+
+    ghost Value = { machine.Route };
+
+    ghost use Rattle.std.specs.Prelude.{option_map};
+    ghost use Rattle.flt_records.specs.Parts.{position_of, outcome_of};
+
+    ghost view = { λ r. record { position = position_of r.position; frames = r.frames; cancelled = r.cancelled; outcome = option_map outcome_of r.outcome } };
+}
+
+/// One passing of an operation through a filter; it never changes.
+#[derive(Drop)]
+pub struct Visit {
+    pub operation: usize,
+    pub filter: usize,
+    pub stage: Stage,
+    pub draining: bool,
+}
+
+impl Model for Visit {
+    ghost use Rattle.flt_model.specs.World as machine;
+
+    ghost Value = { machine.Visit };
+
+    ghost view = { λ v. record { operation = v.operation; filter = v.filter; stage = v.stage; draining = v.draining } };
+}
+
+/// What a context is linked to, of a filter.
+#[derive(Clone, Copy)]
+pub struct Link {
+    pub filter: usize,
+    pub key: Key,
+}
+
+impl Model for Link {
+    ghost use Rattle.flt_model.specs.World as machine;
+
+    ghost Value = { machine.Link };
+
+    ghost view = { λ l. record { filter = l.filter; key = l.key } };
+
+    ghost inverse = { λ l. record { filter = l.filter; key = l.key } };
+}
+
+/// A context with the filter that allocated it; without references it is freed.
+#[derive(Drop)]
+pub struct Context {
+    pub owner: usize,
+    pub references: u64,
+    pub value: u64,
+    pub link: Option<Link>,
+}
+
+impl Model for Context {
+    ghost use Rattle.flt_model.specs.World as machine;
+
+    ghost Value = { machine.Context };
+
+    ghost view = { λ c. record { owner = c.owner; references = c.references; value = c.value; link = c.link } };
+}
+
+/// A queued work item; a routine by the number of its callback.
+#[derive(Drop)]
+pub struct Item {
+    pub filter: usize,
+    pub routine: usize,
+    pub visit: Option<usize>,
+    pub context: Option<usize>,
+}
+
+impl Model for Item {
+    ghost use Rattle.flt_model.specs.World as machine;
+
+    ghost Value = { machine.Item };
+
+    ghost view = { λ i. record { filter = i.filter; routine = i.routine; visit = i.visit; context = i.context } };
+}
+
+/// Whose callback an activation runs, and where; it never changes.
+#[derive(Drop)]
+pub struct Actor {
+    pub filter: usize,
+    pub place: Place,
+    pub draining: bool,
+}
+
+impl Model for Actor {
+    ghost use Rattle.flt_model.specs.World as machine;
+
+    ghost Value = { machine.Actor };
+
+    ghost view = { λ a. record { filter = a.filter; place = a.place; draining = a.draining } };
+}

@@ -1,0 +1,5 @@
+-- What comes of an entry: its transitions, and the rules that they break.
+pub mod Courses
+pub mod Judgements
+pub mod RulesAfter
+pub mod Scenes

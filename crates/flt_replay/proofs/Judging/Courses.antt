@@ -1,0 +1,208 @@
+-- What comes of the monitor's steps, entry by entry.
+use Rattle.std.proofs.Common.{◌≡◌, ◌<◌, ◌-◌, ◌+◌, ℕ, zero, suc, Bool, true, false, List, [], ◌∷◌, ◌++◌, Option, Some, None, Result, Ok, Err, IfOk, find, not, replicate, drop, get_or, length, add-one, refl, sym, ◌∙◌, ap, subst, arith, sub-one}
+use Rattle.std.specs.List.{list_all}
+use Rattle.std.specs.Option.{option_or}
+use Rattle.flt_rules.specs.declared.call.LockNumber.{LockNumber}
+use Rattle.flt_tree.specs.declared.filter.Filter.{Filter}
+use Rattle.flt_model.specs.declared.event.Event.{Event}
+use Rattle.flt_model.specs.declared.moves.JournalEntry.{JournalEntry}
+use Rattle.flt_model.specs.declared.moves.Move.{Move}
+use Rattle.flt_model.specs.declared.verdict.Verdict.{Verdict}
+use Rattle.flt_model.specs.declared.verdict.Violation.{Violation}
+use Rattle.flt_model.specs.Effects.{Step}
+use Rattle.flt_model.specs.Expansion.{Course, Reaches, Stops, Fails, unless_broken, course, go_on, entry_course, expansion, judged, verdict_from}
+use Rattle.flt_model.specs.Moves.{make}
+use Rattle.flt_model.specs.Runs.{Moment, start, after, next, broken}
+use Rattle.flt_model.specs.Steps.{Transition, Make, Local, Board, board, local}
+use Rattle.flt_model.specs.Violations.{one_owner}
+use Rattle.flt_model.specs.World.{World, activation_at, opening}
+use Rattle.flt_replay.specs.Judging.{Follows, first_of, of_holding, of_rules, with_locks, keeps_rule, is_by}
+use Rattle.flt_replay.specs.Ledger.{Agrees}
+use Rattle.flt_replay.specs.Monitoring.{IsAt, ComesTo, GoesOn}
+use Rattle.flt_world.specs.Happening.{ComesOf, Happened, holds_visit, holds_given}
+use Rattle.flt_replay.specs.declared.monitor.Course.{Course as Code}
+use Rattle.flt_replay.specs.declared.monitor.Course.TheVariants as code
+use Rattle.flt_replay.specs.declared.monitor.Monitor.{Monitor}
+use Rattle.flt_replay.proofs.Machine.Frames.{stepped}
+use Rattle.flt_replay.proofs.Judging.Judgements.{least_of_both, rules_of_step, no_rule_of_move}
+use Rattle.flt_replay.proofs.Counting.Ledgers.{agrees_unseen}
+use Rattle.flt_replay.proofs.Judging.RulesAfter.{alike_after}
+
+-- what holds of a result holds of it in other words
+pub in_other_words : {A E : Type 0} (P Q : A → Type 0) (r : Result A E) → ((a : A) → P a → Q a) → IfOk r P → IfOk r Q
+in_other_words P Q (Ok a) f h = f a h
+in_other_words P Q (Err e) f h = tt
+
+-- ---- a transition happened, or isn't enabled
+
+pub happened : (step : Option Step) (enabled : Bool) (w : World) (earlier events : List Event) → enabled ≡ true → ComesOf step enabled w earlier events →
+    (s : Step) × (step ≡ Some s) × Happened w earlier events s
+happened None enabled w earlier events e h = absurd (cc (e, h))
+happened (Some s) enabled w earlier events e h = (s, refl, h.1)
+
+pub not_enabled : (step : Option Step) (enabled : Bool) (w : World) (earlier events : List Event) → enabled ≡ false → ComesOf step enabled w earlier events → step ≡ None
+not_enabled None enabled w earlier events e h = refl
+not_enabled (Some s) enabled w earlier events e h = absurd (cc (e, h.0))
+
+-- ---- a step is judged
+
+none_of : (o other : Option Violation) → option_or o other ≡ None → o ≡ None
+none_of None other e = refl
+none_of (Some v) other e = absurd (cc)
+
+module _ (p : List Filter) (m : Moment) (s : Step) (monitor : Monitor) (found rule : Option Violation)
+    (holding : found ≡ first_of of_holding p m s) (rules : rule ≡ first_of of_rules p m s) where
+  both : broken p m s ≡ option_or found rule
+  both = least_of_both p m s ∙ rw (← holding, ← rules) refl
+
+  pub fails : (v : Violation) → option_or found rule ≡ Some v → ComesTo (code.Fails v) monitor (unless_broken (broken p m s) (Reaches (after m s)))
+  fails v e = rw (both, e) refl
+
+  pub reaches : option_or found rule ≡ None → monitor.world ≡ s.world → (found ≡ None → Agrees (after m s) monitor.ledger) →
+      ComesTo code.Reaches monitor (unless_broken (broken p m s) (Reaches (after m s)))
+  reaches e world counts =
+      let none : found ≡ None = none_of found rule e in
+      rw (both, e) (record { world = world; counts = counts none })
+
+-- ---- one transition
+
+module _ (p : List Filter) (m : Moment) (x : Transition) where
+  pub stops : (monitor : Monitor) → next p m x ≡ None → ComesTo code.Stops monitor (course p m (x ∷ []))
+  stops monitor e = rw e tt
+
+  pub goes_to : (c : Code) (monitor : Monitor) (s : Step) → next p m x ≡ Some s →
+      ComesTo c monitor (unless_broken (broken p m s) (Reaches (after m s))) → ComesTo c monitor (course p m (x ∷ []))
+  goes_to c monitor s e h = rw e h
+
+-- ---- a move
+
+pub made : (p : List Filter) (m : Moment) (x : Move) (old new : Monitor) (u : World) (es : List Event) (enabled : Bool) (c : Code) →
+    IsAt old m → ComesOf (make p old.world x) enabled u [] es → enabled ≡ true →
+    ((s : Step) → Follows p m (Make x) s u es → None ≡ first_of of_rules p m s → ComesTo c new (unless_broken (broken p m s) (Reaches (after m s)))) →
+    ComesTo c new (course p m (Make x ∷ []))
+made p m x old new u es enabled c at h is judges =
+    let here : ComesOf (make p m.world x) enabled u [] es = subst (λ w. ComesOf (make p w x) enabled u [] es) at.world h in
+    let t = happened (make p m.world x) enabled u [] es is here in
+    goes_to p m (Make x) c new t.0 t.1 (judges t.0 (record { is = t.1; world = sym t.2.0; events_are = sym t.2.1 }) (no_rule_of_move p m x t.0 t.1))
+
+pub not_made : (p : List Filter) (m : Moment) (x : Move) (old new : Monitor) (u : World) (es : List Event) (enabled : Bool) →
+    IsAt old m → ComesOf (make p old.world x) enabled u [] es → enabled ≡ false → ComesTo code.Stops new (course p m (Make x ∷ []))
+not_made p m x old new u es enabled at h is =
+    let here : ComesOf (make p m.world x) enabled u [] es = subst (λ w. ComesOf (make p w x) enabled u [] es) at.world h in
+    stops p m (Make x) new (not_enabled (make p m.world x) enabled u [] es is here)
+
+-- ---- a step that others see
+
+-- what the activation was given is held after a step as before it
+held_after : (p : List Filter) (m : Moment) (a : ℕ) (grant : Bool) (s : Step) → board p m.trace m.world a grant ≡ Some s →
+    holds_given m.trace (with_locks s.world a (activation_at m.world a).locks) a ≡ holds_given m.trace m.world a
+held_after p m a grant s e = ap (holds_visit m.trace a) (alike_after m.world a s (stepped p m.trace m.world a grant s e)).given
+
+module _ (p : List Filter) (m : Moment) (a : ℕ) (grant held : Bool) (old new : Monitor) (u : World) (es : List Event) (enabled : Bool) (at : IsAt old m)
+    (is_held : held ≡ holds_given m.trace m.world a)
+    (h : (t : List Event) → held ≡ holds_given t old.world a → ComesOf (board p t old.world a grant) enabled u [] es) where
+  board_here : ComesOf (board p m.trace m.world a grant) enabled u [] es
+  board_here =
+      subst (λ w. ComesOf (board p m.trace w a grant) enabled u [] es) at.world
+      (h m.trace (subst (λ w. held ≡ holds_given m.trace w a) (sym at.world) is_held))
+
+  pub not_seen : enabled ≡ false → ComesTo code.Stops new (course p m (Board a grant ∷ []))
+  not_seen is = stops p m (Board a grant) new (not_enabled (board p m.trace m.world a grant) enabled u [] es is board_here)
+
+  -- the least broken rule, as it is read in a world after the step
+  abbrev IsRule : Option Violation → World → List Event → List LockNumber → Type 0
+  IsRule rule w events locks =
+      (t : List Event) → held ≡ holds_given t (with_locks w a locks) a → list_all (is_by a) events ≡ true →
+      rule ≡ find (λ v. not (keeps_rule p (with_locks w a locks) t events v)) of_rules
+
+  module _ (rule : Option Violation) (locks : List LockNumber) (are : locks ≡ (activation_at old.world a).locks) (rules : IsRule rule u es locks)
+      (s : Step) (e : board p m.trace m.world a grant ≡ Some s) (world : u ≡ s.world) (events : es ≡ s.events) where
+    abbrev own : List LockNumber
+    own = (activation_at m.world a).locks
+
+    read_after : IsRule rule s.world s.events own
+    read_after =
+        subst (λ l. IsRule rule s.world s.events l) (are ∙ ap (λ w. (activation_at w a).locks) at.world)
+        (subst (λ l. IsRule rule s.world l locks) events (subst (λ w. IsRule rule w es locks) world rules))
+
+    rule_is : rule ≡ first_of of_rules p m s
+    rule_is =
+        read_after m.trace (is_held ∙ sym (held_after p m a grant s e)) (stepped p m.trace m.world a grant s e).framed.by_actor
+        ∙ sym (rules_of_step p m a grant s e)
+
+  pub seen : (c : Code) (rule : Option Violation) (locks : List LockNumber) → enabled ≡ true → locks ≡ (activation_at old.world a).locks → IsRule rule u es locks →
+      ((s : Step) → Follows p m (Board a grant) s u es → rule ≡ first_of of_rules p m s → ComesTo c new (unless_broken (broken p m s) (Reaches (after m s)))) →
+      ComesTo c new (course p m (Board a grant ∷ []))
+  seen c rule locks is are rules judges =
+      let t = happened (board p m.trace m.world a grant) enabled u [] es is board_here in
+      goes_to p m (Board a grant) c new t.0 t.1
+      (judges t.0 (record { is = t.1; world = sym t.2.0; events_are = sym t.2.1 }) (rule_is rule locks are rules t.0 t.1 t.2.0 t.2.1))
+
+-- ---- steps that nobody else sees
+
+-- local steps have no events and break nothing, where each visit has its owner
+abbrev pub AreQuiet : Type 0
+AreQuiet =
+    (p : List Filter) (m : Moment) (a : ℕ) (s : Step) → one_owner m.world m.trace ≡ true → next p m (Local a) ≡ Some s → (s.events ≡ []) × (broken p m s ≡ None)
+
+module _ (quiet : AreQuiet) (p : List Filter) (m : Moment) (a : ℕ) (old : Monitor) (u : World) (enabled : Bool) (at : IsAt old m)
+    (h : (p : List Filter) → (t : List Event) → ComesOf (local p t old.world a) enabled u [] []) (ys : List Transition) where
+  local_here : ComesOf (local p m.trace m.world a) enabled u [] []
+  local_here = subst (λ w. ComesOf (local p m.trace w a) enabled u [] []) at.world (h p m.trace)
+
+  pub not_unseen : enabled ≡ false → course p m (Local a ∷ ys) ≡ Stops
+  not_unseen is = rw (not_enabled (local p m.trace m.world a) enabled u [] [] is local_here) refl
+
+  unseen_by : (s : Step) → next p m (Local a) ≡ Some s → u ≡ s.world →
+      GoesOn true (record { world = u; ledger = old.ledger }) p ys (course p m (Local a ∷ ys))
+  unseen_by s e world =
+      let q = quiet p m a s at.counts.owned e in
+      (after m s, record { world = world; counts = agrees_unseen p m a s old.ledger at.counts e q.0 }, rw (e, q.1) refl)
+
+  pub unseen : enabled ≡ true → GoesOn true (record { world = u; ledger = old.ledger }) p ys (course p m (Local a ∷ ys))
+  unseen is =
+      let t = happened (local p m.trace m.world a) enabled u [] [] is local_here in
+      unseen_by t.0 t.1 t.2.0
+
+-- one more of some steps is made
+pub one_less : (steps made : ℕ) → made < steps → steps - made ≡ suc (steps - (made + 1))
+one_less steps made h = omega (arith, h)
+
+pub go_on_more : (a steps : ℕ) (grant : Bool) → (steps ≡ 0 → ⊥) → go_on a steps grant ≡ Some (replicate (steps - 1) (Local a) ++ Board a grant ∷ [])
+go_on_more a zero grant h = absurd (h refl)
+go_on_more a (suc n) grant h = rw sub-one refl
+
+-- ---- what comes of an entry, and of the journal
+
+-- the course in the machine's words
+pub stopped : (monitor : Monitor) (k : Course) → ComesTo code.Stops monitor k → k ≡ Stops
+stopped monitor (Reaches m) h = absurd h
+stopped monitor Stops h = refl
+stopped monitor (Fails v) h = absurd h
+
+pub failed : (monitor : Monitor) (v : Violation) (k : Course) → ComesTo (code.Fails v) monitor k → k ≡ Fails v
+failed monitor v (Reaches m) h = absurd h
+failed monitor v Stops h = absurd h
+failed monitor v (Fails u) h = rw h refl
+
+pub reached : (monitor : Monitor) (k : Course) → ComesTo code.Reaches monitor k → (m : Moment) × IsAt monitor m × (k ≡ Reaches m)
+reached monitor (Reaches m) h = (m, h, refl)
+reached monitor Stops h = absurd h
+reached monitor (Fails v) h = absurd h
+
+drop_at : (entries : List JournalEntry) (n : ℕ) (d : JournalEntry) → n < length entries → drop n entries ≡ get_or entries n d ∷ drop (suc n) entries
+drop_at [] n d h = absurd (omega arith)
+drop_at (e ∷ entries) zero d h = refl
+drop_at (e ∷ entries) (suc n) d h = drop_at entries n d (omega arith)
+
+-- one entry more
+pub judged_at : (p : List Filter) (m : Moment) (n : ℕ) (entries : List JournalEntry) (d : JournalEntry) (whole : Verdict) (k : Course) → n < length entries →
+    verdict_from p m n (drop n entries) ≡ whole → entry_course p m (expansion (get_or entries n d)) ≡ k →
+    judged k n (λ r. verdict_from p r (n + 1) (drop (n + 1) entries)) ≡ whole
+judged_at p m n entries d whole k h is e =
+    let left : drop n entries ≡ get_or entries n d ∷ drop (n + 1) entries = rw add-one (drop_at entries n d h) in
+    ap (λ c. judged c n (λ r. verdict_from p r (n + 1) (drop (n + 1) entries))) (sym e) ∙ (sym (ap (verdict_from p m n) left) ∙ is)
+
+-- before the first entry
+pub begins : (p : List Filter) (monitor : Monitor) → monitor.world ≡ opening p → Agrees (start p) monitor.ledger → IsAt monitor (start p)
+begins p monitor world counts = record { world = world; counts = counts }

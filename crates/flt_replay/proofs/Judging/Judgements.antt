@@ -1,0 +1,37 @@
+-- The least violation of a step: first those of who holds what, then those of rules.
+use Rattle.std.proofs.Common.{◌≡◌, ℕ, Bool, true, List, Some, None, find, not, refl, sym}
+use Rattle.std.proofs.lemmas.List.Folds.{find-append}
+use Rattle.std.specs.Option.{option_or}
+use Rattle.flt_tree.specs.declared.filter.Filter.{Filter}
+use Rattle.flt_model.specs.declared.moves.Move.{Move}
+use Rattle.flt_model.specs.declared.verdict.Violation.{Violation}
+use Rattle.flt_model.specs.declared.verdict.Violation.TheVariants.{V5, V6, V7, V8}
+use Rattle.flt_model.specs.Effects.{Step}
+use Rattle.flt_model.specs.Moves.{make}
+use Rattle.flt_model.specs.Runs.{Moment, keeps, broken}
+use Rattle.flt_model.specs.Steps.{board}
+use Rattle.flt_model.specs.World.{activation_at}
+use Rattle.flt_replay.specs.Judging.{first_of, of_holding, of_rules, keeps_rule, with_locks}
+use Rattle.flt_replay.proofs.Machine.Frames.{stepped}
+use Rattle.flt_replay.proofs.Machine.MoveRules.{moves_keep_rules}
+use Rattle.flt_replay.proofs.Judging.RulesAfter.{rules_alike, alike_after}
+
+pub least_of_both : (p : List Filter) (m : Moment) (s : Step) → broken p m s ≡ option_or (first_of of_holding p m s) (first_of of_rules p m s)
+least_of_both p m s = find-append (λ v. not (keeps p m s v)) of_holding of_rules
+
+-- the rules, told by other words for them
+rules_by : (p : List Filter) (m : Moment) (s : Step) (kept : Violation → Bool) → ((v : Violation) → keeps_rule p m.world m.trace s.events v ≡ kept v) →
+    first_of of_rules p m s ≡ find (λ v. not (kept v)) of_rules
+rules_by p m s kept h = rw (← h V5, ← h V6, ← h V7, ← h V8) refl
+
+-- read after a step of an activation, with the locks from before it
+pub rules_of_step : (p : List Filter) (m : Moment) (a : ℕ) (grant : Bool) (s : Step) → board p m.trace m.world a grant ≡ Some s →
+    first_of of_rules p m s ≡ find (λ v. not (keeps_rule p (with_locks s.world a (activation_at m.world a).locks) m.trace s.events v)) of_rules
+rules_of_step p m a grant s e =
+    let h = stepped p m.trace m.world a grant s e in
+    rules_by p m s (keeps_rule p (with_locks s.world a (activation_at m.world a).locks) m.trace s.events)
+    (λ v. sym (rules_alike p m.trace (with_locks s.world a (activation_at m.world a).locks) m.world a (alike_after m.world a s h) s.events h.framed.by_actor v))
+
+-- a move breaks none
+pub no_rule_of_move : (p : List Filter) (m : Moment) (x : Move) (s : Step) → make p m.world x ≡ Some s → None ≡ first_of of_rules p m s
+no_rule_of_move p m x s e = sym (rules_by p m s (λ v. true) (λ v. moves_keep_rules p m.world x s e v m.world m.trace))

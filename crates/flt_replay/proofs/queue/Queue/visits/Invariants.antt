@@ -1,5 +1,0 @@
-use Rattle.std.proofs.Common.{◌≡◌, map}
-use Rattle.flt_replay.proofs.queue.Queue.visits.Given as goal
-
-abbrev pub invariant-loop-entry : goal.invariant-loop-entry
-invariant-loop-entry l = l.visits.items ≡ map (λ e. e.now.visit) l.yielded

@@ -1,7 +1,0 @@
-use Rattle.std.proofs.lemmas.List.{append-nil}
-use Rattle.flt_replay.specs.Rest.{before}
-use Rattle.flt_replay.proofs.rest.Rest.new.Goals as goal
-
-pub returns : goal.returns
-unfolding before
-returns c = rw c.new.ensures.items (append-nil c.args.block.now)

@@ -1,0 +1,3 @@
+pub mod Boards
+pub mod Queueing
+pub mod Ways

@@ -1,0 +1,4 @@
+pub mod EntryVisits
+pub mod Openings
+pub mod Reading
+pub mod Stacks
