@@ -1,4 +1,6 @@
--- A callback that starts stands at its first point.
+-- A callback that starts stands at the first point of its text, in a situation that the state of its place's entry means. So the
+-- certificate, which covers each entry, says of a new activation what the invariant asks.
+-- p is the program, f a filter, c a callback, q its place; `gift` is the visit that it is given and `arg` the context, if any.
 use Rattle.std.proofs.Common.{◌≡◌, ℕ, zero, suc, ◌<◌, Bool, true, false, List, [], ◌∷◌, ◌++◌, length, replicate, Option, Some, None, ap, sym, subst, refl, ◌∙◌, arith}
 use Rattle.std.specs.Prelude.{slice_get, ◌||◌}
 use Rattle.std.proofs.lemmas.Option.{slice_get_within}
@@ -17,17 +19,19 @@ use Rattle.flt_tree.specs.declared.filter.Statement.{Statement}
 use Rattle.flt_graph.specs.Graph.{callback_at}
 use Rattle.flt_graph.specs.Graph as graph
 use Rattle.flt_abs.specs.Entry.{entry}
-use Rattle.flt_abs.specs.State.{Situation, Means}
+use Rattle.flt_abs.specs.State.{Situation, Means, has_mode, has_draining}
 use Rattle.flt_model.specs.Moves.{fits_mode}
 use Rattle.flt_model.specs.Program.{filter_at, callbacks_at, no_filter, has_head, body_for, is_pre_of, is_post_of, is_canceled}
 use Rattle.flt_model.specs.Variables.{starting}
 use Rattle.flt_sound.specs.Accepted.{AreAccepted}
+use Rattle.flt_sound.proofs.sums.Shadows.{Unset, given, Shadow, plain, situation}
 use Rattle.flt_sound.proofs.points.Placed.{Laws, Placed}
-use Rattle.flt_sound.proofs.ends.Settling.{same_op}
-use Rattle.flt_sound.proofs.sums.Shadows.{Unset, value_of, given, Shadow, plain, situation}
+use Rattle.flt_sound.proofs.calls.Removing.{given_value}
+use Rattle.flt_sound.proofs.ends.Registering.{same_op}
 
 -- ---- the shadow of a new activation
 
+-- its variables are unset, but for what the callback is given: `data` owns the visit, the last context variable the context
 abbrev pub fresh : List Statement → Mode → Option ℕ → Option ℕ → Shadow
 fresh body mode gift arg = record {
   rest = body;
@@ -39,15 +43,13 @@ fresh body mode gift arg = record {
   ended = false;
 }
 
-pub given_value : (x : Option ℕ) → value_of (given x) ≡ x
-given_value None = refl
-given_value (Some x) = refl
-
+-- what the machine starts is that shadow, forgotten
 pub plain-fresh : (body : List Statement) (mode : Mode) (gift arg : Option ℕ) → starting body gift arg ≡ plain (fresh body mode gift arg)
 plain-fresh body mode gift arg = rw (given_value gift, given_value arg) refl
 
 -- ---- what a callback is entered with
 
+-- a callback of a place may be entered in a mode, draining or not, with this visit and this context
 abbrev pub Enters : Place → Mode → Bool → Option ℕ → Option ℕ → Type 0
 Enters (place.Pre kind) mode draining (Some v) None = (fits_mode kind mode ≡ true) × (draining ≡ false)
 Enters (place.Post kind) mode draining (Some v) arg = fits_mode kind mode ≡ true
@@ -57,90 +59,70 @@ Enters place.DeferredPost mode draining (Some v) arg = (mode ≡ Irp) × (draini
 Enters place.Generic mode draining None arg = (mode ≡ Irp) × (draining ≡ false)
 Enters _ _ _ _ _ = ⊥
 
-pub enters : (q : Place) (body : List Statement) (mode : Mode) (draining : Bool) (gift arg : Option ℕ) → Enters q mode draining gift arg → Means (entry q) (situation draining (fresh body mode gift arg))
-enters (place.Pre Create) body Irp true (Some v) None h = (let e = h.1 in absurd (cc))
-enters (place.Pre Create) body Irp false (Some v) None h = record { contexts = refl; operations = refl; mode = refl; draining = refl; locks = refl }
-enters (place.Pre Create) body Fast true (Some v) None h = (let e = h.1 in absurd (cc))
-enters (place.Pre Create) body Fast false (Some v) None h = (let e = h.0 in absurd (cc))
-enters (place.Pre Read) body Irp true (Some v) None h = (let e = h.1 in absurd (cc))
-enters (place.Pre Read) body Irp false (Some v) None h = record { contexts = refl; operations = refl; mode = refl; draining = refl; locks = refl }
-enters (place.Pre Read) body Fast true (Some v) None h = (let e = h.1 in absurd (cc))
-enters (place.Pre Read) body Fast false (Some v) None h = record { contexts = refl; operations = refl; mode = refl; draining = refl; locks = refl }
-enters (place.Pre Write) body Irp true (Some v) None h = (let e = h.1 in absurd (cc))
-enters (place.Pre Write) body Irp false (Some v) None h = record { contexts = refl; operations = refl; mode = refl; draining = refl; locks = refl }
-enters (place.Pre Write) body Fast true (Some v) None h = (let e = h.1 in absurd (cc))
-enters (place.Pre Write) body Fast false (Some v) None h = record { contexts = refl; operations = refl; mode = refl; draining = refl; locks = refl }
-enters (place.Pre Cleanup) body Irp true (Some v) None h = (let e = h.1 in absurd (cc))
-enters (place.Pre Cleanup) body Irp false (Some v) None h = record { contexts = refl; operations = refl; mode = refl; draining = refl; locks = refl }
-enters (place.Pre Cleanup) body Fast true (Some v) None h = (let e = h.1 in absurd (cc))
-enters (place.Pre Cleanup) body Fast false (Some v) None h = (let e = h.0 in absurd (cc))
-enters (place.Post Create) body Irp true (Some v) None h = record { contexts = refl; operations = refl; mode = refl; draining = refl; locks = refl }
-enters (place.Post Create) body Irp true (Some v) (Some x) h = record { contexts = refl; operations = refl; mode = refl; draining = refl; locks = refl }
-enters (place.Post Create) body Irp false (Some v) None h = record { contexts = refl; operations = refl; mode = refl; draining = refl; locks = refl }
-enters (place.Post Create) body Irp false (Some v) (Some x) h = record { contexts = refl; operations = refl; mode = refl; draining = refl; locks = refl }
-enters (place.Post Create) body Fast true (Some v) None h = absurd (cc)
-enters (place.Post Create) body Fast true (Some v) (Some x) h = absurd (cc)
-enters (place.Post Create) body Fast false (Some v) None h = absurd (cc)
-enters (place.Post Create) body Fast false (Some v) (Some x) h = absurd (cc)
-enters (place.Post Read) body Irp true (Some v) None h = record { contexts = refl; operations = refl; mode = refl; draining = refl; locks = refl }
-enters (place.Post Read) body Irp true (Some v) (Some x) h = record { contexts = refl; operations = refl; mode = refl; draining = refl; locks = refl }
-enters (place.Post Read) body Irp false (Some v) None h = record { contexts = refl; operations = refl; mode = refl; draining = refl; locks = refl }
-enters (place.Post Read) body Irp false (Some v) (Some x) h = record { contexts = refl; operations = refl; mode = refl; draining = refl; locks = refl }
-enters (place.Post Read) body Fast true (Some v) None h = record { contexts = refl; operations = refl; mode = refl; draining = refl; locks = refl }
-enters (place.Post Read) body Fast true (Some v) (Some x) h = record { contexts = refl; operations = refl; mode = refl; draining = refl; locks = refl }
-enters (place.Post Read) body Fast false (Some v) None h = record { contexts = refl; operations = refl; mode = refl; draining = refl; locks = refl }
-enters (place.Post Read) body Fast false (Some v) (Some x) h = record { contexts = refl; operations = refl; mode = refl; draining = refl; locks = refl }
-enters (place.Post Write) body Irp true (Some v) None h = record { contexts = refl; operations = refl; mode = refl; draining = refl; locks = refl }
-enters (place.Post Write) body Irp true (Some v) (Some x) h = record { contexts = refl; operations = refl; mode = refl; draining = refl; locks = refl }
-enters (place.Post Write) body Irp false (Some v) None h = record { contexts = refl; operations = refl; mode = refl; draining = refl; locks = refl }
-enters (place.Post Write) body Irp false (Some v) (Some x) h = record { contexts = refl; operations = refl; mode = refl; draining = refl; locks = refl }
-enters (place.Post Write) body Fast true (Some v) None h = record { contexts = refl; operations = refl; mode = refl; draining = refl; locks = refl }
-enters (place.Post Write) body Fast true (Some v) (Some x) h = record { contexts = refl; operations = refl; mode = refl; draining = refl; locks = refl }
-enters (place.Post Write) body Fast false (Some v) None h = record { contexts = refl; operations = refl; mode = refl; draining = refl; locks = refl }
-enters (place.Post Write) body Fast false (Some v) (Some x) h = record { contexts = refl; operations = refl; mode = refl; draining = refl; locks = refl }
-enters (place.Post Cleanup) body Irp true (Some v) None h = record { contexts = refl; operations = refl; mode = refl; draining = refl; locks = refl }
-enters (place.Post Cleanup) body Irp true (Some v) (Some x) h = record { contexts = refl; operations = refl; mode = refl; draining = refl; locks = refl }
-enters (place.Post Cleanup) body Irp false (Some v) None h = record { contexts = refl; operations = refl; mode = refl; draining = refl; locks = refl }
-enters (place.Post Cleanup) body Irp false (Some v) (Some x) h = record { contexts = refl; operations = refl; mode = refl; draining = refl; locks = refl }
-enters (place.Post Cleanup) body Fast true (Some v) None h = absurd (cc)
-enters (place.Post Cleanup) body Fast true (Some v) (Some x) h = absurd (cc)
-enters (place.Post Cleanup) body Fast false (Some v) None h = absurd (cc)
-enters (place.Post Cleanup) body Fast false (Some v) (Some x) h = absurd (cc)
+-- the modes of a pre callback's entry state are those of its operations
+pre_modes : (kind : Operation) (mode : Mode) → fits_mode kind mode ≡ true → has_mode (entry (place.Pre kind)).modes mode ≡ true
+pre_modes Create Irp h = refl
+pre_modes Create Fast h = absurd (cc)
+pre_modes Read Irp h = refl
+pre_modes Read Fast h = refl
+pre_modes Write Irp h = refl
+pre_modes Write Fast h = refl
+pre_modes Cleanup Irp h = refl
+pre_modes Cleanup Fast h = absurd (cc)
+
+-- the modes of a post callback's entry state are those of its operations
+post_modes : (kind : Operation) (mode : Mode) → fits_mode kind mode ≡ true → has_mode (entry (place.Post kind)).modes mode ≡ true
+post_modes Create Irp h = refl
+post_modes Create Fast h = absurd (cc)
+post_modes Read Irp h = refl
+post_modes Read Fast h = refl
+post_modes Write Irp h = refl
+post_modes Write Fast h = refl
+post_modes Cleanup Irp h = refl
+post_modes Cleanup Fast h = absurd (cc)
+
+-- a post callback may be entered for draining and otherwise
+post_draining : (kind : Operation) (draining : Bool) → has_draining (entry (place.Post kind)).draining draining ≡ true
+post_draining kind true = refl
+post_draining kind false = refl
+
+-- the entry state means the situation of the new activation
+pub enters : (q : Place) (body : List Statement) (mode : Mode) (draining : Bool) (gift arg : Option ℕ) → Enters q mode draining gift arg →
+    Means (entry q) (situation draining (fresh body mode gift arg))
+enters (place.Pre kind) body mode draining (Some v) None h =
+    record { contexts = refl; operations = refl; mode = pre_modes kind mode h.0; draining = rw h.1 refl; locks = refl }
 enters (place.Pre kind) body mode draining None None h = absurd h
 enters (place.Pre kind) body mode draining None (Some x) h = absurd h
 enters (place.Pre kind) body mode draining (Some v) (Some x) h = absurd h
+enters (place.Post kind) body mode draining (Some v) None h =
+    record { contexts = refl; operations = refl; mode = post_modes kind mode h; draining = post_draining kind draining; locks = refl }
+enters (place.Post kind) body mode draining (Some v) (Some x) h =
+    record { contexts = refl; operations = refl; mode = post_modes kind mode h; draining = post_draining kind draining; locks = refl }
 enters (place.Post kind) body mode draining None arg h = absurd h
+enters place.Canceled body mode draining (Some v) None h =
+    record { contexts = refl; operations = refl; mode = rw h.0 refl; draining = rw h.1 refl; locks = refl }
+enters place.Canceled body mode draining (Some v) (Some x) h =
+    record { contexts = refl; operations = refl; mode = rw h.0 refl; draining = rw h.1 refl; locks = refl }
 enters place.Canceled body mode draining None arg h = absurd h
-enters place.Canceled body Irp false (Some v) None h = record { contexts = refl; operations = refl; mode = refl; draining = refl; locks = refl }
-enters place.Canceled body Irp true (Some v) None h = (let e = h.1 in absurd (cc))
-enters place.Canceled body Fast draining (Some v) None h = (let e = h.0 in absurd (cc))
-enters place.Canceled body Irp false (Some v) (Some x) h = record { contexts = refl; operations = refl; mode = refl; draining = refl; locks = refl }
-enters place.Canceled body Irp true (Some v) (Some x) h = (let e = h.1 in absurd (cc))
-enters place.Canceled body Fast draining (Some v) (Some x) h = (let e = h.0 in absurd (cc))
+enters place.DeferredPre body mode draining (Some v) None h =
+    record { contexts = refl; operations = refl; mode = rw h.0 refl; draining = rw h.1 refl; locks = refl }
+enters place.DeferredPre body mode draining (Some v) (Some x) h =
+    record { contexts = refl; operations = refl; mode = rw h.0 refl; draining = rw h.1 refl; locks = refl }
 enters place.DeferredPre body mode draining None arg h = absurd h
-enters place.DeferredPre body Irp false (Some v) None h = record { contexts = refl; operations = refl; mode = refl; draining = refl; locks = refl }
-enters place.DeferredPre body Irp true (Some v) None h = (let e = h.1 in absurd (cc))
-enters place.DeferredPre body Fast draining (Some v) None h = (let e = h.0 in absurd (cc))
-enters place.DeferredPre body Irp false (Some v) (Some x) h = record { contexts = refl; operations = refl; mode = refl; draining = refl; locks = refl }
-enters place.DeferredPre body Irp true (Some v) (Some x) h = (let e = h.1 in absurd (cc))
-enters place.DeferredPre body Fast draining (Some v) (Some x) h = (let e = h.0 in absurd (cc))
+enters place.DeferredPost body mode draining (Some v) None h =
+    record { contexts = refl; operations = refl; mode = rw h.0 refl; draining = rw h.1 refl; locks = refl }
+enters place.DeferredPost body mode draining (Some v) (Some x) h =
+    record { contexts = refl; operations = refl; mode = rw h.0 refl; draining = rw h.1 refl; locks = refl }
 enters place.DeferredPost body mode draining None arg h = absurd h
-enters place.DeferredPost body Irp false (Some v) None h = record { contexts = refl; operations = refl; mode = refl; draining = refl; locks = refl }
-enters place.DeferredPost body Irp true (Some v) None h = (let e = h.1 in absurd (cc))
-enters place.DeferredPost body Fast draining (Some v) None h = (let e = h.0 in absurd (cc))
-enters place.DeferredPost body Irp false (Some v) (Some x) h = record { contexts = refl; operations = refl; mode = refl; draining = refl; locks = refl }
-enters place.DeferredPost body Irp true (Some v) (Some x) h = (let e = h.1 in absurd (cc))
-enters place.DeferredPost body Fast draining (Some v) (Some x) h = (let e = h.0 in absurd (cc))
+enters place.Generic body mode draining None None h =
+    record { contexts = refl; operations = refl; mode = rw h.0 refl; draining = rw h.1 refl; locks = refl }
+enters place.Generic body mode draining None (Some x) h =
+    record { contexts = refl; operations = refl; mode = rw h.0 refl; draining = rw h.1 refl; locks = refl }
 enters place.Generic body mode draining (Some v) arg h = absurd h
-enters place.Generic body Irp false None None h = record { contexts = refl; operations = refl; mode = refl; draining = refl; locks = refl }
-enters place.Generic body Irp true None None h = (let e = h.1 in absurd (cc))
-enters place.Generic body Fast draining None None h = (let e = h.0 in absurd (cc))
-enters place.Generic body Irp false None (Some x) h = record { contexts = refl; operations = refl; mode = refl; draining = refl; locks = refl }
-enters place.Generic body Irp true None (Some x) h = (let e = h.1 in absurd (cc))
-enters place.Generic body Fast draining None (Some x) h = (let e = h.0 in absurd (cc))
 
 -- ---- the callback that a move looks for
 
+-- the first callback whose head passes a test
 pub record Found (test : Head → Bool) (cs : List Callback) : Type 0 where
   pub number : ℕ
   pub callback : Callback
@@ -148,14 +130,18 @@ pub record Found (test : Head → Bool) (cs : List Callback) : Type 0 where
   pub body_is : body_for test cs ≡ callback.body
   pub passes : test callback.head ≡ true
 
-found_by : (test : Head → Bool) (c : Callback) (cs : List Callback) (b : Bool) → test c.head ≡ b → (b || has_head test cs) ≡ true → (has_head test cs ≡ true → Found test cs) → Found test (c ∷ cs)
-found_by test c cs true e h ih = record { number = 0; callback = c; there = refl; body_is = rw e refl; passes = e }
-found_by test c cs false e h ih = let r = ih h in record { number = suc r.number; callback = r.callback; there = r.there; body_is = rw e r.body_is; passes = r.passes }
-
+-- such a callback is found where there is one
 pub found : (test : Head → Bool) (cs : List Callback) → has_head test cs ≡ true → Found test cs
 found test [] h = absurd (cc)
-found test (c ∷ cs) h = found_by test c cs (test c.head) refl h (found test cs)
+found test (c ∷ cs) h = by (test c.head) refl h (found test cs)
+  where
+    by : (b : Bool) → test c.head ≡ b → (b || has_head test cs) ≡ true → (has_head test cs ≡ true → Found test cs) → Found test (c ∷ cs)
+    by true e h later = record { number = 0; callback = c; there = refl; body_is = rw e refl; passes = e }
+    by false e h later =
+        let r = later h in
+        record { number = suc r.number; callback = r.callback; there = r.there; body_is = rw e r.body_is; passes = r.passes }
 
+-- a head of a pre callback of an operation is of that place
 pub pre_place : (kind : Operation) (h : Head) → is_pre_of kind h ≡ true → place.Pre kind ≡ head_place h
 pre_place kind (head.Pre own) e = ap place.Pre (sym (same_op own kind e))
 pre_place kind (head.Post own) e = absurd (cc)
@@ -164,6 +150,7 @@ pre_place kind (head.DeferredPre name) e = absurd (cc)
 pre_place kind (head.DeferredPost name) e = absurd (cc)
 pre_place kind (head.Generic name) e = absurd (cc)
 
+-- a head of a post callback of an operation is of that place
 pub post_place : (kind : Operation) (h : Head) → is_post_of kind h ≡ true → place.Post kind ≡ head_place h
 post_place kind (head.Pre own) e = absurd (cc)
 post_place kind (head.Post own) e = ap place.Post (sym (same_op own kind e))
@@ -172,6 +159,7 @@ post_place kind (head.DeferredPre name) e = absurd (cc)
 post_place kind (head.DeferredPost name) e = absurd (cc)
 post_place kind (head.Generic name) e = absurd (cc)
 
+-- the head of the callback that takes canceled entries is of that place
 pub canceled_place : (h : Head) → is_canceled h ≡ true → place.Canceled ≡ head_place h
 canceled_place (head.Pre own) e = absurd (cc)
 canceled_place (head.Post own) e = absurd (cc)
@@ -182,17 +170,22 @@ canceled_place (head.Generic name) e = absurd (cc)
 
 -- ---- it stands at the first point
 
+-- a filter of a number that is there
 filter_get : (p : List Filter) (f : ℕ) → f < length p → slice_get p f ≡ Some (filter_at p f)
 filter_get [] f h = absurd (omega arith)
 filter_get (x ∷ p) zero h = refl
 filter_get (x ∷ p) (suc f) h = filter_get p f (omega arith)
 
+-- a filter with a callback is there
 filter_within : (p : List Filter) (f n : ℕ) (c : Callback) → slice_get (callbacks_at p f) n ≡ Some c → f < length p
 filter_within [] f n c e = absurd (cc)
 filter_within (x ∷ p) zero n c e = omega arith
 filter_within (x ∷ p) (suc f) n c e = let h = filter_within p f n c e in omega arith
 
-pub entered : (laws : Laws) (p : List Filter) → AreAccepted p → (f n : ℕ) (c : Callback) → slice_get (callbacks_at p f) n ≡ Some c → (q : Place) → q ≡ head_place c.head → (t : Situation) → Means (entry q) t → Placed p f q c.body t
+-- a callback of an accepted filter is placed at its whole body, in each situation that its entry state means: the certificate
+-- covers its entry
+pub entered : (laws : Laws) (p : List Filter) → AreAccepted p → (f n : ℕ) (c : Callback) → slice_get (callbacks_at p f) n ≡ Some c →
+    (q : Place) → q ≡ head_place c.head → (t : Situation) → Means (entry q) t → Placed p f q c.body t
 entered laws p ok f n c e q same t means =
     let there = filter_within p f n c e in
     let x = ok f no_filter there in

@@ -1,314 +1,254 @@
--- What the first pass keeps of a moment, and that it is kept where one activation changes.
-use Rattle.std.proofs.Common.{◌≡◌, ◌≢◌, ℕ, ◌+◌, ◌<◌, ◌≤◌, Bool, true, false, List, [], length, map, Option, Some, None, refl, sym, ap, ◌∙◌, subst, arith, inl, inr, sum_by}
-use Rattle.std.specs.Prelude.{slice_get, nat_lt, if◌then◌else◌}
-use Rattle.std.proofs.lemmas.Bool.Decides.{nat_tests}
-use Rattle.std.proofs.lemmas.List.Sums.{get_or-le-sum_by}
+-- The invariant. All three parts stand in one record, `Kept`, which each step keeps: what variables own is what the trace says (places,
+-- visits, contexts), an unsettled visit stands in one place and is settled once, each reference of a context stands somewhere. They are
+-- equations between sums, so that a step of one activation is shown by a few linear equations (`StepOf`), whatever the call was.
+-- Here p is the program, m a moment, a, b are activations, s, old, new shadows or stores, es the events of the step.
+use Rattle.std.proofs.Common.{◌≡◌, ◌≢◌, ℕ, ◌+◌, ◌<◌, ◌≤◌, Bool, true, false, List, length, map, Some, refl, sym, ap, ◌∙◌, subst, arith, inl, inr, sum_by, ◌++◌}
+use Rattle.std.specs.Prelude.{if◌then◌else◌}
+use Rattle.std.proofs.lemmas.List.Sums.{get_or-le-sum_by, sum_by-set}
 use Rattle.std.proofs.Math.ListN.{set, get_or, get_or-map}
-use Rattle.std.proofs.lemmas.Bool.{cases_eq, cases_lt}
-use Rattle.std.proofs.lemmas.List.{get_or-set_same, get_or-set_other, get_or_past, length-set, map-set}
-use Rattle.flt_rules.specs.declared.place.Mode.{Mode}
-use Rattle.flt_rules.specs.declared.place.Mode.TheVariants.{Irp}
-use Rattle.flt_rules.specs.declared.place.Operation.{Operation}
-use Rattle.flt_rules.specs.declared.place.Place.{Place}
-use Rattle.flt_rules.specs.declared.place.Place.TheVariants as place
-use Rattle.flt_rules.specs.declared.place.Stage.{Stage}
-use Rattle.flt_rules.specs.declared.place.Stage.TheVariants as stage
-use Rattle.flt_tree.specs.declared.filter.Callback.{Callback}
+use Rattle.std.proofs.lemmas.Bool.{cases_lt}
+use Rattle.std.proofs.lemmas.List.{length-set, map-set}
 use Rattle.flt_tree.specs.declared.filter.Filter.{Filter}
-use Rattle.flt_tree.specs.declared.variable.OperationVariable.TheVariants.{Removed, Data}
-use Rattle.flt_tree.specs.declared.variable.RemovedVariable.{RemovedVariable}
 use Rattle.flt_model.specs.declared.event.Event.{Event}
 use Rattle.flt_model.specs.declared.event.Object.{Object}
 use Rattle.flt_model.specs.declared.event.Object.TheVariants.{Context, Visit}
 use Rattle.flt_model.specs.Effects.{Step}
-use Rattle.flt_model.specs.Moves.{fits_mode}
-use Rattle.flt_model.specs.Program.{callbacks_at, has_head, has_pre, has_post, is_canceled, place_at}
 use Rattle.flt_model.specs.Runs.{Moment, after}
-use Rattle.flt_model.specs.Trace.{gains, loses, settles, frees, one_if}
-use Rattle.flt_model.specs.Violations.{no_leak, legal_statuses, levels_kept, lock_discipline, legal_places}
-use Rattle.flt_model.specs.World as world
-use Rattle.flt_model.specs.World.{World, Store, Link, context_at, Actor, Activation, Arrival, Entry, Frame, Item, no_visit, no_arrival, nobody, actor_at, activation_at, queue_at, item_at, route_at, arrival_at, visit_at, is_settled}
-use Rattle.flt_sound.proofs.sums.Eaches.{Each}
-use Rattle.flt_sound.proofs.sums.Counts.{counts, AreHad, Has}
-use Rattle.flt_sound.proofs.sums.Differences.{queued, working, unsettled}
+use Rattle.flt_model.specs.Trace.{gains, loses, settles, frees}
+use Rattle.flt_model.specs.Violations.{no_leak, legal_statuses, levels_kept, lock_discipline, legal_places, along}
+use Rattle.flt_model.specs.World.{Store, Link, context_at, Activation, nobody, actor_at, activation_at, is_settled}
+use Rattle.flt_sound.proofs.sums.Belonging.{IsOf, Mine}
+use Rattle.flt_sound.proofs.sums.Counts.{counts, Has, made}
+use Rattle.flt_sound.proofs.sums.Differences.{queued, working, unsettled, elsewhere, linked}
+use Rattle.flt_sound.proofs.sums.Eaches.{at_set, within}
+use Rattle.flt_sound.proofs.sums.Ledger.{alive, Ledger}
 use Rattle.flt_sound.proofs.sums.Owners.{keeps_visit, owners_after}
-use Rattle.flt_sound.proofs.points.Placed.{Placed}
+use Rattle.flt_sound.proofs.sums.Shadows.{own_all-nil, shadow_at, own_all, Shadow, no_one, plain}
 use Rattle.flt_sound.proofs.sums.Turns.{Turned}
-use Rattle.flt_sound.proofs.sums.Differences.{elsewhere, linked}
-use Rattle.flt_sound.proofs.sums.Ledger.{IsOf, Mine, alive, made, Ledger}
-use Rattle.flt_model.specs.Violations.{along}
-use Rattle.flt_sound.specs.Passes.{is_clean}
-use Rattle.std.proofs.lemmas.List.Sums.{sum_by-set}
-use Rattle.flt_sound.proofs.sums.Shadows.{Owns, value_of, own_all, Shadow, no_one, plain, situation, operation_slot}
+use Rattle.flt_sound.proofs.sums.Uses.{AreHad, is_clean}
+use Rattle.flt_sound.proofs.points.Stored.{Stored, Stood}
 
--- the places of work items
-abbrev pub is_routine : Place → Bool
-is_routine place.DeferredPre = true
-is_routine place.DeferredPost = true
-is_routine place.Generic = true
-is_routine _ = false
-
--- ---- visits, by what never changes
-
-module _ (visits : List world.Visit) (arrivals : List Arrival) where
-  abbrev pub visit_in : ℕ → world.Visit
-  visit_in v = get_or visits v no_visit
-
-  abbrev pub arrival_in : ℕ → Arrival
-  arrival_in v = get_or arrivals (visit_in v).operation no_arrival
-
-  -- a visit that is there, of a filter, before the filters below or after
-  pub record IsVisit (f : ℕ) (at : Stage) (v : ℕ) : Type 0 where
-    pub there : v < length visits
-    pub operation : (visit_in v).operation < length arrivals
-    pub filter : (visit_in v).filter ≡ f
-    pub stage : (visit_in v).stage ≡ at
-
-  pub record IsGiven (f : ℕ) (at : Stage) (mode : Mode) (v : ℕ) : Type 0 where
-    pub visit : IsVisit f at v
-    pub mode_is : (arrival_in v).mode ≡ mode
-
-  pub record IsGivenOf (f : ℕ) (at : Stage) (mode : Mode) (kind : Operation) (v : ℕ) : Type 0 where
-    pub given : IsGiven f at mode v
-    pub kind_is : (arrival_in v).kind ≡ kind
-
-  -- what a callback of a place was given
-  abbrev pub Given : ℕ → Mode → Place → Option ℕ → Type 0
-  Given f mode (place.Pre kind) (Some v) = IsGivenOf f stage.Pre mode kind v
-  Given f mode (place.Post kind) (Some v) = IsGivenOf f stage.Post mode kind v
-  Given f mode place.Canceled (Some v) = IsGiven f stage.Pre mode v
-  Given f mode place.DeferredPre (Some v) = IsGiven f stage.Pre mode v
-  Given f mode place.DeferredPost (Some v) = IsGiven f stage.Post mode v
-  Given f mode place.Generic None = mode ≡ Irp
-  Given f mode _ _ = ⊥
-
-  -- an operation that was given is one of the filter, of that mode
-  pub record IsSome (f : ℕ) (mode : Mode) (v : ℕ) : Type 0 where
-    pub at : Stage
-    pub visit : IsVisit f at v
-    pub mode_is : (arrival_in v).mode ≡ mode
-
-  some_of : (f : ℕ) (at : Stage) (mode : Mode) (v : ℕ) → IsGiven f at mode v → IsSome f mode v
-  some_of f at mode v g = record { at = at; visit = g.visit; mode_is = g.mode_is }
-
-  pub given_is : (f : ℕ) (mode : Mode) (at : Place) (v : ℕ) → Given f mode at (Some v) → IsSome f mode v
-  given_is f mode (place.Pre kind) v g = some_of f stage.Pre mode v g.given
-  given_is f mode (place.Post kind) v g = some_of f stage.Post mode v g.given
-  given_is f mode place.Canceled v g = some_of f stage.Pre mode v g
-  given_is f mode place.DeferredPre v g = some_of f stage.Pre mode v g
-  given_is f mode place.DeferredPost v g = some_of f stage.Post mode v g
-  given_is f mode place.Generic v g = absurd g
-
-  -- a queue's entry, a work item
-  -- a visit before the filters below isn't one that drains, and its filter has the callback
-  pub record IsBefore (p : List Filter) (v : ℕ) : Type 0 where
-    pub operation : (visit_in v).operation < length arrivals
-    pub calm : (visit_in v).draining ≡ false
-    pub asked : has_pre (callbacks_at p (visit_in v).filter) (arrival_in v).kind ≡ true
-
-  pub record FitsQueue (p : List Filter) (f : ℕ) (e : Entry) : Type 0 where
-    pub given : IsGiven f stage.Pre Irp e.visit
-    pub served : has_head is_canceled (callbacks_at p f) ≡ true
-
-  pub record FitsItem (p : List Filter) (i : Item) : Type 0 where
-    pub given : Given i.filter Irp (place_at (callbacks_at p i.filter) i.routine) i.visit
-    pub callback : Callback
-    pub there : slice_get (callbacks_at p i.filter) i.routine ≡ Some callback
-    pub is_work : is_routine (place_at (callbacks_at p i.filter) i.routine) ≡ true
-
-  abbrev pub IsItem : List Filter → Option Item → Type 0
-  IsItem p None = Unit {0}
-  IsItem p (Some i) = FitsItem p i
-
-  -- an activation stands at a point of its callback
-  pub record Stood (p : List Filter) (actor : Actor) (s : Shadow) : Type 0 where
-    pub placed : Placed p actor.filter actor.place s.rest (situation actor.draining s)
-    pub given : Given actor.filter s.mode actor.place (value_of (operation_slot s Data))
-    pub removed : (o : RemovedVariable) (v : ℕ) → operation_slot s (Removed o) ≡ Owns v → IsVisit actor.filter stage.Pre v
-    pub wide : length s.contexts ≡ 9
-    pub broad : length s.operations ≡ 5
-
-abbrev pub FitsFrame : List Filter → Operation → Frame → Type 0
-FitsFrame p kind frame = has_post (callbacks_at p frame.filter) kind ≡ true
-
--- ---- a moment
-
-pub record Stored (p : List Filter) (s : Store) : Type 0 where
-  pub entries : (f : ℕ) → Each (FitsQueue s.visits s.arrivals p f) (queue_at s f)
-  pub items : (i : ℕ) → IsItem s.visits s.arrivals p (item_at s i)
-  pub frames : (o : ℕ) → Each (FitsFrame p (arrival_at s o).kind) (route_at s o).frames
-  pub modes : (o : ℕ) → fits_mode (arrival_at s o).kind (arrival_at s o).mode ≡ true
-  pub paths : length s.routes ≡ length s.arrivals
-  pub before : (v : ℕ) → v < length s.visits → (visit_at s v).stage ≡ stage.Pre → IsBefore s.visits s.arrivals p v
-
+-- how many variables of an activation own the context
 abbrev pub keeps_context : ℕ → Shadow → ℕ
 keeps_context x s = own_all x s.contexts
 
--- 1 where a visit of the number is there
-abbrev pub born : ℕ → ℕ → ℕ
-born v n = if nat_lt v n then 1 else 0
+-- an activation of a moment stands at a point of its callback
+abbrev pub StoodAt : List Filter → Moment → ℕ → Shadow → Type 0
+StoodAt p m a s = Stood m.world.store.visits m.world.store.arrivals p (actor_at m.world a) s
 
-pub born_more : (v n : ℕ) → born v (n + 1) ≡ born v n + one_if n v
-unfolding one_if
-born_more v n = grind (arith, nat_tests)
+-- ---- the invariant
 
-pub born_none : (v : ℕ) → born v 0 ≡ 0
-born_none v = grind (arith, nat_tests)
-
+-- what is kept of each moment of a run
 pub record Kept (p : List Filter) (m : Moment) : Type 0 where
+  -- what the variables of each activation own
   pub shadows : List Shadow
+  -- the world's activations are these shadows, with that forgotten
   pub same : m.world.activations ≡ map plain shadows
+  -- each activation has its filter, place and number
   pub long : length m.world.actors ≡ length shadows
-  pub each : (a : ℕ) → (get_or shadows a no_one).ended ≡ false →
-      Stood m.world.store.visits m.world.store.arrivals p (actor_at m.world a) (get_or shadows a no_one)
-  -- an activation's variables hold all of its visits and contexts, each as often as it does
-  pub visits : (a v : ℕ) → gains m.trace a (Visit v) ≡ loses m.trace a (Visit v) + own_all v (get_or shadows a no_one).operations
-  pub contexts : (a x : ℕ) → gains m.trace a (Context x) ≡ loses m.trace a (Context x) + own_all x (get_or shadows a no_one).contexts
+  -- first part: an activation that runs stands at a point of its callback
+  pub each : (a : ℕ) → (shadow_at shadows a).ended ≡ false → StoodAt p m a (shadow_at shadows a)
+  -- its variables own its visits, each as often as it has it by the trace
+  pub visits : (a v : ℕ) → gains m.trace a (Visit v) ≡ loses m.trace a (Visit v) + own_all v (shadow_at shadows a).operations
+  -- and its contexts
+  pub contexts : (a x : ℕ) → gains m.trace a (Context x) ≡ loses m.trace a (Context x) + own_all x (shadow_at shadows a).contexts
+  -- what stands in the store fits the program
   pub stored : Stored p m.world.store
-  -- an unsettled visit stands in one place, and each visit is settled once
+  -- second part: an unsettled visit stands in one place, and a settled one in none
   pub owners : (v : ℕ) → sum_by (keeps_visit v) shadows + (queued v m.world.store + working v m.world.store) ≡ unsettled v m.world.store
-  pub once : (v : ℕ) → settles m.trace v + unsettled v m.world.store ≡ born v (length m.world.store.visits)
-  pub idle : (a : ℕ) → (get_or shadows a no_one).ended ≡ true → (v : ℕ) → own_all v (get_or shadows a no_one).operations ≡ 0
+  -- a visit that has come is settled once, or not yet
+  pub once : (v : ℕ) → settles m.trace v + unsettled v m.world.store ≡ made v (length m.world.store.visits)
+  -- an activation that has ended owns no visit
+  pub idle : (a : ℕ) → (shadow_at shadows a).ended ≡ true → (v : ℕ) → own_all v (shadow_at shadows a).operations ≡ 0
+  -- each visit has its mark, settled or not
   pub settled_long : length m.world.store.settled ≡ length m.world.store.visits
+  -- each filter has its queue
   pub seats : length m.world.store.queues ≡ length p
-  -- each reference stands somewhere, contexts that have none were freed, once, and none stands with another filter
+  -- third part: each reference of a context stands somewhere
   pub count : (x : ℕ) → (context_at m.world.store x).references ≡ elsewhere x m.world.store + sum_by (keeps_context x) shadows
+  -- a context that was made is alive or was freed, once
   pub freed : (x : ℕ) → frees m.trace x + alive (context_at m.world.store x).references ≡ made x (length m.world.store.contexts)
+  -- what stands in queues, frames, items and links of a filter is its own
   pub mine : Mine m.world.store
-  pub owns : (a x : ℕ) → 1 ≤ own_all x (get_or shadows a no_one).contexts → IsOf m.world.store.contexts (actor_at m.world a).filter x
+  -- and what its activations own
+  pub owns : (a x : ℕ) → 1 ≤ own_all x (shadow_at shadows a).contexts → IsOf m.world.store.contexts (actor_at m.world a).filter x
 
--- what the first pass promises of a step
+-- a step breaks nothing, and keeps the invariant
 pub record Good (p : List Filter) (m : Moment) (s : Step) : Type 0 where
+  -- V1: what is used or lost is held
   pub had : AreHad m.trace s.events
+  -- V2: an end leaks nothing
   pub leak : no_leak m.trace s.events ≡ true
+  -- V5: statuses are legal
   pub legal : legal_statuses p m.world m.trace s.events ≡ true
+  -- V6: calls are low enough
   pub low : levels_kept p m.world m.trace s.events ≡ true
+  -- V7: locks are disciplined
   pub disciplined : lock_discipline p m.world m.trace s.events ≡ true
+  -- V8: calls are in place
   pub in_place : legal_places p m.world m.trace s.events ≡ true
+  -- V1: what is touched is live and the filter's own
   pub clean : along (is_clean s.world) m.trace s.events ≡ true
+  -- the invariant holds of the moment after; V3 and V4 follow from it
   pub kept : Kept p (after m s)
 
 -- ---- what changes
 
--- what events of an activation gain and lose, between what its variables held and hold
+-- what the events of an activation gain and lose is what its variables come to hold and no longer hold
 pub record Change (a : ℕ) (old new : Shadow) (es : List Event) : Type 0 where
   pub visits : (v : ℕ) → gains es a (Visit v) + own_all v old.operations ≡ loses es a (Visit v) + own_all v new.operations
   pub contexts : (x : ℕ) → gains es a (Context x) + own_all x old.contexts ≡ loses es a (Context x) + own_all x new.contexts
+  -- no other activation gains or loses
   pub no_gain : (b : ℕ) → a ≢ b → (o : Object) → gains es b o ≡ 0
   pub no_loss : (b : ℕ) → a ≢ b → (o : Object) → loses es b o ≡ 0
 
+-- a store in which visits and arrivals are as they were, and all else fits still
 pub record StoreChange (p : List Filter) (old new : Store) : Type 0 where
   pub visits : new.visits ≡ old.visits
   pub arrivals : new.arrivals ≡ old.arrivals
   pub stored : Stored p new
 
--- an activation of a moment, as its shadow has it
+-- an activation that runs at a moment, as its shadow has it
 pub record IsAt (p : List Filter) (m : Moment) (a : ℕ) (old : Shadow) : Type 0 where
+  -- the invariant holds of the moment
   pub kept : Kept p m
-  pub is : get_or kept.shadows a no_one ≡ old
+  -- the activation's shadow is this one
+  pub is : shadow_at kept.shadows a ≡ old
+  -- it hasn't ended
   pub on : old.ended ≡ false
-  -- what it holds isn't settled: what the second pass knows of the moment
+  -- what it has isn't settled: so much of the second part the first one needs
   pub owned : (v : ℕ) → Has m.trace a (Visit v) → is_settled m.world.store v ≡ false
 
-pub there_if : (l : List Shadow) (a : ℕ) (s : Shadow) → get_or l a no_one ≡ s → s.ended ≡ false → a < length l
-there_if l a s e on =
-    elim (cases_lt a (length l)) [
-      | inl h ↦ h
-      | inr h ↦
-          let past : no_one ≡ s = sym (get_or_past l a no_one h) ∙ e in
-          let bad : true ≡ s.ended = ap (λ (s : Shadow). s.ended) past in
-          let no : true ≡ false = bad ∙ on in absurd (cc)
-    ]
+-- an activation that runs is there
+there_if : (l : List Shadow) (a : ℕ) (s : Shadow) → get_or l a no_one ≡ s → s.ended ≡ false → a < length l
+there_if l a s e on = within l a no_one (λ d. let bad : true ≡ false = ap (λ (s : Shadow). s.ended) (sym d ∙ e) ∙ on in absurd (cc))
+
+-- ---- a step of one activation
 
 module _ (p : List Filter) (m : Moment) (a : ℕ) (old new : Shadow) (s : Store) (es : List Event) (act : Activation) where
+  -- what a step of an activation has to show: that it stands still where it runs on, and for each part of the invariant its equations
+  pub record StepOf : Type 0 where
+    -- it stands at a point still, where it runs on
+    pub stood : new.ended ≡ false → StoodAt p m a new
+    -- visits and arrivals stay, and all else in the store fits still
+    pub store : StoreChange p m.world.store s
+    -- the first part's equations
+    pub change : Change a old new es
+    -- the world's activation is the new shadow's
+    pub plain_is : act ≡ plain new
+    -- the second part's equations
+    pub turned : Turned a m.world.store s es
+    -- where it ends it owns no visit
+    pub idle : new.ended ≡ true → (v : ℕ) → own_all v new.operations ≡ 0
+    -- the third part's equations
+    pub ledger : Ledger a m.world.store s es
+    -- what it gains is its filter's own
+    pub gained : (x : ℕ) → 1 ≤ gains es a (Context x) → IsOf s.contexts (actor_at m.world a).filter x
+
   abbrev stepped : Step
   stepped = record { world = record m.world { activations = set m.world.activations a act; store = s }; events = es }
 
-  pub kept_after : IsAt p m a old → (new.ended ≡ false → Stood m.world.store.visits m.world.store.arrivals p (actor_at m.world a) new) →
-      StoreChange p m.world.store s → Change a old new es → act ≡ plain new → Turned a m.world.store s es → (new.ended ≡ true → (v : ℕ) → own_all v new.operations ≡ 0) → Ledger a m.world.store s es → ((x : ℕ) → 1 ≤ gains es a (Context x) → IsOf s.contexts (actor_at m.world a).filter x) → Kept p (after m stepped)
-  kept_after q stood c d e t idle l gained =
-      let k = q.kept in
-      let there : a < length k.shadows = there_if k.shadows a old q.is q.on in
-      record {
-        shadows = set k.shadows a new;
-        same = ap (λ l. set l a act) k.same ∙ (ap (λ x. set (map plain k.shadows) a x) e ∙ sym (map-set plain k.shadows a new));
-        long = rw (length-set k.shadows a new) k.long;
-        each = λ b. elim (cases_eq b a) [
-          | inl h ↦ rw (h, get_or-set_same k.shadows a new no_one there, c.visits, c.arrivals) stood
-          | inr ne ↦ rw (get_or-set_other k.shadows a b new no_one ne, c.visits, c.arrivals) (k.each b)
-        ];
-        visits = λ b v. elim (cases_eq b a) [
-          | inl h ↦ rw (h, get_or-set_same k.shadows a new no_one there) (simp counts (let before = rw q.is at (k.visits a v) in omega (arith, d.visits v, before)))
-          | inr ne ↦ rw (get_or-set_other k.shadows a b new no_one ne) (simp counts (omega (arith, k.visits b v, d.no_gain b (λ h. ne (sym h)) (Visit v), d.no_loss b (λ h. ne (sym h)) (Visit v))))
-        ];
-        contexts = λ b x. elim (cases_eq b a) [
-          | inl h ↦ rw (h, get_or-set_same k.shadows a new no_one there) (simp counts (let before = rw q.is at (k.contexts a x) in omega (arith, d.contexts x, before)))
-          | inr ne ↦ rw (get_or-set_other k.shadows a b new no_one ne) (simp counts (omega (arith, k.contexts b x, d.no_gain b (λ h. ne (sym h)) (Context x), d.no_loss b (λ h. ne (sym h)) (Context x))))
-        ];
-        stored = c.stored;
-        owners = λ v. owners_after a k.shadows new m.world.store s es v there (k.owners v)
-            (subst (λ (o : Shadow). gains es a (Visit v) + own_all v o.operations ≡ loses es a (Visit v) + own_all v new.operations) (sym q.is) (d.visits v)) t.turns;
-        once = λ v. rw c.visits (simp counts (omega (arith, k.once v, t.once v)));
-        idle = λ b. elim (cases_eq b a) [
-          | inl h ↦ rw (h, get_or-set_same k.shadows a new no_one there) idle
-          | inr ne ↦ rw (get_or-set_other k.shadows a b new no_one ne) (k.idle b)
-        ];
-        settled_long = t.long ∙ (k.settled_long ∙ ap length (sym c.visits));
-        seats = t.seats ∙ k.seats;
-        count = λ x. let before = rw q.is at (sum_by-set (keeps_context x) k.shadows a new no_one there) in omega (arith, before, k.count x, l.refs x, d.contexts x);
-        freed = λ x. simp counts (omega (arith, k.freed x, l.freed x));
-        mine = l.mine;
-        owns = λ b x. elim (cases_eq b a) [
-          | inl h ↦ rw (h, get_or-set_same k.shadows a new no_one there) (λ has. elim (cases_lt 0 (own_all x old.contexts)) [
-            | inl had ↦ l.older (actor_at m.world a).filter x (k.owns a x (rw q.is (omega (arith, had))))
-            | inr none ↦ gained x (omega (arith, d.contexts x, none, has))
-          ])
-          | inr ne ↦ rw (get_or-set_other k.shadows a b new no_one ne) (λ has. l.older (actor_at m.world b).filter x (k.owns b x has))
-        ];
-      }
+  module _ (q : IsAt p m a old) (r : StepOf) where
+    there : a < length q.kept.shadows
+    there = there_if q.kept.shadows a old q.is q.on
+
+    -- an object's balance with each activation, where this one's changes by what the events gain and lose
+    balance_after : (o : Object) (count : Shadow → ℕ) → ((b : ℕ) → gains m.trace b o ≡ loses m.trace b o + count (shadow_at q.kept.shadows b)) →
+        gains es a o + count old ≡ loses es a o + count new →
+        (b : ℕ) → gains (m.trace ++ es) b o ≡ loses (m.trace ++ es) b o + count (shadow_at (set q.kept.shadows a new) b)
+    balance_after o count before change =
+        at_set (λ b (s : Shadow). gains (m.trace ++ es) b o ≡ loses (m.trace ++ es) b o + count s) q.kept.shadows a new no_one there
+        (simp counts (let own = rw q.is at (before a) in omega (arith, change, own)))
+        (λ b ne.
+        let other = λ (e : a ≡ b). ne (sym e) in
+        simp counts (omega (arith, before b, r.change.no_gain b other o, r.change.no_loss b other o)))
+
+    -- such a step keeps the invariant
+    pub kept_after : Kept p (after m stepped)
+    kept_after =
+        let k = q.kept in
+        record {
+          shadows = set k.shadows a new;
+          same = ap (λ l. set l a act) k.same ∙ (ap (λ x. set (map plain k.shadows) a x) r.plain_is ∙ sym (map-set plain k.shadows a new));
+          long = rw (length-set k.shadows a new) k.long;
+          each = at_set (λ b (o : Shadow). o.ended ≡ false → Stood s.visits s.arrivals p (actor_at m.world b) o) k.shadows a new no_one there
+              (rw (r.store.visits, r.store.arrivals) r.stood)
+              (λ b ne. rw (r.store.visits, r.store.arrivals) (k.each b));
+          visits = λ b v. balance_after (Visit v) (keeps_visit v) (λ b. k.visits b v) (r.change.visits v) b;
+          contexts = λ b x. balance_after (Context x) (keeps_context x) (λ b. k.contexts b x) (r.change.contexts x) b;
+          stored = r.store.stored;
+          owners = λ v.
+              let change : gains es a (Visit v) + own_all v (shadow_at k.shadows a).operations ≡ loses es a (Visit v) + own_all v new.operations =
+              rw q.is (r.change.visits v) in
+              owners_after a k.shadows new m.world.store s es v there (k.owners v) change r.turned.turns;
+          once = λ v. rw r.store.visits (simp counts (omega (arith, k.once v, r.turned.once v)));
+          idle = at_set (λ b (o : Shadow). o.ended ≡ true → (v : ℕ) → own_all v o.operations ≡ 0) k.shadows a new no_one there r.idle (λ b ne. k.idle b);
+          settled_long = r.turned.long ∙ (k.settled_long ∙ ap length (sym r.store.visits));
+          seats = r.turned.seats ∙ k.seats;
+          count = λ x.
+              let sum = rw q.is at (sum_by-set (keeps_context x) k.shadows a new no_one there) in
+              omega (arith, sum, k.count x, r.ledger.refs x, r.change.contexts x);
+          freed = λ x. simp counts (omega (arith, k.freed x, r.ledger.freed x));
+          mine = r.ledger.mine;
+          owns = λ b x. at_set (λ b (o : Shadow). 1 ≤ own_all x o.contexts → IsOf s.contexts (actor_at m.world b).filter x) k.shadows a new no_one there
+              (λ has. elim (cases_lt 0 (own_all x old.contexts)) [
+                | inl had ↦ r.ledger.older (actor_at m.world a).filter x (k.owns a x (rw q.is (omega (arith, had))))
+                | inr none ↦ r.gained x (omega (arith, r.change.contexts x, none, has))
+              ])
+              (λ b ne has. r.ledger.older (actor_at m.world b).filter x (k.owns b x has)) b;
+        }
 
 -- ---- what an activation holds it may use
 
 module _ {p : List Filter} {m : Moment} {a : ℕ} {s : Shadow} (q : IsAt p m a s) where
+  -- it has its visits as often as its variables own them
   pub visits_at : (v : ℕ) → gains m.trace a (Visit v) ≡ loses m.trace a (Visit v) + own_all v s.operations
   visits_at v = rw q.is at (q.kept.visits a v)
 
+  -- it has its contexts as often as its variables own them
   pub contexts_at : (x : ℕ) → gains m.trace a (Context x) ≡ loses m.trace a (Context x) + own_all x s.contexts
   contexts_at x = rw q.is at (q.kept.contexts a x)
 
+  -- the world's activation is its shadow's
   pub activation_is : activation_at m.world a ≡ plain s
   activation_is = ap (λ l. get_or l a nobody) q.kept.same ∙ (get_or-map plain q.kept.shadows a no_one ∙ ap plain q.is)
 
-  pub stood_at : Stood m.world.store.visits m.world.store.arrivals p (actor_at m.world a) s
-  stood_at = subst (λ (s : Shadow). s.ended ≡ false → Stood m.world.store.visits m.world.store.arrivals p (actor_at m.world a) s) q.is (q.kept.each a) q.on
+  -- it stands at a point of its callback
+  pub stood_at : StoodAt p m a s
+  stood_at = subst (λ (s : Shadow). s.ended ≡ false → StoodAt p m a s) q.is (q.kept.each a) q.on
 
--- what an activation holds isn't settled
-own_no_one : (v : ℕ) → own_all v [] ≡ 0
-unfolding own_all
-own_no_one v = refl
+-- ---- what it has, by the invariant
 
+-- what is unsettled once isn't settled
 open_by : (b : Bool) → 1 ≤ (if b then 0 else 1) → b ≡ false
 open_by true h = absurd (omega arith)
 open_by false h = refl
 
-pub refs_of : {p : List Filter} {m : Moment} (k : Kept p m) (a x : ℕ) → 1 ≤ own_all x (get_or k.shadows a no_one).contexts → 1 ≤ (context_at m.world.store x).references
-refs_of {p} {m} k a x one =
-    elim (cases_lt a (length k.shadows)) [
-      | inl there ↦ omega (arith, one, k.count x, get_or-le-sum_by (keeps_context x) k.shadows a no_one there)
-      | inr past ↦ let none : own_all x (get_or k.shadows a no_one).contexts ≡ 0 = ap (λ (s : Shadow). own_all x s.contexts) (get_or_past k.shadows a no_one past) ∙ own_no_one x in absurd (omega (arith, one, none))
-    ]
+-- an activation of which something counts is there
+counted_there : (f : Shadow → ℕ) (l : List Shadow) (a : ℕ) → f no_one ≡ 0 → 1 ≤ f (shadow_at l a) → a < length l
+counted_there f l a none one =
+    within l a no_one (λ d.
+    let nothing : f (shadow_at l a) ≡ 0 = ap f d ∙ none in absurd (omega (arith, one, nothing)))
 
-pub held_one : {p : List Filter} {m : Moment} (k : Kept p m) (a x : ℕ) → Has m.trace a (Context x) → 1 ≤ own_all x (get_or k.shadows a no_one).contexts
+-- a context that a variable owns has a reference
+pub refs_of : {p : List Filter} {m : Moment} (k : Kept p m) (a x : ℕ) → 1 ≤ own_all x (shadow_at k.shadows a).contexts →
+    1 ≤ (context_at m.world.store x).references
+refs_of {p} {m} k a x one =
+    let there = counted_there (keeps_context x) k.shadows a (own_all-nil x) one in
+    omega (arith, one, k.count x, get_or-le-sum_by (keeps_context x) k.shadows a no_one there)
+
+-- a context that an activation has is owned by one of its variables
+pub held_one : {p : List Filter} {m : Moment} (k : Kept p m) (a x : ℕ) → Has m.trace a (Context x) → 1 ≤ own_all x (shadow_at k.shadows a).contexts
 held_one {p} {m} k a x h = omega (arith, h.holds, k.contexts a x)
 
--- what is linked there has the link's reference, and is the filter's own
-pub linked_refs : {p : List Filter} {m : Moment} → Kept p m → (x : ℕ) (l : Link) → (context_at m.world.store x).link ≡ Some l → 1 ≤ (context_at m.world.store x).references
+-- a context that is linked has a reference: the link's
+pub linked_refs : {p : List Filter} {m : Moment} → Kept p m → (x : ℕ) (l : Link) → (context_at m.world.store x).link ≡ Some l →
+    1 ≤ (context_at m.world.store x).references
 linked_refs {p} {m} k x l e = let one : linked (context_at m.world.store x).link ≡ 1 = ap linked e in omega (arith, k.count x, one)
 
+-- what an activation has isn't settled
 pub owned_of : {p : List Filter} {m : Moment} → Kept p m → (a v : ℕ) → Has m.trace a (Visit v) → is_settled m.world.store v ≡ false
 owned_of {p} {m} k a v h =
-    let one : 1 ≤ own_all v (get_or k.shadows a no_one).operations = omega (arith, h.holds, k.visits a v) in
-    elim (cases_lt a (length k.shadows)) [
-      | inl there ↦ open_by (is_settled m.world.store v) (omega (arith, one, k.owners v, get_or-le-sum_by (keeps_visit v) k.shadows a no_one there))
-      | inr past ↦ let none : own_all v (get_or k.shadows a no_one).operations ≡ 0 = ap (λ (s : Shadow). own_all v s.operations) (get_or_past k.shadows a no_one past) ∙ own_no_one v in absurd (omega (arith, one, none))
-    ]
+    let one : 1 ≤ own_all v (shadow_at k.shadows a).operations = omega (arith, h.holds, k.visits a v) in
+    let there = counted_there (keeps_visit v) k.shadows a (own_all-nil v) one in
+    open_by (is_settled m.world.store v) (omega (arith, one, k.owners v, get_or-le-sum_by (keeps_visit v) k.shadows a no_one there))
