@@ -8,7 +8,7 @@ use Rattle.flt_syntax.specs.declared.fault.SyntaxFault.{SyntaxFault}
 use Rattle.flt_tree.specs.declared.filter.Filter.{Filter}
 use Rattle.flt_model.specs.Expansion.{verdict}
 use Rattle.flt_model.specs.JournalText.{Entries, IsJournal, IsFirstFault, spelling}
-use Rattle.flt_model.specs.Program.{HasDistinctAltitudes}
+use Rattle.flt_model.specs.Program.{HasDistinctAltitudes, IsRepeated}
 use Rattle.flt_model.specs.declared.verdict.Verdict.{Verdict}
 use Rattle.flt_commands.specs.Failures.{Giving, IsUnread}
 use Rattle.flt_commands.specs.declared.failure.Failure.{Failure}
@@ -69,16 +69,6 @@ abbrev pub TextsFail : List Text → Failure → Type 0
 TextsFail texts OutOfMemory = Unit {0}
 TextsFail texts (FileSyntax number f) = IsSyntaxFault texts number f
 TextsFail texts _ = ⊥
-
--- the first filter whose altitude an earlier one has, by its number
-pub record IsRepeated (filters : List Filter) (number : ℕ) : Type 0 where
-  pub before : List Filter
-  pub filter : Filter
-  pub after : List Filter
-  pub parts : filters ≡ before ++ filter ∷ after
-  pub counted : number ≡ length before
-  pub distinct : HasDistinctAltitudes before
-  pub earlier : (at : ℕ) × (other : Filter) × (slice_get before at ≡ Some other) × (other.altitude ≡ filter.altitude)
 
 -- ---- the journal
 

@@ -1,15 +1,13 @@
 //! What `replay` says of the names that it is given.
 
-ghost use Rattle.std.specs.Prelude.{◌≡◌, ◌==◌, IfOk, IfErr, MatchOption, map};
-ghost use Rattle.std.specs.List.{list_any};
+ghost use Rattle.std.specs.Prelude.{◌≡◌, IfOk, IfErr, map};
 ghost use Rattle.flt_model.specs.JournalText.{IsJournal, spelling};
-ghost use Rattle.flt_model.specs.Program.{HasDistinctAltitudes};
 ghost use Rattle.flt_replay.specs.Judging.{filters_of};
 ghost use Rattle.flt_commands.specs.Replaying as spec;
 
 use crate::failure::Failure;
 use crate::inputs::Inputs;
-use flt_model::{Journal, JournalFault, ReadFault, Source, Verdict, read};
+use flt_model::{Journal, JournalFault, ReadFault, Source, Verdict, first_repeated, read};
 use flt_replay::replay;
 use flt_syntax::{ParseError, Tree, parse};
 use std::alloc::Global;
@@ -65,25 +63,6 @@ fn parse_all<'a>(alloc: Global, texts: &[Vec<u8>]) -> Result<Vec<Tree>, Failure<
         }
     }
     Ok(trees)
-}
-
-/// Whether one of the filters has this altitude.
-fn has_altitude(trees: &[Tree], altitude: u64) -> bool
-    ensures { result ≡ list_any (λ tree. tree.filter.altitude == altitude) trees.now }
-{
-    trees.iter().any(|tree| tree.filter.altitude == altitude)
-}
-
-/// The first filter whose altitude an earlier one has, by its number.
-fn first_repeated(trees: &[Tree]) -> Option<usize>
-    ensures { MatchOption result (HasDistinctAltitudes (filters_of trees.now)) (spec.IsRepeated (filters_of trees.now)) }
-{
-    for (number, tree) in trees.iter().enumerate() {
-        if has_altitude(&trees[..number], tree.filter.altitude) {
-            return Some(number);
-        }
-    }
-    None
 }
 
 // ---- the journal

@@ -8,7 +8,7 @@ ghost use Rattle.flt_model.specs.Steps.{Transition};
 ghost use Rattle.flt_model.specs.declared.moves.JournalEntry.{JournalEntry};
 ghost use Rattle.flt_model.specs.declared.verdict.Verdict.TheVariants.{Breaks};
 ghost use Rattle.flt_model.specs.declared.verdict.Violation.{Violation};
-ghost use Rattle.flt_sound.specs.Accepted.{IsAccepted, AreAccepted};
+ghost use Rattle.flt_sound.specs.Soundness.{IsAccepted, AreAccepted, AcceptedRunsBreakNothing};
 ghost use Rattle.flt_sound.specs.Worked.{worked};
 ghost use Rattle.flt_tree.specs.declared.filter.Filter.{Filter};
 
@@ -19,9 +19,10 @@ use flt_graph::{
 };
 use flt_model::first_faults_are_told;
 
-/// No run of accepted filters breaks anything. It does nothing: its clause is the law.
+/// No run of accepted filters breaks anything: for all filters and all lists of transitions, where each filter is accepted, `breaks` finds
+/// nothing. It does nothing: its clause is the law.
 pub fn accepted_runs_break_nothing()
-    ensures { (filters : List Filter) (transitions : List Transition) → AreAccepted filters → breaks filters transitions ≡ None }
+    ensures { AcceptedRunsBreakNothing }
 {
     lists_have_points();
     callbacks_have_graphs();

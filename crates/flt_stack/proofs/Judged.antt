@@ -14,7 +14,7 @@ use Rattle.flt_cert.specs.Format.{Certificate}
 use Rattle.flt_check.specs.Checker.{Covers}
 use Rattle.flt_model.specs.Program.{HasDistinctAltitudes, IsRepeated}
 use Rattle.flt_model.specs.Runs.{Break}
-use Rattle.flt_sound.specs.Accepted.{IsAccepted, AreAccepted}
+use Rattle.flt_sound.specs.Soundness.{IsAccepted, AreAccepted}
 use Rattle.flt_stack.specs.Loading.{File, IsAcceptedFile, AreAcceptedFiles}
 
 -- the graph and the certificate of an accepted file are those that it was accepted with

@@ -9,6 +9,8 @@ mod journals;
 #[cfg(test)]
 mod lists;
 #[cfg(test)]
+mod loading;
+#[cfg(test)]
 mod states;
 #[cfg(test)]
 mod texts;

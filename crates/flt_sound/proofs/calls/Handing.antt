@@ -40,7 +40,7 @@ use Rattle.flt_model.specs.Runs.{Moment}
 use Rattle.flt_model.specs.Trace.{gains, loses, frees, settles}
 use Rattle.flt_model.specs.World.{Store, Entry, arrival_of, queue_at, is_attached, presence_at}
 use Rattle.flt_model.specs.Violations.{in_some}
-use Rattle.flt_sound.proofs.sums.Eaches.{each_push, each_set}
+use Rattle.flt_sound.proofs.sums.Eaches.{each_push}
 use Rattle.flt_sound.proofs.sums.Counts.{counts, of_actor-same, Has, has_after}
 use Rattle.flt_sound.proofs.sums.Shadows.{Unset, Owns, Past, value_of, status_of, own_all-set, Shadow, situation, operation_slot}
 use Rattle.flt_sound.proofs.sums.Slots.{owned_there, owned_before}

@@ -49,7 +49,7 @@ use Rattle.flt_sound.proofs.calls.Effects.{GoodBehind, own_filter, own_place, Gi
 use Rattle.flt_sound.proofs.points.Handed.{Names, names_has, named_own}
 use Rattle.flt_sound.proofs.points.Opened.{Opened, opened_call, opened_use, opened_uses}
 use Rattle.flt_sound.proofs.points.Stored.{IsItem, FitsItem}
-use Rattle.flt_sound.proofs.sums.Belonging.{Mine, Belongs, BelongsItem}
+use Rattle.flt_sound.proofs.sums.Belonging.{Belongs, BelongsItem}
 use Rattle.flt_sound.proofs.sums.Handovers.{lost_visit, lost_gains}
 
 -- what holds of each item, and of none, holds with one more item of which it holds

@@ -33,7 +33,7 @@ use Rattle.flt_model.specs.Trace.{gains, loses}
 use Rattle.flt_model.specs.Variables.{with_context_in, with_operation_in}
 use Rattle.flt_model.specs.World.{Store, Entry, queue_at, with_queue}
 use Rattle.flt_model.specs.Violations.{in_some}
-use Rattle.flt_sound.proofs.sums.Eaches.{Each, each_set}
+use Rattle.flt_sound.proofs.sums.Eaches.{Each}
 use Rattle.flt_sound.proofs.sums.Counts.{counts, of_actor-same, one_if-same}
 use Rattle.flt_sound.proofs.sums.Shadows.{Slot, Unset, Owns, value_of, status_of, given, own, Shadow}
 use Rattle.flt_sound.proofs.sums.Slots.{not_held, own_all-put, context_there, operation_there, data_stays}

@@ -1,6 +1,6 @@
 -- Stores that differ in one queue or in their items: the invariants still hold where the new queue's entries, or the new items, fit.
 -- p is the program, s the store, f a filter.
-use Rattle.std.proofs.Common.{◌≡◌, ℕ, List, Option, None, refl}
+use Rattle.std.proofs.Common.{ℕ, List, Option, None, refl}
 use Rattle.std.proofs.Math.ListN.{get_or}
 use Rattle.flt_tree.specs.declared.filter.Filter.{Filter}
 use Rattle.flt_model.specs.World.{Store, Entry, Item, with_queue}

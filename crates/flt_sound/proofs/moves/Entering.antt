@@ -23,7 +23,7 @@ use Rattle.flt_abs.specs.State.{Situation, Means, has_mode, has_draining}
 use Rattle.flt_model.specs.Moves.{fits_mode}
 use Rattle.flt_model.specs.Program.{filter_at, callbacks_at, no_filter, has_head, body_for, is_pre_of, is_post_of, is_canceled}
 use Rattle.flt_model.specs.Variables.{starting}
-use Rattle.flt_sound.specs.Accepted.{AreAccepted}
+use Rattle.flt_sound.specs.Soundness.{AreAccepted}
 use Rattle.flt_sound.proofs.sums.Shadows.{Unset, given, Shadow, plain, situation}
 use Rattle.flt_sound.proofs.points.Placed.{Laws, Placed}
 use Rattle.flt_sound.proofs.calls.Removing.{given_value}

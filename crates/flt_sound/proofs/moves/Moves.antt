@@ -8,7 +8,7 @@ use Rattle.flt_model.specs.Program.{filter_of}
 use Rattle.flt_model.specs.Runs.{Moment, next}
 use Rattle.flt_model.specs.Steps.{Make}
 use Rattle.flt_model.specs.World.{arrival_at, route_at}
-use Rattle.flt_sound.specs.Accepted.{AreAccepted}
+use Rattle.flt_sound.specs.Soundness.{AreAccepted}
 use Rattle.flt_sound.proofs.points.Kept.{Kept, Good}
 use Rattle.flt_sound.proofs.points.Local.{AfterStep}
 use Rattle.flt_sound.proofs.points.Placed.{Laws}

@@ -20,8 +20,8 @@ use Rattle.flt_model.specs.Runs.{Moment}
 use Rattle.flt_model.specs.World.{Store, Entry, Item, route_at, queue_at, item_at, presence_at, is_detaching, with_queue}
 use Rattle.flt_model.specs.Violations.{in_queue, in_some}
 use Rattle.flt_model.specs.declared.event.Object.TheVariants.{Context}
-use Rattle.flt_sound.specs.Accepted.{AreAccepted}
-use Rattle.flt_sound.proofs.sums.Eaches.{each_set, each_others, each_find}
+use Rattle.flt_sound.specs.Soundness.{AreAccepted}
+use Rattle.flt_sound.proofs.sums.Eaches.{each_others, each_find}
 use Rattle.flt_sound.proofs.sums.Differences.{item_pop, queue_others, others_sum, in_work}
 use Rattle.flt_sound.proofs.sums.Ledger.{Ledger, moved}
 use Rattle.flt_sound.proofs.points.Events.{none}
@@ -34,8 +34,8 @@ use Rattle.flt_sound.proofs.moves.Entering.{Enters, found, canceled_place}
 use Rattle.flt_sound.proofs.moves.Starting.{Begins, Gives, entered_good}
 use Rattle.flt_sound.proofs.moves.Gifts.{own_given, gifts, gifts-contexts, gifts-loses, gifts-frees}
 use Rattle.flt_sound.proofs.moves.StoreMoves.{if_good}
-use Rattle.flt_sound.proofs.points.Stored.{FitsQueue, IsItem, Given, Stored, is_routine}
-use Rattle.flt_sound.proofs.sums.Belonging.{Belongs, BelongsItem, Mine}
+use Rattle.flt_sound.proofs.points.Stored.{FitsQueue, IsItem, Given, is_routine}
+use Rattle.flt_sound.proofs.sums.Belonging.{Belongs, BelongsItem}
 use Rattle.flt_sound.proofs.sums.Standing.{leaves_queue}
 
 -- what a list has at a place is within it

@@ -29,7 +29,7 @@ use Rattle.flt_model.specs.Variables.{starting}
 use Rattle.flt_model.specs.World.{Store, Actor, actor_at, no_actor, context_at, World}
 use Rattle.flt_model.specs.Program.{callbacks_at}
 use Rattle.flt_model.specs.Violations.{in_some}
-use Rattle.flt_sound.specs.Accepted.{AreAccepted}
+use Rattle.flt_sound.specs.Soundness.{AreAccepted}
 use Rattle.flt_sound.proofs.sums.Counts.{counts, gains-append, loses-append, settles-append, frees-append, one_if-same, made}
 use Rattle.flt_sound.proofs.sums.Differences.{queued, working, unsettled, elsewhere}
 use Rattle.flt_sound.proofs.sums.Ledger.{Ledger, alive, not_freed}

@@ -22,7 +22,7 @@ use Rattle.flt_model.specs.World.{World, Store, Arrival, Entry, Frame, Item, Rou
 use Rattle.flt_model.specs.Trace.{one_if}
 use Rattle.flt_model.specs.Violations.{in_some}
 use Rattle.flt_model.specs.declared.event.Object.TheVariants.{Context}
-use Rattle.flt_sound.specs.Accepted.{AreAccepted}
+use Rattle.flt_sound.specs.Soundness.{AreAccepted}
 use Rattle.flt_sound.proofs.sums.Eaches.{Each, route_set, each_others, each_find, each_without_last, each_last}
 use Rattle.flt_sound.proofs.sums.Counts.{one_if-same, one_if-other, made_more}
 use Rattle.flt_sound.proofs.sums.Shadows.{own}

@@ -25,7 +25,7 @@ use Rattle.flt_tree.specs.declared.filter.Lock.{Lock}
 use Rattle.flt_tree.specs.declared.filter.PlainCall.TheVariants as plain
 use Rattle.flt_tree.specs.declared.variable.ContextVariable.{ContextVariable}
 use Rattle.flt_tree.specs.declared.variable.ContextVariable.TheVariants.{C0, Arg}
-use Rattle.flt_sound.specs.Accepted.{IsAccepted, AreAccepted}
+use Rattle.flt_sound.specs.Soundness.{IsAccepted, AreAccepted}
 use Rattle.flt_sound.specs.Worked.{worked, worked_graph, certificate}
 
 -- ---- it is well-formed

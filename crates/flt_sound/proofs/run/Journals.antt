@@ -1,6 +1,7 @@
 -- Filters stay accepted when they are put in the order of their altitudes, as the machine takes them; so no journal of theirs breaks
 -- anything.
 use Rattle.std.proofs.Common.{◌≡◌, ℕ, zero, suc, ◌<◌, Bool, true, false, List, [], ◌∷◌, length, Option, Some, None, refl, ap, sym, ◌∙◌, arith}
+use Rattle.std.proofs.lemmas.List.Elements.{All-cons}
 use Rattle.std.specs.Prelude.{nat_lt, slice_index_or, if◌then◌else◌, option_map}
 use Rattle.flt_tree.specs.declared.filter.Filter.{Filter}
 use Rattle.flt_model.specs.Expansion.{IsBrokenAt, verdict}
@@ -9,12 +10,7 @@ use Rattle.flt_model.specs.Runs.{Break, breaks}
 use Rattle.flt_model.specs.Steps.{Transition}
 use Rattle.flt_model.specs.declared.moves.JournalEntry.{JournalEntry}
 use Rattle.flt_model.specs.declared.verdict.Violation.{Violation}
-use Rattle.flt_sound.specs.Accepted.{IsAccepted, AreAccepted}
-
--- one filter before accepted ones
-accepted_more : (f : Filter) (fs : List Filter) → IsAccepted f → AreAccepted fs → AreAccepted (f ∷ fs)
-accepted_more f fs one all zero d below = one
-accepted_more f fs one all (suc k) d below = all k d (omega arith)
+use Rattle.flt_sound.specs.Soundness.{IsAccepted, AreAccepted, AcceptedRunsBreakNothing}
 
 accepted_rest : (f : Filter) (fs : List Filter) → AreAccepted (f ∷ fs) → AreAccepted fs
 accepted_rest f fs all k d below = all (suc k) d (omega arith)
@@ -23,13 +19,13 @@ accepted_first : (f : Filter) (fs : List Filter) → AreAccepted (f ∷ fs) → 
 accepted_first f fs all = all 0 f (omega arith)
 
 accepted_put : (f : Filter) (fs : List Filter) → IsAccepted f → AreAccepted fs → AreAccepted (put_by_altitude f fs)
-accepted_put f [] one all = accepted_more f [] one all
+accepted_put f [] one all = All-cons IsAccepted f [] one all
 accepted_put f (g ∷ rest) one all =
     by (nat_lt g.altitude f.altitude) (accepted_put f rest one (accepted_rest g rest all))
   where
     by : (b : Bool) → AreAccepted (put_by_altitude f rest) → AreAccepted (if b then f ∷ g ∷ rest else g ∷ put_by_altitude f rest)
-    by true later = accepted_more f (g ∷ rest) one all
-    by false later = accepted_more g (put_by_altitude f rest) (accepted_first g rest all) later
+    by true later = All-cons IsAccepted f (g ∷ rest) one all
+    by false later = All-cons IsAccepted g (put_by_altitude f rest) (accepted_first g rest all) later
 
 -- accepted filters are accepted in the order of their altitudes
 pub accepted_by_altitude : (fs : List Filter) → AreAccepted fs → AreAccepted (by_altitude fs)
@@ -41,7 +37,7 @@ none_broken None v e h = cc
 none_broken (Some b) v e h = cc
 
 -- what breaks nothing isn't broken at any entry
-pub never_broken : ((p : List Filter) (xs : List Transition) → AreAccepted p → breaks p xs ≡ None) → (filters : List Filter) (entries : List JournalEntry) (v : Violation) (n : ℕ) →
+pub never_broken : AcceptedRunsBreakNothing → (filters : List Filter) (entries : List JournalEntry) (v : Violation) (n : ℕ) →
     AreAccepted filters → IsBrokenAt filters entries v n → ⊥
 never_broken theorem filters entries v n ok h =
     none_broken (breaks (by_altitude filters) h.transitions) v (theorem (by_altitude filters) h.transitions (accepted_by_altitude filters ok)) h.broken

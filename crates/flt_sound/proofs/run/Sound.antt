@@ -10,7 +10,7 @@ use Rattle.flt_model.specs.Runs.{Moment, start, next}
 use Rattle.flt_model.specs.Steps.{Transition, Make, Local, Board}
 use Rattle.flt_model.specs.World.{Entry}
 use Rattle.flt_model.specs.Violations.{in_queue}
-use Rattle.flt_sound.specs.Accepted.{AreAccepted}
+use Rattle.flt_sound.specs.Soundness.{AreAccepted}
 use Rattle.flt_sound.proofs.sums.Belonging.{Belongs}
 use Rattle.flt_sound.proofs.sums.Counts.{gains-nil, loses-nil, settles-nil, frees-nil, made_none}
 use Rattle.flt_sound.proofs.sums.Differences.{in_line}

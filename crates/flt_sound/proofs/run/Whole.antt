@@ -15,7 +15,7 @@ use Rattle.flt_model.specs.Steps.{Transition}
 use Rattle.flt_model.specs.Trace.{settles}
 use Rattle.flt_model.specs.Violations.{along, is_fresh, no_stale_use, is_first_settling, settled_once, is_owned}
 use Rattle.flt_model.specs.World.{World}
-use Rattle.flt_sound.specs.Accepted.{AreAccepted}
+use Rattle.flt_sound.specs.Soundness.{AreAccepted}
 use Rattle.flt_sound.proofs.sums.Counts.{made_few, counts, one_if-same}
 use Rattle.flt_sound.proofs.sums.Owners.{visit_owned, all_owned}
 use Rattle.flt_sound.proofs.sums.Uses.{is_had, uses_held, is_clean}

@@ -4,7 +4,7 @@ use Rattle.flt_tree.specs.declared.filter.Filter.{Filter}
 use Rattle.flt_tree.specs.declared.tree.Tree.{Tree}
 use Rattle.flt_graph.specs.Lowering.{IsLowered}
 use Rattle.flt_model.specs.Program.{IsRepeated, by_altitude, filters_of}
-use Rattle.flt_sound.specs.Accepted.{AreAccepted}
+use Rattle.flt_sound.specs.Soundness.{AreAccepted}
 use Rattle.flt_stack.proofs.Judged.{accepted_once, files_accepted, none_repeated}
 use Rattle.flt_stack.proofs.loading.load.Goals as goal
 
