@@ -1,6 +1,6 @@
 //! What is loaded: filters with their graphs, each accepted, from the highest altitude to the lowest.
 
-ghost use Rattle.std.specs.Prelude.{◌≡◌, List, None, IfSome, IfNone, ◌≤◌, length, slice_get, Some};
+ghost use Rattle.std.specs.Prelude.{◌≡◌, List, None};
 ghost use Rattle.flt_model.specs.Runs.{breaks};
 ghost use Rattle.flt_model.specs.Steps.{Transition};
 
