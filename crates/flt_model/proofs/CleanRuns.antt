@@ -2,7 +2,7 @@
 use Rattle.std.proofs.Common.{◌≡◌, ℕ, zero, suc, ◌+◌, Bool, true, false, List, [], ◌∷◌, ◌++◌, Option, Some, None, ap, arith, sym, subst, refl, ◌∙◌, append_assoc, append-nil}
 use Rattle.std.specs.Prelude.{not, cond, replicate, take, drop, find, option_map, option_and_then, ◌↔◌}
 use Rattle.flt_tree.specs.declared.filter.Filter.{Filter}
-use Rattle.flt_model.proofs.LocalLaws.{local_quiet}
+use Rattle.flt_model.proofs.LocalLaws.{local_clean}
 use Rattle.flt_model.specs.declared.moves.JournalEntry.{JournalEntry}
 use Rattle.flt_model.specs.declared.moves.JournalEntry.TheVariants.{Move, Go}
 use Rattle.flt_model.specs.declared.verdict.Verdict.{Verdict}
@@ -315,7 +315,7 @@ go_runs : (p : List Filter) (m : Moment) (v : Violation) (a n : ℕ) (grant : Bo
     course p m (replicate n (Local a) ++ Board a grant ∷ []) ≡ Fails v → IsRun p m (replicate n (Local a) ++ Board a grant ∷ [])
 go_runs p m v a zero grant owned e = last_runs p m v (next p m (Board a grant)) e
 go_runs p m v a (suc n) grant owned e =
-    local_runs p m v (replicate n (Local a) ++ Board a grant ∷ []) (next p m (Local a)) (λ s h. (local_quiet p m a s owned h).1)
+    local_runs p m v (replicate n (Local a) ++ Board a grant ∷ []) (next p m (Local a)) (λ s h. local_clean p m a s owned h)
     (λ s h. go_runs p (after m s) v a n grant h) e
 
 entry_runs : (p : List Filter) (m : Moment) (v : Violation) (x : JournalEntry) (xs : List Transition) → expansion x ≡ Some xs → Owned m →

@@ -1,5 +1,6 @@
 pub mod Altitudes
 pub mod CleanRuns
+pub mod FirstFaults
 pub mod LocalLaws
 mod JournalLaws
 mod LineEnds

@@ -7,15 +7,15 @@ use Rattle.flt_rules.specs.declared.place.Mode.{Mode}
 use Rattle.flt_rules.specs.declared.place.Mode.TheVariants.{Irp, Fast}
 use Rattle.flt_model.specs.Streams.{Text}
 use Rattle.flt_model.specs.JournalText.{IsKey, IsMove, IsEntry, number_text, operation_text, mode_text, key_text, grant_text, move_line, entry_line, last_line}
-use Rattle.flt_model.specs.JournalTextReading.{Parser, ◌>>=◌, ◌>>◌, pure, wrong, byte, exactly, number, line, operation, mode, key, grant, arrive, pre_or_post, skip, lower, canceled, cancel_or_canceled, work, detach_or_detached, drain, detach_or_drain, unlink, go, move_by}
+use Rattle.flt_model.specs.JournalTextReading.{Parser, ◌>>=◌, ◌>>◌, pure, wrong, byte, exactly, number, line, operation, mode, key, grant, numbered, twice_numbered, arrive, pre_or_post, cancel_or_canceled, detach_or_detached, detach_or_drain, unlink, go, move_by}
 use Rattle.flt_model.specs.declared.moves.JournalEntry.{JournalEntry}
 use Rattle.flt_model.specs.declared.moves.JournalEntry.TheVariants as entries
 use Rattle.flt_model.specs.declared.moves.Key.{Key}
 use Rattle.flt_model.specs.declared.moves.Key.TheVariants.{Stream, Instance}
 use Rattle.flt_model.specs.declared.moves.Move.{Move}
 use Rattle.flt_model.specs.declared.moves.Move.TheVariants as moves
-use Rattle.flt_model.proofs.Online.{Online, Choice, dead, pure_online, then_online, choice_then, node, pick, after}
-use Rattle.flt_model.proofs.Numbers.{with_number}
+use Rattle.flt_model.proofs.Online.{Online, Choice, dead, said, pure_online, then_online, choice_then, node, pick, after}
+use Rattle.flt_model.proofs.Numbers.{Whole, number_online, with_number}
 
 -- a line that a number ends
 ends : {A : Type 0} (Js : Text → A → Type 0) (make : ℕ → A) → ((n : ℕ) → n < 2 ^ 32 → Js (number_text n 10) (make n)) → Online Js (number 10 >>= λ n. pure (make n))
@@ -109,63 +109,81 @@ arrive_online = after (Behind (codes "a")) (codes "rrive ") _ (named operation_t
     named mode_text (λ w m. Behind (codes "arrive ") (operation_text o ++ w) m) mode _ mode_online (λ x.
     ends (λ w m. Behind (codes "arrive ") (operation_text o ++ (mode_text x ++ w)) m) (moves.Arrive o x) (λ n small. (refl, small)))))
 
-pre_online : Online (Behind (codes "pr")) (exactly (codes "e ") >> (number 10 >>= λ serial. pure (moves.Pre serial)))
-pre_online = after (Behind (codes "pr")) (codes "e ") _ (ends (Behind (codes "pre ")) moves.Pre (λ n small. (refl, small)))
+-- the rest of a word, and a number
+abbrev Numbered : Text → Text → ℕ → Type 0
+Numbered front c n = (c ≡ front ++ number_text n 10) × (n < 2 ^ 32)
 
-post_online : Online (Behind (codes "po")) (exactly (codes "st ") >> (number 10 >>= λ serial. pure (moves.Post serial)))
-post_online = after (Behind (codes "po")) (codes "st ") _ (ends (Behind (codes "post ")) moves.Post (λ n small. (refl, small)))
+numbered_online : (front : Text) → Online (Numbered front) (numbered front)
+unfolding numbered
+numbered_online front = after (Numbered front) front (number 10)
+    (said (Whole 10) (λ c n. Numbered front (front ++ c) n) (number 10) (λ c n h. (ap (λ z. front ++ z) h.0, h.1)) (number_online 10))
+
+-- the rest of a word, and two numbers
+abbrev TwiceNumbered : Text → Text → ℕ × ℕ → Type 0
+TwiceNumbered front c q = (c ≡ front ++ (number_text q.0 32 ++ number_text q.1 10)) × ((q.0 < 2 ^ 32) × (q.1 < 2 ^ 32))
+
+twice_numbered_online : (front : Text) → Online (TwiceNumbered front) (twice_numbered front)
+unfolding twice_numbered
+twice_numbered_online front = after (TwiceNumbered front) front _ (with_number (λ w q. TwiceNumbered front (front ++ w) q) 32 _ (λ a low.
+    ends (λ w q. TwiceNumbered front (front ++ (number_text a 32 ++ w)) q) (λ n. (a, n)) (λ n small. (refl, (low, small)))))
+
+-- the line of a move with a number
+by_number : (start front : Text) (make : ℕ → Move) → ((n : ℕ) → n < 2 ^ 32 → Behind start (front ++ number_text n 10) (make n)) →
+    Online (Behind start) (numbered front >>= λ n. pure (make n))
+by_number start front make h = then_online (Numbered front) (Behind start) (numbered front) _ (numbered_online front) (λ c n e.
+    pure_online (λ w m. Behind start (c ++ w) m) (make n) (subst (λ z. Behind start z (make n)) (sym (append-nil c ∙ e.0)) (h n e.1)))
+
+-- the line of a move with two numbers
+by_two_numbers : (start front : Text) (make : ℕ → ℕ → Move) →
+    ((a n : ℕ) → a < 2 ^ 32 → n < 2 ^ 32 → Behind start (front ++ (number_text a 32 ++ number_text n 10)) (make a n)) →
+    Online (Behind start) (twice_numbered front >>= λ q. pure (make q.0 q.1))
+by_two_numbers start front make h = then_online (TwiceNumbered front) (Behind start) (twice_numbered front) _ (twice_numbered_online front) (λ c q e.
+    pure_online (λ w m. Behind start (c ++ w) m) (make q.0 q.1)
+    (subst (λ z. Behind start z (make q.0 q.1)) (sym (append-nil c ∙ e.0)) (h q.0 q.1 e.1.0 e.1.1)))
+
+pre_online : Online (Behind (codes "pr")) (numbered (codes "e ") >>= λ serial. pure (moves.Pre serial))
+pre_online = by_number (codes "pr") (codes "e ") moves.Pre (λ n small. (refl, small))
+
+post_online : Online (Behind (codes "po")) (numbered (codes "st ") >>= λ serial. pure (moves.Post serial))
+post_online = by_number (codes "po") (codes "st ") moves.Post (λ n small. (refl, small))
 
 pre_or_post_online : Online (Behind (codes "p")) pre_or_post
 unfolding pre_or_post
 pre_or_post_online = node (Behind (codes "p")) _ 114 pre_online (λ b. pick (Behind (codes "p")) b 114 _ _ pre_online (λ e. pick (Behind (codes "p")) b 111 _ _ post_online (λ e. dead (λ text. refl))))
 
-skip_online : Online (Behind (codes "s")) skip
-unfolding skip
-skip_online = after (Behind (codes "s")) (codes "kip ") _ (ends (Behind (codes "skip ")) moves.Skip (λ n small. (refl, small)))
+skip_online : Online (Behind (codes "s")) (numbered (codes "kip ") >>= λ serial. pure (moves.Skip serial))
+skip_online = by_number (codes "s") (codes "kip ") moves.Skip (λ n small. (refl, small))
 
-lower_online : Online (Behind (codes "l")) lower
-unfolding lower
-lower_online = after (Behind (codes "l")) (codes "ower ") _ (ends (Behind (codes "lower ")) moves.Lower (λ n small. (refl, small)))
+lower_online : Online (Behind (codes "l")) (numbered (codes "ower ") >>= λ serial. pure (moves.Lower serial))
+lower_online = by_number (codes "l") (codes "ower ") moves.Lower (λ n small. (refl, small))
 
--- a line that two numbers end
-two_end : (front : Text) (make : ℕ → ℕ → Move) → ((a n : ℕ) → a < 2 ^ 32 → n < 2 ^ 32 → Behind front (number_text a 32 ++ number_text n 10) (make a n)) →
-    Online (Behind front) (number 32 >>= λ a. number 10 >>= λ n. pure (make a n))
-two_end front make h = with_number (Behind front) 32 (λ a. number 10 >>= λ n. pure (make a n)) (λ a low.
-    ends (λ w m. Behind front (number_text a 32 ++ w) m) (make a) (λ n small. h a n low small))
-
-canceled_online : Online (Behind (codes "canceled ")) canceled
-unfolding canceled
-canceled_online = two_end (codes "canceled ") moves.Canceled (λ a n low small. (refl, (low, small)))
+work_online : Online (Behind (codes "w")) (numbered (codes "ork ") >>= λ item. pure (moves.Work item))
+work_online = by_number (codes "w") (codes "ork ") moves.Work (λ n small. (refl, small))
 
 cancel_end : Online (Behind (codes "cancel ")) (number 10 >>= λ serial. pure (moves.Cancel serial))
 cancel_end = ends (Behind (codes "cancel ")) moves.Cancel (λ n small. (refl, small))
 
-canceled_end : Online (Behind (codes "cancele")) (exactly (codes "d ") >> canceled)
-canceled_end = after (Behind (codes "cancele")) (codes "d ") canceled canceled_online
+canceled_end : Online (Behind (codes "cancele")) (twice_numbered (codes "d ") >>= λ q. pure (moves.Canceled q.0 q.1))
+canceled_end = by_two_numbers (codes "cancele") (codes "d ") moves.Canceled (λ a n low small. (refl, (low, small)))
 
 cancel_or_canceled_online : Online (Behind (codes "c")) cancel_or_canceled
 unfolding cancel_or_canceled
 cancel_or_canceled_online = after (Behind (codes "c")) (codes "ancel") _ (node (Behind (codes "cancel")) _ 32 cancel_end (λ b.
     pick (Behind (codes "cancel")) b 32 _ _ cancel_end (λ e. pick (Behind (codes "cancel")) b 101 _ _ canceled_end (λ e. dead (λ text. refl)))))
 
-work_online : Online (Behind (codes "w")) work
-unfolding work
-work_online = after (Behind (codes "w")) (codes "ork ") _ (ends (Behind (codes "work ")) moves.Work (λ n small. (refl, small)))
-
 detach_end : Online (Behind (codes "detach ")) (number 10 >>= λ altitude. pure (moves.Detach altitude))
 detach_end = ends (Behind (codes "detach ")) moves.Detach (λ n small. (refl, small))
 
-detached_end : Online (Behind (codes "detache")) (exactly (codes "d ") >> (number 10 >>= λ altitude. pure (moves.Detached altitude)))
-detached_end = after (Behind (codes "detache")) (codes "d ") _ (ends (Behind (codes "detached ")) moves.Detached (λ n small. (refl, small)))
+detached_end : Online (Behind (codes "detache")) (numbered (codes "d ") >>= λ altitude. pure (moves.Detached altitude))
+detached_end = by_number (codes "detache") (codes "d ") moves.Detached (λ n small. (refl, small))
 
 detach_or_detached_online : Online (Behind (codes "de")) detach_or_detached
 unfolding detach_or_detached
 detach_or_detached_online = after (Behind (codes "de")) (codes "tach") _ (node (Behind (codes "detach")) _ 32 detach_end (λ b.
     pick (Behind (codes "detach")) b 32 _ _ detach_end (λ e. pick (Behind (codes "detach")) b 101 _ _ detached_end (λ e. dead (λ text. refl)))))
 
-drain_online : Online (Behind (codes "dr")) drain
-unfolding drain
-drain_online = after (Behind (codes "dr")) (codes "ain ") _ (two_end (codes "drain ") moves.Drain (λ a n low small. (refl, (low, small))))
+drain_online : Online (Behind (codes "dr")) (twice_numbered (codes "ain ") >>= λ q. pure (moves.Drain q.0 q.1))
+drain_online = by_two_numbers (codes "dr") (codes "ain ") moves.Drain (λ a n low small. (refl, (low, small)))
 
 detach_or_drain_online : Online (Behind (codes "d")) detach_or_drain
 unfolding detach_or_drain

@@ -1,4 +1,4 @@
--- A local step has no events, and a moment at which each visit has its owner stays so.
+-- A local step has no events, and each visit has as many owners after it as before.
 use Rattle.std.proofs.Common.{◌≡◌, ℕ, zero, suc, ◌+◌, Bool, true, false, List, [], ◌∷◌, ◌++◌, length, Option, Some, None, ap, sym, subst, refl, ◌∙◌}
 use Rattle.std.proofs.Math.ListN.{set, get_or}
 use Rattle.std.proofs.lemmas.List.{append-nil}
@@ -82,37 +82,53 @@ below_same (suc n) f g h = ap (λ b. b && all_below n f) (h n) ∙ ap (λ b. g n
 
 -- ---- the law
 
+-- what a step without events breaks: V4 alone, where a visit hasn't its owner
+abbrev broken_by_owners : Bool → Option Violation
+broken_by_owners owned = if owned then None else Some V4
+
 record Quiet (p : List Filter) (m : Moment) (s : Step) : Type 0 where
   events : s.events ≡ []
-  fine : broken p m s ≡ None
+  breaks : broken p m s ≡ broken_by_owners (one_owner m.world m.trace)
+
+not_owned : (b : Bool) → cond (not b) (Some V4) None ≡ broken_by_owners b
+not_owned true = refl
+not_owned false = refl
 
 module _ (p : List Filter) (m : Moment) (a : ℕ) where
-  owner_stays : (act : Activation) → act.ended ≡ (activation_at m.world a).ended → one_owner m.world m.trace ≡ true →
-      one_owner (moved_on p m.trace m.world a act).world (m.trace ++ []) ≡ true
-  owner_stays act h owned =
+  owners_stay : (act : Activation) → act.ended ≡ (activation_at m.world a).ended →
+      one_owner (moved_on p m.trace m.world a act).world (m.trace ++ []) ≡ one_owner m.world m.trace
+  owners_stay act h =
       ap (λ t. one_owner (moved_on p m.trace m.world a act).world t) (append-nil m.trace)
-      ∙ (below_same (length m.world.store.visits) (is_owned (moved_on p m.trace m.world a act).world m.trace) (is_owned m.world m.trace)
+      ∙ below_same (length m.world.store.visits) (is_owned (moved_on p m.trace m.world a act).world m.trace) (is_owned m.world m.trace)
       (λ v. owned_same p m.world m.trace a act v h)
-      ∙ owned)
 
-  moved_quiet : (act : Activation) → act.ended ≡ (activation_at m.world a).ended → one_owner m.world m.trace ≡ true →
-      Quiet p m (moved_on p m.trace m.world a act)
-  moved_quiet act h owned =
+  moved_quiet : (act : Activation) → act.ended ≡ (activation_at m.world a).ended → Quiet p m (moved_on p m.trace m.world a act)
+  moved_quiet act h =
       let none : Option Violation = None in
-      record { events = refl; fine = ap (λ b. cond (not b) (Some V4) none) (owner_stays act h owned) }
+      record { events = refl; breaks = ap (λ b. cond (not b) (Some V4) none) (owners_stay act h) ∙ not_owned (one_owner m.world m.trace) }
 
-  quiet_by : (b : Bool) (o : Option Activation) (s : Step) →
-      ((act : Activation) → o ≡ Some act → act.ended ≡ (activation_at m.world a).ended) → one_owner m.world m.trace ≡ true →
+  quiet_by : (b : Bool) (o : Option Activation) (s : Step) → ((act : Activation) → o ≡ Some act → act.ended ≡ (activation_at m.world a).ended) →
       (if b then None else option_map (moved_on p m.trace m.world a) o) ≡ Some s → Quiet p m s
-  quiet_by true o s kept owned e = absurd (cc)
-  quiet_by false None s kept owned e = absurd (cc)
-  quiet_by false (Some act) s kept owned e =
-      let same : moved_on p m.trace m.world a act ≡ s = cc in subst (λ q. Quiet p m q) same (moved_quiet act (kept act refl) owned)
+  quiet_by true o s kept e = absurd (cc)
+  quiet_by false None s kept e = absurd (cc)
+  quiet_by false (Some act) s kept e =
+      let same : moved_on p m.trace m.world a act ≡ s = cc in subst (λ q. Quiet p m q) same (moved_quiet act (kept act refl))
 
-pub local_quiet : (p : List Filter) (m : Moment) (a : ℕ) (s : Step) → one_owner m.world m.trace ≡ true →
-    next p m (Local a) ≡ Some s → (s.events ≡ []) × (broken p m s ≡ None)
-local_quiet p m a s owned e =
-    let act = activation_at m.world a in
-    let draining = (actor_at m.world a).draining in
-    let q = quiet_by p m a act.ended (local_step draining act act.rest) s (λ n. step_ended draining act n act.rest) owned e in
-    (q.events, q.fine)
+  local_quiet_step : (s : Step) → next p m (Local a) ≡ Some s → Quiet p m s
+  local_quiet_step s e =
+      let act = activation_at m.world a in
+      let draining = (actor_at m.world a).draining in
+      quiet_by act.ended (local_step draining act act.rest) s (λ n. step_ended draining act n act.rest) e
+
+-- a local step has no events
+pub local_silent : (p : List Filter) (m : Moment) (a : ℕ) (s : Step) → next p m (Local a) ≡ Some s → s.events ≡ []
+local_silent p m a s e = (local_quiet_step p m a s e).events
+
+-- a local step breaks nothing but V4, and that where it was broken before
+pub local_breaks : (p : List Filter) (m : Moment) (a : ℕ) (s : Step) → next p m (Local a) ≡ Some s →
+    broken p m s ≡ (if one_owner m.world m.trace then None else Some V4)
+local_breaks p m a s e = (local_quiet_step p m a s e).breaks
+
+-- a local step breaks nothing where each visit had its owner
+pub local_clean : (p : List Filter) (m : Moment) (a : ℕ) (s : Step) → one_owner m.world m.trace ≡ true → next p m (Local a) ≡ Some s → broken p m s ≡ None
+local_clean p m a s owned e = local_breaks p m a s e ∙ ap broken_by_owners owned

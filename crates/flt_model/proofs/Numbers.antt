@@ -136,7 +136,7 @@ digits_online (suc left) end m some small =
     further end m b (digits left end) (with_digit m b) some refl (λ k. digits_online left end k)))
 
 -- a number, and the byte behind it
-abbrev Whole : ℕ → Text → ℕ → Type 0
+abbrev pub Whole : ℕ → Text → ℕ → Type 0
 Whole end c n = (c ≡ number_text n end) × (n < 2 ^ 32)
 
 zero_online : (end : ℕ) → Online (λ w n. Whole end (48 ∷ w) n) (exactly (end ∷ []) >> pure 0)
@@ -159,7 +159,7 @@ begins end b (Some k) e differs =
     let text : decimal k ≡ b ∷ [] = decimal_digit k (omega arith) ∙ ap (λ z. z ∷ []) same in
     live (said (Tail end k) (λ w n. Whole end (b ∷ w) n) (digits 9 end k) (λ c n h. (ap (λ z. z ++ c) (sym text) ∙ h.0, h.1)) (digits_online 9 end k some more.small))
 
-number_online : (end : ℕ) → Online (Whole end) (number end)
+pub number_online : (end : ℕ) → Online (Whole end) (number end)
 unfolding number
 number_online end = node (Whole end) _ 48 (zero_online end) (λ b. pick (Whole end) b 48 _ _ (zero_online end) (λ e. begins end b (with_digit 0 b) refl e))
 

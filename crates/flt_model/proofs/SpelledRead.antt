@@ -6,7 +6,7 @@ use Rattle.flt_rules.specs.declared.place.Operation.TheVariants.{Create, Read, W
 use Rattle.flt_rules.specs.declared.place.Mode.TheVariants.{Irp, Fast}
 use Rattle.flt_model.specs.Streams.{Text}
 use Rattle.flt_model.specs.JournalText.{Entries, IsEntry, IsJournal, most_entries, number_text, key_text, grant_text, entry_line, last_line, spelling}
-use Rattle.flt_model.specs.JournalTextReading.{line, operation, mode, key, grant, arrive, pre_or_post, skip, lower, canceled, cancel_or_canceled, work, detach_or_detached, drain, detach_or_drain, unlink, go, move_by, entries_from, journal}
+use Rattle.flt_model.specs.JournalTextReading.{line, operation, mode, key, grant, numbered, twice_numbered, arrive, pre_or_post, cancel_or_canceled, detach_or_detached, detach_or_drain, unlink, go, move_by, entries_from, journal}
 use Rattle.flt_model.specs.declared.moves.JournalEntry.{JournalEntry}
 use Rattle.flt_model.specs.declared.moves.JournalEntry.TheVariants as entries
 use Rattle.flt_model.specs.declared.moves.Key.TheVariants.{Stream, Instance}
@@ -20,7 +20,7 @@ grant_again true text = refl
 grant_again false text = refl
 
 line_again : (entry : JournalEntry) (text : Text) → IsEntry entry → line (entry_line entry ++ text) ≡ Ok (Some entry, text)
-unfolding line operation mode key arrive pre_or_post skip lower canceled cancel_or_canceled work detach_or_detached drain detach_or_drain unlink go move_by
+unfolding line operation mode key numbered twice_numbered arrive pre_or_post cancel_or_canceled detach_or_detached detach_or_drain unlink go move_by
 line_again (entries.Move (moves.Arrive Create Irp file)) text h = rw (number_again 10 file text (omega arith) h) refl
 line_again (entries.Move (moves.Arrive Create Fast file)) text h = rw (number_again 10 file text (omega arith) h) refl
 line_again (entries.Move (moves.Arrive Read Irp file)) text h = rw (number_again 10 file text (omega arith) h) refl

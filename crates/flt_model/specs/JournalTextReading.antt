@@ -113,6 +113,18 @@ grant = byte >>= λ b.
 
 -- ---- lines, each from its second byte on
 
+-- the rest of a word, and the number behind it that ends the line
+unfoldable pub numbered : Text → Parser ℕ
+numbered word = exactly word >> number 10
+
+-- the rest of a word, and two numbers behind it that end the line
+unfoldable pub twice_numbered : Text → Parser (ℕ × ℕ)
+twice_numbered word = do
+  exactly word
+  first ← number 32
+  second ← number 10
+  pure (first, second)
+
 -- "arrive"
 unfoldable pub arrive : Parser Move
 arrive = do
@@ -125,36 +137,8 @@ arrive = do
 -- "pre" or "post"
 unfoldable pub pre_or_post : Parser Move
 pre_or_post = byte >>= λ b.
-    if b == 114 then (do
-      exactly (codes "e ")
-      serial ← number 10
-      pure (moves.Pre serial))
-    else (if b == 111 then (do
-      exactly (codes "st ")
-      serial ← number 10
-      pure (moves.Post serial))
-    else wrong)
-
--- "skip"
-unfoldable pub skip : Parser Move
-skip = do
-  exactly (codes "kip ")
-  serial ← number 10
-  pure (moves.Skip serial)
-
--- "lower"
-unfoldable pub lower : Parser Move
-lower = do
-  exactly (codes "ower ")
-  serial ← number 10
-  pure (moves.Lower serial)
-
--- what follows "canceled "
-unfoldable pub canceled : Parser Move
-canceled = do
-  altitude ← number 32
-  serial ← number 10
-  pure (moves.Canceled altitude serial)
+    if b == 114 then numbered (codes "e ") >>= (λ serial. pure (moves.Pre serial))
+    else (if b == 111 then numbered (codes "st ") >>= (λ serial. pure (moves.Post serial)) else wrong)
 
 -- "cancel" or "canceled"
 unfoldable pub cancel_or_canceled : Parser Move
@@ -162,14 +146,7 @@ cancel_or_canceled = exactly (codes "ancel") >> (byte >>= λ b.
     if b == 32 then (do
       serial ← number 10
       pure (moves.Cancel serial))
-    else (if b == 101 then exactly (codes "d ") >> canceled else wrong))
-
--- "work"
-unfoldable pub work : Parser Move
-work = do
-  exactly (codes "ork ")
-  item ← number 10
-  pure (moves.Work item)
+    else (if b == 101 then twice_numbered (codes "d ") >>= (λ q. pure (moves.Canceled q.0 q.1)) else wrong))
 
 -- "detach" or "detached", behind "de"
 unfoldable pub detach_or_detached : Parser Move
@@ -177,23 +154,13 @@ detach_or_detached = exactly (codes "tach") >> (byte >>= λ b.
     if b == 32 then (do
       altitude ← number 10
       pure (moves.Detach altitude))
-    else (if b == 101 then (do
-      exactly (codes "d ")
-      altitude ← number 10
-      pure (moves.Detached altitude))
-    else wrong))
-
--- "drain", behind "dr"
-unfoldable pub drain : Parser Move
-drain = do
-  exactly (codes "ain ")
-  altitude ← number 32
-  serial ← number 10
-  pure (moves.Drain altitude serial)
+    else (if b == 101 then numbered (codes "d ") >>= (λ altitude. pure (moves.Detached altitude)) else wrong))
 
 -- "detach", "detached" or "drain"
 unfoldable pub detach_or_drain : Parser Move
-detach_or_drain = byte >>= λ b. if b == 101 then detach_or_detached else (if b == 114 then drain else wrong)
+detach_or_drain = byte >>= λ b.
+    if b == 101 then detach_or_detached
+    else (if b == 114 then twice_numbered (codes "ain ") >>= (λ q. pure (moves.Drain q.0 q.1)) else wrong)
 
 -- "unlink"
 unfoldable pub unlink : Parser Move
@@ -217,10 +184,10 @@ unfoldable pub move_by : ℕ → Parser Move
 move_by b =
     if b == 97 then arrive
     else (if b == 112 then pre_or_post
-    else (if b == 115 then skip
-    else (if b == 108 then lower
+    else (if b == 115 then numbered (codes "kip ") >>= (λ serial. pure (moves.Skip serial))
+    else (if b == 108 then numbered (codes "ower ") >>= (λ serial. pure (moves.Lower serial))
     else (if b == 99 then cancel_or_canceled
-    else (if b == 119 then work
+    else (if b == 119 then numbered (codes "ork ") >>= (λ item. pure (moves.Work item))
     else (if b == 100 then detach_or_drain
     else (if b == 117 then unlink else wrong)))))))
 

@@ -1,15 +1,19 @@
-//! Laws of the machine's definitions: what ties the verdict about a journal to runs, and what local steps leave as it is.
+//! Laws of the machine's definitions: what ties the verdict about a journal to runs, and what local steps leave as it is. And one
+//! of the text of journals: that a fault stands at one place.
 
-ghost use Rattle.std.specs.Prelude.{◌≡◌, ◌↔◌, ℕ, true, List, [], Some, None};
+ghost use Rattle.std.specs.Prelude.{◌≡◌, ◌↔◌, ℕ, List, [], Some, None, if◌then◌else◌};
 ghost use Rattle.flt_tree.specs.declared.filter.Filter.{Filter};
 ghost use Rattle.flt_model.specs.Effects.{Step};
 ghost use Rattle.flt_model.specs.Expansion.{IsCleanRun, IsStoppedAt, IsBrokenAt, verdict};
+ghost use Rattle.flt_model.specs.JournalText.{Entries, IsFirstFault, IsJournal, spelling};
 ghost use Rattle.flt_model.specs.Runs.{Moment, broken, next};
 ghost use Rattle.flt_model.specs.Steps.{Local};
+ghost use Rattle.flt_model.specs.Streams.{Text};
 ghost use Rattle.flt_model.specs.Violations.{one_owner};
 ghost use Rattle.flt_model.specs.declared.moves.JournalEntry.{JournalEntry};
 ghost use Rattle.flt_model.specs.declared.verdict.Verdict.TheVariants.{Legal, NotARun, Breaks};
 ghost use Rattle.flt_model.specs.declared.verdict.Violation.{Violation};
+ghost use Rattle.flt_model.specs.declared.verdict.Violation.TheVariants.{V4};
 
 /// A journal is legal exactly where its transitions are a run that breaks nothing. It does nothing: its clause is the law.
 pub fn legal_journals_are_clean_runs()
@@ -24,8 +28,15 @@ pub fn first_faults_are_told()
     ensures broken { (filters : List Filter) (entries : List JournalEntry) (v : Violation) (n : ℕ) → (verdict filters entries ≡ Breaks v n) ↔ IsBrokenAt filters entries v n }
 {}
 
-/// A local step has no events and breaks nothing, where each visit had its owner before it. It does nothing: its clause is
-/// the law.
+/// A local step has no events, and it breaks nothing that wasn't broken before it: V4, where a visit hadn't its owner
+/// already, and otherwise nothing. It does nothing: its clauses are the law.
 pub fn local_steps_are_quiet()
-    ensures law { (p : List Filter) (m : Moment) (a : ℕ) (s : Step) → one_owner m.world m.trace ≡ true → next p m (Local a) ≡ Some s → (s.events ≡ []) × (broken p m s ≡ None) }
+    ensures events { (p : List Filter) (m : Moment) (a : ℕ) (s : Step) → next p m (Local a) ≡ Some s → s.events ≡ [] }
+    ensures breaks { (p : List Filter) (m : Moment) (a : ℕ) (s : Step) → next p m (Local a) ≡ Some s → broken p m s ≡ (if one_owner m.world m.trace then None else Some V4) }
+{}
+
+/// A text has one first fault at most, and none where it spells a journal. It does nothing: its clauses are the law.
+pub fn one_first_fault_at_most()
+    ensures one { (text : Text) (line : ℕ) (left : Text) (other_line : ℕ) (other_left : Text) → IsFirstFault text line left → IsFirstFault text other_line other_left → (line ≡ other_line) × (left ≡ other_left) }
+    ensures none { (entries : Entries) (line : ℕ) (left : Text) → IsJournal entries → ¬ IsFirstFault (spelling entries) line left }
 {}

@@ -1,6 +1,6 @@
 //! The lines of a journal, read byte by byte.
 
-ghost use Rattle.std.specs.Prelude.{◌≡◌, ◌≤◌, ◌+◌};
+ghost use Rattle.std.specs.Prelude.{◌≡◌, ◌≤◌, ◌+◌, length};
 ghost use Rattle.flt_model.specs.JournalTextReading as spec;
 
 use crate::moves::{JournalEntry, Key, Move};
@@ -99,6 +99,30 @@ fn grant<R: Source>(reader: &mut R) -> Result<bool, Stop>
 
 // Each line is read from its second byte on.
 
+/// The rest of a word, and the number behind it that ends the line.
+#[tactic(auto, unfolding(crate::specs::JournalTextReading::numbered))]
+fn numbered<R: Source>(reader: &mut R, word: &[u8]) -> Result<u32, Stop>
+    ensures read { spec.Reads (spec.numbered word.now (R.coming reader.old)) result (R.coming reader.new) }
+    ensures fails { spec.Counts result (R.failures reader.old) (R.failures reader.new) }
+    ensures reads { R.reads reader.new ≤ R.reads reader.old + (length word.now + 11) }
+{
+    exactly(reader, word)?;
+    number(reader, b'\n')
+}
+
+/// The rest of a word, and two numbers behind it that end the line.
+#[tactic(auto, unfolding(crate::specs::JournalTextReading::twice_numbered))]
+fn twice_numbered<R: Source>(reader: &mut R, word: &[u8]) -> Result<(u32, u32), Stop>
+    ensures read { spec.Reads (spec.twice_numbered word.now (R.coming reader.old)) result (R.coming reader.new) }
+    ensures fails { spec.Counts result (R.failures reader.old) (R.failures reader.new) }
+    ensures reads { R.reads reader.new ≤ R.reads reader.old + (length word.now + 22) }
+{
+    exactly(reader, word)?;
+    let first = number(reader, b' ')?;
+    let second = number(reader, b'\n')?;
+    Ok((first, second))
+}
+
 #[tactic(auto, unfolding(crate::specs::JournalTextReading::arrive))]
 fn arrive<R: Source>(reader: &mut R) -> Result<Move, Stop>
     ensures read { spec.Reads (spec.arrive (R.coming reader.old)) result (R.coming reader.new) }
@@ -124,51 +148,15 @@ fn pre_or_post<R: Source>(reader: &mut R) -> Result<Move, Stop>
 {
     match byte(reader)? {
         b'r' => {
-            exactly(reader, b"e ")?;
-            let serial = number(reader, b'\n')?;
+            let serial = numbered(reader, b"e ")?;
             Ok(Move::Pre { serial })
         }
         b'o' => {
-            exactly(reader, b"st ")?;
-            let serial = number(reader, b'\n')?;
+            let serial = numbered(reader, b"st ")?;
             Ok(Move::Post { serial })
         }
         _ => Err(Stop::Wrong),
     }
-}
-
-#[tactic(auto, unfolding(crate::specs::JournalTextReading::skip))]
-fn skip<R: Source>(reader: &mut R) -> Result<Move, Stop>
-    ensures read { spec.Reads (spec.skip (R.coming reader.old)) result (R.coming reader.new) }
-    ensures fails { spec.Counts result (R.failures reader.old) (R.failures reader.new) }
-    ensures reads { R.reads reader.new ≤ R.reads reader.old + 15 }
-{
-    exactly(reader, b"kip ")?;
-    let serial = number(reader, b'\n')?;
-    Ok(Move::Skip { serial })
-}
-
-#[tactic(auto, unfolding(crate::specs::JournalTextReading::lower))]
-fn lower<R: Source>(reader: &mut R) -> Result<Move, Stop>
-    ensures read { spec.Reads (spec.lower (R.coming reader.old)) result (R.coming reader.new) }
-    ensures fails { spec.Counts result (R.failures reader.old) (R.failures reader.new) }
-    ensures reads { R.reads reader.new ≤ R.reads reader.old + 16 }
-{
-    exactly(reader, b"ower ")?;
-    let serial = number(reader, b'\n')?;
-    Ok(Move::Lower { serial })
-}
-
-/// What follows `canceled `.
-#[tactic(auto, unfolding(crate::specs::JournalTextReading::canceled))]
-fn canceled<R: Source>(reader: &mut R) -> Result<Move, Stop>
-    ensures read { spec.Reads (spec.canceled (R.coming reader.old)) result (R.coming reader.new) }
-    ensures fails { spec.Counts result (R.failures reader.old) (R.failures reader.new) }
-    ensures reads { R.reads reader.new ≤ R.reads reader.old + 22 }
-{
-    let altitude = number(reader, b' ')?;
-    let serial = number(reader, b'\n')?;
-    Ok(Move::Canceled { altitude, serial })
 }
 
 #[tactic(auto, unfolding(crate::specs::JournalTextReading::cancel_or_canceled))]
@@ -184,22 +172,11 @@ fn cancel_or_canceled<R: Source>(reader: &mut R) -> Result<Move, Stop>
             Ok(Move::Cancel { serial })
         }
         b'e' => {
-            exactly(reader, b"d ")?;
-            canceled(reader)
+            let (altitude, serial) = twice_numbered(reader, b"d ")?;
+            Ok(Move::Canceled { altitude, serial })
         }
         _ => Err(Stop::Wrong),
     }
-}
-
-#[tactic(auto, unfolding(crate::specs::JournalTextReading::work))]
-fn work<R: Source>(reader: &mut R) -> Result<Move, Stop>
-    ensures read { spec.Reads (spec.work (R.coming reader.old)) result (R.coming reader.new) }
-    ensures fails { spec.Counts result (R.failures reader.old) (R.failures reader.new) }
-    ensures reads { R.reads reader.new ≤ R.reads reader.old + 15 }
-{
-    exactly(reader, b"ork ")?;
-    let item = number(reader, b'\n')?;
-    Ok(Move::Work { item })
 }
 
 /// From the third byte on.
@@ -216,25 +193,11 @@ fn detach_or_detached<R: Source>(reader: &mut R) -> Result<Move, Stop>
             Ok(Move::Detach { altitude })
         }
         b'e' => {
-            exactly(reader, b"d ")?;
-            let altitude = number(reader, b'\n')?;
+            let altitude = numbered(reader, b"d ")?;
             Ok(Move::Detached { altitude })
         }
         _ => Err(Stop::Wrong),
     }
-}
-
-/// From the third byte on.
-#[tactic(auto, unfolding(crate::specs::JournalTextReading::drain))]
-fn drain<R: Source>(reader: &mut R) -> Result<Move, Stop>
-    ensures read { spec.Reads (spec.drain (R.coming reader.old)) result (R.coming reader.new) }
-    ensures fails { spec.Counts result (R.failures reader.old) (R.failures reader.new) }
-    ensures reads { R.reads reader.new ≤ R.reads reader.old + 26 }
-{
-    exactly(reader, b"ain ")?;
-    let altitude = number(reader, b' ')?;
-    let serial = number(reader, b'\n')?;
-    Ok(Move::Drain { altitude, serial })
 }
 
 #[tactic(auto, unfolding(crate::specs::JournalTextReading::detach_or_drain))]
@@ -245,7 +208,10 @@ fn detach_or_drain<R: Source>(reader: &mut R) -> Result<Move, Stop>
 {
     match byte(reader)? {
         b'e' => detach_or_detached(reader),
-        b'r' => drain(reader),
+        b'r' => {
+            let (altitude, serial) = twice_numbered(reader, b"ain ")?;
+            Ok(Move::Drain { altitude, serial })
+        }
         _ => Err(Stop::Wrong),
     }
 }
@@ -289,10 +255,19 @@ fn move_by<R: Source>(reader: &mut R, first: u8) -> Result<Move, Stop>
     match first {
         b'a' => arrive(reader),
         b'p' => pre_or_post(reader),
-        b's' => skip(reader),
-        b'l' => lower(reader),
+        b's' => {
+            let serial = numbered(reader, b"kip ")?;
+            Ok(Move::Skip { serial })
+        }
+        b'l' => {
+            let serial = numbered(reader, b"ower ")?;
+            Ok(Move::Lower { serial })
+        }
         b'c' => cancel_or_canceled(reader),
-        b'w' => work(reader),
+        b'w' => {
+            let item = numbered(reader, b"ork ")?;
+            Ok(Move::Work { item })
+        }
         b'd' => detach_or_drain(reader),
         b'u' => unlink(reader),
         _ => Err(Stop::Wrong),

@@ -1,7 +1,8 @@
 //! The monitor: it runs a journal entry by entry, and stops at the first that isn't a run or that breaks something.
 
-ghost use Rattle.std.specs.Prelude.{◌≡◌, List, [], ◌∷◌, ◌++◌, replicate, IfOk};
+ghost use Rattle.std.specs.Prelude.{◌≡◌, ◌↔◌, ℕ, List, [], ◌∷◌, ◌++◌, replicate, IfOk};
 ghost use Rattle.flt_model.specs.declared.moves.Move.{Move};
+ghost use Rattle.flt_model.specs.declared.verdict.Violation.{Violation};
 ghost use Rattle.flt_model.specs.Effects.{Step};
 ghost use Rattle.flt_model.specs.Expansion as spec;
 ghost use Rattle.flt_model.specs.Runs.{Moment, broken, after};
@@ -16,7 +17,8 @@ ghost use Rattle.flt_tree.specs.declared.filter.Filter.{Filter};
 use crate::ledger::Ledger;
 use crate::rules::Scene;
 use flt_model::{
-    Event, Journal, JournalEntry, Move, Object, Verdict, Violation, local_steps_are_quiet,
+    Event, Journal, JournalEntry, Move, Object, Verdict, Violation, first_faults_are_told,
+    legal_journals_are_clean_runs, local_steps_are_quiet,
 };
 use flt_steps::Setup;
 use flt_tree::{OperationVariable, Tree};
@@ -157,8 +159,8 @@ impl<'a> Monitor<'a> {
     }
 }
 
-/// What a journal is on some filters. Entries are numbered from 0.
-pub fn replay(alloc: Global, trees: &[Tree], journal: &Journal) -> Result<Verdict, AllocError>
+/// The verdict about a journal, entry by entry.
+fn verdict_of(alloc: Global, trees: &[Tree], journal: &Journal) -> Result<Verdict, AllocError>
     ensures { IfOk result (λ v. v ≡ spec.verdict (filters_of trees.now) journal.now) }
 {
     let stack = Stack::of(alloc, trees)?;
@@ -174,4 +176,24 @@ pub fn replay(alloc: Global, trees: &[Tree], journal: &Journal) -> Result<Verdic
         }
     }
     Ok(Verdict::Legal)
+}
+
+/// What a journal is on some filters, in any order. Entries are numbered from 0. It fails only where memory is refused.
+pub fn replay(alloc: Global, trees: &[Tree], journal: &Journal) -> Result<Verdict, AllocError>
+    // It is the machine's verdict.
+    ensures verdict { IfOk result (λ v. v ≡ spec.verdict (filters_of trees.now) journal.now) }
+    // Legal, exactly where the journal's transitions are a run that breaks nothing.
+    ensures legal { IfOk result (λ v. (v ≡ Verdict.Legal) ↔ spec.IsCleanRun (filters_of trees.now) journal.now) }
+    // Not a run at n, exactly where the entries before n are a run that breaks nothing, and with n they are no run.
+    ensures not_a_run { IfOk result (λ v. (n : ℕ) →
+        (v ≡ Verdict.NotARun n) ↔ spec.IsStoppedAt (filters_of trees.now) journal.now n) }
+    // Broken at n, exactly where the entries before n are a run that breaks nothing, and with n they are a run of which
+    // this is the first break: the least violation at the first moment that has one.
+    ensures breaks { IfOk result (λ v. (violation : Violation) (n : ℕ) →
+        (v ≡ Verdict.Breaks violation n) ↔ spec.IsBrokenAt (filters_of trees.now) journal.now violation n) }
+{
+    let verdict = verdict_of(alloc, trees, journal)?;
+    legal_journals_are_clean_runs();
+    first_faults_are_told();
+    Ok(verdict)
 }

@@ -1,5 +1,5 @@
 -- What comes of the monitor's steps, entry by entry.
-use Rattle.std.proofs.Common.{◌≡◌, ◌<◌, ◌-◌, ◌+◌, ℕ, zero, suc, Bool, true, false, List, [], ◌∷◌, ◌++◌, Option, Some, None, Result, Ok, Err, IfOk, find, not, replicate, drop, get_or, length, add-one, refl, sym, ◌∙◌, ap, subst, arith, sub-one}
+use Rattle.std.proofs.Common.{◌≡◌, ◌<◌, ◌-◌, ◌+◌, ℕ, zero, suc, Bool, true, false, List, [], ◌∷◌, ◌++◌, Option, Some, None, Result, Ok, Err, IfOk, find, not, if◌then◌else◌, replicate, drop, get_or, length, add-one, refl, sym, ◌∙◌, ap, subst, arith, sub-one}
 use Rattle.std.specs.List.{list_all}
 use Rattle.std.specs.Option.{option_or}
 use Rattle.flt_rules.specs.declared.call.LockNumber.{LockNumber}
@@ -9,6 +9,7 @@ use Rattle.flt_model.specs.declared.moves.JournalEntry.{JournalEntry}
 use Rattle.flt_model.specs.declared.moves.Move.{Move}
 use Rattle.flt_model.specs.declared.verdict.Verdict.{Verdict}
 use Rattle.flt_model.specs.declared.verdict.Violation.{Violation}
+use Rattle.flt_model.specs.declared.verdict.Violation.TheVariants.{V4}
 use Rattle.flt_model.specs.Effects.{Step}
 use Rattle.flt_model.specs.Expansion.{Course, Reaches, Stops, Fails, unless_broken, course, go_on, entry_course, expansion, judged, verdict_from}
 use Rattle.flt_model.specs.Moves.{make}
@@ -140,12 +141,13 @@ module _ (p : List Filter) (m : Moment) (a : ℕ) (grant held : Bool) (old new :
 
 -- ---- steps that nobody else sees
 
--- local steps have no events and break nothing, where each visit has its owner
-abbrev pub AreQuiet : Type 0
-AreQuiet =
-    (p : List Filter) (m : Moment) (a : ℕ) (s : Step) → one_owner m.world m.trace ≡ true → next p m (Local a) ≡ Some s → (s.events ≡ []) × (broken p m s ≡ None)
+-- local steps have no events, and break nothing that wasn't broken before
+pub record AreQuiet : Type 0 where
+  pub events : (p : List Filter) (m : Moment) (a : ℕ) (s : Step) → next p m (Local a) ≡ Some s → s.events ≡ []
+  pub breaks : (p : List Filter) (m : Moment) (a : ℕ) (s : Step) → next p m (Local a) ≡ Some s →
+      broken p m s ≡ (if one_owner m.world m.trace then None else Some V4)
 
-module _ (quiet : AreQuiet) (p : List Filter) (m : Moment) (a : ℕ) (old : Monitor) (u : World) (enabled : Bool) (at : IsAt old m)
+module _ (p : List Filter) (m : Moment) (a : ℕ) (old : Monitor) (u : World) (enabled : Bool) (at : IsAt old m)
     (h : (p : List Filter) → (t : List Event) → ComesOf (local p t old.world a) enabled u [] []) (ys : List Transition) where
   local_here : ComesOf (local p m.trace m.world a) enabled u [] []
   local_here = subst (λ w. ComesOf (local p m.trace w a) enabled u [] []) at.world (h p m.trace)
@@ -153,16 +155,18 @@ module _ (quiet : AreQuiet) (p : List Filter) (m : Moment) (a : ℕ) (old : Moni
   pub not_unseen : enabled ≡ false → course p m (Local a ∷ ys) ≡ Stops
   not_unseen is = rw (not_enabled (local p m.trace m.world a) enabled u [] [] is local_here) refl
 
-  unseen_by : (s : Step) → next p m (Local a) ≡ Some s → u ≡ s.world →
+  unseen_by : AreQuiet → (s : Step) → next p m (Local a) ≡ Some s → u ≡ s.world →
       GoesOn true (record { world = u; ledger = old.ledger }) p ys (course p m (Local a ∷ ys))
-  unseen_by s e world =
-      let q = quiet p m a s at.counts.owned e in
-      (after m s, record { world = world; counts = agrees_unseen p m a s old.ledger at.counts e q.0 }, rw (e, q.1) refl)
+  unseen_by quiet s e world = (
+    after m s,
+    record { world = world; counts = agrees_unseen p m a s old.ledger at.counts e (quiet.events p m a s e) },
+    rw (e, quiet.breaks p m a s e, at.counts.owned) refl,
+  )
 
-  pub unseen : enabled ≡ true → GoesOn true (record { world = u; ledger = old.ledger }) p ys (course p m (Local a ∷ ys))
-  unseen is =
+  pub unseen : AreQuiet → enabled ≡ true → GoesOn true (record { world = u; ledger = old.ledger }) p ys (course p m (Local a ∷ ys))
+  unseen quiet is =
       let t = happened (local p m.trace m.world a) enabled u [] [] is local_here in
-      unseen_by t.0 t.1 t.2.0
+      unseen_by quiet t.0 t.1 t.2.0
 
 -- one more of some steps is made
 pub one_less : (steps made : ℕ) → made < steps → steps - made ≡ suc (steps - (made + 1))

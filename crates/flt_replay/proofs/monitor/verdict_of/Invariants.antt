@@ -4,7 +4,7 @@ use Rattle.flt_model.specs.Program.{by_altitude}
 use Rattle.flt_model.specs.Runs.{Moment, start}
 use Rattle.flt_world.specs.Filters.{filters_of}
 use Rattle.flt_replay.specs.Monitoring.{IsAt}
-use Rattle.flt_replay.proofs.monitor.replay.Given as goal
+use Rattle.flt_replay.proofs.monitor.verdict_of.Given as goal
 
 abbrev pub invariant-loop-number : goal.invariant-loop-number
 invariant-loop-number l =
