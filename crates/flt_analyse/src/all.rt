@@ -5,7 +5,6 @@ ghost use Rattle.std.specs.List.{AllZip};
 ghost use Rattle.flt_analyse.specs.All as spec;
 
 use crate::analyser::analyse;
-use crate::fault::AnalyseFault;
 use crate::ticks::Ticks;
 use flt_cert::Cert;
 use flt_check::Refusal;
@@ -37,8 +36,7 @@ fn answer_with<L: Ledger>(
     let mut ticks = Ticks::<L, 0, 0>::new(blank);
     match analyse(alloc, graph, &mut ticks) {
         Ok(cert) => Ok(Ok(cert)),
-        Err(AnalyseFault::Refused(refusal)) => Ok(Err(refusal)),
-        Err(AnalyseFault::OutOfMemory) => Err(AllocError),
+        Err(fault) => Ok(Err(fault.refusal()?)),
     }
 }
 

@@ -1,4 +1,4 @@
-use Rattle.std.proofs.Common.{◌≡◌, ℕ, ◌<◌, Some, Ok, length, map, refl, sym, ap, ◌∙◌, arith, slice_get, slice_index_or, IfOk}
+use Rattle.std.proofs.Common.{◌≡◌, ◌<◌, Some, Ok, length, map, sym, ap, ◌∙◌, arith, slice_get, slice_index_or}
 use Rattle.std.proofs.Math.Path.{subst}
 use Rattle.std.proofs.lemmas.List.{length-map}
 use Rattle.std.proofs.lemmas.Option.{slice_get_within, get_or_from_slice_get}
