@@ -7,10 +7,9 @@ use flt_graph::{Graph, lower};
 use flt_rules::number;
 use flt_syntax::parse;
 use std::alloc::Global;
-use std::process::Abort;
 use std::sync::atomic::{AtomicBool, AtomicUsize, Ordering};
 use std::test::*;
-use std::thread::Threads;
+use std::thread;
 
 const SMALLEST: &str = "filter a altitude 100\npre read {\nreturn NO_CALLBACK\n}\n";
 
@@ -26,12 +25,14 @@ const STREAM_CONTEXT_CERTIFICATE: &str =
     "fltcert 1\ncallback 0 9\n0 111111111 11112 3 1 -\n1 111111111 11112 3 1 -\n2 211111111 11112 3 1 -\n3 231111111 11112 3 1 -\n4 221111111 11112 3 1 -\n5 351111111 11112 3 1 -\n6 251111111 11112 3 1 -\n7 551111111 11112 3 1 -\n8 !\nend\n";
 
 /// What is expected of a text: its least certificate, or the callback, point, line and rule of its first fault.
+#[derive(Drop)]
 enum Expected {
     Certificate(&'static str),
     Refused(usize, usize, usize, usize),
 }
 
 /// Counts the analyses that have begun.
+#[derive(Drop)]
 struct Begun {
     count: AtomicUsize,
 }
@@ -54,10 +55,12 @@ fn is_expected(
             Ok(written.as_slice() == text.as_bytes())
         }
         (Err(found), Expected::Refused(callback, point, line, rule)) => {
-            Ok(found.callback == *callback
-                && found.point == *point
-                && found.line == *line
-                && usize::from(number(found.rule)) == *rule)
+            Ok(
+                found.callback == *callback
+                    && found.point == *point
+                    && found.line == *line
+                    && usize::from(number(found.rule)) == *rule,
+            )
         }
         _ => Ok(false),
     }
@@ -75,7 +78,7 @@ fn graphs_of(alloc: Global, texts: &[&str]) -> Result<Vec<Graph>, Fail> {
 
 /// Three graphs by 1, 2, 3 and 16 workers: each answer stands at its graph's place, and each analysis was announced.
 #[test]
-fn answers_stand_at_the_places_of_their_graphs_with_ample_memory(rt: HostRuntime) -> Result<(), Fail> {
+fn answers_stand_at_the_places_of_their_graphs(rt: HostRuntime) -> Result<(), Fail> {
     let expected = [
         Expected::Certificate(SMALLEST_CERTIFICATE),
         Expected::Refused(0, 1, 4, 2),
@@ -100,6 +103,7 @@ fn answers_stand_at_the_places_of_their_graphs_with_ample_memory(rt: HostRuntime
 }
 
 /// Place 0 waits until place 1 has begun, 1,000,000 turns at most.
+#[derive(Drop)]
 struct Meeting {
     second_began: AtomicBool,
     met: AtomicBool,
@@ -131,5 +135,17 @@ fn two_analyses_at_once(rt: HostRuntime) -> Result<(), Fail> {
     let answers = analyse_all(&rt, rt.alloc(), graphs.as_slice(), 2, &meeting)?;
     assert_eq!(rt; answers.len(), 2);
     assert!(rt; meeting.met.load(Ordering::SeqCst));
+    Ok(())
+}
+
+/// With ample memory; tools/refuse-allocations.sh refuses each request in turn. One worker starts no thread.
+#[test]
+fn analyses_in_ample_memory(rt: HostRuntime) -> Result<(), Fail> {
+    let graphs = graphs_of(rt.alloc(), &[SMALLEST, LEAKING, STREAM_CONTEXT])?;
+    let begun = Begun {
+        count: AtomicUsize::new(0),
+    };
+    let answers = analyse_all(&rt, rt.alloc(), graphs.as_slice(), 1, &begun)?;
+    assert_eq!(rt; answers.len(), 3);
     Ok(())
 }
