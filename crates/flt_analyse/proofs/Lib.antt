@@ -3,6 +3,7 @@ pub mod Certificates
 pub mod Counts
 pub mod One
 pub mod Order
+pub mod Shares
 pub mod Sizes
 pub mod Stages
 pub mod Turns

@@ -1,3 +1,4 @@
+pub mod All
 pub mod Columns
 pub mod Least
 pub mod Pending

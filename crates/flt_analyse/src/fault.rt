@@ -1,7 +1,7 @@
 //! Why there is no certificate.
 
-ghost use Rattle.flt_analyse.specs.declared.fault.AnalyseFault.TheVariants.{OutOfMemory};
-ghost use Rattle.std.specs.Prelude.{◌≡◌};
+ghost use Rattle.flt_analyse.specs.declared.fault.AnalyseFault.TheVariants.{OutOfMemory, Refused};
+ghost use Rattle.std.specs.Prelude.{◌≡◌, IfOk, IfErr};
 
 use flt_check::Refusal;
 use std::alloc::{AllocError, AllocFailed};
@@ -14,6 +14,19 @@ pub enum AnalyseFault {
     Refused(Refusal),
     #[error("out of memory")]
     OutOfMemory,
+}
+
+impl AnalyseFault {
+    /// The refusal, unless memory ran out.
+    pub(crate) fn refusal(self) -> Result<Refusal, AllocError>
+        ensures refused { IfOk result (λ r. self ≡ Refused r) }
+        ensures memory { IfErr result (λ _. self ≡ OutOfMemory) }
+    {
+        match self {
+            AnalyseFault::Refused(refusal) => Ok(refusal),
+            AnalyseFault::OutOfMemory => Err(AllocError),
+        }
+    }
 }
 
 impl From<AllocError> for AnalyseFault {

@@ -1,12 +1,14 @@
 //! The analyser: the least certificate that covers a text, or why there is none.
 #![tactic(auto)]
 
+mod all;
 mod analyser;
 mod fault;
 mod pending;
 mod ticks;
 mod walk;
 
+pub use all::{Start, analyse_all};
 pub use analyser::{analyse, one_fault_is_named};
 pub use fault::AnalyseFault;
 pub use ticks::Ticks;

@@ -1,6 +1,6 @@
 -- What has no fault covers, and what covers has no fault.
-use Rattle.std.proofs.Common.{◌≡◌, ℕ, zero, suc, ◌<◌, ◌≤◌, ◌+◌, Bool, true, false, List, [], ◌∷◌, length, Option, Some, None, Result, Ok, Err, refl, sym, ap, ◌∙◌, cond, nat_lt, arith, get_or}
-use Rattle.std.specs.Prelude.{not, ◌||◌, ◌==◌, if◌then◌else◌, nat_le}
+use Rattle.std.proofs.Common.{◌≡◌, ℕ, zero, suc, ◌<◌, ◌≤◌, Bool, true, false, [], ◌∷◌, length, Option, Some, None, Result, Ok, Err, refl, sym, ap, ◌∙◌, nat_lt, arith}
+use Rattle.std.specs.Prelude.{not, ◌==◌, if◌then◌else◌}
 use Rattle.std.specs.List.{list_all}
 use Rattle.std.specs.Str.{bytes_eq}
 use Rattle.std.proofs.lemmas.Bool.{and_parts, eqb-true, eq-eqb, leb-false, lt-leb, or_parts, not-false, true≢false, false≢true, ltb-true}
@@ -14,12 +14,12 @@ use Rattle.flt_abs.specs.State.{State, is_below}
 use Rattle.flt_abs.specs.Step.{transfer}
 use Rattle.flt_abs.specs.declared.step.Successor.{Successor}
 use Rattle.flt_abs.specs.declared.step.Successors.{Successors}
-use Rattle.flt_cert.specs.Format.{Certificate, Point, is_callback, is_certificate}
-use Rattle.std.specs.Prelude.{◌⊎◌, ◌↔◌, OnOk, IfErr, IsOk}
+use Rattle.flt_cert.specs.Format.{Certificate, is_callback, is_certificate}
+use Rattle.std.specs.Prelude.{◌↔◌, OnOk, IfErr, IsOk}
 use Rattle.std.proofs.Common.{inl, inr}
 use Rattle.std.proofs.lemmas.Option.{none-some}
 use Rattle.flt_check.specs.declared.checker.Refusal.{Refusal}
-use Rattle.flt_check.specs.Checker.{IsCountFault, IsCountRefusal, IsPointRefusal, IsLeastFault, state_at, count_at, lead_fault, successor_fault, lesser, leads_fault, result_fault, state_fault, own_fault, entry_by, entry_fault, point_fault, differs, AgreeOnCounts, IsFaultless, NoneIn, IsLed, Steps, IsEntered, Covers}
+use Rattle.flt_check.specs.Checker.{IsCountFault, IsLeastFault, state_at, count_at, lead_fault, successor_fault, lesser, result_fault, own_fault, entry_by, entry_fault, point_fault, differs, AgreeOnCounts, IsFaultless, IsLed, Steps, Covers}
 
 -- ---- options of rules
 
@@ -178,7 +178,7 @@ faultless_of g k h = record {
       (let e = h.entries c below in from_entered g c e.0 (state_at k c 0) e.1 e.2);
 }
 
-count_fault_not : (g : Graph) (k : Certificate) (callback : ℕ) → IsCountFault g k callback → AgreeOnCounts g k → ⊥
+pub count_fault_not : (g : Graph) (k : Certificate) (callback : ℕ) → IsCountFault g k callback → AgreeOnCounts g k → ⊥
 count_fault_not g k callback (inl first) h = true≢false (sym first.here ∙ h.points callback first.within)
 count_fault_not g k callback (inr more) h = let e = more.more in let l = h.callbacks in absurd (omega arith)
 

@@ -12,7 +12,7 @@ use Rattle.flt_abs.specs.State.{State, is_below}
 use Rattle.flt_abs.specs.Step.{transfer}
 use Rattle.flt_abs.specs.declared.step.Successor.{Successor}
 use Rattle.flt_abs.specs.declared.step.Successors.{Successors}
-use Rattle.flt_cert.specs.Format.{Certificate, Point}
+use Rattle.flt_cert.specs.Format.{Certificate}
 use Rattle.flt_check.specs.declared.checker.Refusal.{Refusal}
 
 -- ---- what a certificate says

@@ -5,4 +5,4 @@ mod checker;
 mod laws;
 
 pub use checker::{Refusal, check};
-pub use laws::covering_is_faultless;
+pub use laws::{covering_is_faultless, one_fault_is_least};

@@ -2,4 +2,6 @@
 #![tactic(auto)]
 
 #[cfg(test)]
+mod analyses;
+#[cfg(test)]
 mod cancel_pads;
