@@ -9,3 +9,4 @@ pub mod SaidFiles
 pub mod SaidStatements
 pub mod SaidWords
 pub mod SameMeaning
+pub mod SpelledWords

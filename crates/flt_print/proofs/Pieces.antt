@@ -10,10 +10,10 @@ use Rattle.std.specs.Str.{bytes_eq}
 use Rattle.flt_syntax.specs.Cursor as cursor
 use Rattle.flt_tree.specs.Names.{Text, is_word, is_name}
 use Rattle.flt_syntax.specs.Lex.{word, is_blank, is_fault, lookup, keyword, value_from, number, run, pair_or, token, same_kind}
+use Rattle.flt_syntax.specs.Vocabulary.{vocabulary}
 use Rattle.flt_print.specs.Vocabulary.{spelling}
 use Rattle.flt_syntax.specs.declared.token.Kind.{Kind}
 use Rattle.flt_syntax.specs.declared.token.Kind.TheVariants as k
-use Rattle.flt_syntax.specs.declared.token.TheConstants.{KEYWORDS}
 use Rattle.flt_syntax.specs.declared.token.Word.{Word}
 use Rattle.flt_syntax.specs.Written.{Gap, blank, feed, Piece, piece}
 use Rattle.flt_syntax.specs.contracts.token.Kind.{the_type}
@@ -79,7 +79,7 @@ lookup_names (x ∷ entries) name e =
 
 keyword_names : (name : Text) → nat_lt 64 (length name) ≡ false → names (keyword name).kind ≡ true
 unfolding keyword names
-keyword_names name e = rw e (lookup_names (map (λ e. (e.0.now, e.1)) KEYWORDS) name refl)
+keyword_names name e = rw e (lookup_names vocabulary name refl)
 
 short_by : (n : ℕ) → nat_lt n 64 ≡ true → nat_lt 64 (suc n) ≡ false
 short_by n e = let h : n < 64 = ltb-true n 64 e in le-ltb 64 (suc n) (omega arith)
@@ -121,7 +121,8 @@ named (b ∷ z) e =
 abbrev pub reads_back : Kind → Bool
 reads_back kd = is_name (spelling kd) && same_kind (keyword (spelling kd)).kind kd
 
-keyword_is : (w : Text) (kd : Kind) → same_kind (keyword w).kind kd ≡ true → keyword w ≡ word kd
+-- what is of the kind is the word of that kind
+pub keyword_is : (w : Text) (kd : Kind) → same_kind (keyword w).kind kd ≡ true → keyword w ≡ word kd
 unfolding keyword same_kind
 keyword_is w kd e = ap word (same_true the_type (search rules) _ kd e)
 

@@ -1,13 +1,13 @@
--- The canonical text of a well-formed filter spells it.
-use Rattle.std.proofs.Common.{◌≤◌, [], length, sym, subst}
+-- The canonical text of a well-formed filter spells it, and no other filter.
+use Rattle.std.proofs.Common.{◌≡◌, ◌≤◌, [], length, sym, ap, subst, ◌∙◌}
 use Rattle.std.specs.Prelude.{IsTrue}
 use Rattle.flt_syntax.specs.Grammar.{FileAt}
 use Rattle.flt_syntax.specs.Lex.{tokens}
 use Rattle.flt_tree.specs.Limits.{max_text, max_altitude, max_locks, max_callbacks}
 use Rattle.flt_print.specs.Line.{lines_text}
 use Rattle.flt_print.specs.Printing.{filter_lines, canonical_text}
-use Rattle.flt_print.specs.Reprinting.{ParsesAgain, PrintAndParse}
-use Rattle.flt_syntax.specs.Spelling.{Spells, SpelledIsWellFormed}
+use Rattle.flt_print.specs.Reprinting.{without_places, ParsesAgain, PrintAndParse, PrintsAtMostOne}
+use Rattle.flt_syntax.specs.Spelling.{Spells, SpelledIsWellFormed, SpellsAtMostOne}
 use Rattle.flt_syntax.specs.Written.{ReadsBackWords}
 use Rattle.flt_tree.specs.Declarations.{AreNewLocks}
 use Rattle.flt_tree.specs.WellFormed.{IsWellFormed}
@@ -54,3 +54,10 @@ parses_again law f w short =
 
 pub prints_and_parses : SpelledIsWellFormed → ParsesAgain → PrintAndParse
 prints_and_parses fine again text f s = again f (fine text f s)
+
+pub prints_at_most_one : SpellsAtMostOne → ParsesAgain → PrintsAtMostOne
+prints_at_most_one only_one again f g v w short e =
+    let r = again f v short in
+    let s = again g w (subst (λ z. length z ≤ max_text) e short) in
+    let h : r.0 ≡ s.0 = only_one (canonical_text f) r.0 s.0 r.1 (subst (λ z. Spells z s.0) (sym e) s.1) in
+    sym r.2 ∙ ap without_places h ∙ s.2

@@ -68,3 +68,8 @@ ParsesAgain = (f : Filter) → IsWellFormed f → length (canonical_text f) ≤ 
 abbrev pub PrintAndParse : Type 0
 PrintAndParse = (text : Text) (f : Filter) → Spells text f → length (canonical_text f) ≤ max_text →
     (g : Filter) × Spells (canonical_text f) g × (without_places g ≡ without_places f)
+
+-- well-formed filters with one canonical text differ in lines and columns alone, if the text is not too long
+abbrev pub PrintsAtMostOne : Type 0
+PrintsAtMostOne = (f g : Filter) → IsWellFormed f → IsWellFormed g → length (canonical_text f) ≤ max_text →
+    canonical_text f ≡ canonical_text g → without_places f ≡ without_places g

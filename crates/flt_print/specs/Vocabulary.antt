@@ -1,5 +1,6 @@
 -- How the words of the grammar are spelled, and which of them stand for variables, statuses and the like.
-use Rattle.std.specs.Prelude.{List, [], ◌∷◌, map, codes, decimal, if◌then◌else◌, Option, Some, None, unwrap_or}
+use Rattle.std.specs.Prelude.{◌≡◌, List, [], ◌∷◌, codes, decimal, if◌then◌else◌, Option, Some, None, unwrap_or}
+use Rattle.std.specs.List.{All}
 use Rattle.flt_rules.specs.declared.call.Anchor.{Anchor}
 use Rattle.flt_rules.specs.declared.call.Anchor.TheVariants.{Stream, Instance}
 use Rattle.flt_rules.specs.declared.call.Existing.{Existing}
@@ -11,10 +12,10 @@ use Rattle.flt_rules.specs.declared.place.Operation.TheVariants as operating
 use Rattle.flt_rules.specs.declared.status.FinalStatus.{FinalStatus}
 use Rattle.flt_rules.specs.declared.status.FinalStatus.TheVariants as finals
 use Rattle.flt_tree.specs.Names.{Text}
-use Rattle.flt_syntax.specs.Lex.{same_kind}
+use Rattle.flt_syntax.specs.Lex.{word, keyword, same_kind}
+use Rattle.flt_syntax.specs.Vocabulary.{vocabulary}
 use Rattle.flt_syntax.specs.declared.token.Kind.{Kind}
 use Rattle.flt_syntax.specs.declared.token.Kind.TheVariants as k
-use Rattle.flt_syntax.specs.declared.token.TheConstants.{KEYWORDS}
 use Rattle.flt_tree.specs.declared.variable.Atom.{Atom}
 use Rattle.flt_tree.specs.declared.variable.Atom.TheVariants as atoms
 use Rattle.flt_tree.specs.declared.variable.ContextVariable.{ContextVariable}
@@ -45,7 +46,15 @@ symbol _ = None
 
 -- the symbol or word of a kind
 unfoldable pub spelling : Kind → Text
-spelling kind = unwrap_or (symbol kind) (word_for kind (map (λ e. (e.0.now, e.1)) KEYWORDS))
+spelling kind = unwrap_or (symbol kind) (word_for kind vocabulary)
+
+-- the word is read as the kind and nothing else, and the kind is spelled as the word and nothing else
+abbrev pub IsSpelled : Text × Kind → Type 0
+IsSpelled e = (keyword e.0 ≡ word e.1) × (spelling e.1 ≡ e.0)
+
+-- no word of the language stands for two kinds, and no kind has two words
+abbrev pub EachWordIsOneKind : Type 0
+EachWordIsOneKind = All IsSpelled vocabulary
 
 -- a variable of numbers
 abbrev pub number_kind : NumberVariable → Kind

@@ -7,4 +7,5 @@ mod line;
 mod printer;
 mod vocabulary;
 
-pub use printer::{parses_again, print, print_and_parse};
+pub use printer::{parses_again, print, print_and_parse, prints_at_most_one};
+pub use vocabulary::each_word_is_one_kind;

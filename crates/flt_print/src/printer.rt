@@ -3,7 +3,7 @@
 ghost use Rattle.flt_print.specs.Line.{begun, line_text, lines_text};
 ghost use Rattle.flt_tree.specs.Measures.{points, points_of, max_points, is_small};
 ghost use Rattle.flt_print.specs.Printing as spec;
-ghost use Rattle.flt_print.specs.Reprinting.{ParsesAgain, PrintAndParse};
+ghost use Rattle.flt_print.specs.Reprinting.{ParsesAgain, PrintAndParse, PrintsAtMostOne};
 ghost use Rattle.std.specs.Prelude.{◌≡◌, ◌≤◌, ◌+◌, [], ◌∷◌, ◌++◌, map, flat_map, IfOk, OnOk, IsTrue};
 ghost use Rattle.std.specs.List.{list_all};
 
@@ -11,7 +11,7 @@ use crate::action_printer::{action, condition};
 use crate::call_printer::{optional_status, plain_call};
 use crate::line::{begin, end, name, number, word};
 use crate::vocabulary::{lock_kind_kind, operation_kind};
-use flt_syntax::{Kind, reads_back_words, spelled_is_well_formed};
+use flt_syntax::{Kind, reads_back_words, spelled_is_well_formed, spells_at_most_one};
 use flt_tree::{Callback, Condition, Filter, Head, Lock, Statement, Tree};
 use std::alloc::{AllocError, Global};
 
@@ -251,5 +251,14 @@ pub fn print_and_parse()
     ensures { PrintAndParse }
 {
     spelled_is_well_formed();
+    parses_again();
+}
+
+/// Well-formed filters with one canonical text differ in lines and columns alone, if that is not too long.
+#[tactic(auto, using(crate::proofs::Reprinted::prints_at_most_one))]
+pub fn prints_at_most_one()
+    ensures { PrintsAtMostOne }
+{
+    spells_at_most_one();
     parses_again();
 }

@@ -4,7 +4,7 @@ ghost use Rattle.flt_print.specs.Vocabulary as spec;
 ghost use Rattle.std.specs.Prelude.{◌≡◌, map, option_map};
 
 use flt_rules::{Anchor, Existing, FinalStatus, LockKind, Operation};
-use flt_syntax::{KEYWORDS, Kind, same_kind};
+use flt_syntax::{Kind, keywords, same_kind};
 use flt_tree::{ContextVariable, NumberVariable, OperationVariable, RemovedVariable};
 
 fn word_for(kind: Kind, mut table: &[(&'static [u8], Kind)]) -> &'static [u8]
@@ -41,10 +41,15 @@ pub fn spelling(kind: Kind) -> &'static [u8]
     ensures { result.now ≡ spec.spelling kind }
 {
     match symbol(kind) {
-        None => word_for(kind, &KEYWORDS),
+        None => word_for(kind, keywords()),
         Some(symbol) => symbol,
     }
 }
+
+/// No word of the language stands for two kinds, and no kind has two words. It does nothing: its clause is the law.
+pub fn each_word_is_one_kind()
+    ensures { spec.EachWordIsOneKind }
+{}
 
 pub fn number_kind(n: NumberVariable) -> Kind
     ensures { result ≡ spec.number_kind n }

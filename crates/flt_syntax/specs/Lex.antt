@@ -1,5 +1,5 @@
 -- The tokens of a text. Each stands at a line and a column; only a line feed ends a line.
-use Rattle.std.specs.Prelude.{ℕ, zero, suc, ◌+◌, ◌-◌, ◌*◌, ◌^◌, Bool, true, false, not, ◌&&◌, ◌||◌, if◌then◌else◌, ◌==◌, nat_lt, List, [], ◌∷◌, length, take, map, slice_index, Option, Some, None}
+use Rattle.std.specs.Prelude.{ℕ, zero, suc, ◌+◌, ◌-◌, ◌*◌, ◌^◌, Bool, true, false, not, ◌&&◌, ◌||◌, if◌then◌else◌, ◌==◌, nat_lt, List, [], ◌∷◌, length, take, slice_index, Option, Some, None}
 use Rattle.std.specs.Char.{is_ascii_digit}
 use Rattle.std.specs.List.{prefix_len}
 use Rattle.std.specs.Str.{bytes_eq}
@@ -9,9 +9,9 @@ use Rattle.flt_syntax.specs.declared.token.Kind.{Kind}
 use Rattle.flt_syntax.specs.declared.token.Kind.TheVariants as k
 use Rattle.flt_syntax.specs.declared.token.Token.{Token}
 use Rattle.flt_syntax.specs.declared.token.Word.{Word}
+use Rattle.flt_syntax.specs.Vocabulary.{vocabulary}
 use Rattle.flt_syntax.specs.contracts.token.Kind.{the_type}
 use denote.Enum.Bare.{sameb}
-use Rattle.flt_syntax.specs.declared.token.TheConstants.{KEYWORDS}
 
 -- ---- places
 
@@ -42,9 +42,9 @@ abbrev pub lookup : List (Text × Kind) → Text → Kind
 lookup [] name = k.Name
 lookup (entry ∷ entries) name = if bytes_eq name entry.0 then entry.1 else lookup entries name
 
--- a word has at most 64 bytes
+-- a word of the language or a name, which has at most 64 bytes
 unfoldable pub keyword : Text → Word
-keyword name = word (if nat_lt 64 (length name) then k.Malformed else lookup (map (λ e. (e.0.now, e.1)) KEYWORDS) name)
+keyword name = word (if nat_lt 64 (length name) then k.Malformed else lookup vocabulary name)
 
 -- the number that goes on from n, if there are only digits and it is below 2^64
 abbrev pub value_from : ℕ → Text → Option ℕ

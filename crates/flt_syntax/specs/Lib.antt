@@ -14,6 +14,7 @@ pub mod Spelling
 pub mod Statement
 pub mod Status
 pub mod Tables
+pub mod Vocabulary
 pub mod Whole
 pub mod Words
 pub mod Written

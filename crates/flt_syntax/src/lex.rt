@@ -6,7 +6,8 @@ ghost use Rattle.flt_syntax.specs.Lex as spec;
 ghost use Rattle.flt_syntax.specs.Written.{ReadsBackWords};
 ghost use Rattle.flt_tree.specs.Names as names;
 
-use crate::token::{KEYWORDS, Kind, Token, Word};
+use crate::token::{Kind, Token, Word};
+use crate::vocabulary::keywords;
 use flt_tree::Position;
 use sqlite_items::Items;
 use std::alloc::{AllocError, Global};
@@ -79,7 +80,7 @@ fn keyword(name: &[u8]) -> Word
     if MAX_WORD < name.len() {
         return word(Kind::Malformed);
     }
-    word(lookup(&KEYWORDS, name))
+    word(lookup(keywords(), name))
 }
 
 fn value(mut digits: &[u8]) -> Option<u64>

@@ -16,6 +16,7 @@ mod scope;
 mod statement;
 mod status;
 mod token;
+mod vocabulary;
 mod whole;
 
 pub use fault::{FaultKind, ParseError, SyntaxFault};
@@ -26,4 +27,5 @@ pub use flt_tree::{
     Statement, Status, Test, Tree, named_context,
 };
 pub use lex::{reads_back_words, same_kind};
-pub use token::{KEYWORDS, Kind};
+pub use token::Kind;
+pub use vocabulary::keywords;
