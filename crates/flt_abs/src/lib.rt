@@ -15,8 +15,7 @@ mod variables;
 pub use entry::{entry_state, is_entry_below};
 pub use locks::LockList;
 pub use outcome::transfer_follows_situations;
-pub use sets::{Draining, DrainingBits, ModeBits, Modes, StatusBits, Statuses};
-pub use setting::{Setting, setting_of};
+pub use sets::{Draining, Modes, Statuses};
 pub use state::{
     Abs, CONTEXTS, LocksDiffer, OPERATIONS, is_partial_order, join, joins_are_least, leq,
 };

@@ -26,18 +26,8 @@ impl Model for LockList {
     ghost invariant = { λ l. (l.places.capacity ≡ 8) × IsTrue (are_locks l.places.items) };
 }
 
-/// Whether each place is below eight, and none stands twice.
-fn are_locks(places: &[u8]) -> bool
-    ensures { result ≡ spec.are_locks places.now }
-{
-    match places {
-        [] => true,
-        [place, after @ ..] => *place < 8 && !after.contains(place) && are_locks(after),
-    }
-}
-
 impl LockList {
-    ghost use Rattle.std.specs.Prelude.{◌≡◌, ◌↔◌, [], ◌∷◌, ◌++◌, false, IsTrue, IsSome, IfSome};
+    ghost use Rattle.std.specs.Prelude.{◌≡◌, ◌↔◌, [], ◌∷◌, ◌++◌, false, IsTrue};
     ghost use Rattle.std.specs.Str.{bytes_eq};
     ghost use Rattle.flt_rules.specs.Call.{place_of};
 
@@ -47,21 +37,6 @@ impl LockList {
     {
         LockList {
             places: SmallVec::new(alloc),
-        }
-    }
-
-    /// The locks at these places, the oldest first; none where a place isn't below eight or stands twice.
-    #[tactic(auto, using(crate::proofs::LockLaws::eight_at_most))]
-    pub fn from_places(alloc: Global, places: &[u8]) -> Option<LockList>
-        ensures known { IsSome result ↔ IsTrue (spec.are_locks places.now) }
-        ensures value { IfSome result (λ l. l ≡ places.now) }
-    {
-        if are_locks(places) {
-            Some(LockList {
-                places: SmallVec::from_slice(alloc, places).unwrap(),
-            })
-        } else {
-            None
         }
     }
 
@@ -81,7 +56,7 @@ impl LockList {
     }
 
     /// Whether the lock is the latest taken.
-    pub fn is_latest(&self, lock: LockNumber) -> bool
+    pub(crate) fn is_latest(&self, lock: LockNumber) -> bool
         ensures { result ≡ spec.is_latest (place_of lock) self.now }
     {
         match self.places.as_slice() {
@@ -90,7 +65,7 @@ impl LockList {
         }
     }
 
-    pub fn is_empty(&self) -> bool
+    pub(crate) fn is_empty(&self) -> bool
         ensures { IsTrue result ↔ (self.now ≡ []) }
     {
         self.places.as_slice().is_empty()
@@ -105,7 +80,7 @@ impl LockList {
 
     /// The same list.
     #[tactic(auto, using(crate::proofs::LockLaws::eight_at_most))]
-    pub fn copied(&self) -> LockList
+    pub(crate) fn copied(&self) -> LockList
         ensures { result ≡ self.now }
     {
         let alloc = *self.places.allocator();
@@ -125,7 +100,7 @@ impl LockList {
 
     /// Takes out the latest lock, if there is one.
     #[tactic(auto, using(crate::proofs::LockLaws::are_locks_take))]
-    pub fn release_latest(&mut self)
+    pub(crate) fn release_latest(&mut self)
         ensures { self.new ≡ spec.without_latest self.old }
     {
         let _ = self.places.pop();

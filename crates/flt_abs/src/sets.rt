@@ -5,7 +5,7 @@ use std::marker::Model;
 
 /// The bits of `Statuses`, as a certificate writes them.
 #[derive(Clone, Copy)]
-pub struct StatusBits(u8);
+struct StatusBits(u8);
 
 bitflag_items! {
     impl StatusBits: u8 {
@@ -77,7 +77,7 @@ impl Statuses {
     }
 
     /// Held alone.
-    pub fn held() -> Statuses
+    pub(crate) fn held() -> Statuses
         ensures { result ≡ spec.held_alone }
     {
         Statuses {
@@ -86,7 +86,7 @@ impl Statuses {
     }
 
     /// Stale alone.
-    pub fn stale() -> Statuses
+    pub(crate) fn stale() -> Statuses
         ensures { result ≡ spec.stale_alone }
     {
         Statuses {
@@ -95,7 +95,7 @@ impl Statuses {
     }
 
     /// NULL or held.
-    pub fn null_or_held() -> Statuses
+    pub(crate) fn null_or_held() -> Statuses
         ensures { result ≡ spec.null_or_held }
     {
         Statuses {
@@ -104,14 +104,14 @@ impl Statuses {
     }
 
     /// Whether the variable is surely held.
-    pub fn is_held(self) -> bool
+    pub(crate) fn is_held(self) -> bool
         ensures { result ≡ spec.is_held self }
     {
         self.has_held() && !self.has_null() && !self.has_stale()
     }
 
     /// Whether the variable was surely released or handed over.
-    pub fn is_stale(self) -> bool
+    pub(crate) fn is_stale(self) -> bool
         ensures { result ≡ spec.is_stale self }
     {
         self.has_stale() && !self.has_null() && !self.has_held()
@@ -138,26 +138,26 @@ impl Statuses {
         self.bits.bits()
     }
 
-    pub fn has_null(self) -> bool
+    pub(crate) fn has_null(self) -> bool
         ensures { result ≡ self.null }
     {
         self.bits.contains(StatusBits::NULL)
     }
 
-    pub fn has_held(self) -> bool
+    pub(crate) fn has_held(self) -> bool
         ensures { result ≡ self.held }
     {
         self.bits.contains(StatusBits::HELD)
     }
 
-    pub fn has_stale(self) -> bool
+    pub(crate) fn has_stale(self) -> bool
         ensures { result ≡ self.stale }
     {
         self.bits.contains(StatusBits::STALE)
     }
 
     /// Whether some status is in the set.
-    pub fn is_possible(self) -> bool
+    pub(crate) fn is_possible(self) -> bool
         ensures { result ≡ spec.is_possible self }
     {
         self.has_null() || self.has_held() || self.has_stale()
@@ -165,7 +165,7 @@ impl Statuses {
 
     /// Whether each of this set is in the other.
     #[tactic(auto, using(crate::proofs::SetLemmas::statuses_within_bits))]
-    pub fn is_within(self, other: Statuses) -> bool
+    pub(crate) fn is_within(self, other: Statuses) -> bool
         ensures { result ≡ spec.statuses_within self other }
     {
         other.bits.contains(self.bits)
@@ -173,7 +173,7 @@ impl Statuses {
 
     /// What is in one of the sets.
     #[tactic(auto, using(crate::proofs::SetLemmas::either_status_bits, crate::proofs::SetLemmas::or_below_eight))]
-    pub fn union(self, other: Statuses) -> Statuses
+    pub(crate) fn union(self, other: Statuses) -> Statuses
         ensures { result ≡ spec.either_status self other }
     {
         Statuses {
@@ -183,7 +183,7 @@ impl Statuses {
 
     /// The set without NULL.
     #[tactic(auto, using(crate::proofs::SetLemmas::without_null_bits, crate::proofs::SetLemmas::and_below_eight))]
-    pub fn without_null(self) -> Statuses
+    pub(crate) fn without_null(self) -> Statuses
         ensures { result ≡ spec.without_null self }
     {
         Statuses {
@@ -194,7 +194,7 @@ impl Statuses {
 
 /// The bits of `Modes`, as a certificate writes them.
 #[derive(Clone, Copy)]
-pub struct ModeBits(u8);
+struct ModeBits(u8);
 
 bitflag_items! {
     impl ModeBits: u8 {
@@ -256,7 +256,7 @@ impl Modes {
     ghost use Rattle.flt_abs.specs.Sets as spec;
 
     /// Irp alone.
-    pub fn irp() -> Modes
+    pub(crate) fn irp() -> Modes
         ensures { result ≡ spec.irp_alone }
     {
         Modes {
@@ -265,7 +265,7 @@ impl Modes {
     }
 
     /// Fast alone.
-    pub fn fast() -> Modes
+    pub(crate) fn fast() -> Modes
         ensures { result ≡ spec.fast_alone }
     {
         Modes {
@@ -294,20 +294,20 @@ impl Modes {
         self.bits.bits()
     }
 
-    pub fn has_irp(self) -> bool
+    pub(crate) fn has_irp(self) -> bool
         ensures { result ≡ self.irp }
     {
         self.bits.contains(ModeBits::IRP)
     }
 
-    pub fn has_fast(self) -> bool
+    pub(crate) fn has_fast(self) -> bool
         ensures { result ≡ self.fast }
     {
         self.bits.contains(ModeBits::FAST)
     }
 
     /// Whether some mode is in the set.
-    pub fn is_possible(self) -> bool
+    pub(crate) fn is_possible(self) -> bool
         ensures { result ≡ spec.is_mode_possible self }
     {
         self.has_irp() || self.has_fast()
@@ -315,7 +315,7 @@ impl Modes {
 
     /// Whether each of this set is in the other.
     #[tactic(auto, using(crate::proofs::SetLemmas::modes_within_bits))]
-    pub fn is_within(self, other: Modes) -> bool
+    pub(crate) fn is_within(self, other: Modes) -> bool
         ensures { result ≡ spec.modes_within self other }
     {
         other.bits.contains(self.bits)
@@ -323,7 +323,7 @@ impl Modes {
 
     /// What is in one of the sets.
     #[tactic(auto, using(crate::proofs::SetLemmas::either_mode_bits, crate::proofs::SetLemmas::or_below_four))]
-    pub fn union(self, other: Modes) -> Modes
+    pub(crate) fn union(self, other: Modes) -> Modes
         ensures { result ≡ spec.either_mode self other }
     {
         Modes {
@@ -334,7 +334,7 @@ impl Modes {
 
 /// The bits of `Draining`, as a certificate writes them.
 #[derive(Clone, Copy)]
-pub struct DrainingBits(u8);
+struct DrainingBits(u8);
 
 bitflag_items! {
     impl DrainingBits: u8 {
@@ -396,7 +396,7 @@ impl Draining {
     ghost use Rattle.flt_abs.specs.Sets as spec;
 
     /// Surely not set.
-    pub fn no() -> Draining
+    pub(crate) fn no() -> Draining
         ensures { result ≡ spec.no_alone }
     {
         Draining {
@@ -405,7 +405,7 @@ impl Draining {
     }
 
     /// Surely set.
-    pub fn yes() -> Draining
+    pub(crate) fn yes() -> Draining
         ensures { result ≡ spec.yes_alone }
     {
         Draining {
@@ -434,20 +434,20 @@ impl Draining {
         self.bits.bits()
     }
 
-    pub fn has_no(self) -> bool
+    pub(crate) fn has_no(self) -> bool
         ensures { result ≡ self.no }
     {
         self.bits.contains(DrainingBits::NO)
     }
 
-    pub fn has_yes(self) -> bool
+    pub(crate) fn has_yes(self) -> bool
         ensures { result ≡ self.yes }
     {
         self.bits.contains(DrainingBits::YES)
     }
 
     /// Whether some answer is in the set.
-    pub fn is_possible(self) -> bool
+    pub(crate) fn is_possible(self) -> bool
         ensures { result ≡ spec.is_draining_possible self }
     {
         self.has_no() || self.has_yes()
@@ -455,7 +455,7 @@ impl Draining {
 
     /// Whether each of this set is in the other.
     #[tactic(auto, using(crate::proofs::SetLemmas::drainings_within_bits))]
-    pub fn is_within(self, other: Draining) -> bool
+    pub(crate) fn is_within(self, other: Draining) -> bool
         ensures { result ≡ spec.drainings_within self other }
     {
         other.bits.contains(self.bits)
@@ -463,7 +463,7 @@ impl Draining {
 
     /// What is in one of the sets.
     #[tactic(auto, using(crate::proofs::SetLemmas::either_draining_bits, crate::proofs::SetLemmas::or_below_four))]
-    pub fn union(self, other: Draining) -> Draining
+    pub(crate) fn union(self, other: Draining) -> Draining
         ensures { result ≡ spec.either_draining self other }
     {
         Draining {

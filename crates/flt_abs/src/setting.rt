@@ -9,7 +9,7 @@ use flt_rules::{Level, entry_level, raised_by};
 
 /// Where a point stands.
 #[derive(Clone, Copy)]
-pub struct Setting {
+pub(crate) struct Setting {
     pub place: Place,
     /// The greatest of the entry level and the levels of the held locks.
     pub level: Level,
@@ -77,7 +77,7 @@ fn level_with(kinds: &[LockKind], locks: &[u8], entry: Level) -> Level
 }
 
 /// The setting of a callback's points in which a state's locks are held. A callback that isn't there is a generic routine.
-pub fn setting_of(graph: &Graph, callback: usize, state: &Abs) -> Setting
+pub(crate) fn setting_of(graph: &Graph, callback: usize, state: &Abs) -> Setting
     ensures { result ≡ spec.setting_of graph.now callback state.now }
 {
     let place = graph.place(callback);

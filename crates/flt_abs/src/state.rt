@@ -98,7 +98,7 @@ impl Abs {
     }
 
     /// The same state.
-    pub fn copied(&self) -> Abs
+    pub(crate) fn copied(&self) -> Abs
         ensures { result ≡ self.now }
     {
         Abs {

@@ -11,14 +11,14 @@ use flt_graph::{ContextVariable, OperationVariable};
 
 impl Abs {
     /// What may be so of a variable of contexts.
-    pub fn context(&self, variable: ContextVariable) -> Statuses
+    pub(crate) fn context(&self, variable: ContextVariable) -> Statuses
         ensures { result ≡ spec.context_in self.now variable }
     {
         self.contexts[variable.place()]
     }
 
     /// What may be so of a variable of operations.
-    pub fn operation(&self, variable: OperationVariable) -> Statuses
+    pub(crate) fn operation(&self, variable: OperationVariable) -> Statuses
         ensures { result ≡ spec.operation_in self.now variable }
     {
         self.operations[variable.place()]

@@ -12,7 +12,7 @@ mod table;
 
 pub use call::{Anchor, Call, Existing, LockKind, LockNumber, Possessed, is_legal_in_draining};
 pub use columns::{Change, Effects, LockChange, LockNeed, Need, Needs, Places, Row};
-pub use place::{Level, Mode, Operation, Place, Stage, entry_level, raised_by, raised_level};
+pub use place::{Level, Mode, Operation, Place, Stage, entry_level, raised_by};
 pub use rule::{Rule, number, text};
 pub use status::{FinalStatus, Possession, StatusRow, StatusWord, status_row};
 pub use table::row;

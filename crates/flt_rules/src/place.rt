@@ -64,7 +64,7 @@ pub fn entry_level(place: Place) -> Level
 }
 
 /// The level to which a held lock of this kind raises its holder. `Level::Passive` raises nothing.
-pub fn raised_level(kind: LockKind) -> Level
+fn raised_level(kind: LockKind) -> Level
     ensures { result ≡ spec.raised_level kind }
 {
     match kind {
