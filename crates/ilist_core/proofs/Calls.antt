@@ -181,6 +181,12 @@ module _ (rows : Slab Row) (ends : List Ends) (now : Sequences) (inner : IsSound
   pub removed-nodes : (later : Slab Row) (node key : ℕ) → key ≡ node → Updates rows later key None → nodes_in later ≡ finite.remove now.nodes node
   removed-nodes later node key is made = nodes_in-remove rows later key made ∙ (λ i. finite.remove (nodes-are i) (is i))
 
+  -- the ends of a list name its first node
+  pub first-is : (list : ℕ) → list < length now.lists → (e : Ends) (at : ℕ) → at ≡ list → e ≡ get_or ends at e → e.first ≡ first_of (nodes_of now.lists list) None
+  first-is list within e at is read =
+      let inside : at < length ends = omega (arith, within, is, sound.as_many) in
+      ap (λ (x : Ends). x.first) (get_or_read ends at e inside read no_ends ∙ ap (ends_at ends) is ∙ sound.ends_meet list)
+
   -- a push
   module _ (list node : ℕ) (within : list < length now.lists) (there : IsNode now node) (unlinked : IsUnlinked now node) where
     -- the row that is written, and then the table and the ends

@@ -1,5 +1,5 @@
 -- What a contract sees of `Lists`.
-use Rattle.std.specs.Prelude.{◌≡◌, ◌≢◌, ℕ, ◌<◌, not, IsTrue, List, [], ◌∷◌, length, Option, Some, ◌==◌, slice_index_or, refl}
+use Rattle.std.specs.Prelude.{◌≡◌, ◌≢◌, ℕ, ◌<◌, not, IsTrue, List, [], ◌∷◌, length, Option, Some, None, cond, ◌==◌, slice_index_or, refl}
 use Rattle.std.specs.List.{Contains, AllPairs, filter}
 use Rattle.std.specs.Ordering.{nat_cmp}
 use Rattle.std.specs.FinSet as set
@@ -55,6 +55,12 @@ last_of before (node ∷ rest) = last_of (Some node) rest
 -- these nodes less this one
 abbrev pub without : ℕ → List ℕ → List ℕ
 without node nodes = filter (λ other. not (other == node)) nodes
+
+-- the nodes of a list from this one on, where a walk along the list has come; none at its end, or where the list doesn't have the node
+abbrev pub nodes_from : List ℕ → Option ℕ → List ℕ
+nodes_from [] at = []
+nodes_from (other ∷ rest) None = []
+nodes_from (other ∷ rest) (Some node) = cond (other == node) (other ∷ rest) (nodes_from rest (Some node))
 
 -- no node comes twice in this list
 abbrev pub NoneTwice : List ℕ → Type 0
