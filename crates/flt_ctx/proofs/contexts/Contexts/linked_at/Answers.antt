@@ -1,4 +1,4 @@
-use Rattle.std.proofs.Common.{◌≡◌, arith, ℕ, ◌+◌, ◌∙◌, ap, sym, find, length, Some}
+use Rattle.std.proofs.Common.{◌≡◌, arith, ℕ, ◌+◌, ◌∙◌, ap, find, length, Some}
 use Rattle.ilist_core.specs.NodeLists.{nodes_of}
 use Rattle.flt_ctx.specs.Contexts.{ContextTable, is_key, linked_at}
 use Rattle.flt_ctx.specs.Rows.{row_at, key_of, context_of}

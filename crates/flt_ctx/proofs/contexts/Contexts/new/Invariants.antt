@@ -1,4 +1,4 @@
-use Rattle.std.proofs.Common.{◌≡◌, ◌+◌, false, [], List, ℕ, replicate}
+use Rattle.std.proofs.Common.{◌≡◌, ◌+◌, false, [], replicate}
 use Rattle.flt_ctx.proofs.contexts.Contexts.new.Given as goal
 
 abbrev pub invariant-loop : goal.invariant-loop
