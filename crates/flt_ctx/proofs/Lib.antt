@@ -1,0 +1,5 @@
+pub mod Rows
+pub mod Walks
+pub mod Relinked
+pub mod Algebra
+pub mod Least

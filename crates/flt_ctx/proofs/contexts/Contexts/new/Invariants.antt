@@ -1,0 +1,11 @@
+use Rattle.std.proofs.Common.{◌≡◌, ◌+◌, false, [], replicate}
+use Rattle.flt_ctx.proofs.contexts.Contexts.new.Given as goal
+
+abbrev pub invariant-loop : goal.invariant-loop
+invariant-loop l = record {
+  lists : l.lists.lists ≡ replicate l.counter [];
+  closed : l.closed.items ≡ replicate l.counter false;
+}
+
+abbrev pub invariant-loop-2 : goal.invariant-loop-2
+invariant-loop-2 l = l.lists.lists ≡ replicate (l.fn.filters + l.counter) []

@@ -1,0 +1,30 @@
+//! What calls answer.
+
+/// Whether a call dropped a context's last reference.
+#[derive(Clone, Copy, PartialEq)]
+pub enum Release {
+    /// The last reference is gone: the context is freed.
+    Freed,
+    /// References are left, none was dropped, or the context was freed before.
+    Alive,
+}
+
+/// A context that lost its link, and what became of it where the link's reference was dropped.
+#[derive(Clone, Copy, PartialEq)]
+pub struct Unlinked {
+    pub context: usize,
+    pub release: Release,
+}
+
+/// How setting a context ended.
+#[derive(Clone, Copy, PartialEq)]
+pub enum SetAnswer {
+    /// The context is linked; the one that was linked there before isn't any more.
+    Done(Option<Unlinked>),
+    /// The filter is closed.
+    Deleting,
+    /// The context is linked already, or freed.
+    Linked,
+    /// This other context is linked there and stays. It has one reference more where the caller wanted it.
+    Defined(usize),
+}
