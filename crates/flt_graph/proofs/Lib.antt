@@ -1,9 +1,12 @@
 pub mod Added
 pub mod Codes
+pub mod Costs
 pub mod Lowerings
+pub mod Nesting
 pub mod Places
 pub mod PointsOfText
 pub mod Reading
 pub mod Remaining
+pub mod RemainingTurns
 pub mod Routines
 pub mod Segments

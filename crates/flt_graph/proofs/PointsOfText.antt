@@ -197,7 +197,8 @@ module _ (cs : List Callback) (locks : List Lock) (queue : Bool) (from : Head) (
 
 -- ---- a filter
 
-body_at : (locks : List Lock) (queue : Bool) (cs : List Callback) (k : ℕ) (c : Callback) → AreCallbacks locks queue cs → slice_get cs k ≡ Some c →
+-- the body of a well-formed filter's callback is as the form asks
+pub body_at : (locks : List Lock) (queue : Bool) (cs : List Callback) (k : ℕ) (c : Callback) → AreCallbacks locks queue cs → slice_get cs k ≡ Some c →
     AreStatements locks queue (max_depth - 1) max_repeats c.body
 body_at locks queue [] k c w e = absurd (cc)
 body_at locks queue (x ∷ cs) zero c w e = let same : x ≡ c = cc in subst (λ (y : Callback). AreStatements locks queue (max_depth - 1) max_repeats y.body) same w.1

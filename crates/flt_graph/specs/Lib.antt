@@ -4,3 +4,4 @@ pub mod Instruction
 pub mod Lowering
 pub mod Points
 pub mod Served
+pub mod Turns

@@ -5,6 +5,7 @@ mod graph;
 mod instruction;
 mod lowering;
 mod points;
+mod turns;
 
 pub use flt_rules::{Call, LockKind, LockNumber, Operation, Place};
 pub use flt_tree::{
@@ -17,3 +18,4 @@ pub use points::{
     callbacks_have_graphs, filters_have_graphs, instructions_are_served, lists_have_points,
     one_graph_at_most,
 };
+pub use turns::{Turn, lists_have_turns};
