@@ -2,7 +2,8 @@
 
 ghost use Rattle.std.specs.Prelude.{IsTrue};
 ghost use Rattle.flt_cert.specs.Format.{Certificate, is_certificate};
-ghost use Rattle.flt_check.specs.Checker.{Covers, IsFaultless};
+ghost use Rattle.flt_check.specs.Checker.{IsFaultless};
+ghost use Rattle.flt_check.specs.Covering.{Covers};
 ghost use Rattle.flt_graph.specs.declared.graph.Graph.{Graph};
 
 /// A certificate covers a graph exactly where no fault is computed at any point. It does nothing: its clauses are the law.
