@@ -9,7 +9,7 @@ use Rattle.flt_abs.specs.Step.{transfer}
 use Rattle.flt_abs.specs.declared.step.Successor.{Successor}
 use Rattle.flt_abs.specs.declared.step.Successors.{Successors}
 use Rattle.flt_cert.specs.Format.{Certificate, Point, is_certificate}
-use Rattle.flt_check.specs.Checker.{Covers, state_at}
+use Rattle.flt_check.specs.Covering.{Covers, state_at}
 use Rattle.flt_check.specs.declared.checker.Refusal.{Refusal}
 use Rattle.flt_analyse.specs.Walk.{IsFirstFault, Stops}
 use Rattle.flt_analyse.specs.declared.fault.AnalyseFault.{AnalyseFault}

@@ -1,7 +1,7 @@
 //! The callbacks of a text, one after the other.
 
 ghost use Rattle.std.specs.Prelude.{◌≡◌, ◌<◌, ◌≤◌, ◌+◌, ◌↔◌, length, IsTrue, IfOk, IfErr};
-ghost use Rattle.flt_check.specs.Checker.{Covers};
+ghost use Rattle.flt_check.specs.Covering.{Covers};
 ghost use Rattle.flt_check.specs.declared.checker.Refusal.{Refusal};
 ghost use Rattle.flt_graph.specs.declared.graph.Graph.{Graph};
 ghost use Rattle.flt_analyse.specs.Least as spec;

@@ -3,6 +3,7 @@
 ghost use Rattle.std.specs.Prelude.{◌≡◌, ◌<◌, ◌↔◌, length, IsOk, OnOk, IfErr, IfSome, IfNone};
 ghost use Rattle.std.specs.Option.{option_copied};
 ghost use Rattle.flt_check.specs.Checker as spec;
+ghost use Rattle.flt_check.specs.Covering.{Covers};
 ghost use Rattle.flt_graph.specs.Graph.{points_at, line_at};
 
 use flt_abs::{Abs, Successor, Successors, is_entry_below, leq, transfer};
@@ -203,7 +204,7 @@ fn first_fault(graph: &Graph, cert: &Cert) -> Result<(), Refusal>
 /// Whether a certificate covers a text's points; if not, the least fault: a number of callbacks or points that isn't the
 /// text's comes first, then the least callback, point and rule. It takes no memory.
 pub fn check(graph: &Graph, cert: &Cert) -> Result<(), Refusal>
-    ensures accepted { IsOk result ↔ spec.Covers graph.now cert.now }
+    ensures accepted { IsOk result ↔ Covers graph.now cert.now }
     ensures refused { IfErr result (spec.IsLeastFault graph.now cert.now) }
 {
     let _callbacks = cert.callbacks();

@@ -2,7 +2,8 @@
 
 ghost use Rattle.std.specs.Prelude.{◌≡◌, IsTrue};
 ghost use Rattle.flt_cert.specs.Format.{Certificate, is_certificate};
-ghost use Rattle.flt_check.specs.Checker.{Covers, IsFaultless, IsLeastFault};
+ghost use Rattle.flt_check.specs.Checker.{IsFaultless, IsLeastFault};
+ghost use Rattle.flt_check.specs.Covering.{Covers};
 ghost use Rattle.flt_check.specs.declared.checker.Refusal.{Refusal};
 ghost use Rattle.flt_graph.specs.declared.graph.Graph.{Graph};
 

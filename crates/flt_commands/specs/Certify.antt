@@ -3,7 +3,7 @@ use Rattle.std.specs.Prelude.{◌≡◌, ℕ, List, IsTrue, Some, None, Result, 
 use Rattle.flt_syntax.specs.File.{filter_of}
 use Rattle.flt_graph.specs.declared.graph.Graph.{Graph}
 use Rattle.flt_cert.specs.Format.{Certificate, is_certificate, spelling}
-use Rattle.flt_check.specs.Checker.{Covers}
+use Rattle.flt_check.specs.Covering.{Covers}
 use Rattle.flt_check.specs.declared.checker.Refusal.{Refusal}
 use Rattle.flt_analyse.specs.Least.{IsLeast, NoneCovers, IsNamed}
 use Rattle.flt_commands.specs.Failures.{Giving, IsUnread}

@@ -7,7 +7,8 @@ use Rattle.flt_tree.specs.declared.filter.Filter.{Filter}
 use Rattle.flt_graph.specs.Lowering.{IsLowered}
 use Rattle.flt_graph.specs.declared.graph.Graph.{Graph}
 use Rattle.flt_cert.specs.Format.{Certificate, is_certificate, spelling, IsFirstFault}
-use Rattle.flt_check.specs.Checker.{Covers, IsLeastFault}
+use Rattle.flt_check.specs.Checker.{IsLeastFault}
+use Rattle.flt_check.specs.Covering.{Covers}
 use Rattle.flt_commands.specs.Failures.{Giving, IsUnread}
 use Rattle.flt_commands.specs.Split.{IsCertificateStart}
 use Rattle.flt_commands.specs.declared.answer.Answer.{Answer}

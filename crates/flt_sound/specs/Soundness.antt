@@ -3,7 +3,7 @@
 -- accepted      here: a filter is well-formed, it has its graph, and a certificate covers that graph.
 -- well-formed   flt_tree/specs/WellFormed.antt. What a text spells is (`spelled_is_well_formed` of flt_syntax).
 -- graph         flt_graph/specs/Lowering.antt: the statements of each callback by number, with their successors. It is what `lower` makes.
--- covers        flt_check/specs/Checker.antt: what may be so at each point, closed under each step of a callback. It is what `check` decides.
+-- covers        flt_check/specs/Covering.antt: what may be so at each point, closed under each step of a callback. It is what `check` decides.
 -- transition    flt_model/specs/Steps.antt: a move of the filter manager, of a worker or of the system, or one step of one callback.
 -- run, breaks   flt_model/specs/Runs.antt: transitions, each enabled where it comes, from the moment before all of them. `breaks` is the first
 --               break of V1 to V8 (flt_model/specs/Violations.antt), in the longest part of the list that is a run; none where there is none.
@@ -19,7 +19,7 @@ use Rattle.flt_model.specs.Steps.{Transition}
 use Rattle.flt_graph.specs.Lowering.{IsLowered}
 use Rattle.flt_graph.specs.declared.graph.Graph.{Graph}
 use Rattle.flt_cert.specs.Format.{Certificate}
-use Rattle.flt_check.specs.Checker.{Covers}
+use Rattle.flt_check.specs.Covering.{Covers}
 
 -- a filter is accepted: a certificate covers its graph
 pub record IsAccepted (f : Filter) : Type 0 where

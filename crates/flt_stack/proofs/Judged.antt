@@ -11,7 +11,7 @@ use Rattle.flt_tree.specs.declared.filter.Filter.{Filter}
 use Rattle.flt_graph.specs.Lowering.{IsLowered}
 use Rattle.flt_graph.specs.declared.graph.Graph.{Graph}
 use Rattle.flt_cert.specs.Format.{Certificate}
-use Rattle.flt_check.specs.Checker.{Covers}
+use Rattle.flt_check.specs.Covering.{Covers}
 use Rattle.flt_model.specs.Program.{HasDistinctAltitudes, IsRepeated}
 use Rattle.flt_model.specs.Runs.{Break}
 use Rattle.flt_sound.specs.Soundness.{IsAccepted, AreAccepted}

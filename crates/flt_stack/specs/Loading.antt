@@ -10,7 +10,8 @@ use Rattle.flt_cert.specs.Format.{Certificate, is_certificate, spelling}
 use Rattle.flt_cert.specs.Format as format
 use Rattle.flt_cert.specs.declared.fault.CertFault.{CertFault}
 use Rattle.flt_cert.specs.declared.fault.CertFault.TheVariants as cert
-use Rattle.flt_check.specs.Checker.{Covers, IsLeastFault}
+use Rattle.flt_check.specs.Checker.{IsLeastFault}
+use Rattle.flt_check.specs.Covering.{Covers}
 use Rattle.flt_check.specs.declared.checker.Refusal.{Refusal}
 use Rattle.flt_model.specs.Program.{HasDistinctAltitudes, IsRepeated, by_altitude}
 use Rattle.flt_stack.specs.declared.fault.LoadFault.{LoadFault}

@@ -37,7 +37,7 @@ use Rattle.flt_abs.specs.Step.{transfer, unless_broken, leads_to}
 use Rattle.flt_abs.specs.declared.step.Successor.{Successor}
 use Rattle.flt_abs.specs.declared.step.Successors.{Successors}
 use Rattle.flt_cert.specs.Format.{Certificate}
-use Rattle.flt_check.specs.Checker.{Covers, IsLed, state_at}
+use Rattle.flt_check.specs.Covering.{Covers, IsLed, state_at}
 use Rattle.flt_sound.proofs.sums.Eaches.{within}
 
 -- ---- what the crates below prove

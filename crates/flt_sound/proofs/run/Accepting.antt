@@ -15,7 +15,8 @@ use Rattle.flt_graph.specs.Graph.{points_at}
 use Rattle.flt_graph.specs.Lowering.{IsLowered, graph_of}
 use Rattle.flt_graph.specs.declared.graph.Graph.{Graph}
 use Rattle.flt_cert.specs.Format.{Certificate, is_certificate}
-use Rattle.flt_check.specs.Checker.{AgreeOnCounts, Covers, IsFaultless, NoneIn, differs, point_fault}
+use Rattle.flt_check.specs.Checker.{AgreeOnCounts, IsFaultless, NoneIn, differs, point_fault}
+use Rattle.flt_check.specs.Covering.{Covers}
 use Rattle.flt_model.specs.WorkedParts.{computed, release_if}
 use Rattle.flt_rules.specs.declared.call.LockKind.TheVariants.{Push}
 use Rattle.flt_rules.specs.declared.call.LockNumber.TheVariants.{L0}
