@@ -14,3 +14,5 @@ mod loading;
 mod states;
 #[cfg(test)]
 mod texts;
+#[cfg(test)]
+mod words;
