@@ -5,6 +5,8 @@
 #[cfg(test)]
 mod certificates;
 #[cfg(test)]
+mod contexts;
+#[cfg(test)]
 mod journals;
 #[cfg(test)]
 mod lists;
