@@ -23,14 +23,16 @@ cost_append : (xs ys : List Statement) → cost (xs ++ ys) ≡ cost xs + cost ys
 cost_append xs ys = ap (λ (ns : List ℕ). sum ns) (map-append cost_of xs ys) ∙ sum_by-append (λ (n : ℕ). n) (map cost_of xs) (map cost_of ys)
 
 -- a statement costs what its outermost layer says
-layer_cost : (s : Statement) (layer : Statement-F Statement) → out-Statement s ≡ layer → cost_of s ≡ cost_step (map-Statement Statement ℕ cost_of layer)
+layer_cost : (s : Statement) (layer : Statement-F Statement) → out-Statement s ≡ layer →
+    cost_of s ≡ cost_step (map-Statement Statement ℕ cost_of layer)
 layer_cost s layer o = fold_out-Statement ℕ cost_step s ∙ ap (λ (l : Statement-F Statement). cost_step (map-Statement Statement ℕ cost_of l)) o
 
 if_cost : (line : ℕ) (asked : Condition) (granted refused : List Statement) (s : Statement) →
     out-Statement s ≡ Statement-F.If line asked granted refused → cost_of s ≡ 1 + max (cost granted) (cost refused)
 if_cost line asked granted refused s o = layer_cost s (Statement-F.If line asked granted refused) o
 
-repeat_cost : (line text : ℕ) (block : List Statement) (s : Statement) → out-Statement s ≡ Statement-F.Repeat line text block → cost_of s ≡ 1 + text * (1 + cost block)
+repeat_cost : (line text : ℕ) (block : List Statement) (s : Statement) → out-Statement s ≡ Statement-F.Repeat line text block →
+    cost_of s ≡ 1 + text * (1 + cost block)
 repeat_cost line text block s o = layer_cost s (Statement-F.Repeat line text block) o
 
 left_cost : (line left : ℕ) (block : List Statement) → cost_of (tree.Repeat line left block) ≡ 1 + left * (1 + cost block)
@@ -49,12 +51,30 @@ block_cost : {body block follows : List Statement} {n q : ℕ} (i : In body bloc
 block_cost {body} top b = let e = ap (λ (l : List Statement). cost l) (append-nil body) in omega arith
 block_cost (later {s = s} {rest = rest} {follows = follows} i) b = let h = block_cost i b in omega (arith, cost_cons s (rest ++ follows))
 block_cost (granted_block {s = s} {rest = rest} {yes_block = yes_block} {no_block = no_block} {asked = asked} {line = line} {follows = follows} i o) b =
-    let h = block_cost i b in omega (arith, cost_cons s (rest ++ follows), if_cost line asked yes_block no_block s o, cost_append yes_block (rest ++ follows))
+    let h = block_cost i b in omega (
+      arith,
+      cost_cons s (rest ++ follows),
+      if_cost line asked yes_block no_block s o,
+      cost_append yes_block (rest ++ follows),
+    )
 block_cost (refused_block {s = s} {rest = rest} {yes_block = yes_block} {no_block = no_block} {asked = asked} {line = line} {follows = follows} i o) b =
-    let h = block_cost i b in omega (arith, cost_cons s (rest ++ follows), if_cost line asked yes_block no_block s o, cost_append no_block (rest ++ follows))
+    let h = block_cost i b in omega (
+      arith,
+      cost_cons s (rest ++ follows),
+      if_cost line asked yes_block no_block s o,
+      cost_append no_block (rest ++ follows),
+    )
 block_cost (turn {s = s} {rest = rest} {block = block} {line = line} {turns = text} {left = left} {follows = follows} i o most) b =
     let h = block_cost i b.1 in
-    omega (arith, cost_cons s (rest ++ follows), repeat_cost line text block s o, cost_append block (tree.Repeat line left block ∷ (rest ++ follows)), cost_cons (tree.Repeat line left block) (rest ++ follows), left_cost line left block, one_turn_less left text (cost block) b.0)
+    omega (
+      arith,
+      cost_cons s (rest ++ follows),
+      repeat_cost line text block s o,
+      cost_append block (tree.Repeat line left block ∷ (rest ++ follows)),
+      cost_cons (tree.Repeat line left block) (rest ++ follows),
+      left_cost line left block,
+      one_turn_less left text (cost block) b.0,
+    )
 
 list_cost : {body list : List Statement} {n : ℕ} (st : Stands body n list) → AreBegunRound st → cost list ≤ cost body
 list_cost end b = omega arith
@@ -62,7 +82,13 @@ list_cost (before i) b = block_cost i b
 list_cost (again {s = s} {rest = rest} {block = block} {line = line} {turns = text} {left = left} {follows = follows} i o most) b =
     let h = block_cost i b in
     let fewer : left * (1 + cost block) ≤ text * (1 + cost block) = mul-le-mul_right (1 + cost block) most in
-    omega (arith, cost_cons s (rest ++ follows), repeat_cost line text block s o, cost_cons (tree.Repeat line left block) (rest ++ follows), left_cost line left block)
+    omega (
+      arith,
+      cost_cons s (rest ++ follows),
+      repeat_cost line text block s o,
+      cost_cons (tree.Repeat line left block) (rest ++ follows),
+      left_cost line left block,
+    )
 
 -- a list that stands with its turns costs no more than the body
 pub stands_cost : (body : List Statement) (n : ℕ) (turns : List Turn) (list : List Statement) → StandsWith body n turns list → cost list ≤ cost body

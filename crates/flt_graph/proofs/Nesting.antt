@@ -1,7 +1,7 @@
 -- Repeats nest no deeper in a well-formed body than the limit, so that few turns are left round a remaining list.
-use Rattle.std.proofs.Common.{◌≡◌, ℕ, ◌+◌, ◌<◌, ◌≤◌, Bool, List, [], ◌∷◌, length, Some, subst, arith}
+use Rattle.std.proofs.Common.{◌≡◌, ℕ, ◌+◌, ◌<◌, ◌≤◌, Bool, List, ◌∷◌, length, Some, subst, arith}
 use Rattle.std.specs.Prelude.{slice_get, is_some}
-use Rattle.flt_tree.specs.Limits.{max_depth, max_repeats}
+use Rattle.flt_tree.specs.Limits.{max_repeats}
 use Rattle.flt_tree.specs.WellFormed as fine
 use Rattle.flt_tree.specs.WellFormed.{IsWellFormed, IsStatement, IsElse, AreStatements}
 use Rattle.flt_tree.specs.declared.filter.Callback.{Callback}
@@ -31,7 +31,8 @@ else_nested : {locks : List Lock} {queue : Bool} {d r : ℕ} {ss : List Statemen
 else_nested fine.no_else = (0, fine.empty)
 else_nested (fine.some_else (fine.block {d = d} p)) = (d, p)
 
-layer_nested : {locks : List Lock} {queue : Bool} {d r : ℕ} (s : Statement) → IsStatement locks queue d r s → AreNested locks queue r (out-Statement s)
+layer_nested : {locks : List Lock} {queue : Bool} {d r : ℕ} (s : Statement) → IsStatement locks queue d r s →
+    AreNested locks queue r (out-Statement s)
 layer_nested _ (fine.act {at = l} {a = a} h) = rw (outs-Act l a) tt
 layer_nested _ (fine.call {at = l} {c = k} h) = rw (outs-Call l k) tt
 layer_nested _ (fine.return {at = l} {s = st}) = rw (outs-Return l st) tt
@@ -42,10 +43,12 @@ layer_nested _ (fine.repeat {r = r} {at = l} {n = text} {body = inner} h (fine.b
 
 -- ---- one body
 
-first : {locks : List Lock} {queue : Bool} {d r : ℕ} {s : Statement} {rest : List Statement} → AreStatements locks queue d r (s ∷ rest) → IsStatement locks queue d r s
+first : {locks : List Lock} {queue : Bool} {d r : ℕ} {s : Statement} {rest : List Statement} → AreStatements locks queue d r (s ∷ rest) →
+    IsStatement locks queue d r s
 first (fine.go_on h t) = h
 
-behind : {locks : List Lock} {queue : Bool} {d r : ℕ} {s : Statement} {rest : List Statement} → AreStatements locks queue d r (s ∷ rest) → AreStatements locks queue d r rest
+behind : {locks : List Lock} {queue : Bool} {d r : ℕ} {s : Statement} {rest : List Statement} → AreStatements locks queue d r (s ∷ rest) →
+    AreStatements locks queue d r rest
 behind (fine.go_on h t) = t
 
 -- a block within a body that nests repeats at most r deep: those round the block, and those that it nests itself, are no more
@@ -82,7 +85,7 @@ list_fits {locks = locks} {queue = queue} (again {s = s} i o most) h =
     omega (arith, f.room, block.1.0)
 
 -- a remaining list of a well-formed filter's callback stands with no more turns than repeats may nest
-pub turns_nested : (f : Filter) (k p : ℕ) (c : Callback) (turns : List Turn) (list : List Statement) → IsWellFormed f → slice_get f.callbacks k ≡ Some c →
-    StandsWith c.body p turns list → length turns ≤ max_repeats
+pub turns_nested : (f : Filter) (k p : ℕ) (c : Callback) (turns : List Turn) (list : List Statement) → IsWellFormed f →
+    slice_get f.callbacks k ≡ Some c → StandsWith c.body p turns list → length turns ≤ max_repeats
 turns_nested f k p c turns list w e h =
     subst (λ (ts : List Turn). length ts ≤ max_repeats) h.turns_are (list_fits h.stands (body_at f.locks (is_some f.queue) f.callbacks k c w.bodies e))

@@ -1,6 +1,6 @@
 -- Where remaining lists stand, with the turns that are left, and where that leads. Each lemma of `Remaining.antt` on `Stands` has one
 -- here that names the turns too.
-use Rattle.std.proofs.Common.{◌≡◌, ℕ, zero, suc, ◌+◌, ◌-◌, ◌<◌, ◌≤◌, Bool, true, false, eqb, List, [], ◌∷◌, ◌++◌, Option, Some, None, refl, sym, ap, subst, arith}
+use Rattle.std.proofs.Common.{◌≡◌, ℕ, zero, suc, ◌+◌, ◌-◌, ◌<◌, ◌≤◌, Bool, true, false, eqb, List, [], ◌∷◌, ◌++◌, Option, Some, None, refl, sym, subst, arith}
 use Rattle.std.proofs.lemmas.Bool.{eq-eqb, ne_eqb}
 use Rattle.std.proofs.lemmas.List.{append-nil}
 use Rattle.flt_tree.specs.Measures.{points_of, points}
@@ -15,7 +15,6 @@ use Rattle.flt_graph.specs.Lowering.{IsGraphOf}
 use Rattle.flt_graph.specs.Points.{entry, instruction_of, choice, In, top, later, granted_block, refused_block, turn, Stands, end, before, again, remaining_turns, remaining_of, remaining, successor}
 use Rattle.flt_graph.specs.Turns.{turns_in, turns_at, AreBegun, AreBegunRound, StandsWith, StandsAtWith, left_at, turns_round, turns_after, HasLeft}
 use Rattle.flt_graph.specs.declared.graph.CallbackGraph.{CallbackGraph}
-use Rattle.flt_graph.specs.declared.instruction.Instruction.{Instruction}
 use Rattle.flt_graph.specs.declared.instruction.Instruction.TheVariants as instruction
 use Rattle.flt_graph.specs.declared.turns.Turn.{Turn}
 
@@ -84,7 +83,8 @@ whole_with (s ∷ rest) =
 
 -- ---- where they lead
 
-choice_with : {body : List Statement} {yes_at no_at : ℕ} (n : ℕ) (turns : List Turn) (granted refused follows : List Statement) (all : List Callback) (asked : Condition) (outcome : Bool) →
+choice_with : {body : List Statement} {yes_at no_at : ℕ} (n : ℕ) (turns : List Turn) (granted refused follows : List Statement)
+    (all : List Callback) (asked : Condition) (outcome : Bool) →
     StandsWith body yes_at turns (granted ++ follows) → StandsWith body no_at turns (refused ++ follows) →
     StandsAtWith body (successor (choice all asked yes_at no_at) outcome) (turns_after (choice all asked yes_at no_at) n outcome turns)
     (remaining_of (Statement-F.If 0 asked granted refused) follows outcome)
@@ -94,7 +94,8 @@ choice_with n turns granted refused follows all (condition.Succeeds c) true u v 
 choice_with n turns granted refused follows all (condition.Succeeds c) false u v = v
 
 -- a `repeat` with so many turns left, where the turns round it are these
-turns_with : {body rest follows block : List Statement} {s : Statement} {line text n q : ℕ} (left : ℕ) (outcome : Bool) (turns : List Turn) (i : In body (s ∷ rest) n q follows) → AreBegun i → out-Statement s ≡ Statement-F.Repeat line text block → left ≤ text →
+turns_with : {body rest follows block : List Statement} {s : Statement} {line text n q : ℕ} (left : ℕ) (outcome : Bool) (turns : List Turn)
+    (i : In body (s ∷ rest) n q follows) → AreBegun i → out-Statement s ≡ Statement-F.Repeat line text block → left ≤ text →
     left_at n text turns ≡ left → turns_round n turns ≡ turns_in i →
     StandsAtWith body (successor (instruction.Repeat text (entry block (n + 1) n) (entry rest (n + points_of s) q)) outcome)
     (turns_after (instruction.Repeat text (entry block (n + 1) n) (entry rest (n + points_of s) q)) n outcome turns)
@@ -108,7 +109,8 @@ turns_with {block = block} {text = text} {n = n} (suc left) true turns i b o h i
     rw (round, less) (stands_with block (turn i o most) (fewer, b))
 turns_with (suc left) false turns i b o h is round = tt
 
-layer_with : {body rest follows : List Statement} {s : Statement} {n q : ℕ} (all : List Callback) (layer : Statement-F Statement) (outcome : Bool) (i : In body (s ∷ rest) n q follows) → AreBegun i → out-Statement s ≡ layer →
+layer_with : {body rest follows : List Statement} {s : Statement} {n q : ℕ} (all : List Callback) (layer : Statement-F Statement)
+    (outcome : Bool) (i : In body (s ∷ rest) n q follows) → AreBegun i → out-Statement s ≡ layer →
     StandsAtWith body (successor (instruction_of all layer n (entry rest (n + points_of s) q)) outcome)
     (turns_after (instruction_of all layer n (entry rest (n + points_of s) q)) n outcome (turns_in i))
     (remaining_of layer (rest ++ follows) outcome)
@@ -117,15 +119,18 @@ layer_with {rest = rest} all (Statement-F.Call line call) true i b o = stands_wi
 layer_with {rest = rest} all (Statement-F.Call line call) false i b o = stands_with rest (later i) b
 layer_with all (Statement-F.Return line status) outcome i b o = tt
 layer_with {rest = rest} {follows = follows} {n = n} all (Statement-F.If line asked granted refused) outcome i b o =
-    choice_with n (turns_in i) granted refused (rest ++ follows) all asked outcome (stands_with granted (granted_block i o) b) (stands_with refused (refused_block i o) b)
+    choice_with n (turns_in i) granted refused (rest ++ follows) all asked outcome
+    (stands_with granted (granted_block i o) b) (stands_with refused (refused_block i o) b)
 layer_with {n = n} all (Statement-F.Repeat line text block) outcome i b o =
-    turns_with text outcome (turns_in i) i b o (omega arith) (fresh_left (turns_in i) n text (turns_before i)) (fresh_round (turns_in i) n (turns_before i))
+    turns_with text outcome (turns_in i) i b o (omega arith)
+    (fresh_left (turns_in i) n text (turns_before i)) (fresh_round (turns_in i) n (turns_before i))
 
 at_end : (body : List Statement) (p : Option ℕ) (turns : List Turn) → StandsAtWith body p turns None
 at_end body None turns = tt
 at_end body (Some p) turns = tt
 
-leads_with : (all : List Callback) (c : Callback) (g : CallbackGraph) (p : ℕ) (list : List Statement) (outcome : Bool) → IsGraphOf all c g → (st : Stands c.body p list) → AreBegunRound st →
+leads_with : (all : List Callback) (c : Callback) (g : CallbackGraph) (p : ℕ) (list : List Statement) (outcome : Bool) → IsGraphOf all c g →
+    (st : Stands c.body p list) → AreBegunRound st →
     StandsAtWith c.body (successor (point_in g p).instruction outcome) (turns_after (point_in g p).instruction p outcome (turns_at st)) (remaining list outcome)
 leads_with all c g p list outcome made end b =
     at_end c.body (successor (point_in g p).instruction outcome) (turns_after (point_in g p).instruction p outcome [])
@@ -136,15 +141,18 @@ leads_with all c g p list outcome made (again {s = s} {rest = rest} {block = blo
     (turns_with left outcome (record { point = n; left = left } ∷ turns_in i) i b o h (begun_left (turns_in i) n left text) (begun_round (turns_in i) n left))
 
 -- what remains after an outcome stands at its successor, with the turns after it
-pub next_with : (all : List Callback) (c : Callback) (g : CallbackGraph) (p : ℕ) (turns : List Turn) (list : List Statement) (outcome : Bool) → IsGraphOf all c g → StandsWith c.body p turns list →
+pub next_with : (all : List Callback) (c : Callback) (g : CallbackGraph) (p : ℕ) (turns : List Turn) (list : List Statement) (outcome : Bool) →
+    IsGraphOf all c g → StandsWith c.body p turns list →
     StandsAtWith c.body (successor (point_in g p).instruction outcome) (turns_after (point_in g p).instruction p outcome turns) (remaining list outcome)
 next_with all c g p turns list outcome made h =
-    subst (λ (ts : List Turn). StandsAtWith c.body (successor (point_in g p).instruction outcome) (turns_after (point_in g p).instruction p outcome ts) (remaining list outcome)) h.turns_are
+    subst (λ (ts : List Turn). StandsAtWith c.body (successor (point_in g p).instruction outcome)
+    (turns_after (point_in g p).instruction p outcome ts) (remaining list outcome)) h.turns_are
     (leads_with all c g p list outcome made h.stands h.begun)
 
 -- ---- how many turns are left
 
-layer_left : (all : List Callback) (layer : Statement-F Statement) (n next : ℕ) (turns : List Turn) → AreBefore turns n → HasLeft n turns (instruction_of all layer n next) layer
+layer_left : (all : List Callback) (layer : Statement-F Statement) (n next : ℕ) (turns : List Turn) → AreBefore turns n →
+    HasLeft n turns (instruction_of all layer n next) layer
 layer_left all (Statement-F.Act line action) n next turns h = tt
 layer_left all (Statement-F.Call line call) n next turns h = tt
 layer_left all (Statement-F.Return line status) n next turns h = tt
@@ -152,15 +160,15 @@ layer_left all (Statement-F.If line (condition.Test t) granted refused) n next t
 layer_left all (Statement-F.If line (condition.Succeeds c) granted refused) n next turns h = tt
 layer_left all (Statement-F.Repeat line text block) n next turns h = sym (fresh_left turns n text h)
 
-first_left : (all : List Callback) (c : Callback) (g : CallbackGraph) (p : ℕ) (s : Statement) (rest : List Statement) → IsGraphOf all c g → (st : Stands c.body p (s ∷ rest)) →
-    HasLeft p (turns_at st) (point_in g p).instruction (out-Statement s)
+first_left : (all : List Callback) (c : Callback) (g : CallbackGraph) (p : ℕ) (s : Statement) (rest : List Statement) → IsGraphOf all c g →
+    (st : Stands c.body p (s ∷ rest)) → HasLeft p (turns_at st) (point_in g p).instruction (out-Statement s)
 first_left all c g p _ rest made (before {s = s} {rest = more} {n = n} {q = q} {follows = follows} i) =
     rw (made.statements s more follows n q i) (layer_left all (out-Statement s) n _ (turns_in i) (turns_before i))
 first_left all c g p _ rest made (again {s = t} {rest = more} {block = block} {line = line} {turns = text} {left = left} {n = n} {q = q} {follows = follows} i o h) =
     rw (made.statements t more follows n q i, o, outs-Repeat line left block) (sym (begun_left (turns_in i) n left text))
 
 -- where a list begins with a `repeat`, its turns are those that are left at the point
-pub left_with : (all : List Callback) (c : Callback) (g : CallbackGraph) (p : ℕ) (turns : List Turn) (s : Statement) (rest : List Statement) → IsGraphOf all c g → StandsWith c.body p turns (s ∷ rest) →
-    HasLeft p turns (point_in g p).instruction (out-Statement s)
+pub left_with : (all : List Callback) (c : Callback) (g : CallbackGraph) (p : ℕ) (turns : List Turn) (s : Statement) (rest : List Statement) →
+    IsGraphOf all c g → StandsWith c.body p turns (s ∷ rest) → HasLeft p turns (point_in g p).instruction (out-Statement s)
 left_with all c g p turns s rest made h =
     subst (λ (ts : List Turn). HasLeft p ts (point_in g p).instruction (out-Statement s)) h.turns_are (first_left all c g p s rest made h.stands)
