@@ -13,6 +13,8 @@ mod lists;
 #[cfg(test)]
 mod loading;
 #[cfg(test)]
+mod queues;
+#[cfg(test)]
 mod states;
 #[cfg(test)]
 mod texts;

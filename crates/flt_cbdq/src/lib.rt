@@ -1,0 +1,28 @@
+//! Cancel-safe queues: for each filter a sequence of pended operations' visits, first in first out, that can be disabled.
+//!
+//! A queue is a list of nodes of `ilist_core`; entries stand beside it by the number of the node, and each queue finds the nodes of a
+//! visit in a B-tree. With n entries in the queue of the filter that is named, a call takes
+//!
+//! | Call | Time |
+//! |---|---|
+//! | `insert` | logarithmic in n, over many calls: rows by node number grow as a `Vec` does |
+//! | `remove_next`, `remove` | logarithmic in n |
+//! | `first_of` | logarithmic in n for each visit that is named; where several of them stand in the queue, as many steps as stand before the entry that is found, for each of them |
+//! | `entry` | as many steps as the place |
+//! | `disable` | constant |
+//!
+//! Only `new` and `insert` may take memory.
+#![tactic(auto)]
+
+mod chain;
+mod entry;
+mod fault;
+mod nodes;
+mod nodes_by_visit;
+mod queues;
+
+pub use entry::Entry;
+pub use fault::InsertFault;
+pub use queues::Queues;
+/// What making the queues answers where there is no memory.
+pub use std::alloc::AllocError as OutOfMemory;

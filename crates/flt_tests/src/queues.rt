@@ -1,0 +1,216 @@
+//! Cancel-safe queues: by hand, and beside vectors that every call scans.
+
+use crate::lists::Dice;
+use flt_cbdq::{Entry, InsertFault, Queues};
+use std::alloc::{AllocError, Global};
+use std::process::Abort;
+use std::test::Fail;
+
+/// How many filters have a queue. Calls name one more, which has none.
+const FILTERS: usize = 3;
+
+/// The same queues as vectors of entries.
+#[derive(Drop)]
+struct Plain {
+    queues: Vec<Vec<Entry>>,
+    disabled: Vec<bool>,
+}
+
+impl Plain {
+    fn new(alloc: Global) -> Result<Plain, AllocError> {
+        let mut queues = Vec::new(alloc);
+        let mut disabled = Vec::new(alloc);
+        for _ in 0..FILTERS {
+            queues.push(Vec::new(alloc))?;
+            disabled.push(false)?;
+        }
+        Ok(Plain { queues, disabled })
+    }
+
+    fn is_disabled(&self, filter: usize) -> bool {
+        match self.disabled.get(filter) {
+            Some(disabled) => *disabled,
+            None => true,
+        }
+    }
+
+    /// Whether the entry was queued.
+    fn insert(&mut self, filter: usize, entry: Entry) -> Result<bool, AllocError> {
+        if self.is_disabled(filter) {
+            return Ok(false);
+        }
+        match self.queues.get_mut(filter) {
+            Some(queue) => {
+                queue.push(entry)?;
+                Ok(true)
+            }
+            None => Ok(false),
+        }
+    }
+
+    fn place_of(&self, filter: usize, visits: &[usize]) -> Option<usize> {
+        let queue = self.queues.get(filter)?;
+        queue.iter().position(|entry| visits.contains(&entry.visit))
+    }
+
+    fn take(&mut self, filter: usize, place: Option<usize>) -> Option<Entry> {
+        let place = place?;
+        let queue = self.queues.get_mut(filter)?;
+        if place < queue.len() {
+            Some(queue.remove(place))
+        } else {
+            None
+        }
+    }
+
+    fn entry(&self, filter: usize, place: usize) -> Option<Entry> {
+        self.queues.get(filter)?.get(place).copied()
+    }
+
+    fn disable(&mut self, filter: usize) {
+        if let Some(disabled) = self.disabled.get_mut(filter) {
+            *disabled = true;
+        }
+    }
+}
+
+/// Whether both programs hold the same entries in the same order, as far as entries can be asked for.
+fn agree(queues: &Queues, plain: &Plain) -> bool {
+    for filter in 0..FILTERS + 1 {
+        let length = match plain.queues.get(filter) {
+            Some(queue) => queue.len(),
+            None => 0,
+        };
+        for place in 0..length {
+            if queues.entry(filter, place).copied() != plain.entry(filter, place) {
+                return false;
+            }
+        }
+        if queues.entry(filter, length).is_some() {
+            return false;
+        }
+    }
+    true
+}
+
+/// An entry put into both, and whether they answered the same. A refused one must come back.
+fn insert(
+    queues: &mut Queues,
+    plain: &mut Plain,
+    filter: usize,
+    entry: Entry,
+) -> Result<bool, AllocError> {
+    match queues.insert(filter, entry) {
+        Ok(()) => plain.insert(filter, entry),
+        Err(InsertFault::Disabled(back)) => Ok(back == entry && plain.is_disabled(filter)),
+        Err(InsertFault::OutOfMemory(back)) => {
+            if back == entry && !plain.is_disabled(filter) && agree(queues, plain) {
+                Err(AllocError)
+            } else {
+                Ok(false)
+            }
+        }
+    }
+}
+
+/// One call of both programs, and whether they answered the same. Few visits, so that many stand in a queue twice.
+fn step(queues: &mut Queues, plain: &mut Plain, dice: &mut Dice) -> Result<bool, AllocError> {
+    let filter = dice.roll(4);
+    let visit = dice.roll(5);
+    let other = dice.roll(9);
+    match dice.roll(40) {
+        0..=15 => {
+            let context = if other < 5 { Some(other) } else { None };
+            insert(queues, plain, filter, Entry { visit, context })
+        }
+        16..=21 => Ok(queues.remove_next(filter) == plain.take(filter, Some(0))),
+        22..=29 => {
+            let place = plain.place_of(filter, &[visit]);
+            Ok(queues.remove(filter, visit) == plain.take(filter, place))
+        }
+        30..=34 => {
+            let expected = plain
+                .place_of(filter, &[visit, other])
+                .and_then(|place| plain.entry(filter, place));
+            Ok(queues.first_of(filter, &[visit, other]).copied() == expected)
+        }
+        35..=36 => Ok(queues.first_of(filter, &[]).is_none()),
+        37..=38 => Ok(queues.entry(filter, other).copied() == plain.entry(filter, other)),
+        _ => {
+            if other == 0 {
+                queues.disable(filter);
+                plain.disable(filter);
+            }
+            Ok(true)
+        }
+    }
+}
+
+#[test]
+fn queues_do_what_vectors_do(rt: HostRuntime) -> Result<(), Fail> {
+    let mut dice = Dice { state: 20240708 };
+    for script in 0..400 {
+        let mut queues = Queues::new(rt.alloc(), FILTERS)?;
+        let mut plain = Plain::new(rt.alloc())?;
+        for turn in 0..60 {
+            let same = step(&mut queues, &mut plain, &mut dice)?;
+            assert!(rt; same, "script {script}, turn {turn}");
+            assert!(rt; agree(&queues, &plain), "script {script}, turn {turn}");
+        }
+    }
+    Ok(())
+}
+
+/// A queue that is disabled while an entry waits keeps it; each filter has a queue of its own.
+#[test]
+fn a_disabled_queue_keeps_what_waits(rt: HostRuntime) -> Result<(), Fail> {
+    let first = Entry {
+        visit: 7,
+        context: Some(2),
+    };
+    let second = Entry {
+        visit: 9,
+        context: None,
+    };
+    let mut queues = Queues::new(rt.alloc(), 2)?;
+    assert!(rt; queues.insert(0, first).is_ok());
+    assert!(rt; queues.insert(0, second).is_ok());
+    assert!(rt; queues.insert(1, second).is_ok());
+    queues.disable(0);
+    assert!(rt; queues.insert(0, first) == Err(InsertFault::Disabled(first)));
+    assert!(rt; queues.insert(2, first) == Err(InsertFault::Disabled(first)));
+    assert!(rt; queues.insert(1, first).is_ok());
+    assert!(rt; queues.first_of(0, &[9, 7]).copied() == Some(first));
+    assert!(rt; queues.first_of(0, &[8, 9]).copied() == Some(second));
+    assert!(rt; queues.first_of(0, &[8]).is_none());
+    assert!(rt; queues.remove(0, 9) == Some(second));
+    assert!(rt; queues.remove(0, 9).is_none());
+    assert!(rt; queues.remove_next(0) == Some(first));
+    assert!(rt; queues.remove_next(0).is_none());
+    assert!(rt; queues.entry(1, 0).copied() == Some(second));
+    assert!(rt; queues.entry(1, 1).copied() == Some(first));
+    Ok(())
+}
+
+/// `tools/refuse-allocations.sh tests flt_tests memory` refuses each request for memory in turn. A refused entry comes back, and
+/// the queues stay as they were: otherwise an assertion fails.
+#[test]
+fn queues_stay_as_they_were_without_memory(rt: HostRuntime) -> Result<(), Fail> {
+    let mut queues = Queues::new(rt.alloc(), FILTERS)?;
+    let mut plain = Plain::new(rt.alloc())?;
+    for turn in 0..40 {
+        let entry = Entry {
+            visit: turn % 11,
+            context: None,
+        };
+        let same = insert(&mut queues, &mut plain, turn % FILTERS, entry)?;
+        assert!(rt; same, "turn {turn}");
+        if turn % 5 == 4 {
+            let place = plain.place_of(turn % FILTERS, &[turn % 7]);
+            let taken = queues.remove(turn % FILTERS, turn % 7);
+            assert!(rt; taken == plain.take(turn % FILTERS, place), "turn {turn}");
+        }
+        assert!(rt; agree(&queues, &plain), "turn {turn}");
+    }
+    Ok(())
+}
