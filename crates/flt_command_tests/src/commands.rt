@@ -9,6 +9,7 @@ mod analysis;
 mod changes;
 mod examples;
 mod memory;
+mod reading;
 mod refusals;
 mod replays;
 

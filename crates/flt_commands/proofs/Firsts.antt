@@ -13,8 +13,8 @@ use Rattle.flt_syntax.specs.Spelling.{Spells}
 use Rattle.flt_syntax.specs.declared.fault.SyntaxFault.{SyntaxFault}
 use Rattle.flt_tree.specs.declared.filter.Filter.{Filter}
 use Rattle.flt_tree.specs.declared.tree.Tree.{Tree}
-use Rattle.flt_commands.specs.Failures.{Giving}
-use Rattle.flt_commands.specs.Replaying.{Text, AreGiven, AreSpelled, IsMissing, IsSyntaxFault, IsUnreadable, is_standard}
+use Rattle.flt_commands.specs.Inputs.{Giving, Text, AreGiven, IsMissing, IsUnreadable, is_standard}
+use Rattle.flt_commands.specs.Replay.{AreSpelled, IsSyntaxFault}
 use Rattle.flt_commands.specs.declared.failure.Failure.TheVariants.{CannotRead}
 
 -- ---- the parts of a list at a place

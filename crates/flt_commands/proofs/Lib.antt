@@ -1,3 +1,4 @@
 pub mod Firsts
 pub mod Outputs
+pub mod Readings
 pub mod Requests

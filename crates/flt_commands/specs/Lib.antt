@@ -1,8 +1,9 @@
-pub mod Certify
-pub mod Failures
-pub mod Judging
-pub mod Lines
-pub mod Output
+pub mod Analyse
+pub mod Answer
+pub mod Check
+pub mod Commands
+pub mod Failure
+pub mod Inputs
+pub mod Replay
 pub mod Split
 pub mod Words
-pub mod Replaying

@@ -43,17 +43,17 @@ texts_rule = record (new_rule (codes "FILE")) { required = true; range = Some (r
 abbrev pub replay_app : App
 replay_app = with_rule (with_rule (new_app (codes "replay")) journal_rule) texts_rule
 
--- the program: a subcommand is asked for, and the program's own name is left out
+-- the program: a subcommand is asked for, the program's own name is left out, and `--version` answers
 abbrev pub program_app : App
 program_app =
     let a = with_subcommand (with_subcommand (with_subcommand (new_app (codes "fltstack")) check_app.top) analyse_app.top) replay_app.top in
-    record a { top = record a.top { subcommand_required = true; no_binary_name = true } }
+    record a { top = record a.top { subcommand_required = true; no_binary_name = true; has_version = true } }
 
 -- a command takes words as this one does, and none of its arguments goes down to a subcommand
 abbrev pub IsCommand : Command → App → Type 0
 IsCommand c app = (app_of c ≡ app) × ((fields_of c).has_globals ≡ false)
 
--- what a request asks for, none where it is for a text on how to ask
+-- what a request asks for, none where it is for a text of the program's own: its use, or its version
 abbrev pub asked_of : Request → Option Asked
 asked_of (request.Check file cert) = Some (Check file.now (option_map (λ name. name.now) cert))
 asked_of (request.Analyse file) = Some (Analyse file.now)
@@ -91,7 +91,7 @@ abbrev pub is_none : Kinds → Bool
 is_none [] = true
 is_none (k ∷ kinds) = false
 
--- what words ask for, none where they can't be taken or ask for help
+-- what words ask for, none where they can't be taken, or ask for help or the version
 abbrev pub asked_words : List Text → Option Asked
 asked_words words = if is_none (fault_of program_app words) then option_and_then asked_by (subcommand_of program_app words) else None
 

@@ -1,39 +1,56 @@
 //! What a command answers, and how that is written.
 
-ghost use Rattle.std.specs.Prelude.{◌≡◌, Some};
-ghost use Rattle.flt_commands.specs.Lines as spec;
+ghost use Rattle.std.specs.Prelude.{◌≡◌, Some, IfOk};
+ghost use Rattle.flt_commands.specs.Answer as spec;
 
 use flt_check::Refusal;
 use flt_model::{Verdict, Violation};
 use flt_rules::{Rule, number, text};
+use std::alloc::{AllocError, Global};
 use std::fmt;
 
-/// What `check` says of a text and a certificate.
-#[derive(Clone, Copy, Debug)]
+/// What a command answers.
+#[derive(Drop)]
 pub enum Answer {
+    /// The certificate covers the text.
     Accepted,
+    /// A point of the text is refused.
     Refused(Refusal),
+    /// The least certificate of the text, as it is written.
+    Certificate(Vec<u8>),
+    /// What a journal is.
+    Judged(Verdict),
 }
 
 impl Answer {
     /// The exit status: 0 for yes, 1 for no.
     pub fn status(&self) -> u8
-        ensures { result ≡ spec.answer_status self.now }
+        ensures { result ≡ spec.status_of self.now }
     {
         match self {
-            Answer::Accepted => 0,
-            Answer::Refused(_) => 1,
+            Answer::Accepted | Answer::Certificate(_) | Answer::Judged(Verdict::Legal) => 0,
+            Answer::Refused(_) | Answer::Judged(_) => 1,
         }
     }
-}
 
-/// What `analyse` says of a text.
-#[derive(Debug, Drop)]
-pub enum Analysis {
-    /// The least certificate, as it is written.
-    Found(Vec<u8>),
-    /// No certificate covers; this is the first fault that is met.
-    Refused(Refusal),
+    /// What stands on the standard output: the certificate, or a line.
+    pub fn output(self, alloc: Global) -> Result<Vec<u8>, AllocError>
+        ensures { IfOk result (λ bytes. bytes.items ≡ spec.output self) }
+    {
+        let line = match self {
+            Answer::Certificate(bytes) => return Ok(bytes),
+            Answer::Accepted => String::from_str(alloc, "accepted\n")?,
+            Answer::Refused(refusal) => {
+                let line = RefusalLine(refusal);
+                format!(in alloc; "{line}\n")?
+            }
+            Answer::Judged(verdict) => {
+                let line = VerdictLine(verdict);
+                format!(in alloc; "{line}\n")?
+            }
+        };
+        Ok(line.into_bytes())
+    }
 }
 
 /// `R01` to `R15`.
@@ -50,42 +67,29 @@ impl fmt::Display for RuleName {
     }
 }
 
-impl fmt::Display for Answer {
-    ghost output = { λ a. Some (spec.answer_line a) };
+/// A refusal, as it is printed.
+#[derive(Drop)]
+struct RefusalLine(Refusal);
+
+impl fmt::Display for RefusalLine {
+    ghost output = { λ r. Some (spec.refusal_line r.0) };
 
     fn fmt<W: fmt::Write>(&self, f: &mut fmt::Formatter<W>) -> fmt::Result {
-        match self {
-            Answer::Accepted => write!(f, "accepted"),
-            Answer::Refused(refusal) => {
-                let callback = refusal.callback;
-                let point = refusal.point;
-                let line = refusal.line;
-                let rule = RuleName(refusal.rule);
-                let words = text(refusal.rule);
-                write!(
-                    f,
-                    "refused callback {callback} point {point} line {line} {rule} {words}"
-                )
-            }
-        }
+        let callback = self.0.callback;
+        let point = self.0.point;
+        let line = self.0.line;
+        let rule = RuleName(self.0.rule);
+        let words = text(self.0.rule);
+        write!(
+            f,
+            "refused callback {callback} point {point} line {line} {rule} {words}"
+        )
     }
 }
 
 /// A verdict, as it is printed.
 #[derive(Drop)]
-pub struct VerdictLine(pub Verdict);
-
-impl VerdictLine {
-    /// The exit status: 0 for a run that breaks nothing, 1 for any other.
-    pub fn status(&self) -> u8
-        ensures { result ≡ spec.verdict_status self.now.0 }
-    {
-        match self.0 {
-            Verdict::Legal => 0,
-            Verdict::NotARun(_) | Verdict::Breaks(_, _) => 1,
-        }
-    }
-}
+struct VerdictLine(Verdict);
 
 fn violation_number(violation: Violation) -> u8
     ensures { result ≡ spec.violation_number violation }

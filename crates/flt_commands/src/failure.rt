@@ -1,7 +1,7 @@
 //! Why a command has no answer.
 
 ghost use Rattle.std.specs.Prelude.{◌≡◌};
-ghost use Rattle.flt_commands.specs.Failures as spec;
+ghost use Rattle.flt_commands.specs.Failure as spec;
 
 use flt_cert::CertFault;
 use flt_syntax::{ParseError, SyntaxFault};

@@ -1,39 +1,16 @@
 //! The files and the streams of the system.
 
-ghost use Rattle.std.specs.Io.KnownBytes.{Consumes, IsAtEnd};
-ghost use Rattle.std.specs.Prelude.{◌≤◌, length, IfOk, IfSome};
-
 use crate::commands::{CommandFault, command};
-use crate::inputs::{Inputs, MAX_INPUT};
+use crate::inputs::{Inputs, read_within};
 use flt_model::{Sink, WriteFault};
 use std::alloc::{AllocError, Global};
-use std::io::{Read, Write};
+use std::io::Write;
 use std::{env, fs, io};
 
 /// Files by their paths, and the standard input as `-`.
 #[derive(Drop)]
 struct Files<'a> {
     rt: &'a HostRuntime,
-}
-
-/// The bytes that a reader has; none if it fails or has too many.
-fn read_within<R: Read>(alloc: Global, reader: &mut R) -> Result<Option<Vec<u8>>, AllocError>
-    ensures all { IfOk result (λ found. IfSome found (λ v. Consumes (R.remaining reader.old) (R.remaining reader.new) v.items × IsAtEnd (R.remaining reader.new))) }
-    ensures few { IfOk result (λ found. IfSome found (λ v. length v.items ≤ 67108864)) }
-{
-    let mut found = Vec::new(alloc);
-    let mut buffer = [0u8; 4096];
-    for _ in 0..u64::MAX {
-        match reader.read(&mut buffer) {
-            Err(_) => return Ok(None),
-            Ok(0) => return Ok(Some(found)),
-            Ok(n) => found.extend_from_slice(&buffer[..n])?,
-        }
-        if MAX_INPUT < found.len() {
-            return Ok(None);
-        }
-    }
-    Ok(None)
 }
 
 impl Inputs for Files<'_> {

@@ -2,17 +2,17 @@
 //! the system.
 #![tactic(auto)]
 
+mod analyse;
 mod answer;
-mod certify;
+mod check;
 mod commands;
 mod failure;
 mod host;
 mod inputs;
-mod judging;
-mod replaying;
+mod replay;
 mod split;
 mod words;
 
 pub use commands::{CommandFault, command};
 pub use host::run;
-pub use inputs::{Inputs, MAX_INPUT};
+pub use inputs::{Inputs, MAX_INPUT, read_within};

@@ -10,6 +10,9 @@ use clap::error::ErrorKind;
 use clap::{Arg, ArgMatches, Command};
 use std::alloc::{AllocError, Global};
 
+/// What `--version` prints behind the program's name.
+const VERSION: &str = "0.1.0";
+
 /// What the words ask for.
 #[derive(Debug, Drop)]
 pub enum Request<'a> {
@@ -27,7 +30,7 @@ pub enum Request<'a> {
         journal: &'a str,
         files: Vec<&'a str>,
     },
-    /// They can't be taken, or ask for help: the text that says so.
+    /// They can't be taken, or ask for help or the version: the text that says so.
     Usage(String),
 }
 
@@ -107,6 +110,7 @@ fn program<'a>(alloc: Global) -> Result<Command<'a>, AllocError>
     ensures { IfOk result (λ c. spec.IsCommand c spec.program_app) }
 {
     Command::new(alloc, "fltstack")
+        .version(VERSION)
         .about("A static verifier for Windows file-system minifilters")
         .after_help(
             "With no words it acts as `check -`.\n\nExit status: 0 for `accepted`, a certificate or `legal`; 1 for any other answer;\n2 where there is none, and the standard error says why.\n\nExample: fltstack analyse examples/pending_reads.flt",

@@ -75,8 +75,9 @@ fn tells_each_error_in_one_line(rt: HostRuntime) -> Result<(), Fail> {
 
 #[test]
 fn tells_how_it_is_used(rt: HostRuntime) -> Result<(), Fail> {
-    let table: [&[&str]; 13] = [
+    let table: [&[&str]; 14] = [
         &["analyse"],
+        &["check", "--version"],
         &["analyse", "a", "b"],
         &["run", "-", "-"],
         &["replay", "-"],
@@ -95,6 +96,12 @@ fn tells_how_it_is_used(rt: HostRuntime) -> Result<(), Fail> {
         assert_eq!(rt; ran.status, 2);
         assert_eq!(rt; ran.out.as_slice(), b"".as_slice());
         assert!(rt; !ran.err.is_empty());
+    }
+    for words in [["--version"], ["-V"]] {
+        let ran = run(rt.alloc(), &words, &[])?;
+        assert_eq!(rt; ran.status, 2);
+        assert_eq!(rt; ran.out.as_slice(), b"".as_slice());
+        assert_eq!(rt; ran.err.as_slice(), b"fltstack 0.1.0\n".as_slice());
     }
     Ok(())
 }

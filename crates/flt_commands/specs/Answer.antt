@@ -1,0 +1,54 @@
+-- How the answers of commands are written. This project's own program.
+use Rattle.std.specs.Prelude.{ℕ, List, [], ◌∷◌, ◌++◌, codes, nat_lt, if◌then◌else◌}
+use Rattle.std.specs.Fmt.{decimal}
+use Rattle.flt_rules.specs.Rule.{number, text}
+use Rattle.flt_rules.specs.declared.rule.Rule.{Rule}
+use Rattle.flt_check.specs.declared.checker.Refusal.{Refusal}
+use Rattle.flt_model.specs.declared.verdict.Verdict.{Verdict}
+use Rattle.flt_model.specs.declared.verdict.Verdict.TheVariants.{Legal, NotARun, Breaks}
+use Rattle.flt_model.specs.declared.verdict.Violation.{Violation}
+use Rattle.flt_model.specs.declared.verdict.Violation.TheVariants.{V1, V2, V3, V4, V5, V6, V7, V8}
+use Rattle.flt_commands.specs.declared.answer.Answer.{Answer}
+use Rattle.flt_commands.specs.declared.answer.Answer.TheVariants.{Accepted, Refused, Certificate, Judged}
+
+-- `R01` to `R15`
+abbrev pub rule_name : Rule → List ℕ
+rule_name r = codes "R" ++ ((if nat_lt (number r) 10 then codes "0" else []) ++ decimal (number r))
+
+-- where a text is refused, and why
+abbrev pub refusal_line : Refusal → List ℕ
+refusal_line f =
+    codes "refused callback " ++ decimal f.callback ++ codes " point " ++ decimal f.point ++ codes " line " ++ decimal f.line
+    ++ codes " " ++ rule_name f.rule ++ codes " " ++ text f.rule
+
+-- the number of a violation
+abbrev pub violation_number : Violation → ℕ
+violation_number V1 = 1
+violation_number V2 = 2
+violation_number V3 = 3
+violation_number V4 = 4
+violation_number V5 = 5
+violation_number V6 = 6
+violation_number V7 = 7
+violation_number V8 = 8
+
+-- what is said of a journal
+abbrev pub verdict_line : Verdict → List ℕ
+verdict_line Legal = codes "legal"
+verdict_line (NotARun n) = codes "not a run at " ++ decimal n
+verdict_line (Breaks v n) = codes "breaks V" ++ decimal (violation_number v) ++ codes " at " ++ decimal n
+
+-- what stands on the standard output: the certificate, or a line and a line feed
+abbrev pub output : Answer → List ℕ
+output Accepted = codes "accepted" ++ 10 ∷ []
+output (Refused f) = refusal_line f ++ 10 ∷ []
+output (Certificate bytes) = bytes.items
+output (Judged v) = verdict_line v ++ 10 ∷ []
+
+-- the exit status: 0 where the certificate covers or is found, or nothing is broken, 1 for any other answer
+abbrev pub status_of : Answer → ℕ
+status_of Accepted = 0
+status_of (Refused f) = 1
+status_of (Certificate bytes) = 0
+status_of (Judged Legal) = 0
+status_of (Judged _) = 1

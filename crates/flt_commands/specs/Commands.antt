@@ -1,0 +1,46 @@
+-- What the commands put on the standard output, and their exit status. This project's own program.
+use Rattle.std.specs.Prelude.{◌≡◌, ◌≢◌, ℕ, List, [], ◌∷◌, Option, Some, None, Result, Ok, Err}
+use Rattle.flt_commands.specs.Analyse.{IsAnalysed}
+use Rattle.flt_commands.specs.Answer.{output, status_of}
+use Rattle.flt_commands.specs.Check.{IsChecked}
+use Rattle.flt_commands.specs.Inputs.{Giving, Says, Text}
+use Rattle.flt_commands.specs.Replay.{IsReplayed}
+use Rattle.flt_commands.specs.Words.{Asked, Check, Analyse, Replay, asked}
+use Rattle.flt_commands.specs.declared.answer.Answer.{Answer}
+use Rattle.flt_commands.specs.declared.failure.Failure.{Failure}
+use Rattle.flt_commands.specs.declared.failure.Failure.TheVariants.{OutOfMemory}
+
+-- the names that are read, in this order
+abbrev pub names_of : Asked → List Text
+names_of (Check file None) = file ∷ []
+names_of (Check file (Some cert)) = file ∷ cert ∷ []
+names_of (Analyse file) = file ∷ []
+names_of (Replay journal files) = journal ∷ files
+
+-- what is said of the bytes that they give
+abbrev pub IsSaidOf : Asked → List Text → Result Answer Failure → Type 0
+IsSaidOf (Check file cert) = IsChecked
+IsSaidOf (Analyse file) = IsAnalysed
+IsSaidOf (Replay journal files) = IsReplayed
+
+-- what is said of what is asked for: an answer, or why there is none
+abbrev pub IsSaid : Giving → Asked → Result Answer Failure → Type 0
+IsSaid gives request = Says gives (names_of request) (IsSaidOf request)
+
+-- nothing on the standard output, and the status 2: the words can't be taken, something can't be read, or is wrong
+abbrev pub IsNothing : List ℕ → ℕ → Type 0
+IsNothing bytes status = (bytes ≡ []) × (status ≡ 2)
+
+-- how that is printed; where memory ran out, nothing is
+abbrev pub IsReported : Result Answer Failure → List ℕ → ℕ → Type 0
+IsReported (Ok answer) bytes status = (bytes ≡ output answer) × (status ≡ status_of answer)
+IsReported (Err f) bytes status = (f ≢ OutOfMemory) × IsNothing bytes status
+
+-- what is said of what is asked for, and how it is printed; words that ask for nothing print nothing
+abbrev pub PrintsFor : Giving → Option Asked → List ℕ → ℕ → Type 0
+PrintsFor gives None bytes status = IsNothing bytes status
+PrintsFor gives (Some request) bytes status = (said : Result Answer Failure) × IsSaid gives request said × IsReported said bytes status
+
+-- what the words of a command line, and what its names give, put on the standard output, and the exit status
+abbrev pub Prints : Giving → List (List ℕ) → List ℕ → ℕ → Type 0
+Prints gives words bytes status = PrintsFor gives (asked words) bytes status

@@ -1,0 +1,57 @@
+//! What `check` says of the names that it is given.
+
+ghost use Rattle.std.specs.Prelude.{option_map};
+ghost use Rattle.flt_commands.specs.Check as spec;
+ghost use Rattle.flt_commands.specs.Commands.{IsSaid};
+ghost use Rattle.flt_commands.specs.Words.{Check};
+
+use crate::answer::Answer;
+use crate::failure::Failure;
+use crate::inputs::{Inputs, read_all};
+use crate::split::certificate_start;
+use flt_check::check;
+use flt_graph::lower;
+use flt_syntax::parse;
+use std::alloc::Global;
+
+/// Whether a certificate covers a text.
+fn check_text<'a>(alloc: Global, text: &[u8], certificate: &[u8]) -> Result<Answer, Failure<'a>>
+    ensures { spec.Judges text.now certificate.now result }
+{
+    let tree = parse(alloc, text)?;
+    let cert = flt_cert::read(alloc, certificate)?;
+    let graph = lower(alloc, &tree)?;
+    match check(&graph, &cert) {
+        Ok(()) => Ok(Answer::Accepted),
+        Err(refusal) => Ok(Answer::Refused(refusal)),
+    }
+}
+
+/// The same of a text and its certificate in one input.
+fn check_together<'a>(alloc: Global, input: &[u8]) -> Result<Answer, Failure<'a>>
+    ensures { spec.JudgesTogether input.now result }
+{
+    let (text, certificate) = input.split_at(certificate_start(input));
+    check_text(alloc, text, certificate)
+}
+
+/// What `check` says of the names that it is given.
+pub fn check_files<'a, I: Inputs>(
+    alloc: Global,
+    inputs: &I,
+    file: &'a str,
+    cert: Option<&'a str>,
+) -> Result<Answer, Failure<'a>>
+    ensures { IsSaid (I.gives inputs.now) (Check file.entry.now (option_map (λ name. name.now) cert.entry)) result }
+{
+    match cert {
+        None => {
+            let texts = read_all(alloc, inputs, &[file])?;
+            check_together(alloc, texts[0].as_slice())
+        }
+        Some(cert) => {
+            let texts = read_all(alloc, inputs, &[file, cert])?;
+            check_text(alloc, texts[0].as_slice(), texts[1].as_slice())
+        }
+    }
+}
