@@ -22,8 +22,8 @@ pub const MAX_OPERATIONS: usize = 65_536;
 
 /// Operations by serial number, from 0, with their frames and visits. No number is used again.
 ///
-/// Each call takes a time that grows with neither the operations nor the visits, or with their logarithm. A number that isn't
-/// there is that of an operation that has ended.
+/// No call walks all operations or all visits: its time grows with the logarithm of their number, and with the frames of its own
+/// operation. A number that isn't there is that of an operation that has ended, or of a visit that is settled.
 #[derive(Drop)]
 pub struct Operations {
     /// How many filters there are.
@@ -56,6 +56,20 @@ impl Operations {
             arrivals: Vec::new(alloc),
             routes: Routes::new(alloc),
             visits: Visits::new(alloc),
+        }
+    }
+
+    /// What an operation is. One that isn't there reads file 0 by an I/O request packet.
+    pub fn arrival(&self, serial: u32) -> Arrival
+        ensures { result ≡ machine.arrival_at (store_of self.now) serial }
+    {
+        match self.arrivals.get(serial as usize) {
+            Some(arrival) => *arrival,
+            None => Arrival {
+                kind: Operation::Read,
+                mode: Mode::Irp,
+                file: 0,
+            },
         }
     }
 
@@ -94,6 +108,27 @@ impl Operations {
         matches!(self.routes.position(serial), Position::Up)
             && self.routes.is_without_frames(serial)
             && self.visits.are_settled(serial)
+    }
+
+    /// The visit of a number. One that isn't there is a draining one.
+    pub fn visit(&self, visit: usize) -> Visit
+        ensures { result ≡ machine.visit_at (store_of self.now) visit }
+    {
+        self.visits.get(visit)
+    }
+
+    /// Whether the filter's part in a visit is over. It is in one that isn't there.
+    pub fn is_settled(&self, visit: usize) -> bool
+        ensures { result ≡ machine.is_settled (store_of self.now) visit }
+    {
+        self.visits.is_settled(visit)
+    }
+
+    /// Whether `settle` would make a frame, which takes the completion context over.
+    pub fn makes_frame(&self, visit: usize, way: Way) -> bool
+        ensures { result ≡ settling.makes_frame (store_of self.now) visit (way_of way) }
+    {
+        matches!(way, Way::Frames) && self.is_led(visit)
     }
 
     /// The filter that an operation is at on its way down.
