@@ -1,0 +1,20 @@
+//! Operations on their way through the filters: what arrived, where each stands, the post callbacks that wait for it, and its
+//! visits.
+//!
+//! `parts` has the records, `visit_rows` the visits with a count of the unsettled ones of each operation, `route_rows` how far each
+//! operation has come, `frame_set` the index that finds the least operation with a frame of a filter, and `operations` the
+//! calls. Contracts see the machine's own records; the count and the index save searches, and no contract mentions them.
+#![tactic(auto)]
+
+mod fault;
+mod frame_set;
+mod operations;
+mod parts;
+mod route_rows;
+mod visit_rows;
+
+pub use fault::ArriveFault;
+pub use operations::{MAX_OPERATIONS, Operations};
+pub use parts::{Arrival, Frame, Outcome, Position, Started, Visit, Way};
+/// What a call answers that was refused memory.
+pub use std::alloc::AllocError as OutOfMemory;

@@ -1,0 +1,330 @@
+//! Operations, with the calls that move them.
+
+ghost use Rattle.std.specs.Prelude.{◌≡◌, ◌↔◌, ◌≤◌, true, false, not, ◌||◌, ◌&&◌, length, slice_get, get_or, find, position, option_map, is_some, if◌then◌else◌, Some, None, Err, OnOk, OnErr, IfOk, MatchOption};
+ghost use Rattle.flt_model.specs.Moves as moves;
+ghost use Rattle.flt_model.specs.Settling as settling;
+ghost use Rattle.flt_model.specs.World as machine;
+ghost use Rattle.flt_ops.specs.Operating.{store_of, after, no_operations, route_of, filter_at, is_past_filters, frame_at, in_pre_visit, past_filter, lowered, in_post_visit, in_draining_visit, with_cancel};
+ghost use Rattle.flt_ops.specs.Parts.{position_of, outcome_of, way_of};
+ghost use Rattle.flt_ops.specs.declared.fault.ArriveFault.TheVariants.{Full};
+
+use crate::OutOfMemory;
+use crate::fault::ArriveFault;
+use crate::parts::{Arrival, Frame, Outcome, Position, Started, Visit, Way};
+use crate::route_rows::Routes;
+use crate::visit_rows::Visits;
+use flt_rules::{FinalStatus, Mode, Operation, Stage};
+use std::alloc::Global;
+use std::marker::Model;
+
+/// How many operations there may be.
+pub const MAX_OPERATIONS: usize = 65_536;
+
+/// Operations by serial number, from 0, with their frames and visits. No number is used again.
+///
+/// No call walks all operations or all visits: its time grows with the logarithm of their number, and with the frames of its own
+/// operation. A number that isn't there is that of an operation that has ended, or of a visit that is settled.
+#[derive(Drop)]
+pub struct Operations {
+    /// How many filters there are.
+    filters: usize,
+    arrivals: Vec<Arrival>,
+    routes: Routes,
+    visits: Visits,
+}
+
+impl Model for Operations {
+    ghost use Rattle.flt_ops.specs.Operating.{Operating};
+    ghost use Rattle.flt_ops.specs.Kept.{AreOperations};
+
+    ghost Value = { Operating };
+
+    ghost view = { λ s. record { filters = s.filters; arrivals = s.arrivals.items; routes = s.routes; visits = s.visits.visits; settled = s.visits.settled } };
+
+    ghost invariant = { λ s. AreOperations s.filters s.arrivals.items s.routes s.visits };
+}
+
+// ---- reads
+
+impl Operations {
+    /// No operations, and so many filters, numbered from 0 at the highest altitude.
+    pub fn new(alloc: Global, filters: usize) -> Operations
+        ensures { result ≡ no_operations filters }
+    {
+        Operations {
+            filters,
+            arrivals: Vec::new(alloc),
+            routes: Routes::new(alloc),
+            visits: Visits::new(alloc),
+        }
+    }
+
+    /// What an operation is. One that isn't there reads file 0 by an I/O request packet.
+    pub fn arrival(&self, serial: u32) -> Arrival
+        ensures { result ≡ machine.arrival_at (store_of self.now) serial }
+    {
+        match self.arrivals.get(serial as usize) {
+            Some(arrival) => *arrival,
+            None => Arrival {
+                kind: Operation::Read,
+                mode: Mode::Irp,
+                file: 0,
+            },
+        }
+    }
+
+    /// Where an operation stands. One that isn't there is up.
+    pub fn position(&self, serial: u32) -> Position
+        ensures { position_of result ≡ (route_of self.now serial).position }
+    {
+        self.routes.position(serial)
+    }
+
+    /// Whether an operation is cancelled. One that isn't there is.
+    pub fn cancelled(&self, serial: u32) -> bool
+        ensures { result ≡ (route_of self.now serial).cancelled }
+    {
+        self.routes.cancelled(serial)
+    }
+
+    /// How an operation ended at its lowest point, from the moment at which it goes up.
+    pub fn outcome(&self, serial: u32) -> Option<Outcome>
+        ensures { option_map outcome_of result ≡ (route_of self.now serial).outcome }
+    {
+        self.routes.outcome(serial)
+    }
+
+    /// The least serial number of an operation with a frame of the filter.
+    pub fn least_frame(&self, filter: usize) -> Option<u32>
+        ensures { result ≡ position (moves.has_frame filter) self.now.routes }
+    {
+        self.routes.least(filter)
+    }
+
+    /// Whether an operation is over: it is up, no post callback of it waits, and all its visits are settled.
+    pub fn is_done(&self, serial: u32) -> bool
+        ensures { result ≡ moves.is_done (store_of self.now) serial }
+    {
+        matches!(self.routes.position(serial), Position::Up)
+            && self.routes.is_without_frames(serial)
+            && self.visits.are_settled(serial)
+    }
+
+    /// The visit of a number. One that isn't there is a draining one.
+    pub fn visit(&self, visit: usize) -> Visit
+        ensures { result ≡ machine.visit_at (store_of self.now) visit }
+    {
+        self.visits.get(visit)
+    }
+
+    /// Whether the filter's part in a visit is over. It is in one that isn't there.
+    pub fn is_settled(&self, visit: usize) -> bool
+        ensures { result ≡ machine.is_settled (store_of self.now) visit }
+    {
+        self.visits.is_settled(visit)
+    }
+
+    /// Whether `settle` would make a frame, which takes the completion context over.
+    pub fn makes_frame(&self, visit: usize, way: Way) -> bool
+        ensures { result ≡ settling.makes_frame (store_of self.now) visit (way_of way) }
+    {
+        matches!(way, Way::Frames) && self.is_led(visit)
+    }
+
+    /// The filter that an operation is at on its way down.
+    fn filter_at(&self, serial: u32) -> Option<usize>
+        ensures { result ≡ filter_at self.now serial }
+    {
+        match self.routes.position(serial) {
+            Position::Down(filter) if filter < self.filters => Some(filter),
+            _ => None,
+        }
+    }
+
+    /// The frame whose post callback is next.
+    fn frame_at(&self, serial: u32) -> Option<Frame>
+        ensures { result ≡ frame_at self.now serial }
+    {
+        match self.routes.position(serial) {
+            Position::Up => self.routes.last_frame(serial),
+            _ => None,
+        }
+    }
+
+    /// Whether an operation is below the last filter.
+    fn is_past_filters(&self, serial: u32) -> bool
+        ensures { result ≡ is_past_filters self.now serial }
+    {
+        match self.routes.position(serial) {
+            Position::Down(filter) => filter >= self.filters,
+            _ => false,
+        }
+    }
+}
+
+// ---- changes: each is made, or nothing is
+
+impl Operations {
+    /// One more operation arrives at the highest filter. The answer is its serial number.
+    pub fn arrive(&mut self, kind: Operation, mode: Mode, file: u32) -> Result<u32, ArriveFault>
+        ensures arrived { IfOk result (λ serial. (serial ≡ length self.old.arrivals) × (self.new ≡ after (λ s. moves.with_arrival s (record { kind = kind; mode = mode; file = file })) self.old)) }
+        ensures full { (result ≡ Err Full) ↔ (65536 ≤ length self.old.arrivals) }
+        ensures refused { OnErr result (self.new ≡ self.old) }
+    {
+        let serial = self.arrivals.len();
+        if serial >= MAX_OPERATIONS {
+            return Err(ArriveFault::Full);
+        }
+        self.arrivals.reserve(1)?;
+        self.visits.make_room(serial)?;
+        self.routes.add()?;
+        self.arrivals.push_reserved(Arrival { kind, mode, file });
+        Ok(serial as u32)
+    }
+
+    /// The pre callback of the filter that the operation is at starts. `None` where it isn't at one on its way down.
+    pub fn start_pre(&mut self, serial: u32) -> Result<Option<Started>, OutOfMemory>
+        ensures started { IfOk result (λ started. MatchOption (filter_at self.old serial) ((started ≡ None) × (self.new ≡ self.old)) (λ f. (started ≡ Some (record { visit = length self.old.visits; filter = f; context = None })) × (self.new ≡ after (in_pre_visit serial f) self.old))) }
+        ensures refused { OnErr result (self.new ≡ self.old) }
+    {
+        let Some(filter) = self.filter_at(serial) else {
+            return Ok(None);
+        };
+        let visit = self.visits.add(Visit {
+            operation: serial,
+            filter,
+            stage: Stage::Pre,
+            draining: false,
+        })?;
+        self.routes.set_position(serial, Position::Visiting);
+        Ok(Some(Started {
+            visit,
+            filter,
+            context: None,
+        }))
+    }
+
+    /// The operation passes the filter that it is at, and `true` is answered. `false` where it isn't at one on its way down.
+    pub fn skip(&mut self, serial: u32) -> bool
+        ensures { MatchOption (filter_at self.old serial) ((result ≡ false) × (self.new ≡ self.old)) (λ f. (result ≡ true) × (self.new ≡ after (past_filter serial f) self.old)) }
+    {
+        match self.filter_at(serial) {
+            Some(filter) => {
+                self.routes.set_position(serial, Position::Down(filter + 1));
+                true
+            }
+            None => false,
+        }
+    }
+
+    /// The operation is carried out below the last filter, and `true` is answered. `false` where it isn't there.
+    pub fn lower(&mut self, serial: u32) -> bool
+        ensures answer { result ≡ is_past_filters self.old serial }
+        ensures lowered { self.new ≡ (if is_past_filters self.old serial then after (lowered serial) self.old else self.old) }
+    {
+        let is_past = self.is_past_filters(serial);
+        if is_past {
+            self.routes
+                .end(serial, Outcome::Final(FinalStatus::Success));
+        }
+        is_past
+    }
+
+    /// The last frame is taken off, and its post callback starts. `None` where the operation isn't up or has no frame.
+    #[tactic(auto, using(std::proofs::lemmas::Grind::common_steps, crate::proofs::OtherFrames::any_front, crate::proofs::OtherFrames::any_last, crate::proofs::Changes::is_last))]
+    pub fn pop_frame(&mut self, serial: u32) -> Result<Option<Started>, OutOfMemory>
+        ensures started { IfOk result (λ started. MatchOption (frame_at self.old serial) ((started ≡ None) × (self.new ≡ self.old)) (λ frame. (started ≡ Some (record { visit = length self.old.visits; filter = frame.filter; context = frame.context })) × (self.new ≡ after (in_post_visit serial frame) self.old))) }
+        ensures refused { OnErr result (self.new ≡ self.old) }
+    {
+        let Some(frame) = self.frame_at(serial) else {
+            return Ok(None);
+        };
+        let visit = self.visits.add(Visit {
+            operation: serial,
+            filter: frame.filter,
+            stage: Stage::Post,
+            draining: false,
+        })?;
+        self.routes.pop_frame(serial);
+        Ok(Some(Started {
+            visit,
+            filter: frame.filter,
+            context: frame.context,
+        }))
+    }
+
+    /// The first frame of a filter is taken out, and its post callback starts with the draining flag; the operation stays where it is.
+    /// `None` where it has no frame of the filter.
+    #[tactic(auto, using(std::proofs::lemmas::Grind::common_steps, crate::proofs::OtherFrames::any_left, crate::proofs::OtherFrames::found_of))]
+    pub fn drain(&mut self, filter: usize, serial: u32) -> Result<Option<Started>, OutOfMemory>
+        ensures started { IfOk result (λ started. MatchOption (find (moves.is_frame_of filter) (route_of self.old serial).frames) ((started ≡ None) × (self.new ≡ self.old)) (λ frame. (started ≡ Some (record { visit = length self.old.visits; filter = frame.filter; context = frame.context })) × (self.new ≡ after (in_draining_visit serial frame) self.old))) }
+        ensures refused { OnErr result (self.new ≡ self.old) }
+    {
+        let Some(frame) = self.routes.first_frame(serial, filter) else {
+            return Ok(None);
+        };
+        let visit = self.visits.add(Visit {
+            operation: serial,
+            filter: frame.filter,
+            stage: Stage::Post,
+            draining: true,
+        })?;
+        self.routes.take_frame(serial, frame.filter);
+        Ok(Some(Started {
+            visit,
+            filter: frame.filter,
+            context: frame.context,
+        }))
+    }
+
+    /// The operation is cancelled, and `true` is answered. `false` where it is over or cancelled already.
+    pub fn cancel(&mut self, serial: u32) -> bool
+        ensures answer { result ≡ not (moves.is_done (store_of self.old) serial || (route_of self.old serial).cancelled) }
+        ensures cancelled { self.new ≡ (if moves.is_done (store_of self.old) serial || (route_of self.old serial).cancelled then self.old else after (with_cancel serial) self.old) }
+    {
+        if self.is_done(serial) || self.routes.cancelled(serial) {
+            return false;
+        }
+        self.routes.cancel(serial);
+        true
+    }
+
+    /// Whether the visit still moves its operation.
+    fn is_led(&self, visit: usize) -> bool
+        ensures { result ≡ settling.is_led (store_of self.now) visit }
+    {
+        !self.visits.is_settled(visit) && !self.visits.get(visit).draining
+    }
+
+    /// The visit's operation goes on, where the visit still moves it.
+    #[tactic(auto, using(std::proofs::lemmas::Grind::common_steps, crate::proofs::OtherFrames::led_within, crate::proofs::OtherFrames::led_framed, crate::proofs::Changes::is_seen))]
+    fn lead(&mut self, visit: usize, context: Option<usize>, way: Way) -> Result<(), OutOfMemory>
+        ensures led { OnOk result (self.new ≡ after (λ s. settling.lead s visit context (way_of way)) self.old) }
+        ensures refused { OnErr result (self.new ≡ self.old) }
+    {
+        if self.is_led(visit) {
+            let seen = self.visits.get(visit);
+            self.routes.lead(seen.operation, seen.filter, context, way)?;
+        }
+        Ok(())
+    }
+
+    /// The visit is settled, and its operation led so, with this context for a frame. A visit that is settled already moves
+    /// nothing, nor does a draining one; `Way::Stays` settles nothing.
+    pub fn settle(
+        &mut self,
+        visit: usize,
+        context: Option<usize>,
+        way: Way,
+    ) -> Result<(), OutOfMemory>
+        ensures settled { OnOk result (self.new ≡ after (λ s. settling.settled_by s visit context (way_of way)) self.old) }
+        ensures refused { OnErr result (self.new ≡ self.old) }
+    {
+        if matches!(way, Way::Stays) {
+            return Ok(());
+        }
+        self.lead(visit, context, way)?;
+        self.visits.settle(visit);
+        Ok(())
+    }
+}
