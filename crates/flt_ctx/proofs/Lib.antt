@@ -3,3 +3,5 @@ pub mod Walks
 pub mod Relinked
 pub mod Algebra
 pub mod Least
+pub mod Used
+pub mod Fresh

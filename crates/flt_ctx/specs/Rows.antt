@@ -3,7 +3,7 @@
 -- 1,024 lists of streams, where streams with one remainder share a list.
 use Rattle.std.specs.Prelude.{◌≡◌, ◌≢◌, ℕ, ◌+◌, ◌%◌, ◌<◌, ◌≤◌, List, length, option_map, Option, Some, None, get_or}
 use Rattle.std.specs.List.{Contains}
-use Rattle.ilist_core.specs.NodeLists.{Sequences, nodes_of}
+use Rattle.ilist_core.specs.NodeLists.{Sequences, nodes_of, IsNode, IsLinked}
 use Rattle.flt_ctx.specs.declared.key.Key.{Key}
 use Rattle.flt_ctx.specs.declared.key.Target.{Target}
 use Rattle.flt_ctx.specs.declared.key.Target.TheVariants.{Stream, Instance}
@@ -70,3 +70,12 @@ pub record AreLinked (rows : List Row) (filters : ℕ) (s : Sequences) (contexts
   pub placed : (x : ℕ) (l : Link) → (row_at rows x).link ≡ Some l → IsPlaced filters s contexts x l
   pub named : (list node : ℕ) → Contains (nodes_of s.lists list) node → IsOfLink filters rows contexts list node
   pub one : (x y : ℕ) (l m : Link) → (row_at rows x).link ≡ Some l → (row_at rows y).link ≡ Some m → l.key ≡ m.key → x ≡ y
+
+-- each node is in a list: none is kept for nothing
+abbrev pub AreUsed : Sequences → Type 0
+AreUsed s = (node : ℕ) → IsNode s node → IsLinked s node
+
+-- how rows, lists and nodes are kept together
+pub record AreKept (rows : List Row) (filters : ℕ) (s : Sequences) (contexts : List ℕ) : Type 0 where
+  pub linked : AreLinked rows filters s contexts
+  pub used : AreUsed s

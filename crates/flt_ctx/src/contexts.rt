@@ -38,11 +38,11 @@ impl Model for Contexts {
 
     ghost Value = { ContextTable };
 
-    ghost use Rattle.flt_ctx.specs.Rows.{as_context, AreLinked};
+    ghost use Rattle.flt_ctx.specs.Rows.{as_context, AreKept};
 
     ghost view = { λ c. record { contexts = map as_context c.rows.items; closed = c.closed.items } };
 
-    ghost invariant = { λ c. AreLinked c.rows.items (length c.closed.items) c.lists c.contexts.items };
+    ghost invariant = { λ c. AreKept c.rows.items (length c.closed.items) c.lists c.contexts.items };
 }
 
 impl Contexts {

@@ -4,6 +4,7 @@
 //! first, then that of the instances, then those of the streams.
 ghost use Rattle.std.specs.Prelude.{◌≡◌, ◌≢◌, ◌<◌, ◌≤◌, ℕ, ◌⊎◌, length, find, set, Some, IfOk, OnOk, OnErr, IfSome};
 ghost use Rattle.std.specs.List.{Contains};
+ghost use Rattle.std.specs.FinSet as finite_set;
 ghost use Rattle.ilist_core.specs.NodeLists.{nodes_of, AreApart, IsList, IsNode, IsUnlinked};
 ghost use Rattle.flt_ctx.specs.Contexts.{same_key, is_key, order_of};
 ghost use Rattle.flt_ctx.specs.Rows.{key_of, row_at, context_of, place_of, key_at, IsBelow};
@@ -92,6 +93,8 @@ pub(crate) fn add_named(
     ensures within { IfOk result (λ node. node < length contexts.new.items) }
     ensures others { IfOk result (λ node. (other : ℕ) → other ≢ node → context_of contexts.new.items other ≡ context_of contexts.old.items other) }
     ensures longer { length contexts.old.items ≤ length contexts.new.items }
+    ensures made { IfOk result (λ node. (other : ℕ) → IsNode lists.new other → IsNode lists.old other ⊎ (other ≡ node)) }
+    ensures undone { IfOk result (λ node. record lists.new { nodes = finite_set.remove lists.new.nodes node; next_node = node } ≡ lists.old) }
     ensures unchanged { OnErr result (lists.new ≡ lists.old) }
     ensures refused { OnErr result ((other : ℕ) → context_of contexts.new.items other ≡ context_of contexts.old.items other) }
 {
