@@ -9,7 +9,7 @@ use Rattle.flt_ctx.specs.declared.key.Target.{Target}
 use Rattle.flt_ctx.specs.declared.key.Target.TheVariants.{Stream, Instance}
 use Rattle.flt_ctx.specs.declared.links.Link.{Link}
 use Rattle.flt_ctx.specs.declared.links.Row.{Row}
-use Rattle.flt_ctx.specs.Contexts.{Context, order_of}
+use Rattle.flt_ctx.specs.Contexts.{Context}
 
 -- the row where none is
 abbrev pub no_row : Row
@@ -30,16 +30,6 @@ as_context row = record { owner = row.owner; references = row.references; value 
 -- the context that a node links
 abbrev pub context_of : List ℕ → ℕ → ℕ
 context_of contexts node = get_or contexts node 0
-
--- the key of the link that a node is of
-abbrev pub key_at : List Row → List ℕ → ℕ → Option Key
-key_at rows contexts node = key_of (row_at rows (context_of contexts node)).link
-
--- the first key stands at or before the second; where there is none, that comes last
-abbrev pub IsBelow : Option Key → Option Key → Type 0
-IsBelow key None = Unit
-IsBelow None (Some l) = ⊥
-IsBelow (Some key) (Some l) = order_of key.target ≤ order_of l.target
 
 -- the place of a target's list behind those of the filters
 abbrev pub place_of : Target → ℕ
@@ -74,8 +64,3 @@ pub record AreLinked (rows : List Row) (filters : ℕ) (s : Sequences) (contexts
 -- each node is in a list: none is kept for nothing
 abbrev pub AreUsed : Sequences → Type 0
 AreUsed s = (node : ℕ) → IsNode s node → IsLinked s node
-
--- how rows, lists and nodes are kept together
-pub record AreKept (rows : List Row) (filters : ℕ) (s : Sequences) (contexts : List ℕ) : Type 0 where
-  pub linked : AreLinked rows filters s contexts
-  pub used : AreUsed s

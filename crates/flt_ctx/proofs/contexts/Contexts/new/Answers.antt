@@ -9,5 +9,5 @@ invariant_of-result c =
     let counted : c.loop-2.counter ≡ 1025 = omega arith in
     let lists : c.loop-2.lists.lists ≡ replicate (length c.loop.closed.items + 1025) [] =
     c.loop-2.invariant.lists ∙ (λ i. replicate (closed i + counted i) []) in
-    AreKept-fresh c.new.result.items (length c.loop.closed.items) c.loop-2.lists c.new-2.result.items c.new.ensures.items
-    (ap (λ (ls : List (List ℕ)). length ls) lists ∙ length-replicate (length c.loop.closed.items + 1025) []) lists c.loop-2.invariant.nodes
+    AreKept-fresh c.new.result.items (length c.loop.closed.items) c.loop-2.lists c.new-2.result.items c.new-3.result.set c.new.ensures.items
+    (ap (λ (ls : List (List ℕ)). length ls) lists ∙ length-replicate (length c.loop.closed.items + 1025) []) lists c.loop-2.invariant.nodes c.new-3.ensures

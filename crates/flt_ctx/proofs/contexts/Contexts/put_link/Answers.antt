@@ -12,6 +12,7 @@ use Rattle.flt_ctx.proofs.Walks.{alone_none}
 use Rattle.flt_ctx.proofs.Relinked.{AreLinked-renamed, AreLinked-more, both_in}
 use Rattle.std.specs.FinSet.{remove}
 use Rattle.flt_ctx.proofs.Used.{AreUsed-more}
+use Rattle.flt_ctx.proofs.Indexed.{AreIndexed-kept, AreIndexed-more}
 use Rattle.flt_ctx.proofs.contexts.Contexts.put_link.Goals as goal
 
 no_key : (link : Option Link) → key_of link ≡ None → link ≡ None
@@ -26,6 +27,7 @@ pub invariant_of-self : goal.invariant_of-self
 invariant_of-self c = record {
   linked = AreLinked-renamed c.self.inside.rows.items _ c.self.inside.lists _ _ _ c.self.invariant.linked c.add_named.ensures.lists c.add_named.ensures.longer (λ list node found. c.in_err-by_target.ensures.refused node);
   used = subst (λ (s : Sequences). AreUsed s) (sym c.in_err-by_target.ensures.unchanged) c.self.invariant.used;
+  indexed = c.self.invariant.indexed;
 }
 
 pub remove_node-requires-clause-unlinked : goal.remove_node-requires-clause-unlinked
@@ -46,6 +48,30 @@ invariant_of-self-in-Err c =
           AreLinked-renamed c.self.inside.rows.items _ c.self.inside.lists _ _ _ c.self.invariant.linked same (omega (arith, c.add_named.ensures.longer, c.add_named-2.ensures.longer))
           (λ list node found. c.in-Err.ensures.refused node ∙ c.in_ok-by_target.ensures.others node (λ here. still_out _ _ _ (sym c.add_named.ensures.lists) c.in_ok-by_target.ensures.unlinked list (subst (Contains (nodes_of c.self.inside.lists.lists list)) here found)));
       used = subst (λ (s : Sequences). AreUsed s) (sym whole) c.self.invariant.used;
+      indexed = c.self.invariant.indexed;
+    }
+
+pub remove_node-requires-in-Err-insert-2-clause-unlinked : goal.remove_node-requires-in-Err-insert-2-clause-unlinked
+remove_node-requires-in-Err-insert-2-clause-unlinked c =
+    still_out _ _ _ (ap (λ (s : Sequences). s.lists) c.remove_node-in-Err-insert.ensures.removed ∙ c.add_named-2.ensures.lists) c.in_ok-by_target.ensures.unlinked
+
+pub invariant_of-self-in-Err-insert : goal.invariant_of-self-in-Err-insert
+invariant_of-self-in-Err-insert c =
+    let lists : c.add_named-2.new.lists.lists ≡ c.self.inside.lists.lists = c.add_named-2.ensures.lists ∙ c.add_named.ensures.lists in
+    let whole : c.remove_node-in-Err-insert-2.new.self ≡ c.self.inside.lists =
+    c.remove_node-in-Err-insert-2.ensures.removed
+    ∙ ap (λ (s : Sequences). record s { nodes = remove s.nodes c.in_ok-by_target.by_target; next_node = c.in_ok-by_target.by_target }) (c.remove_node-in-Err-insert.ensures.removed ∙ c.in-Ok.ensures.undone)
+    ∙ c.in_ok-by_target.ensures.undone in
+    let off_target : (list node : ℕ) → Contains (nodes_of c.self.inside.lists.lists list) node → node ≢ c.in_ok-by_target.by_target =
+    λ list node found same. still_out _ _ _ (sym c.add_named.ensures.lists) c.in_ok-by_target.ensures.unlinked list (subst (Contains (nodes_of c.self.inside.lists.lists list)) same found) in
+    let off_filter : (list node : ℕ) → Contains (nodes_of c.self.inside.lists.lists list) node → node ≢ c.in-Ok.node =
+    λ list node found same. still_out _ _ _ (sym lists) c.in-Ok.ensures.unlinked list (subst (Contains (nodes_of c.self.inside.lists.lists list)) same found) in
+    record {
+      linked =
+          AreLinked-renamed c.self.inside.rows.items _ c.self.inside.lists _ _ _ c.self.invariant.linked (ap (λ (s : Sequences). s.lists) whole) (omega (arith, c.add_named.ensures.longer, c.add_named-2.ensures.longer))
+          (λ list node found. c.in-Ok.ensures.others node (off_filter list node found) ∙ c.in_ok-by_target.ensures.others node (off_target list node found));
+      used = subst (λ (s : Sequences). AreUsed s) (sym whole) c.self.invariant.used;
+      indexed = AreIndexed-kept c.self.inside.rows.items _ _ _ (λ x. refl) c.in-Err-insert.ensures.err c.self.invariant.indexed;
     }
 
 pub push_back-requires-2-clause-unlinked : goal.push_back-requires-2-clause-unlinked
@@ -93,6 +119,11 @@ invariant_of-self-2 c =
           AreUsed-more c.self.inside.lists c.add_named.new.lists c.add_named-2.new.lists c.push_back-2.new.self _ _ _ _ c.self.invariant.used
           c.in_ok-by_target.ensures.made c.in-Ok.ensures.made
           (ap (λ (s : Sequences). s.nodes) c.push_back-2.ensures.pushed ∙ ap (λ (s : Sequences). s.nodes) c.push_back.ensures.pushed) lists members;
+      indexed =
+          AreIndexed-more c.self.inside.rows.items _ c.self.invariant.indexed _ c.args.context l free
+          (ap (λ (r : Row). r.link) (get_or-set_same c.self.inside.rows.items c.args.context _ no_row within))
+          (λ y away. ap (λ (r : Row). r.link) (get_or-set_other c.self.inside.rows.items c.args.context y _ no_row away))
+          _ c.in_default.ensures.ok;
     }
 
 pub returns-clause-ok : goal.returns-clause-ok
