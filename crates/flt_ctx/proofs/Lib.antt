@@ -2,4 +2,8 @@ pub mod Rows
 pub mod Walks
 pub mod Relinked
 pub mod Algebra
-pub mod Least
+pub mod First
+pub mod Used
+pub mod Fresh
+pub mod StreamOrder
+pub mod Indexed

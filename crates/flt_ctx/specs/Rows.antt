@@ -3,13 +3,13 @@
 -- 1,024 lists of streams, where streams with one remainder share a list.
 use Rattle.std.specs.Prelude.{◌≡◌, ◌≢◌, ℕ, ◌+◌, ◌%◌, ◌<◌, ◌≤◌, List, length, option_map, Option, Some, None, get_or}
 use Rattle.std.specs.List.{Contains}
-use Rattle.ilist_core.specs.NodeLists.{Sequences, nodes_of}
+use Rattle.ilist_core.specs.NodeLists.{Sequences, nodes_of, IsNode, IsLinked}
 use Rattle.flt_ctx.specs.declared.key.Key.{Key}
 use Rattle.flt_ctx.specs.declared.key.Target.{Target}
 use Rattle.flt_ctx.specs.declared.key.Target.TheVariants.{Stream, Instance}
 use Rattle.flt_ctx.specs.declared.links.Link.{Link}
 use Rattle.flt_ctx.specs.declared.links.Row.{Row}
-use Rattle.flt_ctx.specs.Contexts.{Context, order_of}
+use Rattle.flt_ctx.specs.Contexts.{Context}
 
 -- the row where none is
 abbrev pub no_row : Row
@@ -30,16 +30,6 @@ as_context row = record { owner = row.owner; references = row.references; value 
 -- the context that a node links
 abbrev pub context_of : List ℕ → ℕ → ℕ
 context_of contexts node = get_or contexts node 0
-
--- the key of the link that a node is of
-abbrev pub key_at : List Row → List ℕ → ℕ → Option Key
-key_at rows contexts node = key_of (row_at rows (context_of contexts node)).link
-
--- the first key stands at or before the second; where there is none, that comes last
-abbrev pub IsBelow : Option Key → Option Key → Type 0
-IsBelow key None = Unit
-IsBelow None (Some l) = ⊥
-IsBelow (Some key) (Some l) = order_of key.target ≤ order_of l.target
 
 -- the place of a target's list behind those of the filters
 abbrev pub place_of : Target → ℕ
@@ -70,3 +60,7 @@ pub record AreLinked (rows : List Row) (filters : ℕ) (s : Sequences) (contexts
   pub placed : (x : ℕ) (l : Link) → (row_at rows x).link ≡ Some l → IsPlaced filters s contexts x l
   pub named : (list node : ℕ) → Contains (nodes_of s.lists list) node → IsOfLink filters rows contexts list node
   pub one : (x y : ℕ) (l m : Link) → (row_at rows x).link ≡ Some l → (row_at rows y).link ≡ Some m → l.key ≡ m.key → x ≡ y
+
+-- each node is in a list: none is kept for nothing
+abbrev pub AreUsed : Sequences → Type 0
+AreUsed s = (node : ℕ) → IsNode s node → IsLinked s node

@@ -1,7 +1,8 @@
 //! The contexts themselves.
 //!
 //! A link isn't moved in its lists when another context takes it over: its two nodes stay, and name the other context. So a
-//! replacement takes no memory, and only a link that is new does, before anything is changed.
+//! replacement takes no memory, and only a link that is new does, before anything is changed. The streams with a link also stand in
+//! an index, where the first one of a filter is found without a search.
 ghost use Rattle.std.specs.Prelude.{◌≡◌, ◌≢◌, ℕ, ◌-◌, ◌^◌, ◌<◌, ◌≤◌, ◌↔◌, true, false, List, [], ◌∷◌, ◌++◌, replicate, length, is_some, option_map, IsSome, Some, None, set, if◌then◌else◌, Ok, IfOk, OnOk, OnErr, IfSome, IfNone, MatchOption};
 ghost use Rattle.flt_ctx.specs.Contexts.{context_at, is_freed, linked_at, order_of, add_reference, drop_reference, put_value, with_link, put_link, after_unlink, is_closed, cannot_link, CanLink, IsReplaced};
 ghost use Rattle.flt_ctx.specs.declared.answers.SetAnswer.TheVariants as answer;
@@ -11,10 +12,11 @@ ghost use Rattle.flt_ctx.specs.declared.key.Key.{Key};
 
 use crate::OutOfMemory;
 use crate::answers::{Release, SetAnswer, Unlinked};
-use crate::key::Key;
+use crate::key::{Key, Target};
 use crate::links::{
-    Link, Row, TARGET_LISTS, add_named, context_of, find_node, least_key, place_of, put_context,
+    Link, Row, TARGET_LISTS, add_named, context_of, find_node, place_of, put_context,
 };
+use crate::stream_set::StreamSet;
 use ilist_core::Lists;
 use std::alloc::Global;
 use std::marker::Model;
@@ -30,6 +32,7 @@ pub struct Contexts {
     lists: Lists,
     // By the number of a node, the context that it links.
     contexts: Vec<usize>,
+    streams: StreamSet,
 }
 
 impl Model for Contexts {
@@ -38,11 +41,12 @@ impl Model for Contexts {
 
     ghost Value = { ContextTable };
 
-    ghost use Rattle.flt_ctx.specs.Rows.{as_context, AreLinked};
+    ghost use Rattle.flt_ctx.specs.Rows.{as_context};
+    ghost use Rattle.flt_ctx.specs.Kept.{AreKept};
 
     ghost view = { λ c. record { contexts = map as_context c.rows.items; closed = c.closed.items } };
 
-    ghost invariant = { λ c. AreLinked c.rows.items (length c.closed.items) c.lists c.contexts.items };
+    ghost invariant = { λ c. AreKept c.rows.items (length c.closed.items) c.lists c.contexts.items c.streams.set };
 }
 
 impl Contexts {
@@ -64,6 +68,7 @@ impl Contexts {
             closed,
             lists,
             contexts: Vec::new(alloc),
+            streams: StreamSet::new(alloc),
         })
     }
 
@@ -193,15 +198,33 @@ impl Contexts {
             order_of key.target ≤ order_of other.target) }
         ensures none { IfNone result ((x : ℕ) (key : Key) → (context_at self.now x).link ≡ Some key → key.filter ≢ filter) }
     {
-        if filter >= self.closed.len() {
+        if !self.has_links(filter) {
             return None;
         }
-        least_key(
-            &self.lists,
-            self.rows.as_slice(),
-            self.contexts.as_slice(),
-            self.lists.list(filter).unwrap(),
-        )
+        let instance = Key {
+            filter,
+            target: Target::Instance,
+        };
+        if self.linked(instance) {
+            return Some(instance);
+        }
+        let file = self.streams.least(filter)?;
+        Some(Key {
+            filter,
+            target: Target::Stream(file),
+        })
+    }
+
+    /// Whether a context is linked for the filter, which the filter's list tells at once.
+    fn has_links(&self, filter: usize) -> bool
+        ensures some { result ≡ true → (x : ℕ) × (key : Key) × (((context_at self.now x).link ≡ Some key) × (key.filter ≡ filter)) }
+        ensures none { result ≡ false → (x : ℕ) (key : Key) → (context_at self.now x).link ≡ Some key → key.filter ≢ filter }
+    {
+        if filter >= self.closed.len() {
+            return false;
+        }
+        let list = self.lists.list(filter).unwrap();
+        self.lists.front(list).is_some()
     }
 
     /// The context that is linked there, to which it adds a reference.
@@ -226,6 +249,7 @@ impl Contexts {
                 self.lists.remove_node(link.by_target);
                 self.lists.unlink(link.by_filter);
                 self.lists.remove_node(link.by_filter);
+                self.streams.remove(link.key);
                 self.rows[context].link = None;
             }
         }
@@ -319,6 +343,11 @@ impl Contexts {
                 return Err(refused);
             }
         };
+        if let Err(refused) = self.streams.insert(key) {
+            self.lists.remove_node(by_filter);
+            self.lists.remove_node(by_target);
+            return Err(refused);
+        }
         self.lists.push_back(target, by_target);
         self.lists.push_back(filter, by_filter);
         self.rows[context].link = Some(Link {

@@ -5,15 +5,18 @@
 //!
 //! `new`, `alloc` and `set` may take memory; `set` does so only for a link that is new, and before anything is changed.
 //!
-//! `get`, `set`, `delete_at`, `linked` and `linked_at` go through the links of one target, at most one for each filter (streams whose
-//! numbers are equal modulo 1,024 share their list). `first_key` goes through the links of its filter, `new` through the filters.
-//! Every other call takes constant time, `alloc` on average.
+//! Calls that are given a key go through the links of its target, one for each filter at most (streams whose numbers are equal modulo
+//! 1,024 share their list). `first_key` takes constant time where the filter has no link; otherwise it goes through the links of the
+//! instances, and finds the first stream in an index, in logarithmic time. A link that is made or taken away changes that index, in
+//! logarithmic time too; one that another context takes over leaves it as it is. `new` goes through the filters. Every other call takes
+//! constant time, `alloc` on average.
 #![tactic(auto)]
 
 mod answers;
 mod contexts;
 mod key;
 mod links;
+mod stream_set;
 
 pub use answers::{Release, SetAnswer, Unlinked};
 pub use contexts::Contexts;

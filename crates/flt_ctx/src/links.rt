@@ -2,11 +2,11 @@
 //!
 //! Each link has two nodes: one in the list of its target, one in that of its filter. The lists are numbered: those of the filters come
 //! first, then that of the instances, then those of the streams.
-ghost use Rattle.std.specs.Prelude.{◌≡◌, ◌≢◌, ◌<◌, ◌≤◌, ℕ, ◌⊎◌, length, find, set, Some, IfOk, OnOk, OnErr, IfSome};
-ghost use Rattle.std.specs.List.{Contains};
-ghost use Rattle.ilist_core.specs.NodeLists.{nodes_of, AreApart, IsList, IsNode, IsUnlinked};
-ghost use Rattle.flt_ctx.specs.Contexts.{same_key, is_key, order_of};
-ghost use Rattle.flt_ctx.specs.Rows.{key_of, row_at, context_of, place_of, key_at, IsBelow};
+ghost use Rattle.std.specs.Prelude.{◌≡◌, ◌≢◌, ◌<◌, ◌≤◌, ℕ, ◌⊎◌, length, find, set, Some, IfOk, OnOk, OnErr};
+ghost use Rattle.std.specs.FinSet as finite_set;
+ghost use Rattle.ilist_core.specs.NodeLists.{nodes_of, IsList, IsNode, IsUnlinked};
+ghost use Rattle.flt_ctx.specs.Contexts.{same_key, is_key};
+ghost use Rattle.flt_ctx.specs.Rows.{key_of, row_at, context_of, place_of};
 
 use crate::key::{Key, Target};
 use ilist_core::{ListId, Lists, NodeId};
@@ -92,6 +92,8 @@ pub(crate) fn add_named(
     ensures within { IfOk result (λ node. node < length contexts.new.items) }
     ensures others { IfOk result (λ node. (other : ℕ) → other ≢ node → context_of contexts.new.items other ≡ context_of contexts.old.items other) }
     ensures longer { length contexts.old.items ≤ length contexts.new.items }
+    ensures made { IfOk result (λ node. (other : ℕ) → IsNode lists.new other → IsNode lists.old other ⊎ (other ≡ node)) }
+    ensures undone { IfOk result (λ node. record lists.new { nodes = finite_set.remove lists.new.nodes node; next_node = node } ≡ lists.old) }
     ensures unchanged { OnErr result (lists.new ≡ lists.old) }
     ensures refused { OnErr result ((other : ℕ) → context_of contexts.new.items other ≡ context_of contexts.old.items other) }
 {
@@ -150,63 +152,4 @@ pub(crate) fn find_node(
         at = next;
     }
     None
-}
-
-/// The key of the link that a node is of.
-fn key_at(rows: &[Row], contexts: &[usize], node: NodeId) -> Option<Key>
-    ensures { result ≡ key_at rows.now contexts.now node }
-{
-    match rows.get(context_of(contexts, node)) {
-        Some(row) => match row.link {
-            Some(link) => Some(link.key),
-            None => None,
-        },
-        None => None,
-    }
-}
-
-/// Where a key stands among those of its filter: the instance comes first, then streams by their numbers.
-fn order_of(target: Target) -> u64
-    ensures { result ≡ order_of target }
-{
-    match target {
-        Target::Instance => 0,
-        Target::Stream(file) => file as u64 + 1,
-    }
-}
-
-/// The one of two keys that stands before the other.
-fn lesser(first: Option<Key>, second: Option<Key>) -> Option<Key>
-    ensures before_first { IsBelow result first }
-    ensures before_second { IsBelow result second }
-    ensures one_of { (result ≡ first) ⊎ (result ≡ second) }
-{
-    match (first, second) {
-        (Some(key), Some(other)) if order_of(key.target) <= order_of(other.target) => first,
-        (Some(_), None) => first,
-        _ => second,
-    }
-}
-
-/// The least key of the links of a list's nodes.
-pub(crate) fn least_key(
-    lists: &Lists,
-    rows: &[Row],
-    contexts: &[usize],
-    list: ListId,
-) -> Option<Key>
-    requires { IsList lists.now list }
-    ensures least { (node : ℕ) → Contains (nodes_of lists.now.lists list) node → IsBelow result (key_at rows.now contexts.now node) }
-    ensures listed { IfSome result (λ key. (node : ℕ) ×
-        (Contains (nodes_of lists.now.lists list) node × (key_at rows.now contexts.now node ≡ Some key))) }
-    ensures apart { AreApart lists.now }
-{
-    let mut least = None;
-    let mut at = lists.front(list);
-    while let Some(node) = at {
-        let next = lists.next(node);
-        least = lesser(least, key_at(rows, contexts, node));
-        at = next;
-    }
-    least
 }
