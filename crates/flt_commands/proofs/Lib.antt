@@ -1,3 +1,4 @@
+pub mod Covered
 pub mod Firsts
 pub mod Outputs
 pub mod Readings

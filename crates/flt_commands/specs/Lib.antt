@@ -1,6 +1,7 @@
 pub mod Analyse
 pub mod Answer
 pub mod Check
+pub mod Clean
 pub mod Commands
 pub mod Failure
 pub mod Inputs

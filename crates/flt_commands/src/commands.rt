@@ -3,11 +3,14 @@
 ghost use Rattle.std.specs.Io.KnownBytes.{Appends};
 ghost use Rattle.std.specs.Prelude.{◌≡◌, ◌≢◌, ◌⊎◌, ℕ, List, OnOk, IfOk, IfErr, map, string_bytes};
 ghost use Rattle.flt_commands.specs.Answer.{output, status_of};
+ghost use Rattle.flt_commands.specs.Clean.{YesIsClean};
 ghost use Rattle.flt_commands.specs.Commands as spec;
+ghost use Rattle.flt_commands.specs.Words.{asked};
 
 use crate::analyse::analyse_file;
 use crate::answer::Answer;
 use crate::check::check_files;
+use crate::clean::covered_texts_break_nothing;
 use crate::failure::Failure;
 use crate::inputs::Inputs;
 use crate::replay::replay_files;
@@ -103,9 +106,8 @@ fn report<O: Sink, E: Sink>(
     }
 }
 
-/// Runs the command of a program's words, its own name left out, and answers the exit status: 0 for yes, 1 for no, and 2
-/// where there is no answer. What it says goes to `out`, why there is no answer to `err`.
-pub fn command<I: Inputs, O: Sink, E: Sink>(
+/// Runs the command of a program's words.
+fn run_words<I: Inputs, O: Sink, E: Sink>(
     alloc: Global,
     words: &[String],
     inputs: &I,
@@ -136,4 +138,24 @@ pub fn command<I: Inputs, O: Sink, E: Sink>(
             report(alloc, said, out, err)
         }
     }
+}
+
+/// Runs the command of a program's words, its own name left out, and answers the exit status: 0 for yes, 1 for no, and 2
+/// where there is no answer. What it says goes to `out`, why there is no answer to `err`.
+pub fn command<I: Inputs, O: Sink, E: Sink>(
+    alloc: Global,
+    words: &[String],
+    inputs: &I,
+    out: &mut O,
+    err: &mut E,
+) -> Result<u8, CommandFault>
+    ensures prints { IfOk result (λ status. (bytes : List ℕ) × spec.Prints (I.gives inputs.now) (map string_bytes words.now) bytes status × Appends (O.taken out.old) (O.taken out.new) bytes) }
+    ensures write { IfErr result (λ e. e ≡ CommandFault.Write → (O.failures out.new ≢ O.failures out.old) ⊎ (E.failures err.new ≢ E.failures err.old)) }
+    ensures fine { OnOk result ((O.failures out.new ≡ O.failures out.old) × (E.failures err.new ≡ E.failures err.old)) }
+    ensures memory { IfErr result (λ e. e ≡ CommandFault.OutOfMemory → (out.new ≡ out.old) × (err.new ≡ err.old)) }
+    ensures quiet { IfOk result (λ status. status ≢ 2 → err.new ≡ err.old) }
+    ensures clean { IfOk result (λ status. status ≡ 0 → YesIsClean (I.gives inputs.now) (asked (map string_bytes words.now))) }
+{
+    covered_texts_break_nothing();
+    run_words(alloc, words, inputs, out, err)
 }

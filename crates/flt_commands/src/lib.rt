@@ -5,6 +5,7 @@
 mod analyse;
 mod answer;
 mod check;
+mod clean;
 mod commands;
 mod failure;
 mod host;
