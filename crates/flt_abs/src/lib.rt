@@ -16,6 +16,8 @@ pub use entry::{entry_state, is_entry_below};
 pub use locks::LockList;
 pub use outcome::transfer_follows_situations;
 pub use sets::{Draining, Modes, Statuses};
+/// No call answers it: the definitions of the rules speak of it.
+pub use setting::Setting;
 pub use state::{
     Abs, CONTEXTS, LocksDiffer, OPERATIONS, is_partial_order, join, joins_are_least, leq,
 };

@@ -9,7 +9,7 @@ use flt_rules::{Level, entry_level, raised_by};
 
 /// Where a point stands.
 #[derive(Clone, Copy)]
-pub(crate) struct Setting {
+pub struct Setting {
     pub place: Place,
     /// The greatest of the entry level and the levels of the held locks.
     pub level: Level,
