@@ -11,6 +11,8 @@ mod lists;
 #[cfg(test)]
 mod loading;
 #[cfg(test)]
+mod operations;
+#[cfg(test)]
 mod states;
 #[cfg(test)]
 mod texts;
