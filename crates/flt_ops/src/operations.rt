@@ -165,7 +165,8 @@ impl Operations {
 // ---- changes: each is made, or nothing is
 
 impl Operations {
-    /// One more operation arrives at the highest filter. The answer is its serial number.
+    /// One more operation arrives at the highest filter. The answer is its serial number. Any kind may come in any mode, on any
+    /// file: whether they go together is the caller's question.
     pub fn arrive(&mut self, kind: Operation, mode: Mode, file: u32) -> Result<u32, ArriveFault>
         ensures arrived { IfOk result (λ serial. (serial ≡ length self.old.arrivals) × (self.new ≡ after (λ s. moves.with_arrival s (record { kind = kind; mode = mode; file = file })) self.old)) }
         ensures full { (result ≡ Err Full) ↔ (65536 ≤ length self.old.arrivals) }

@@ -14,6 +14,7 @@ mod lists;
 mod loading;
 #[cfg(test)]
 mod queues;
+mod operations;
 #[cfg(test)]
 mod states;
 #[cfg(test)]

@@ -1,0 +1,491 @@
+//! Operations beside a plain program that scans rows, and the most operations that there may be.
+
+ghost use Rattle.std.specs.Prelude.{◌<◌};
+
+use flt_ops::{ArriveFault, Frame, Operations, Outcome, Position, Started, Way};
+use flt_rules::{FinalStatus, Mode, Operation, Stage};
+use std::alloc::{AllocError, Global};
+use std::test::Fail;
+
+/// How many filters the scripts have.
+const FILTERS: usize = 3;
+
+/// How many operations a script makes, at most.
+const MOST: usize = 5;
+
+/// How far an operation of the plain program has come.
+#[derive(Drop)]
+struct Row {
+    file: u32,
+    position: Position,
+    frames: Vec<Frame>,
+    cancelled: bool,
+    outcome: Option<Outcome>,
+}
+
+/// A visit of the plain program.
+#[derive(Clone, Copy)]
+struct Passing {
+    operation: usize,
+    filter: usize,
+    is_post: bool,
+    draining: bool,
+    settled: bool,
+}
+
+/// The same operations as rows that every call scans.
+#[derive(Drop)]
+struct Plain {
+    rows: Vec<Row>,
+    visits: Vec<Passing>,
+}
+
+/// Where an operation stands, as a number.
+fn place(position: Position) -> usize {
+    match position {
+        Position::Down(filter) => filter.saturating_add(2),
+        Position::Visiting => 1,
+        Position::Up => 0,
+    }
+}
+
+/// How an operation ended, as a number.
+fn end(outcome: Option<Outcome>) -> u8 {
+    match outcome {
+        None => 0,
+        Some(Outcome::Disallowed) => 1,
+        Some(Outcome::Final(FinalStatus::Success)) => 2,
+        Some(Outcome::Final(FinalStatus::AccessDenied)) => 3,
+        Some(Outcome::Final(_)) => 4,
+    }
+}
+
+/// What a callback starts with, as numbers.
+fn start(started: Option<Started>) -> Option<(usize, usize, Option<usize>)> {
+    match started {
+        Some(started) => Some((started.visit, started.filter, started.context)),
+        None => None,
+    }
+}
+
+impl Plain {
+    fn new(alloc: Global) -> Plain {
+        Plain {
+            rows: Vec::new(alloc),
+            visits: Vec::new(alloc),
+        }
+    }
+
+    fn place(&self, serial: usize) -> usize {
+        match self.rows.get(serial) {
+            Some(row) => place(row.position),
+            None => 0,
+        }
+    }
+
+    fn file(&self, serial: usize) -> u32 {
+        match self.rows.get(serial) {
+            Some(row) => row.file,
+            None => 0,
+        }
+    }
+
+    fn cancelled(&self, serial: usize) -> bool {
+        match self.rows.get(serial) {
+            Some(row) => row.cancelled,
+            None => true,
+        }
+    }
+
+    fn end(&self, serial: usize) -> u8 {
+        match self.rows.get(serial) {
+            Some(row) => end(row.outcome),
+            None => 0,
+        }
+    }
+
+    fn has_frame(&self, serial: usize, filter: usize) -> bool {
+        match self.rows.get(serial) {
+            Some(row) => row.frames.iter().any(|frame| frame.filter == filter),
+            None => false,
+        }
+    }
+
+    fn least_frame(&self, filter: usize) -> Option<u32> {
+        for serial in 0..MOST as u32 {
+            if self.has_frame(serial as usize, filter) {
+                return Some(serial);
+            }
+        }
+        None
+    }
+
+    fn is_done(&self, serial: usize) -> bool {
+        for visit in self.visits.iter() {
+            if visit.operation == serial && !visit.settled {
+                return false;
+            }
+        }
+        match self.rows.get(serial) {
+            Some(row) => matches!(row.position, Position::Up) && row.frames.is_empty(),
+            None => true,
+        }
+    }
+
+    fn arrive(&mut self, alloc: Global, file: u32) -> Result<usize, AllocError> {
+        let serial = self.rows.len();
+        self.rows.push(Row {
+            file,
+            position: Position::Down(0),
+            frames: Vec::new(alloc),
+            cancelled: false,
+            outcome: None,
+        })?;
+        Ok(serial)
+    }
+
+    fn visit(
+        &mut self,
+        operation: usize,
+        filter: usize,
+        is_post: bool,
+        draining: bool,
+    ) -> Result<usize, AllocError> {
+        let number = self.visits.len();
+        self.visits.push(Passing {
+            operation,
+            filter,
+            is_post,
+            draining,
+            settled: false,
+        })?;
+        Ok(number)
+    }
+
+    fn start_pre(
+        &mut self,
+        serial: usize,
+    ) -> Result<Option<(usize, usize, Option<usize>)>, AllocError> {
+        let filter = match self.rows.get_mut(serial) {
+            Some(row) => match row.position {
+                Position::Down(filter) if filter < FILTERS => {
+                    row.position = Position::Visiting;
+                    filter
+                }
+                _ => return Ok(None),
+            },
+            None => return Ok(None),
+        };
+        let visit = self.visit(serial, filter, false, false)?;
+        Ok(Some((visit, filter, None)))
+    }
+
+    fn skip(&mut self, serial: usize) -> bool {
+        match self.rows.get_mut(serial) {
+            Some(row) => match row.position {
+                Position::Down(filter) if filter < FILTERS => {
+                    row.position = Position::Down(filter + 1);
+                    true
+                }
+                _ => false,
+            },
+            None => false,
+        }
+    }
+
+    fn lower(&mut self, serial: usize) -> bool {
+        match self.rows.get_mut(serial) {
+            Some(row) => match row.position {
+                Position::Down(filter) if filter >= FILTERS => {
+                    row.position = Position::Up;
+                    row.outcome = Some(Outcome::Final(FinalStatus::Success));
+                    true
+                }
+                _ => false,
+            },
+            None => false,
+        }
+    }
+
+    fn pop_frame(
+        &mut self,
+        serial: usize,
+    ) -> Result<Option<(usize, usize, Option<usize>)>, AllocError> {
+        let frame = match self.rows.get_mut(serial) {
+            Some(row) if matches!(row.position, Position::Up) => match row.frames.pop() {
+                Some(frame) => {
+                    row.position = Position::Visiting;
+                    frame
+                }
+                None => return Ok(None),
+            },
+            _ => return Ok(None),
+        };
+        let visit = self.visit(serial, frame.filter, true, false)?;
+        Ok(Some((visit, frame.filter, frame.context)))
+    }
+
+    fn drain(
+        &mut self,
+        filter: usize,
+        serial: usize,
+    ) -> Result<Option<(usize, usize, Option<usize>)>, AllocError> {
+        let frame = match self.rows.get_mut(serial) {
+            Some(row) => match row.frames.iter().position(|frame| frame.filter == filter) {
+                Some(at) => row.frames.remove(at),
+                None => return Ok(None),
+            },
+            None => return Ok(None),
+        };
+        let visit = self.visit(serial, filter, true, true)?;
+        Ok(Some((visit, filter, frame.context)))
+    }
+
+    fn cancel(&mut self, serial: usize) -> bool {
+        if self.is_done(serial) {
+            return false;
+        }
+        match self.rows.get_mut(serial) {
+            Some(row) if !row.cancelled => {
+                row.cancelled = true;
+                true
+            }
+            _ => false,
+        }
+    }
+
+    fn settle(&mut self, visit: usize, context: Option<usize>, way: Way) -> Result<(), AllocError> {
+        if matches!(way, Way::Stays) {
+            return Ok(());
+        }
+        let passing = match self.visits.get_mut(visit) {
+            Some(passing) if !passing.settled => {
+                passing.settled = true;
+                *passing
+            }
+            _ => return Ok(()),
+        };
+        if passing.draining {
+            return Ok(());
+        }
+        let filter = passing.filter;
+        if let Some(row) = self.rows.get_mut(passing.operation) {
+            match way {
+                Way::Passes => row.position = Position::Down(filter.saturating_add(1)),
+                Way::Frames => {
+                    row.frames.push(Frame { filter, context })?;
+                    row.position = Position::Down(filter.saturating_add(1));
+                }
+                Way::Ends(outcome) => {
+                    row.position = Position::Up;
+                    row.outcome = Some(outcome);
+                }
+                _ => row.position = Position::Up,
+            }
+        }
+        Ok(())
+    }
+}
+
+/// Whether both programs say the same of all visits, and of one that isn't there.
+fn agree_on_visits(operations: &Operations, plain: &Plain) -> bool {
+    for (number, passing) in plain.visits.iter().enumerate() {
+        let visit = operations.visit(number);
+        if visit.operation as usize != passing.operation
+            || visit.filter != passing.filter
+            || matches!(visit.stage, Stage::Post) != passing.is_post
+            || visit.draining != passing.draining
+            || operations.is_settled(number) != passing.settled
+            || operations.makes_frame(number, Way::Frames)
+                != (!passing.settled && !passing.draining)
+            || operations.makes_frame(number, Way::Passes)
+        {
+            return false;
+        }
+    }
+    let next = plain.visits.len();
+    operations.visit(next).draining && operations.is_settled(next)
+}
+
+/// Whether both programs say the same of all operations and filters, those included that aren't there.
+fn agree(operations: &Operations, plain: &Plain) -> bool {
+    for serial in 0..MOST as u32 + 2 {
+        let number = serial as usize;
+        if operations.arrival(serial).file != plain.file(number)
+            || place(operations.position(serial)) != plain.place(number)
+            || operations.cancelled(serial) != plain.cancelled(number)
+            || end(operations.outcome(serial)) != plain.end(number)
+            || operations.is_done(serial) != plain.is_done(number)
+        {
+            return false;
+        }
+    }
+    for filter in 0..FILTERS + 1 {
+        if operations.least_frame(filter) != plain.least_frame(filter) {
+            return false;
+        }
+    }
+    true
+}
+
+/// Numbers that look random, the same in each run.
+#[derive(Drop)]
+struct Dice {
+    state: u64,
+}
+
+impl Dice {
+    fn roll(&mut self, sides: u64) -> usize
+        ensures { 0 < sides → result < sides }
+    {
+        self.state = self
+            .state
+            .wrapping_mul(6364136223846793005)
+            .wrapping_add(1442695040888963407);
+        if sides == 0 {
+            return 0;
+        }
+        ((self.state >> 33) % sides) as usize
+    }
+
+    fn way(&mut self) -> Way {
+        match self.roll(8) {
+            0 => Way::Passes,
+            1 | 2 | 3 => Way::Frames,
+            4 => Way::Ends(Outcome::Final(FinalStatus::AccessDenied)),
+            5 => Way::Ends(Outcome::Disallowed),
+            6 => Way::Rises,
+            _ => Way::Stays,
+        }
+    }
+}
+
+/// One call of both programs, and whether they answered the same.
+fn step(
+    operations: &mut Operations,
+    plain: &mut Plain,
+    dice: &mut Dice,
+    alloc: Global,
+) -> Result<bool, Fail> {
+    let number = dice.roll(MOST as u64 + 1);
+    let serial = number as u32;
+    let filter = dice.roll(FILTERS as u64 + 1);
+    match dice.roll(12) {
+        0 => {
+            if plain.rows.len() >= MOST {
+                return Ok(true);
+            }
+            let answer = operations.arrive(Operation::Read, Mode::Irp, serial)?;
+            Ok(answer as usize == plain.arrive(alloc, serial)?)
+        }
+        1 | 2 => Ok(start(operations.start_pre(serial)?) == plain.start_pre(number)?),
+        3 => Ok(operations.skip(serial) == plain.skip(number)),
+        4 => Ok(operations.lower(serial) == plain.lower(number)),
+        5 | 6 => Ok(start(operations.pop_frame(serial)?) == plain.pop_frame(number)?),
+        7 => Ok(start(operations.drain(filter, serial)?) == plain.drain(filter, number)?),
+        8 => Ok(operations.cancel(serial) == plain.cancel(number)),
+        _ => {
+            let visit = dice.roll(plain.visits.len() as u64 + 1);
+            let way = dice.way();
+            operations.settle(visit, Some(number), way)?;
+            plain.settle(visit, Some(number), way)?;
+            Ok(true)
+        }
+    }
+}
+
+#[test]
+fn calls_do_what_the_plain_program_does(rt: HostRuntime) -> Result<(), Fail> {
+    let mut dice = Dice { state: 20240612 };
+    for script in 0..400 {
+        let mut operations = Operations::new(rt.alloc(), FILTERS);
+        let mut plain = Plain::new(rt.alloc());
+        for turn in 0..60 {
+            let same = step(&mut operations, &mut plain, &mut dice, rt.alloc())?;
+            assert!(rt; same, "script {script}, turn {turn}");
+            assert!(rt; agree(&operations, &plain), "script {script}, turn {turn}");
+            assert!(rt;
+                agree_on_visits(&operations, &plain),
+                "script {script}, turn {turn}"
+            );
+        }
+    }
+    Ok(())
+}
+
+#[test]
+fn the_last_operation_arrives_and_no_more(rt: HostRuntime) -> Result<(), Fail> {
+    let mut operations = Operations::new(rt.alloc(), FILTERS);
+    for serial in 0..65_536u32 {
+        let answer = operations.arrive(Operation::Write, Mode::Irp, serial % 1024)?;
+        assert!(rt; answer == serial);
+    }
+    for _ in 0..2 {
+        assert!(rt; operations.arrive(Operation::Write, Mode::Irp, 0) == Err(ArriveFault::Full));
+        assert!(rt; place(operations.position(65_535)) == 2);
+        assert!(rt; place(operations.position(65_536)) == 0);
+    }
+    Ok(())
+}
+
+/// A call on the first operation.
+#[derive(Clone, Copy)]
+enum Call {
+    StartPre,
+    Lower,
+    PopFrame,
+    Drain(usize),
+    Settle(usize, Option<usize>, Way),
+}
+
+/// An operation that gets a frame at each filter, is drained of the first, and comes back up: each call with the visit, the filter
+/// and the context of the callback that it starts.
+const CALLS: [(Call, Option<(usize, usize, Option<usize>)>); 13] = [
+    (Call::StartPre, Some((0, 0, None))),
+    (Call::Settle(0, Some(7), Way::Frames), None),
+    (Call::StartPre, Some((1, 1, None))),
+    (Call::Settle(1, Some(8), Way::Frames), None),
+    (Call::StartPre, Some((2, 2, None))),
+    (Call::Settle(2, Some(9), Way::Frames), None),
+    (Call::Lower, None),
+    (Call::PopFrame, Some((3, 2, Some(9)))),
+    (Call::Settle(3, None, Way::Rises), None),
+    (Call::Drain(0), Some((4, 0, Some(7)))),
+    (Call::Settle(4, None, Way::Rises), None),
+    (Call::PopFrame, Some((5, 1, Some(8)))),
+    (Call::Settle(5, None, Way::Rises), None),
+];
+
+/// Makes the call, and answers what a callback starts with, if one does.
+fn made(
+    operations: &mut Operations,
+    call: Call,
+) -> Result<Option<(usize, usize, Option<usize>)>, AllocError> {
+    match call {
+        Call::StartPre => Ok(start(operations.start_pre(0)?)),
+        Call::Lower => {
+            let _ = operations.lower(0);
+            Ok(None)
+        }
+        Call::PopFrame => Ok(start(operations.pop_frame(0)?)),
+        Call::Drain(filter) => Ok(start(operations.drain(filter, 0)?)),
+        Call::Settle(visit, context, way) => {
+            operations.settle(visit, context, way)?;
+            Ok(None)
+        }
+    }
+}
+
+/// `tools/refuse-allocations.sh tests flt_tests memory` refuses each request for memory in turn.
+#[test]
+fn an_operation_goes_down_and_up_within_memory(rt: HostRuntime) -> Result<(), Fail> {
+    let mut operations = Operations::new(rt.alloc(), FILTERS);
+    assert!(rt; operations.arrive(Operation::Read, Mode::Irp, 7)? == 0);
+    for (call, wanted) in CALLS.iter() {
+        assert!(rt; !operations.is_done(0));
+        assert!(rt; made(&mut operations, *call)? == *wanted);
+    }
+    assert!(rt; operations.is_done(0));
+    assert!(rt; end(operations.outcome(0)) == 2);
+    Ok(())
+}
