@@ -13,8 +13,9 @@ mod lists;
 #[cfg(test)]
 mod loading;
 #[cfg(test)]
-mod queues;
 mod operations;
+#[cfg(test)]
+mod queues;
 #[cfg(test)]
 mod states;
 #[cfg(test)]
