@@ -4,7 +4,7 @@ ghost use Rattle.std.specs.Prelude.{◌≡◌, ◌↔◌, ◌≤◌, true, false
 ghost use Rattle.flt_model.specs.Moves as moves;
 ghost use Rattle.flt_model.specs.Settling as settling;
 ghost use Rattle.flt_model.specs.World as machine;
-ghost use Rattle.flt_ops.specs.Operating.{store_of, after, no_operations, route_of, filter_at, is_past_filters, frame_at, in_pre_visit, past_filter, lowered, in_post_visit, in_draining_visit, with_cancel};
+ghost use Rattle.flt_ops.specs.Operating.{store_of, after, no_operations, route_of, filter_at, is_past_filters, frame_at, in_pre_visit, past_filter, lowered, in_post_visit, in_draining_visit, with_cancel, IsStarted};
 ghost use Rattle.flt_ops.specs.Parts.{position_of, outcome_of, way_of};
 ghost use Rattle.flt_ops.specs.declared.fault.ArriveFault.TheVariants.{Full};
 
@@ -234,7 +234,7 @@ impl Operations {
     /// The last frame is taken off, and its post callback starts. `None` where the operation isn't up or has no frame.
     #[tactic(auto, using(std::proofs::lemmas::Grind::common_steps, crate::proofs::OtherFrames::any_front, crate::proofs::OtherFrames::any_last, crate::proofs::Changes::is_last))]
     pub fn pop_frame(&mut self, serial: u32) -> Result<Option<Started>, OutOfMemory>
-        ensures started { IfOk result (λ started. MatchOption (frame_at self.old serial) ((started ≡ None) × (self.new ≡ self.old)) (λ frame. (started ≡ Some (record { visit = length self.old.visits; filter = frame.filter; context = frame.context })) × (self.new ≡ after (in_post_visit serial frame) self.old))) }
+        ensures started { IfOk result (λ started. IsStarted self.old (frame_at self.old serial) (in_post_visit serial) started self.new) }
         ensures refused { OnErr result (self.new ≡ self.old) }
     {
         let Some(frame) = self.frame_at(serial) else {
@@ -258,7 +258,7 @@ impl Operations {
     /// `None` where it has no frame of the filter.
     #[tactic(auto, using(std::proofs::lemmas::Grind::common_steps, crate::proofs::OtherFrames::any_left, crate::proofs::OtherFrames::found_of))]
     pub fn drain(&mut self, filter: usize, serial: u32) -> Result<Option<Started>, OutOfMemory>
-        ensures started { IfOk result (λ started. MatchOption (find (moves.is_frame_of filter) (route_of self.old serial).frames) ((started ≡ None) × (self.new ≡ self.old)) (λ frame. (started ≡ Some (record { visit = length self.old.visits; filter = frame.filter; context = frame.context })) × (self.new ≡ after (in_draining_visit serial frame) self.old))) }
+        ensures started { IfOk result (λ started. IsStarted self.old (find (moves.is_frame_of filter) (route_of self.old serial).frames) (in_draining_visit serial) started self.new) }
         ensures refused { OnErr result (self.new ≡ self.old) }
     {
         let Some(frame) = self.routes.first_frame(serial, filter) else {
