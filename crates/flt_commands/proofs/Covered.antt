@@ -32,6 +32,7 @@ covered_is_clean one fine theorem text graph cert points covers f transitions sp
 
     accepted : IsAccepted f
     accepted = subst IsAccepted same (record { graph = graph; cert = cert; well_formed = fine text points.filter points.spelled; lowered = points.lowered; covers = covers })
+
     all : AreAccepted (f ∷ [])
     all zero d within = accepted
     all (suc k) d within = absurd (omega (arith, within))
