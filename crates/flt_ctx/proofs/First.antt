@@ -10,7 +10,8 @@ use Rattle.flt_ctx.specs.declared.links.Row.{Row}
 use Rattle.flt_ctx.specs.Contexts.{Context, ContextTable, context_at, linked_at, order_of}
 use Rattle.flt_ctx.specs.Rows.{row_at, key_of, as_context, context_of}
 use Rattle.flt_ctx.specs.Kept.{AreKept}
-use Rattle.flt_ctx.specs.Streams.{has, stream_key}
+use Rattle.flt_ctx.specs.Streams.{stream_key}
+use Rattle.pair_set.specs.Pairs.{has}
 use Rattle.flt_ctx.proofs.Rows.{context_is}
 use Rattle.flt_ctx.proofs.Walks.{linked_alone}
 use Rattle.flt_ctx.proofs.Indexed.{with_key}

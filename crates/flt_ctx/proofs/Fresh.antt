@@ -10,7 +10,7 @@ use Rattle.flt_ctx.specs.declared.links.Link.{Link}
 use Rattle.std.specs.BTreeSet.{BTreeSet}
 use Rattle.flt_ctx.specs.Rows.{row_at}
 use Rattle.flt_ctx.specs.Kept.{AreKept}
-use Rattle.flt_ctx.specs.Streams.{has}
+use Rattle.pair_set.specs.Pairs.{has}
 use Rattle.flt_ctx.proofs.Indexed.{AreIndexed-fresh}
 
 none_in : (n list node : ℕ) → Contains (nodes_of (replicate n []) list) node → ⊥

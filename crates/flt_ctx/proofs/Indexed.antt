@@ -8,7 +8,8 @@ use Rattle.flt_ctx.specs.declared.key.Key.{Key}
 use Rattle.flt_ctx.specs.declared.links.Link.{Link}
 use Rattle.flt_ctx.specs.declared.links.Row.{Row}
 use Rattle.flt_ctx.specs.Rows.{row_at, key_of, AreLinked}
-use Rattle.flt_ctx.specs.Streams.{has, stream_key, is_stream, AreIndexed}
+use Rattle.flt_ctx.specs.Streams.{stream_key, is_stream, AreIndexed}
+use Rattle.pair_set.specs.Pairs.{has}
 use Rattle.flt_ctx.proofs.Walks.{key_is, key_self}
 
 -- a key that is a stream's passes for it

@@ -5,5 +5,4 @@ pub mod Algebra
 pub mod First
 pub mod Used
 pub mod Fresh
-pub mod StreamOrder
 pub mod Indexed

@@ -1,21 +1,12 @@
 -- What the set of streams has, by this project's own rules: the filter and the file of each link to a stream.
 use Rattle.std.specs.Prelude.{◌≡◌, ◌↔◌, ℕ, Bool, true, List, Some}
-use Rattle.std.specs.BTreeSet.{BTreeSet, contains}
-use Rattle.std.specs.Ordering.{nat_cmp, ordering_then}
-use Rattle.std.specs.declared.cmp.Ordering.{Ordering}
+use Rattle.std.specs.BTreeSet.{BTreeSet}
+use Rattle.pair_set.specs.Pairs.{has}
 use Rattle.flt_ctx.specs.declared.key.Key.{Key}
 use Rattle.flt_ctx.specs.declared.key.Target.TheVariants.{Stream}
 use Rattle.flt_ctx.specs.declared.links.Row.{Row}
 use Rattle.flt_ctx.specs.Contexts.{same_key}
 use Rattle.flt_ctx.specs.Rows.{row_at, key_of}
-
--- the order of the pairs: by filter, then by file
-abbrev pub pair_cmp : ℕ × ℕ → ℕ × ℕ → Ordering
-pair_cmp p q = ordering_then (nat_cmp p.0 q.0) (nat_cmp p.1 q.1)
-
--- the filter and the file are there
-unfoldable pub has : BTreeSet (ℕ × ℕ) → ℕ → ℕ → Bool
-has s filter file = contains pair_cmp s (filter, file)
 
 -- the key of a filter's stream
 abbrev pub stream_key : ℕ → ℕ → Key

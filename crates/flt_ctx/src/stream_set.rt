@@ -1,15 +1,16 @@
 //! The streams at which contexts are linked, in the order of their numbers: the first one of a filter is found without a search.
 ghost use Rattle.std.specs.Prelude.{◌≡◌, ℕ, ◌<◌, false, true, not, ◌&&◌, ◌||◌, OnOk, OnErr, MatchOption};
-ghost use Rattle.flt_ctx.specs.Streams.{has, is_stream};
+ghost use Rattle.flt_ctx.specs.Streams.{is_stream};
+ghost use Rattle.pair_set.specs.Pairs.{has};
 
 use crate::key::{Key, Target};
+use pair_set::PairSet;
 use std::alloc::{AllocError, Global};
-use std::collections::BTreeSet;
 
 /// The filter and the file of each key whose target is a stream.
 #[derive(Drop)]
 pub(crate) struct StreamSet {
-    set: BTreeSet<(usize, u32)>,
+    set: PairSet,
 }
 
 impl StreamSet {
@@ -17,7 +18,7 @@ impl StreamSet {
         ensures { (filter file : ℕ) → has result.set filter file ≡ false }
     {
         StreamSet {
-            set: BTreeSet::new(alloc),
+            set: PairSet::new(alloc),
         }
     }
 
@@ -29,10 +30,7 @@ impl StreamSet {
     {
         match key.target {
             Target::Instance => Ok(()),
-            Target::Stream(file) => match self.set.insert((key.filter, file)) {
-                Ok(_) => Ok(()),
-                Err(_) => Err(AllocError),
-            },
+            Target::Stream(file) => self.set.insert(key.filter, file),
         }
     }
 
@@ -42,7 +40,7 @@ impl StreamSet {
             has self.new.set filter file ≡ (not (is_stream key filter file) && has self.old.set filter file) }
     {
         if let Target::Stream(file) = key.target {
-            let _ = self.set.remove(&(key.filter, file));
+            self.set.remove(key.filter, file);
         }
     }
 
@@ -51,9 +49,6 @@ impl StreamSet {
         ensures { MatchOption result ((file : ℕ) → has self.now.set filter file ≡ false)
             (λ least. (has self.now.set filter least ≡ true) × ((file : ℕ) → file < least → has self.now.set filter file ≡ false)) }
     {
-        match self.set.range((filter, 0)..).next() {
-            Some(pair) if pair.0 == filter => Some(pair.1),
-            _ => None,
-        }
+        self.set.least(filter)
     }
 }

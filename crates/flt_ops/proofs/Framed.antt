@@ -10,7 +10,7 @@ use Rattle.std.proofs.lemmas.List.Folds.{list_any-append}
 use Rattle.std.proofs.lemmas.List.Sums.{position_or_len_is}
 use Rattle.flt_model.specs.Moves.{has_frame, is_frame_of, last_frame, without_last, other_frames}
 use Rattle.flt_model.specs.World.{Frame, Route, no_route}
-use Rattle.flt_ops.specs.FramePlaces.{has, is_pair}
+use Rattle.pair_set.specs.Pairs.{has, is_pair}
 use Rattle.flt_ops.specs.Kept.{AreFramed}
 use Rattle.flt_ops.proofs.OtherFrames.{any_pushed, any_pushed_own, any_other, any_left}
 

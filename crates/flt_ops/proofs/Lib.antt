@@ -1,5 +1,4 @@
 pub mod FirstPlaces
-pub mod PairOrder
 pub mod Counts
 pub mod Framed
 pub mod OtherFrames

@@ -3,7 +3,7 @@ use Rattle.std.specs.Prelude.{◌≡◌, ℕ, ◌<◌, ◌≤◌, true, List, le
 use Rattle.std.specs.BTreeSet.{BTreeSet}
 use Rattle.flt_model.specs.Moves.{has_frame}
 use Rattle.flt_model.specs.World.{Arrival, Down, Position, Route, no_route, no_visit}
-use Rattle.flt_ops.specs.FramePlaces.{has}
+use Rattle.pair_set.specs.Pairs.{has}
 use Rattle.flt_ops.specs.Unsettled.{VisitRows}
 
 -- the set has the filter and the operation of each frame

@@ -1,5 +1,4 @@
 pub mod Parts
-pub mod FramePlaces
 pub mod Unsettled
 pub mod Operating
 pub mod Kept

@@ -6,9 +6,9 @@ ghost use Rattle.flt_model.specs.Settling as settling;
 ghost use Rattle.flt_model.specs.World as machine;
 ghost use Rattle.flt_ops.specs.Parts.{position_of, outcome_of, way_of};
 
-use crate::frame_set::FrameSet;
 use crate::parts::{Frame, Outcome, Position, Route, Way};
 use flt_rules::FinalStatus;
+use pair_set::PairSet;
 use std::alloc::{AllocError, Global};
 use std::marker::Model;
 
@@ -18,7 +18,7 @@ pub(crate) struct Routes {
     alloc: Global,
     routes: Vec<Route>,
     /// The filter and the operation of each frame.
-    framed: FrameSet,
+    framed: PairSet,
 }
 
 impl Model for Routes {
@@ -30,7 +30,7 @@ impl Model for Routes {
 
     ghost view = { λ r. r.routes.items };
 
-    ghost invariant = { λ r. AreFramed r.routes.items r.framed.set };
+    ghost invariant = { λ r. AreFramed r.routes.items r.framed };
 }
 
 // ---- one route
@@ -118,7 +118,7 @@ impl Routes {
         Routes {
             alloc,
             routes: Vec::new(alloc),
-            framed: FrameSet::new(alloc),
+            framed: PairSet::new(alloc),
         }
     }
 

@@ -2,6 +2,7 @@
 ghost use Rattle.std.specs.Prelude.{◌≡◌, ◌-◌, ◌^◌, ◌<◌, true};
 ghost use Rattle.flt_ctx.specs.Contexts.{context_at};
 
+use crate::dice::Dice;
 use flt_ctx::{Contexts, Key, Release, SetAnswer, Target, Unlinked};
 use std::alloc::{AllocError, Global};
 use std::process::Abort;
@@ -244,28 +245,7 @@ fn same_links(contexts: &Contexts, rows: &Rows) -> bool {
     true
 }
 
-/// Numbers that look random, the same in each run.
-#[derive(Drop)]
-struct Dice {
-    state: u64,
-}
-
 impl Dice {
-    fn roll(&mut self, sides: u64) -> usize {
-        self.state = self
-            .state
-            .wrapping_mul(6364136223846793005)
-            .wrapping_add(1442695040888963407);
-        if sides == 0 {
-            return 0;
-        }
-        ((self.state >> 33) % sides) as usize
-    }
-
-    fn flip(&mut self) -> bool {
-        self.roll(2) == 0
-    }
-
     fn key(&mut self, filters: u64) -> Key {
         let filter = self.roll(filters);
         let target = match self.roll(4) {

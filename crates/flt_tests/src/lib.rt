@@ -7,6 +7,8 @@ mod certificates;
 #[cfg(test)]
 mod contexts;
 #[cfg(test)]
+mod dice;
+#[cfg(test)]
 mod journals;
 #[cfg(test)]
 mod lists;
@@ -14,6 +16,8 @@ mod lists;
 mod loading;
 #[cfg(test)]
 mod operations;
+#[cfg(test)]
+mod pairs;
 #[cfg(test)]
 mod queues;
 #[cfg(test)]

@@ -1,7 +1,6 @@
 //! Operations beside a plain program that scans rows, and the most operations that there may be.
 
-ghost use Rattle.std.specs.Prelude.{◌<◌};
-
+use crate::dice::Dice;
 use flt_ops::{ArriveFault, Frame, Operations, Outcome, Position, Started, Way};
 use flt_rules::{FinalStatus, Mode, Operation, Stage};
 use std::alloc::{AllocError, Global};
@@ -328,26 +327,7 @@ fn agree(operations: &Operations, plain: &Plain) -> bool {
     true
 }
 
-/// Numbers that look random, the same in each run.
-#[derive(Drop)]
-struct Dice {
-    state: u64,
-}
-
 impl Dice {
-    fn roll(&mut self, sides: u64) -> usize
-        ensures { 0 < sides → result < sides }
-    {
-        self.state = self
-            .state
-            .wrapping_mul(6364136223846793005)
-            .wrapping_add(1442695040888963407);
-        if sides == 0 {
-            return 0;
-        }
-        ((self.state >> 33) % sides) as usize
-    }
-
     fn way(&mut self) -> Way {
         match self.roll(8) {
             0 => Way::Passes,

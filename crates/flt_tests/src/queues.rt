@@ -1,6 +1,6 @@
 //! Cancel-safe queues: by hand, and beside vectors that every call scans.
 
-use crate::lists::Dice;
+use crate::dice::Dice;
 use flt_cbdq::{Entry, InsertFault, Queues};
 use std::alloc::{AllocError, Global};
 use std::process::Abort;

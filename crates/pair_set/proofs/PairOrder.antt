@@ -1,4 +1,4 @@
--- The order of the pairs of filter and file: equal pairs are one, and between pairs of a filter there are only pairs of it.
+-- The order of the pairs: equal pairs are one, and between pairs of a first number there are only pairs of it.
 use Rattle.std.proofs.Common.{◌≡◌, ◌≤◌, ◌<◌, ℕ, Bool, true, false, ◌&&◌, ◌==◌, List, [], ◌∷◌, refl, sym, ◌∙◌, subst, arith}
 use Rattle.std.specs.Bool.{⊤}
 use Rattle.std.proofs.lemmas.Bool.Decides.{nat_tests}
@@ -10,7 +10,7 @@ use Rattle.std.specs.declared.cmp.Ordering.{Ordering}
 use Rattle.std.specs.declared.cmp.Ordering.TheVariants.{Less, Equal, Greater}
 use Rattle.std.specs.Bool.{IsTrue}
 use Rattle.std.specs.Ordering.{nat_cmp, is_eq, is_gt, ordering_then}
-use Rattle.flt_ctx.specs.Streams.{pair_cmp, has}
+use Rattle.pair_set.specs.Pairs.{pair_cmp, has, is_pair}
 
 nat_is : (x y : ℕ) → is_eq (nat_cmp x y) ≡ (x == y)
 nat_is x y = grind (arith, nat_tests)
@@ -21,7 +21,7 @@ then_is Equal y = refl
 then_is Greater y = refl
 
 -- equal in the order is being one
-pub cmp_is : (f o g u : ℕ) → is_eq (pair_cmp (f, o) (g, u)) ≡ ((f == g) && (o == u))
+pub cmp_is : (f o g u : ℕ) → is_eq (pair_cmp (f, o) (g, u)) ≡ is_pair f o g u
 cmp_is f o g u = then_is (nat_cmp f g) (nat_cmp o u) ∙ rw (nat_is f g, nat_is o u) refl
 
 -- ---- what comes before what
@@ -59,7 +59,7 @@ same_filter f u Greater p = let l = nat_greater f f p in absurd (omega arith)
 from_least : (f u : ℕ) → is_gt (pair_cmp (f, 0) (f, u)) ≡ false
 from_least f u = same_filter f u (nat_cmp f f) refl
 
--- ---- the first of the pairs from the least pair of a filter on
+-- ---- the first of the pairs from the least pair of a first number on
 
 false_where_absurd : (b : Bool) → (b ≡ true → ⊥) → b ≡ false
 false_where_absurd true h = absurd (h refl)
@@ -79,13 +79,13 @@ module _ (s : BTreeSet (ℕ × ℕ)) (f : ℕ) (r : List (ℕ × ℕ)) (h : IsKe
         let upto = subst (λ (xs : List (ℕ × ℕ)). IfSome (slice_get xs 0) (λ (q : ℕ × ℕ). is_gt (pair_cmp q (f, u)) ≡ false)) is (h.2 (f, u) (from_least f u, tt) is_in) in
         not_after p.0 p.1 f u upto
 
-    -- where it is of the filter, its file is the least
+    -- where it has the first number, its second is the least
     pub least_here : p.0 ≡ f → (has s f p.1 ≡ true) × ((u : ℕ) → u < p.1 → has s f u ≡ false)
     unfolding has
     least_here e =
         (rw (sym e) first_is.1, λ u less. false_where_absurd _ (λ is_in. let m = to_each u is_in in let n = m.second e in omega arith))
 
-    -- where it is of another filter, there is none
+    -- where it has another first number, there is none
     pub none_past : (p.0 ≡ f → ⊥) → (u : ℕ) → has s f u ≡ false
     unfolding has
     none_past other u =

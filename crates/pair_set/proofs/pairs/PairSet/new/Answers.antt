@@ -1,6 +1,6 @@
 use Rattle.std.proofs.Common.{refl}
-use Rattle.flt_ops.specs.FramePlaces.{has}
-use Rattle.flt_ops.proofs.frame_set.FrameSet.new.Goals as goal
+use Rattle.pair_set.specs.Pairs.{has}
+use Rattle.pair_set.proofs.pairs.PairSet.new.Goals as goal
 
 pub returns : goal.returns
 unfolding has

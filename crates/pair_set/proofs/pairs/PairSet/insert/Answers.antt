@@ -1,8 +1,8 @@
 use Rattle.std.proofs.Common.{◌≡◌, Bool, true, false, ◌||◌, cond, refl, ap, ◌∙◌}
 use Rattle.std.specs.Ordering.{is_eq}
-use Rattle.flt_ops.specs.FramePlaces.{pair_cmp, has}
-use Rattle.flt_ops.proofs.PairOrder.{cmp_is}
-use Rattle.flt_ops.proofs.frame_set.FrameSet.insert.Goals as goal
+use Rattle.pair_set.specs.Pairs.{pair_cmp, has}
+use Rattle.pair_set.proofs.PairOrder.{cmp_is}
+use Rattle.pair_set.proofs.pairs.PairSet.insert.Goals as goal
 
 either : (x y : Bool) → cond x true y ≡ (x || y)
 either true y = refl
@@ -11,7 +11,7 @@ either false y = refl
 pub returns-in-Ok-clause-ok : goal.returns-in-Ok-clause-ok
 unfolding has
 returns-in-Ok-clause-ok c = λ f o.
-    let was = has c.args.self.now.set f o in
+    let was = has c.self.inside.set f o in
     c.in-Ok.ensures.updates.0 (f, o)
-    ∙ either (is_eq (pair_cmp (c.args.filter, c.args.operation) (f, o))) was
-    ∙ ap (λ (b : Bool). b || was) (cmp_is c.args.filter c.args.operation f o)
+    ∙ either (is_eq (pair_cmp (c.args.first, c.args.second) (f, o))) was
+    ∙ ap (λ (b : Bool). b || was) (cmp_is c.args.first c.args.second f o)

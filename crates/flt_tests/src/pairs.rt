@@ -1,0 +1,43 @@
+//! A set of pairs beside a table of those that are there.
+
+use crate::dice::Dice;
+use pair_set::PairSet;
+use std::test::Fail;
+
+/// The first numbers of the pairs are below this.
+const FIRSTS: usize = 3;
+
+/// The second numbers are below this.
+const SECONDS: usize = 4;
+
+/// The least number at which the row says yes.
+fn least(row: &[bool; SECONDS]) -> Option<u32> {
+    for second in 0..SECONDS {
+        if row[second] {
+            return Some(second as u32);
+        }
+    }
+    None
+}
+
+#[test]
+fn finds_the_least_of_each_first_number(rt: HostRuntime) -> Result<(), Fail> {
+    let mut pairs = PairSet::new(rt.alloc());
+    let mut there = [[false; SECONDS]; FIRSTS];
+    let mut dice = Dice { state: 20261124 };
+    for turn in 0..1000 {
+        let first = dice.roll(FIRSTS as u64);
+        let second = dice.roll(SECONDS as u64);
+        let is_put_in = dice.flip();
+        if is_put_in {
+            pairs.insert(first, second as u32)?;
+        } else {
+            pairs.remove(first, second as u32);
+        }
+        there[first][second] = is_put_in;
+        for asked in 0..FIRSTS {
+            assert!(rt; pairs.least(asked) == least(&there[asked]), "turn {turn}");
+        }
+    }
+    Ok(())
+}
