@@ -2,16 +2,21 @@ use Rattle.std.proofs.Common.{◌≡◌, Bool, true, false, ◌||◌, cond, refl
 use Rattle.std.specs.Ordering.{is_eq}
 use Rattle.pair_set.specs.Pairs.{pair_cmp, has}
 use Rattle.pair_set.proofs.PairOrder.{cmp_is}
+use Rattle.pair_set.proofs.pairs.PairSet.insert.Goals.{in-Ok, in-Err}
 use Rattle.pair_set.proofs.pairs.PairSet.insert.Goals as goal
 
 either : (x y : Bool) → cond x true y ≡ (x || y)
 either true y = refl
 either false y = refl
 
-pub returns-in-Ok-clause-ok : goal.returns-in-Ok-clause-ok
+pub returns-clause-ok : goal.returns-clause-ok
 unfolding has
-returns-in-Ok-clause-ok c = λ f o.
-    let was = has c.self.inside.set f o in
-    c.in-Ok.ensures.updates.0 (f, o)
-    ∙ either (is_eq (pair_cmp (c.args.first, c.args.second) (f, o))) was
-    ∙ ap (λ (b : Bool). b || was) (cmp_is c.args.first c.args.second f o)
+returns-clause-ok c = elim c.match-insert.branch [
+  | in-Ok w ↦ rw w.result-is (λ f o.
+      let was = has c.self.inside.set f o in
+      rw (← c.self.view_is)
+      (w.in-Ok.ensures.updates.0 (f, o)
+      ∙ either (is_eq (pair_cmp (c.args.first, c.args.second) (f, o))) was
+      ∙ ap (λ (b : Bool). b || was) (cmp_is c.args.first c.args.second f o)))
+  | in-Err w ↦ rw w.result-is tt
+]

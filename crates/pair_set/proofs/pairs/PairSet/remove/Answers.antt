@@ -12,6 +12,7 @@ pub returns : goal.returns
 unfolding has
 returns c = λ f o.
     let was = has c.self.inside.set f o in
-    c.remove.ensures.updates.0 (f, o)
+    rw (← c.self.view_is)
+    (c.remove.ensures.updates.0 (f, o)
     ∙ neither (is_eq (pair_cmp (c.args.first, c.args.second) (f, o))) was
-    ∙ ap (λ (b : Bool). not b && was) (cmp_is c.args.first c.args.second f o)
+    ∙ ap (λ (b : Bool). not b && was) (cmp_is c.args.first c.args.second f o))
