@@ -18,14 +18,18 @@ use Rattle.flt_cancel.specs.declared.step.Step.TheVariants.{Split, Ask, Collect}
 
 -- ---- the totals after a change of one view
 
-asked_set : (x : ℕ) (views : List View) (id : ℕ) (v w : View) → get_elem? views id ≡ some v → times_asked x (set views id w) + times x v.asked ≡ times_asked x views + times x w.asked
+asked_set : (x : ℕ) (views : List View) (id : ℕ) (v w : View) → get_elem? views id ≡ some v →
+    times_asked x (set views id w) + times x v.asked ≡ times_asked x views + times x w.asked
 asked_set x [] id v w at = absurd (some-ne-none v (sym at))
-asked_set x (u ∷ us) zero v w at = let e : times x u.asked ≡ times x v.asked = ap (λ (t : View). times x t.asked) (some-injective u v at) in omega arith
+asked_set x (u ∷ us) zero v w at = let e : times x u.asked ≡ times x v.asked =
+    ap (λ (t : View). times x t.asked) (some-injective u v at) in omega arith
 asked_set x (u ∷ us) (suc id) v w at = omega (arith, asked_set x us id v w at)
 
-collected_set : (x : ℕ) (views : List View) (id : ℕ) (v w : View) → get_elem? views id ≡ some v → times_collected x (set views id w) + times x v.collected ≡ times_collected x views + times x w.collected
+collected_set : (x : ℕ) (views : List View) (id : ℕ) (v w : View) → get_elem? views id ≡ some v →
+    times_collected x (set views id w) + times x v.collected ≡ times_collected x views + times x w.collected
 collected_set x [] id v w at = absurd (some-ne-none v (sym at))
-collected_set x (u ∷ us) zero v w at = let e : times x u.collected ≡ times x v.collected = ap (λ (t : View). times x t.collected) (some-injective u v at) in omega arith
+collected_set x (u ∷ us) zero v w at = let e : times x u.collected ≡ times x v.collected =
+    ap (λ (t : View). times x t.collected) (some-injective u v at) in omega arith
 collected_set x (u ∷ us) (suc id) v w at = omega (arith, collected_set x us id v w at)
 
 asked_snoc : (x : ℕ) (views : List View) → times_asked x (views ++ newcomer ∷ []) ≡ times_asked x views
@@ -60,12 +64,16 @@ balanced (Ask by serial ∷ earlier) x h =
     (ℕ_discrete x serial)
     (λ e.
     let once = times_one_same x serial e in
-    let p : present (words_after (Ask by serial ∷ earlier)) x ≡ 1 = ap (present (words_after (Ask by serial ∷ earlier))) e ∙ after_ask words serial in_words in
+    let p : present (words_after (Ask by serial ∷ earlier)) x ≡ 1 = ap (present (words_after (Ask by serial ∷ earlier))) e
+    ∙ after_ask words serial in_words in
     (omega (arith, a, c, t, once, p, most), λ some_asked. omega (arith, p)))
     (λ ne.
     let never = times_one_other x serial ne in
-    let p = after_another_ask words serial x in_words ne in
-    (omega (arith, a, c, t, never, p, most), λ some_asked. let least = b.1 (omega (arith, a, t, never, some_asked)) in omega (arith, c, p, least)))
+    let p = after_another_ask words serial x in_words ne in (
+      omega (arith, a, c, t, never, p, most),
+      λ some_asked. let least = b.1 (omega (arith, a, t, never, some_asked)) in
+          omega (arith, c, p, least),
+    ))
 balanced (Collect by word found ∷ earlier) x h =
     let words : List ℕ = words_after earlier in let views : List View = views_after earlier in
     let b = balanced earlier x h.1 in let most = b.0 in
@@ -82,13 +90,20 @@ balanced (Collect by word found ∷ earlier) x h =
     (λ e.
     let p = after_collection words word x in_words e in
     let was : present words x ≡ bit_at found (x % 64) = in_word words word x e ∙ ap (λ (n : ℕ). bit_at n (x % 64)) (sym h.0.2) in
-    let got = times_here word found x e in
-    (omega (arith, a, c, t, p, was, got, most), λ some_asked. let least = b.1 (omega (arith, a, some_asked)) in omega (arith, c, t, p, was, got, least)))
+    let got = times_here word found x e in (
+      omega (arith, a, c, t, p, was, got, most),
+      λ some_asked. let least = b.1 (omega (arith, a, some_asked)) in
+          omega (arith, c, t, p, was, got, least),
+    ))
     (λ ne.
     let p = elsewhere words word 0 x ne in
-    let got = times_elsewhere word found x ne in
-    (omega (arith, a, c, t, p, got, most), λ some_asked. let least = b.1 (omega (arith, a, some_asked)) in omega (arith, c, t, p, got, least)))
+    let got = times_elsewhere word found x ne in (
+      omega (arith, a, c, t, p, got, most),
+      λ some_asked. let least = b.1 (omega (arith, a, some_asked)) in
+          omega (arith, c, t, p, got, least),
+    ))
 
 pub none_invented : NoneIsInvented
 none_invented pads kept serial =
-    subst (λ (words : List ℕ). IsBalanced serial words pads.views) (sym kept.2) (subst (λ (views : List View). IsBalanced serial (words_after kept.0) views) (sym kept.3) (balanced kept.0 serial kept.1))
+    subst (λ (words : List ℕ). IsBalanced serial words pads.views) (sym kept.2)
+    (subst (λ (views : List View). IsBalanced serial (words_after kept.0) views) (sym kept.3) (balanced kept.0 serial kept.1))

@@ -20,7 +20,8 @@ module _ {A : Type 0} where
   at_place (x ∷ xs) (suc i) d lt = at_place xs i d (omega arith)
 
   -- what stands in a list with one element more stood in the list, or is that element
-  pub at_snoc_place : (l : List A) (a b : A) (j : ℕ) → get_elem? (l ++ a ∷ []) j ≡ some b → (get_elem? l j ≡ some b) ⊎ ((a ≡ b) × (length l ≤ j))
+  pub at_snoc_place : (l : List A) (a b : A) (j : ℕ) → get_elem? (l ++ a ∷ []) j ≡ some b → (get_elem? l j ≡ some b)
+      ⊎ ((a ≡ b) × (length l ≤ j))
   at_snoc_place [] a b zero e = inr (some-injective a b e, omega arith)
   at_snoc_place [] a b (suc j) e = absurd (some-ne-none b (sym e))
   at_snoc_place (x ∷ xs) a b zero e = inl e

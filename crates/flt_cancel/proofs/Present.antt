@@ -13,7 +13,8 @@ pub same_serial : (x y : ℕ) → word_of x ≡ word_of y → mask_of x ≡ mask
 same_serial x y w m = dite
     (ℕ_discrete (x % 64) (y % 64))
     (λ e. omega (arith, e, w))
-    (λ ne. let z : 1 ≡ 0 = sym (bit_at-pow_same (x % 64)) ∙ ap (λ (n : ℕ). bit_at n (x % 64)) m ∙ bit_at-pow_other (y % 64) (x % 64) ne in absurd (omega (arith, z)))
+    (λ ne. let z : 1 ≡ 0 = sym (bit_at-pow_same (x % 64)) ∙ ap (λ (n : ℕ). bit_at n (x % 64)) m
+    ∙ bit_at-pow_other (y % 64) (x % 64) ne in absurd (omega (arith, z)))
 
 pub at_start : (serial : ℕ) → present (replicate 1024 0) serial ≡ 0
 at_start serial = ap (λ (n : ℕ). bit_at n (serial % 64)) (zero_at 1024 (serial / 64)) ∙ bit_at-zero (serial % 64)
@@ -23,17 +24,22 @@ at_start serial = ap (λ (n : ℕ). bit_at n (serial % 64)) (zero_at 1024 (seria
     zero_at (suc n) zero = refl
     zero_at (suc n) (suc i) = zero_at n i
 
-here : (words : List ℕ) (word bits serial : ℕ) → word < length words → word_of serial ≡ word → present (set words word bits) serial ≡ bit_at bits (serial % 64)
-here words word bits serial lt e = ap (λ (n : ℕ). bit_at n (serial % 64)) (ap (λ (j : ℕ). slice_index (set words word bits) j) e ∙ get_or-set_same words word bits 0 lt)
+here : (words : List ℕ) (word bits serial : ℕ) → word < length words → word_of serial ≡ word →
+    present (set words word bits) serial ≡ bit_at bits (serial % 64)
+here words word bits serial lt e = ap (λ (n : ℕ). bit_at n (serial % 64))
+    (ap (λ (j : ℕ). slice_index (set words word bits) j) e ∙ get_or-set_same words word bits 0 lt)
 
-pub elsewhere : (words : List ℕ) (word bits serial : ℕ) → word_of serial ≢ word → present (set words word bits) serial ≡ present words serial
+pub elsewhere : (words : List ℕ) (word bits serial : ℕ) → word_of serial ≢ word →
+    present (set words word bits) serial ≡ present words serial
 elsewhere words word bits serial ne = ap (λ (n : ℕ). bit_at n (serial % 64)) (get_or-set_other words word (serial / 64) bits 0 ne)
 
-pub after_ask : (words : List ℕ) (x : ℕ) → word_of x < length words → present (set words (word_of x) (bit_or (slice_index words (word_of x)) (mask_of x))) x ≡ 1
+pub after_ask : (words : List ℕ) (x : ℕ) → word_of x < length words →
+    present (set words (word_of x) (bit_or (slice_index words (word_of x)) (mask_of x))) x ≡ 1
 after_ask words x lt = here words (word_of x) _ x lt refl ∙ bit_at_or (slice_index words (word_of x)) (mask_of x) (x % 64)
     ∙ omega (arith, bit_at-pow_same (x % 64), bit_at-lt (slice_index words (word_of x)) (x % 64))
 
-pub after_another_ask : (words : List ℕ) (x serial : ℕ) → word_of x < length words → serial ≢ x → present (set words (word_of x) (bit_or (slice_index words (word_of x)) (mask_of x))) serial ≡ present words serial
+pub after_another_ask : (words : List ℕ) (x serial : ℕ) → word_of x < length words → serial ≢ x →
+    present (set words (word_of x) (bit_or (slice_index words (word_of x)) (mask_of x))) serial ≡ present words serial
 after_another_ask words x serial lt ne = dite
     (ℕ_discrete (word_of serial) (word_of x))
     (λ one_word.
@@ -44,9 +50,11 @@ after_another_ask words x serial lt ne = dite
     ∙ ap (λ (j : ℕ). bit_at (slice_index words j) (serial % 64)) (sym one_word))
     (λ apart. elsewhere words (word_of x) _ serial apart)
 
-pub after_collection : (words : List ℕ) (word serial : ℕ) → word < length words → word_of serial ≡ word → present (set words word 0) serial ≡ 0
+pub after_collection : (words : List ℕ) (word serial : ℕ) → word < length words → word_of serial ≡ word →
+    present (set words word 0) serial ≡ 0
 after_collection words word serial lt e = here words word 0 serial lt e ∙ bit_at-zero (serial % 64)
 
 -- a serial's bit in its word, named otherwise
-pub in_word : (words : List ℕ) (word serial : ℕ) → word_of serial ≡ word → present words serial ≡ bit_at (slice_index words word) (serial % 64)
+pub in_word : (words : List ℕ) (word serial : ℕ) → word_of serial ≡ word →
+    present words serial ≡ bit_at (slice_index words word) (serial % 64)
 in_word words word serial e = ap (λ (j : ℕ). bit_at (slice_index words j) (serial % 64)) e

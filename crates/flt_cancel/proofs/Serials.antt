@@ -21,13 +21,15 @@ times_one_other x y ne = ap (λ (b : Bool). (if b then 1 else 0) + 0) (ne_eqb y 
 piece_same : (k i n x : ℕ) → x ≡ 64 * i + k → times x (if bit_at n k == 1 then (64 * i + k) ∷ [] else []) ≡ bit_at n k
 piece_same k i n x e = dite
     (ℕ_discrete (bit_at n k) 1)
-    (λ one. ap (λ (b : Bool). times x (if b then (64 * i + k) ∷ [] else [])) (eq-eqb (bit_at n k) 1 one) ∙ times_one_same x (64 * i + k) e ∙ sym one)
+    (λ one. ap (λ (b : Bool). times x (if b then (64 * i + k) ∷ [] else [])) (eq-eqb (bit_at n k) 1 one)
+    ∙ times_one_same x (64 * i + k) e ∙ sym one)
     (λ ne. ap (λ (b : Bool). times x (if b then (64 * i + k) ∷ [] else [])) (ne_eqb (bit_at n k) 1 ne) ∙ omega (arith, bit_at-lt n k, ne))
 
 piece_other : (k i n x : ℕ) → x ≢ 64 * i + k → times x (if bit_at n k == 1 then (64 * i + k) ∷ [] else []) ≡ 0
 piece_other k i n x ne = dite
     (ℕ_discrete (bit_at n k) 1)
-    (λ one. ap (λ (b : Bool). times x (if b then (64 * i + k) ∷ [] else [])) (eq-eqb (bit_at n k) 1 one) ∙ times_one_other x (64 * i + k) ne)
+    (λ one. ap (λ (b : Bool). times x (if b then (64 * i + k) ∷ [] else [])) (eq-eqb (bit_at n k) 1 one)
+    ∙ times_one_other x (64 * i + k) ne)
     (λ clear. ap (λ (b : Bool). times x (if b then (64 * i + k) ∷ [] else [])) (ne_eqb (bit_at n k) 1 clear))
 
 -- no serial of another word stands there, nor one of a higher place
@@ -35,7 +37,8 @@ absent : (k i n x : ℕ) → k ≤ 64 → (x / 64 ≢ i) ⊎ (k ≤ x % 64) → 
 absent zero i n x le out = refl
 absent (suc k) i n x le out =
     let ne : x ≢ 64 * i + k = (λ e. ⊎_elim (λ (other : x / 64 ≢ i). other (omega arith)) (λ (far : suc k ≤ x % 64). omega arith) out) in
-    let before = absent k i n x (omega arith) (⊎_elim (λ (other : x / 64 ≢ i). inl other) (λ (far : suc k ≤ x % 64). inr (omega arith)) out) in
+    let before = absent k i n x (omega arith)
+    (⊎_elim (λ (other : x / 64 ≢ i). inl other) (λ (far : suc k ≤ x % 64). inr (omega arith)) out) in
     times-append x (serials_below k i n) _ ∙ omega (arith, before, piece_other k i n x ne)
 
 by_bit : (k i n x : ℕ) → k ≤ 64 → x / 64 ≡ i → x % 64 < k → times x (serials_below k i n) ≡ bit_at n (x % 64)
@@ -44,7 +47,8 @@ by_bit (suc k) i n x le e lt = dite
     (ℕ_discrete (x % 64) k)
     (λ last.
     let is : x ≡ 64 * i + k = omega arith in
-    times-append x (serials_below k i n) _ ∙ omega (arith, absent k i n x (omega arith) (inr (omega arith)), piece_same k i n x is) ∙ ap (bit_at n) (sym last))
+    times-append x (serials_below k i n) _
+    ∙ omega (arith, absent k i n x (omega arith) (inr (omega arith)), piece_same k i n x is) ∙ ap (bit_at n) (sym last))
     (λ below.
     let ne : x ≢ 64 * i + k = (λ is. below (omega arith)) in
     times-append x (serials_below k i n) _ ∙ omega (arith, by_bit k i n x (omega arith) e (omega (arith, below)), piece_other k i n x ne))

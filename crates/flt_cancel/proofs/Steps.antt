@@ -20,7 +20,8 @@ use Rattle.flt_cancel.specs.declared.step.Step.TheVariants.{Split, Ask, Collect}
 pub begins : (words : List ℕ) → words ≡ replicate 1024 0 → Kept (record { words = words; homes = []; views = newcomer ∷ [] })
 begins words e = ([], tt, e, refl)
 
-pub asks : (slots id x : ℕ) (me : Me ℕ View) → x < 65536 → Allows Kept slots id me (word_of x) (λ n. bit_or n (mask_of x)) (Asked (step slots (word_of x) (mask_of x) 0 none) me)
+pub asks : (slots id x : ℕ) (me : Me ℕ View) → x < 65536 →
+    Allows Kept slots id me (word_of x) (λ n. bit_or n (mask_of x)) (Asked (step slots (word_of x) (mask_of x) 0 none) me)
 asks slots id x me lt s kept size at fits =
     let steps : List Step = kept.0 in
     let h : IsHistory steps = kept.1 in
@@ -61,23 +62,33 @@ collects slots id i me lt s kept size at fits =
         now,
         history,
         ap (λ (ws : List ℕ). set ws i 0) kept.2,
-        ap (λ (vs : List View). set vs id w) kept.3 ∙ ap (λ (v : View). set (views_after steps) id (having_collected now i found v)) (sym mine),
+        ap (λ (vs : List View). set vs id w) kept.3
+            ∙ ap (λ (v : View). set (views_after steps) id (having_collected now i found v)) (sym mine),
       ),
       (refl, refl, (id, (history, past.0, ap (λ (l : List Step). Collect id i found ∷ l) past.1, past.2))),
     )
 
 pub splits : (id : ℕ) (v : View) → Splits Kept id v v newcomer
-splits id v s kept at = (Split ∷ kept.0, (tt, kept.1), kept.2, ap (λ (vs : List View). vs ++ newcomer ∷ []) (set_again s.views id v at ∙ kept.3))
+splits id v s kept at = (
+  Split ∷ kept.0,
+  (tt, kept.1),
+  kept.2,
+  ap (λ (vs : List View). vs ++ newcomer ∷ []) (set_again s.views id v at ∙ kept.3),
+)
 
 -- ---- what a seat knows after its step
 
-pub asked_is_present : (by serial : ℕ) (before after : List Step) → IsNext by (Ask by serial) before after → IsPresent (words_after after) serial
+pub asked_is_present : (by serial : ℕ) (before after : List Step) → IsNext by (Ask by serial) before after →
+    IsPresent (words_after after) serial
 asked_is_present by serial before after next =
     let earlier : List Step = next.1 ++ before in
     let h : IsHistory (Ask by serial ∷ earlier) = subst IsHistory next.2 next.0 in
     let lt = h.0.1 in
-    subst (λ (l : List Step). IsPresent (words_after l) serial) (sym next.2) (after_ask (words_after earlier) serial (omega (arith, word_count earlier, lt)))
+    subst (λ (l : List Step). IsPresent (words_after l) serial) (sym next.2)
+    (after_ask (words_after earlier) serial (omega (arith, word_count earlier, lt)))
 
-pub collected_were_asked : (by word found : ℕ) (before after : List Step) → IsNext by (Collect by word found) before after → All (λ serial. WasAsked serial after) (serials word found)
+pub collected_were_asked : (by word found : ℕ) (before after : List Step) → IsNext by (Collect by word found) before after →
+    All (λ serial. WasAsked serial after) (serials word found)
 collected_were_asked by word found before after next =
-    subst (λ (l : List Step). All (λ serial. WasAsked serial l) (serials word found)) (sym next.2) (collected_was_asked by word found (next.1 ++ before) (subst IsHistory next.2 next.0))
+    subst (λ (l : List Step). All (λ serial. WasAsked serial l) (serials word found)) (sym next.2)
+    (collected_was_asked by word found (next.1 ++ before) (subst IsHistory next.2 next.0))

@@ -27,7 +27,8 @@ abbrev pub times_collected : ℕ → List View → ℕ
 times_collected serial [] = 0
 times_collected serial (v ∷ others) = times serial v.collected + times_collected serial others
 
--- the serial was collected at most as often as asked, where a present bit counts as one collection more; and if it was asked, it was collected or is present
+-- the serial was collected at most as often as asked, where a present bit counts as one collection more; and if it was asked, it
+-- was collected or is present
 abbrev pub IsBalanced : ℕ → List ℕ → List View → Type 0
 IsBalanced serial words views =
     (times_collected serial views + present words serial ≤ times_asked serial views)
@@ -53,4 +54,5 @@ HasSeen steps by v = (since : List Step) × (steps ≡ since ++ v.seen) × All (
 -- between any two steps there is one list of steps that leaves the words as they are, and what each seat has seen is where it begins
 abbrev pub OneHistory : Type 0
 OneHistory = (pads : table.State ℕ View) → Kept pads
-    → (steps : List Step) × IsHistory steps × (pads.words ≡ words_after steps) × ((by : ℕ) (v : View) → get_elem? pads.views by ≡ some v → HasSeen steps by v)
+    → (steps : List Step) × IsHistory steps × (pads.words ≡ words_after steps)
+    × ((by : ℕ) (v : View) → get_elem? pads.views by ≡ some v → HasSeen steps by v)

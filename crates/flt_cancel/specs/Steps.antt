@@ -48,7 +48,8 @@ views_after (step ∷ earlier) = views_then (step ∷ earlier) step (views_after
 abbrev pub CanFollow : List Step → Step → Type 0
 CanFollow earlier Split = Unit {0}
 CanFollow earlier (Ask by serial) = (by < length (views_after earlier)) × (serial < 65536)
-CanFollow earlier (Collect by word found) = (by < length (views_after earlier)) × (word < 1024) × (found ≡ slice_index (words_after earlier) word)
+CanFollow earlier (Collect by word found) = (by < length (views_after earlier)) × (word < 1024)
+    × (found ≡ slice_index (words_after earlier) word)
 
 -- each of these steps could be done after those before it
 abbrev pub IsHistory : List Step → Type 0
@@ -63,7 +64,8 @@ IsBy by (Collect seat word found) = seat ≡ by
 
 -- a seat that had seen some steps then did this one, after others' steps and none of its own, and has seen these
 abbrev pub IsNext : ℕ → Step → List Step → List Step → Type 0
-IsNext by step before after = IsHistory after × (between : List Step) × (after ≡ step ∷ between ++ before) × All (λ other. IsBy by other → ⊥) between
+IsNext by step before after = IsHistory after × (between : List Step) × (after ≡ step ∷ between ++ before)
+    × All (λ other. IsBy by other → ⊥) between
 
 -- some seat asked for the serial in one of these steps
 abbrev pub WasAsked : ℕ → List Step → Type 0

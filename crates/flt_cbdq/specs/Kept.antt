@@ -1,4 +1,5 @@
--- How the queues are kept: each as a list of nodes, whose entries stand in one row by the numbers of the nodes, with the nodes of each visit
+-- How the queues are kept: each as a list of nodes, whose entries stand in one row by the numbers of the nodes, with the nodes
+-- of each visit
 -- beside it.
 use Rattle.std.specs.Prelude.{◌≡◌, ◌≢◌, ℕ, Bool, true, List, [], ◌∷◌, ◌++◌, length, map, get_or, set, None, unwrap_or}
 use Rattle.std.specs.BTreeMap.{is_at}
@@ -41,10 +42,12 @@ disabled_of queues = map (λ (q : Queue). q.disabled) queues
 -- each filter's queue is the list of its number, and the nodes noted for a visit are those of the list whose entries are of it
 pub record IsKept (queues : List Queue) (entries : List Entry) (s : Sequences) : Type 0 where
   pub as_many : length s.lists ≡ length queues
-  pub noted : (list visit : ℕ) → nodes_with (get_or queues list no_queue).nodes visit ≡ filter (is_with entries visit) (nodes_of s.lists list)
+  pub noted : (list visit : ℕ) → nodes_with (get_or queues list no_queue).nodes visit ≡ filter (is_with entries visit)
+      (nodes_of s.lists list)
 
 -- a new node with this entry stands at the end of a list, and is noted as one of the entry's visit
-pub record IsAdded (list : ℕ) (entry : Entry) (old : Sequences) (entries : List Entry) (nodes : List (ℕ × List ℕ)) (new : Sequences) (later : List Entry) (noted : List (ℕ × List ℕ)) : Type 0 where
+pub record IsAdded (list : ℕ) (entry : Entry) (old : Sequences) (entries : List Entry) (nodes : List (ℕ × List ℕ))
+    (new : Sequences) (later : List Entry) (noted : List (ℕ × List ℕ)) : Type 0 where
   pub node : ℕ
   pub unlinked : (other : ℕ) → Contains (nodes_of old.lists other) node → ⊥
   pub lists : new.lists ≡ set old.lists list (nodes_of old.lists list ++ node ∷ [])

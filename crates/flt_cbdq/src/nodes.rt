@@ -68,7 +68,8 @@ pub(crate) fn add_entry(
 ) -> Result<(), AllocError>
     requires { IsList lists.old list }
     ensures added { OnOk result (IsAdded list entry lists.old entries.old.items nodes.old lists.new entries.new.items nodes.new) }
-    ensures seen { OnOk result (entries_of entries.new.items lists.new.lists ≡ set (entries_of entries.old.items lists.old.lists) list (get_or (entries_of entries.old.items lists.old.lists) list [] ++ entry ∷ [])) }
+    ensures seen { OnOk result (entries_of entries.new.items lists.new.lists ≡ set
+        (entries_of entries.old.items lists.old.lists) list (get_or (entries_of entries.old.items lists.old.lists) list [] ++ entry ∷ [])) }
     ensures refused { OnErr result (lists.new ≡ lists.old) }
     ensures unseen { OnErr result (entries_of entries.new.items lists.new.lists ≡ entries_of entries.old.items lists.old.lists) }
     ensures same { OnErr result ((node : ℕ) → entry_at entries.new.items node ≡ entry_at entries.old.items node) }

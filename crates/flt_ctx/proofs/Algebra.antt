@@ -29,7 +29,8 @@ pub counted_link : (h : ContextTable) (x : ℕ) (k : Option Key) → x < length 
 counted_link h x k within =
     let c = context_at h x in
     let counted : Context = record c { references = if is_freed c then 0 else c.references + 1 } in
-    ap (λ (d : Context). with_context (with_link h x k) x (record d { references = if is_freed d then 0 else d.references + 1 })) (here h x (record c { link = k }) within)
+    ap (λ (d : Context). with_context (with_link h x k) x (record d { references = if is_freed d then 0 else d.references + 1 }))
+    (here h x (record c { link = k }) within)
     ∙ twice h x (record c { link = k }) (record counted { link = k })
     ∙ sym (twice h x counted (record counted { link = k }))
     ∙ sym (ap (λ (d : Context). with_context (add_reference h x) x (record d { link = k })) (here h x counted within))
@@ -39,9 +40,11 @@ link_drop : (h : ContextTable) (x y : ℕ) (k : Option Key) → y ≢ x → drop
 link_drop h x y k away =
     let c = context_at h x in
     let d = context_at h y in
-    ap (λ (e : Context). with_context (with_link h x k) y (record e { references = e.references - 1 })) (there h x y (record c { link = k }) away)
+    ap (λ (e : Context). with_context (with_link h x k) y (record e { references = e.references - 1 }))
+    (there h x y (record c { link = k }) away)
     ∙ apart h x y (record c { link = k }) (record d { references = d.references - 1 }) (λ same. away (sym same))
-    ∙ sym (ap (λ (e : Context). with_context (drop_reference h y) x (record e { link = k })) (there h y x (record d { references = d.references - 1 }) (λ same. away (sym same))))
+    ∙ sym (ap (λ (e : Context). with_context (drop_reference h y) x (record e { link = k }))
+    (there h y x (record d { references = d.references - 1 }) (λ same. away (sym same))))
 
 add_drop : (h : ContextTable) (x y : ℕ) → y ≢ x → drop_reference (add_reference h x) y ≡ add_reference (drop_reference h y) x
 add_drop h x y away =
@@ -50,11 +53,14 @@ add_drop h x y away =
     let counted : Context = record c { references = if is_freed c then 0 else c.references + 1 } in
     ap (λ (e : Context). with_context (add_reference h x) y (record e { references = e.references - 1 })) (there h x y counted away)
     ∙ apart h x y counted (record d { references = d.references - 1 }) (λ same. away (sym same))
-    ∙ sym (ap (λ (e : Context). with_context (drop_reference h y) x (record e { references = if is_freed e then 0 else e.references + 1 })) (there h y x (record d { references = d.references - 1 }) (λ same. away (sym same))))
+    ∙ sym (ap (λ (e : Context). with_context (drop_reference h y) x
+    (record e { references = if is_freed e then 0 else e.references + 1 }))
+    (there h y x (record d { references = d.references - 1 }) (λ same. away (sym same))))
 
 -- the link moves, the new context is counted, and then the old one's reference is dropped
 pub replaced : (h : ContextTable) (x y : ℕ) (k : Option Key) → y ≢ x → x < length h.contexts →
-    drop_reference (add_reference (with_link (with_link h y None) x k) x) y ≡ with_link (add_reference (drop_reference (with_link h y None) y) x) x k
+    drop_reference (add_reference (with_link (with_link h y None) x k) x) y ≡ with_link
+    (add_reference (drop_reference (with_link h y None) y) x) x k
 replaced h x y k away within =
     let g = with_link h y None in
     let inside : x < length g.contexts = omega (arith, within, length-set h.contexts y (record (context_at h y) { link = None })) in
@@ -65,13 +71,15 @@ replaced h x y k away within =
 -- the reference of a link that moves can be counted before or after it moves
 pub moved_count : (h : ContextTable) (x y : ℕ) (k : Option Key) → x < length h.contexts →
     add_reference (with_link (with_link h y None) x k) x ≡ with_link (add_reference (with_link h y None) x) x k
-moved_count h x y k within = counted_link (with_link h y None) x k (omega (arith, within, length-set h.contexts y (record (context_at h y) { link = None })))
+moved_count h x y k within = counted_link (with_link h y None) x k
+    (omega (arith, within, length-set h.contexts y (record (context_at h y) { link = None })))
 
 -- the references of the old context are as they were
 pub old_references : (h : ContextTable) (x y : ℕ) (k : Option Key) → y ≢ x → y < length h.contexts →
     (context_at (add_reference (with_link (with_link h y None) x k) x) y).references ≡ (context_at h y).references
 old_references h x y k away within =
-    ap (λ (c : Context). c.references) (there (with_link (with_link h y None) x k) x y _ away ∙ there (with_link h y None) x y _ away ∙ here h y _ within)
+    ap (λ (c : Context). c.references) (there (with_link (with_link h y None) x k) x y _ away
+    ∙ there (with_link h y None) x y _ away ∙ here h y _ within)
 
 -- a context with a link is there, and is another than one without
 no_some : {A : Type 0} (o : Option A) → o ≡ None → IsSome o → ⊥

@@ -19,11 +19,13 @@ none_in (suc n) zero node found = absurd (omega (arith, found.1))
 none_in (suc n) (suc list) node found = none_in n list node found
 
 -- with no context and no node all is kept as it should be
-pub AreKept-fresh : (rows : List Row) (filters : ℕ) (s : Sequences) (contexts : List ℕ) (streams : BTreeSet (ℕ × ℕ)) → rows ≡ [] → length s.lists ≡ filters + 1025 →
+pub AreKept-fresh : (rows : List Row) (filters : ℕ) (s : Sequences) (contexts : List ℕ) (streams : BTreeSet (ℕ × ℕ)) → rows ≡ [] →
+    length s.lists ≡ filters + 1025 →
     s.lists ≡ replicate (filters + 1025) [] → s.nodes ≡ empty →
     ((filter file : ℕ) → has streams filter file ≡ false) → AreKept rows filters s contexts streams
 AreKept-fresh rows filters s contexts streams no_rows count lists nodes no_stream =
-    let no_link : (x : ℕ) (l : Link) → (row_at rows x).link ≡ Some l → ⊥ = λ x l is. none-some l (ap (λ (rs : List Row). (row_at rs x).link) (sym no_rows) ∙ is) in
+    let no_link : (x : ℕ) (l : Link) → (row_at rows x).link ≡ Some l → ⊥ =
+    λ x l is. none-some l (ap (λ (rs : List Row). (row_at rs x).link) (sym no_rows) ∙ is) in
     let out : (list node : ℕ) → Contains (nodes_of s.lists list) node → ⊥ =
     λ list node found. none_in (filters + 1025) list node (subst (λ (ls : List (List ℕ)). Contains (nodes_of ls list) node) lists found) in
     record {

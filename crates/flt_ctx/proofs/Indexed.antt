@@ -48,7 +48,8 @@ AreIndexed-kept rows new s t same as_before was = record {
 
 module _ (rows : List Row) (s : BTreeSet (ℕ × ℕ)) (was : AreIndexed rows s) (new : List Row) (x : ℕ) (l : Link) where
   -- a link goes, and its stream with it
-  pub AreIndexed-less : (filters : ℕ) (q : Sequences) (contexts : List ℕ) → AreLinked rows filters q contexts → (row_at rows x).link ≡ Some l →
+  pub AreIndexed-less : (filters : ℕ) (q : Sequences) (contexts : List ℕ) → AreLinked rows filters q contexts →
+      (row_at rows x).link ≡ Some l →
       (row_at new x).link ≡ None → ((y : ℕ) → y ≢ x → (row_at new y).link ≡ (row_at rows y).link) → (t : BTreeSet (ℕ × ℕ)) →
       ((filter file : ℕ) → has t filter file ≡ (not (is_stream l.key filter file) && has s filter file)) → AreIndexed new t
   AreIndexed-less filters q contexts are is gone others t less = record { each = λ f o. (stays f o, comes f o) }
@@ -58,7 +59,8 @@ module _ (rows : List Row) (s : BTreeSet (ℕ × ℕ)) (was : AreIndexed rows s)
           let h = both (is_stream l.key f o) (has s f o) (sym (less f o) ∙ there) in
           let at = (was.each f o).0 h.1 in
           let away : at.0 ≢ x = λ here.
-          true≢false (sym (passes l.key f o (same_Some l.key (stream_key f o) (sym (ap key_of is) ∙ ap (λ (y : ℕ). key_of (row_at rows y).link) (sym here) ∙ at.1))) ∙ h.0) in
+          true≢false (sym (passes l.key f o (same_Some l.key (stream_key f o)
+          (sym (ap key_of is) ∙ ap (λ (y : ℕ). key_of (row_at rows y).link) (sym here) ∙ at.1))) ∙ h.0) in
           (at.0, ap key_of (others at.0 away) ∙ at.1)
 
       comes : (f o : ℕ) → (y : ℕ) × (key_of (row_at new y).link ≡ Some (stream_key f o)) → has t f o ≡ true
@@ -67,7 +69,8 @@ module _ (rows : List Row) (s : BTreeSet (ℕ × ℕ)) (was : AreIndexed rows s)
           let old : key_of (row_at rows y).link ≡ Some (stream_key f o) = sym (ap key_of (others y away)) ∙ at in
           let m = with_key (row_at rows y).link (stream_key f o) old in
           let other : is_stream l.key f o ≡ false =
-          false_from_ne_true (is_stream l.key f o) (λ passed. away (are.one y x m.0 l m.1 is (m.2 ∙ sym (key_is l.key (stream_key f o) passed)))) in
+          false_from_ne_true (is_stream l.key f o)
+          (λ passed. away (are.one y x m.0 l m.1 is (m.2 ∙ sym (key_is l.key (stream_key f o) passed)))) in
           less f o ∙ rw other ((was.each f o).1 (y, old))
 
   -- a link comes where none was, and its stream with it
@@ -81,14 +84,16 @@ module _ (rows : List Row) (s : BTreeSet (ℕ × ℕ)) (was : AreIndexed rows s)
         | inl own ↦ (x, ap key_of given ∙ ap (λ (k : Key). Some k) (key_is l.key (stream_key f o) own))
         | inr old ↦
             let at = (was.each f o).0 old in
-            let away : at.0 ≢ x = λ here. none-some (stream_key f o) (sym (ap key_of (ap (λ (z : ℕ). (row_at rows z).link) here ∙ free)) ∙ at.1) in
+            let away : at.0 ≢ x = λ here. none-some (stream_key f o)
+            (sym (ap key_of (ap (λ (z : ℕ). (row_at rows z).link) here ∙ free)) ∙ at.1) in
             (at.0, ap key_of (others at.0 away) ∙ at.1)
       ]
 
       comes : (f o : ℕ) → (y : ℕ) × (key_of (row_at new y).link ≡ Some (stream_key f o)) → has t f o ≡ true
       comes f o (y, at) = elim (cases_eq y x) [
         | inl here ↦
-            let own : l.key ≡ stream_key f o = same_Some l.key (stream_key f o) (sym (ap key_of (ap (λ (z : ℕ). (row_at new z).link) here ∙ given)) ∙ at) in
+            let own : l.key ≡ stream_key f o = same_Some l.key (stream_key f o)
+            (sym (ap key_of (ap (λ (z : ℕ). (row_at new z).link) here ∙ given)) ∙ at) in
             more f o ∙ first_holds (is_stream l.key f o) (has s f o) (passes l.key f o own)
         | inr away ↦ more f o ∙ second_holds (is_stream l.key f o) (has s f o) ((was.each f o).1 (y, sym (ap key_of (others y away)) ∙ at))
       ]
@@ -100,19 +105,23 @@ module _ (rows : List Row) (s : BTreeSet (ℕ × ℕ)) (was : AreIndexed rows s)
     each = λ f o. (λ there. stays f o ((was.each f o).0 there), λ linked. (was.each f o).1 (comes f o linked));
   }
     where
-      stays : (f o : ℕ) → (y : ℕ) × (key_of (row_at rows y).link ≡ Some (stream_key f o)) → (y : ℕ) × (key_of (row_at new y).link ≡ Some (stream_key f o))
+      stays : (f o : ℕ) → (y : ℕ) × (key_of (row_at rows y).link ≡ Some (stream_key f o)) → (y : ℕ)
+          × (key_of (row_at new y).link ≡ Some (stream_key f o))
       stays f o (y, at) = elim (cases_eq y x) [
         | inl here ↦ (to, ap key_of given ∙ sym (ap key_of (ap (λ (z : ℕ). (row_at rows z).link) here ∙ is)) ∙ at)
         | inr away ↦
-            let off : y ≢ to = λ here. none-some (stream_key f o) (sym (ap key_of (ap (λ (z : ℕ). (row_at rows z).link) here ∙ free)) ∙ at) in
+            let off : y ≢ to = λ here. none-some (stream_key f o)
+            (sym (ap key_of (ap (λ (z : ℕ). (row_at rows z).link) here ∙ free)) ∙ at) in
             (y, ap key_of (others y away off) ∙ at)
       ]
 
-      comes : (f o : ℕ) → (y : ℕ) × (key_of (row_at new y).link ≡ Some (stream_key f o)) → (y : ℕ) × (key_of (row_at rows y).link ≡ Some (stream_key f o))
+      comes : (f o : ℕ) → (y : ℕ) × (key_of (row_at new y).link ≡ Some (stream_key f o)) → (y : ℕ)
+          × (key_of (row_at rows y).link ≡ Some (stream_key f o))
       comes f o (y, at) = elim (cases_eq y to) [
         | inl here ↦ (x, ap key_of is ∙ sym (ap key_of (ap (λ (z : ℕ). (row_at new z).link) here ∙ given)) ∙ at)
         | inr off ↦
-            let away : y ≢ x = λ here. none-some (stream_key f o) (sym (ap key_of (ap (λ (z : ℕ). (row_at new z).link) here ∙ gone)) ∙ at) in
+            let away : y ≢ x = λ here. none-some (stream_key f o)
+            (sym (ap key_of (ap (λ (z : ℕ). (row_at new z).link) here ∙ gone)) ∙ at) in
             (y, sym (ap key_of (others y away off)) ∙ at)
       ]
 

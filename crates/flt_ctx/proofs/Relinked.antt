@@ -21,12 +21,14 @@ module _ (rows : List Row) (filters : ℕ) (s : Sequences) (contexts : List ℕ)
 
   -- once the target's node is out the filter's is still in
   pub filter_linked : (later : Sequences) →
-      ((list member : ℕ) → Contains (nodes_of later.lists list) member ↔ (Contains (nodes_of s.lists list) member × (member ≢ l.by_target))) →
+      ((list member : ℕ) → Contains (nodes_of later.lists list) member ↔
+      (Contains (nodes_of s.lists list) member × (member ≢ l.by_target))) →
       (list : ℕ) × Contains (nodes_of later.lists list) l.by_filter
   filter_linked later members = (l.key.filter, (members l.key.filter l.by_filter).1 (placed.filter, λ same. placed.differ (sym same)))
 
   -- the link is this one wherever its context is named
-  own : (list node : ℕ) → (found : Contains (nodes_of s.lists list) node) → context_of contexts node ≡ x → (node ≡ l.by_target) ⊎ (node ≡ l.by_filter)
+  own : (list node : ℕ) → (found : Contains (nodes_of s.lists list) node) → context_of contexts node ≡ x → (node ≡ l.by_target)
+      ⊎ (node ≡ l.by_filter)
   own list node found here =
       let n = are.named list node found in
       let same : n.link ≡ l = same_Some n.link l (sym n.is ∙ ap (λ (y : ℕ). (row_at rows y).link) here ∙ is) in
@@ -36,7 +38,8 @@ module _ (rows : List Row) (filters : ℕ) (s : Sequences) (contexts : List ℕ)
       ]
 
   module _ (later : Sequences) (as_many : length later.lists ≡ filters + 1025)
-      (members : (list member : ℕ) → Contains (nodes_of later.lists list) member ↔ ((Contains (nodes_of s.lists list) member × (member ≢ l.by_target)) × (member ≢ l.by_filter)))
+      (members : (list member : ℕ) → Contains (nodes_of later.lists list) member ↔
+      ((Contains (nodes_of s.lists list) member × (member ≢ l.by_target)) × (member ≢ l.by_filter)))
       (new : List Row) (gone : (row_at new x).link ≡ None) (others : (y : ℕ) → y ≢ x → (row_at new y).link ≡ (row_at rows y).link) where
     away : (y : ℕ) (m : Link) → (row_at new y).link ≡ Some m → y ≢ x
     away y m at same = none-some m (sym gone ∙ ap (λ (z : ℕ). (row_at new z).link) (sym same) ∙ at)
@@ -69,7 +72,8 @@ module _ (rows : List Row) (filters : ℕ) (s : Sequences) (contexts : List ℕ)
       named = λ list node found.
           let both = (members list node).0 found in
           let n = are.named list node both.0.0 in
-          let differs : context_of contexts node ≢ x = λ here. elim (own list node both.0.0 here) [ inl same ↦ both.0.1 same | inr same ↦ both.1 same ] in
+          let differs : context_of contexts node ≢ x =
+          λ here. elim (own list node both.0.0 here) [ inl same ↦ both.0.1 same | inr same ↦ both.1 same ] in
           record { link = n.link; is = others (context_of contexts node) differs ∙ n.is; filter = n.filter; target = n.target };
       one = λ y z m n at also same. are.one y z m n (was y m at) (was z n also) same;
     }
@@ -82,7 +86,8 @@ module _ (rows : List Row) (filters : ℕ) (s : Sequences) (contexts : List ℕ)
       (filter_named : context_of names l.by_filter ≡ to)
       (same_names : (node : ℕ) → node ≢ l.by_target → node ≢ l.by_filter → context_of names node ≡ context_of contexts node) where
     -- a link is that of the new context, or it was there
-    from : (y : ℕ) (m : Link) → (row_at new y).link ≡ Some m → ((y ≡ to) × (m ≡ l)) ⊎ (((y ≢ x) × (y ≢ to)) × ((row_at rows y).link ≡ Some m))
+    from : (y : ℕ) (m : Link) → (row_at new y).link ≡ Some m → ((y ≡ to) × (m ≡ l))
+        ⊎ (((y ≢ x) × (y ≢ to)) × ((row_at rows y).link ≡ Some m))
     from y m at = elim (cases_eq y to) [
       | inl here ↦ inl (here, same_Some m l (sym at ∙ ap (λ (z : ℕ). (row_at new z).link) here ∙ given))
       | inr away ↦ elim (cases_eq y x) [
@@ -93,15 +98,39 @@ module _ (rows : List Row) (filters : ℕ) (s : Sequences) (contexts : List ℕ)
 
     keeps_name : (node y : ℕ) → context_of contexts node ≡ y → y ≢ x → context_of names node ≡ y
     keeps_name node y is_named differs =
-        same_names node (λ same. differs (sym is_named ∙ ap (context_of contexts) same ∙ placed.target_names)) (λ same. differs (sym is_named ∙ ap (context_of contexts) same ∙ placed.filter_names)) ∙ is_named
+        same_names node (λ same. differs (sym is_named ∙ ap (context_of contexts) same ∙ placed.target_names))
+        (λ same. differs (sym is_named ∙ ap (context_of contexts) same ∙ placed.filter_names)) ∙ is_named
 
-    placed_by : (y : ℕ) (m : Link) → ((y ≡ to) × (m ≡ l)) ⊎ (((y ≢ x) × (y ≢ to)) × ((row_at rows y).link ≡ Some m)) → IsPlaced filters s names y m
+    placed_by : (y : ℕ) (m : Link) → ((y ≡ to) × (m ≡ l)) ⊎ (((y ≢ x) × (y ≢ to)) × ((row_at rows y).link ≡ Some m)) →
+        IsPlaced filters s names y m
     placed_by y m (inl h) =
-        let p : IsPlaced filters s names to l = record { there = placed.there; target = placed.target; filter = placed.filter; target_within = omega (arith, placed.target_within, as_long); filter_within = omega (arith, placed.filter_within, as_long); differ = placed.differ; target_names = target_named; filter_names = filter_named } in
+        let p : IsPlaced filters s names to l =
+        record {
+          there = placed.there;
+          target = placed.target;
+          filter = placed.filter;
+          target_within = omega (arith, placed.target_within, as_long);
+          filter_within =
+              omega (arith, placed.filter_within, as_long);
+          differ = placed.differ;
+          target_names = target_named;
+          filter_names =
+              filter_named;
+        } in
         subst (λ (z : ℕ). IsPlaced filters s names z m) (sym h.0) (subst (λ (k : Link). IsPlaced filters s names to k) (sym h.1) p)
     placed_by y m (inr h) =
         let p = are.placed y m h.1 in
-        record { there = p.there; target = p.target; filter = p.filter; target_within = omega (arith, p.target_within, as_long); filter_within = omega (arith, p.filter_within, as_long); differ = p.differ; target_names = keeps_name m.by_target y p.target_names h.0.0; filter_names = keeps_name m.by_filter y p.filter_names h.0.0 }
+        record {
+          there = p.there;
+          target = p.target;
+          filter = p.filter;
+          target_within = omega (arith, p.target_within, as_long);
+          filter_within = omega (arith, p.filter_within, as_long);
+          differ = p.differ;
+          target_names =
+              keeps_name m.by_target y p.target_names h.0.0;
+          filter_names = keeps_name m.by_filter y p.filter_names h.0.0;
+        }
 
     -- what has one key was there, or is the link
     same_by : (y z : ℕ) (m n : Link) → ((y ≡ to) × (m ≡ l)) ⊎ (((y ≢ x) × (y ≢ to)) × ((row_at rows y).link ≡ Some m)) →
@@ -116,11 +145,24 @@ module _ (rows : List Row) (filters : ℕ) (s : Sequences) (contexts : List ℕ)
     named_by list node found (inr differs) =
         let n = are.named list node found in
         let name : context_of names node ≡ context_of contexts node = keeps_name node (context_of contexts node) refl differs in
-        let not_to : context_of contexts node ≢ to = λ here. none-some n.link (sym free ∙ ap (λ (z : ℕ). (row_at rows z).link) (sym here) ∙ n.is) in
-        record { link = n.link; is = ap (λ (z : ℕ). (row_at new z).link) name ∙ others (context_of contexts node) differs not_to ∙ n.is; filter = n.filter; target = n.target }
+        let not_to : context_of contexts node ≢ to =
+        λ here. none-some n.link (sym free ∙ ap (λ (z : ℕ). (row_at rows z).link) (sym here) ∙ n.is) in
+        record {
+          link = n.link;
+          is = ap (λ (z : ℕ). (row_at new z).link) name ∙ others (context_of contexts node) differs not_to
+              ∙ n.is;
+          filter = n.filter;
+          target = n.target;
+        }
     named_by list node found (inl either) =
-        let was : context_of contexts node ≡ x = elim either [ inl same ↦ ap (context_of contexts) same ∙ placed.target_names | inr same ↦ ap (context_of contexts) same ∙ placed.filter_names ] in
-        let name : context_of names node ≡ to = elim either [ inl same ↦ ap (context_of names) same ∙ target_named | inr same ↦ ap (context_of names) same ∙ filter_named ] in
+        let was : context_of contexts node ≡ x =
+        elim either [
+          | inl same ↦ ap (context_of contexts) same ∙ placed.target_names
+          | inr same ↦ ap (context_of contexts) same
+              ∙ placed.filter_names
+        ] in
+        let name : context_of names node ≡ to =
+        elim either [ inl same ↦ ap (context_of names) same ∙ target_named | inr same ↦ ap (context_of names) same ∙ filter_named ] in
         let n = are.named list node found in
         let same : n.link ≡ l = same_Some n.link l (sym n.is ∙ ap (λ (y : ℕ). (row_at rows y).link) was ∙ is) in
         record {
@@ -135,7 +177,8 @@ module _ (rows : List Row) (filters : ℕ) (s : Sequences) (contexts : List ℕ)
     AreLinked-moved = record {
       as_many = are.as_many;
       placed = λ y m at. placed_by y m (from y m at);
-      named = λ list node found. named_by list node found (elim (cases_eq (context_of contexts node) x) [ inl here ↦ inl (own list node found here) | inr differs ↦ inr differs ]);
+      named = λ list node found. named_by list node found
+          (elim (cases_eq (context_of contexts node) x) [ inl here ↦ inl (own list node found here) | inr differs ↦ inr differs ]);
       one = λ y z m n at also same. same_by y z m n (from y m at) (from z n also) same;
     }
 
@@ -145,7 +188,8 @@ module _ (contexts first both : List ℕ) (t f to : ℕ) (t_within : t < length 
     (one : first ≡ set contexts t to) (two : both ≡ set first f to) where
   -- no name is added
   pub named_length : length both ≡ length contexts
-  named_length = ap (λ (ns : List ℕ). length ns) two ∙ length-set first f to ∙ ap (λ (ns : List ℕ). length ns) one ∙ length-set contexts t to
+  named_length = ap (λ (ns : List ℕ). length ns) two ∙ length-set first f to ∙ ap (λ (ns : List ℕ). length ns) one
+      ∙ length-set contexts t to
 
   -- the filter's node names the new context
   pub filter_named : context_of both f ≡ to
@@ -155,11 +199,13 @@ module _ (contexts first both : List ℕ) (t f to : ℕ) (t_within : t < length 
 
   -- the target's node names the new context
   pub target_named : context_of both t ≡ to
-  target_named = ap (λ (ns : List ℕ). get_or ns t 0) two ∙ get_or-set_other first f t to 0 differ ∙ ap (λ (ns : List ℕ). get_or ns t 0) one ∙ get_or-set_same contexts t to 0 t_within
+  target_named = ap (λ (ns : List ℕ). get_or ns t 0) two ∙ get_or-set_other first f t to 0 differ
+      ∙ ap (λ (ns : List ℕ). get_or ns t 0) one ∙ get_or-set_same contexts t to 0 t_within
 
   -- other nodes name what they named
   pub others_named : (node : ℕ) → node ≢ t → node ≢ f → context_of both node ≡ context_of contexts node
-  others_named node away off = ap (λ (ns : List ℕ). get_or ns node 0) two ∙ get_or-set_other first f node to 0 off ∙ ap (λ (ns : List ℕ). get_or ns node 0) one ∙ get_or-set_other contexts t node to 0 away
+  others_named node away off = ap (λ (ns : List ℕ). get_or ns node 0) two ∙ get_or-set_other first f node to 0 off
+      ∙ ap (λ (ns : List ℕ). get_or ns node 0) one ∙ get_or-set_other contexts t node to 0 away
 
 module _ (rows : List Row) (x to : ℕ) (gone given : Row) (x_within : x < length rows) (to_within : to < length rows) (differ : x ≢ to) where
   abbrev both_rows : List Row
@@ -190,7 +236,12 @@ both_out s s1 s2 s3 s4 t f one same two also list member = (
   λ found.
       let h = (two list member).0 (subst (λ (ls : List (List ℕ)). Contains (nodes_of ls list) member) also found) in
       ((one list member).0 (subst (λ (ls : List (List ℕ)). Contains (nodes_of ls list) member) same h.0), h.1),
-  λ both. subst (λ (ls : List (List ℕ)). Contains (nodes_of ls list) member) (sym also) ((two list member).1 (subst (λ (ls : List (List ℕ)). Contains (nodes_of ls list) member) (sym same) ((one list member).1 both.0), both.1)),
+  λ both. subst (λ (ls : List (List ℕ)). Contains (nodes_of ls list) member) (sym also)
+      ((two list member).1 (
+        subst (λ (ls : List (List ℕ)). Contains (nodes_of ls list) member) (sym same)
+            ((one list member).1 both.0),
+        both.1,
+      )),
 )
 
 -- there are as many lists afterwards
@@ -209,8 +260,10 @@ pub AreLinked-renamed : (rows : List Row) (filters : ℕ) (s later : Sequences) 
     ((list node : ℕ) → Contains (nodes_of s.lists list) node → context_of names node ≡ context_of contexts node) →
     AreLinked rows filters later names
 AreLinked-renamed rows filters s later contexts names are same longer alike =
-    let back : (list node : ℕ) → Contains (nodes_of later.lists list) node → Contains (nodes_of s.lists list) node = λ list node found. subst (λ (ls : List (List ℕ)). Contains (nodes_of ls list) node) same found in
-    let forth : (list node : ℕ) → Contains (nodes_of s.lists list) node → Contains (nodes_of later.lists list) node = λ list node found. subst (λ (ls : List (List ℕ)). Contains (nodes_of ls list) node) (sym same) found in
+    let back : (list node : ℕ) → Contains (nodes_of later.lists list) node → Contains (nodes_of s.lists list) node =
+    λ list node found. subst (λ (ls : List (List ℕ)). Contains (nodes_of ls list) node) same found in
+    let forth : (list node : ℕ) → Contains (nodes_of s.lists list) node → Contains (nodes_of later.lists list) node =
+    λ list node found. subst (λ (ls : List (List ℕ)). Contains (nodes_of ls list) node) (sym same) found in
     record {
       as_many = ap (λ (ls : List (List ℕ)). length ls) same ∙ are.as_many;
       placed = λ x l is. let p = are.placed x l is in record {
@@ -226,7 +279,12 @@ AreLinked-renamed rows filters s later contexts names are same longer alike =
       named = λ list node found.
           let was = back list node found in
           let n = are.named list node was in
-          record { link = n.link; is = ap (λ (x : ℕ). (row_at rows x).link) (alike list node was) ∙ n.is; filter = n.filter; target = n.target };
+          record {
+            link = n.link;
+            is = ap (λ (x : ℕ). (row_at rows x).link) (alike list node was) ∙ n.is;
+            filter = n.filter;
+            target = n.target;
+          };
       one = are.one;
     }
 
@@ -235,7 +293,9 @@ module _ (rows : List Row) (filters : ℕ) (s : Sequences) (contexts : List ℕ)
     (low : l.key.filter < filters) (differ : l.by_target ≢ l.by_filter) (target_in : l.by_target < length contexts)
     (filter_in : l.by_filter < length contexts) (target_names : context_of contexts l.by_target ≡ x)
     (filter_names : context_of contexts l.by_filter ≡ x) (later : Sequences) (as_many : length later.lists ≡ filters + 1025)
-    (members : (list member : ℕ) → Contains (nodes_of later.lists list) member ↔ ((Contains (nodes_of s.lists list) member ⊎ ((list ≡ filters + place_of l.key.target) × (member ≡ l.by_target))) ⊎ ((list ≡ l.key.filter) × (member ≡ l.by_filter))))
+    (members : (list member : ℕ) → Contains (nodes_of later.lists list) member ↔
+    ((Contains (nodes_of s.lists list) member ⊎ ((list ≡ filters + place_of l.key.target) × (member ≡ l.by_target)))
+    ⊎ ((list ≡ l.key.filter) × (member ≡ l.by_filter))))
     (new : List Row) (given : (row_at new x).link ≡ Some l) (others : (y : ℕ) → y ≢ x → (row_at new y).link ≡ (row_at rows y).link) where
   cases : (y : ℕ) (m : Link) → (row_at new y).link ≡ Some m → ((y ≡ x) × (m ≡ l)) ⊎ ((row_at rows y).link ≡ Some m)
   cases y m at = elim (cases_eq y x) [
@@ -255,7 +315,8 @@ module _ (rows : List Row) (filters : ℕ) (s : Sequences) (contexts : List ℕ)
         target_names = target_names;
         filter_names = filter_names;
       } in
-      subst (λ (z : ℕ). IsPlaced filters later contexts z m) (sym h.0) (subst (λ (k : Link). IsPlaced filters later contexts x k) (sym h.1) p)
+      subst (λ (z : ℕ). IsPlaced filters later contexts z m) (sym h.0)
+      (subst (λ (k : Link). IsPlaced filters later contexts x k) (sym h.1) p)
   placed_new y m (inr was) =
       let p = are.placed y m was in
       record {
@@ -270,11 +331,13 @@ module _ (rows : List Row) (filters : ℕ) (s : Sequences) (contexts : List ℕ)
       }
 
   named_new : (list node : ℕ) →
-      (Contains (nodes_of s.lists list) node ⊎ ((list ≡ filters + place_of l.key.target) × (node ≡ l.by_target))) ⊎ ((list ≡ l.key.filter) × (node ≡ l.by_filter)) →
+      (Contains (nodes_of s.lists list) node ⊎ ((list ≡ filters + place_of l.key.target) × (node ≡ l.by_target)))
+      ⊎ ((list ≡ l.key.filter) × (node ≡ l.by_filter)) →
       IsOfLink filters new contexts list node
   named_new list node (inl (inl found)) =
       let n = are.named list node found in
-      let away : context_of contexts node ≢ x = λ here. none-some n.link (sym none ∙ ap (λ (z : ℕ). (row_at rows z).link) (sym here) ∙ n.is) in
+      let away : context_of contexts node ≢ x =
+      λ here. none-some n.link (sym none ∙ ap (λ (z : ℕ). (row_at rows z).link) (sym here) ∙ n.is) in
       record { link = n.link; is = others (context_of contexts node) away ∙ n.is; filter = n.filter; target = n.target }
   named_new list node (inl (inr h)) = record {
     link = l;
@@ -307,10 +370,13 @@ module _ (rows : List Row) (filters : ℕ) (s : Sequences) (contexts : List ℕ)
 
 -- two nodes in, one after the other
 pub both_in : (s s1 s2 : Sequences) (p t q f : ℕ) →
-    ((list member : ℕ) → Contains (nodes_of s1.lists list) member ↔ (Contains (nodes_of s.lists list) member ⊎ ((list ≡ p) × (member ≡ t)))) →
-    ((list member : ℕ) → Contains (nodes_of s2.lists list) member ↔ (Contains (nodes_of s1.lists list) member ⊎ ((list ≡ q) × (member ≡ f)))) →
+    ((list member : ℕ) → Contains (nodes_of s1.lists list) member ↔
+    (Contains (nodes_of s.lists list) member ⊎ ((list ≡ p) × (member ≡ t)))) →
+    ((list member : ℕ) → Contains (nodes_of s2.lists list) member ↔
+    (Contains (nodes_of s1.lists list) member ⊎ ((list ≡ q) × (member ≡ f)))) →
     (list member : ℕ) →
-    Contains (nodes_of s2.lists list) member ↔ ((Contains (nodes_of s.lists list) member ⊎ ((list ≡ p) × (member ≡ t))) ⊎ ((list ≡ q) × (member ≡ f)))
+    Contains (nodes_of s2.lists list) member ↔
+    ((Contains (nodes_of s.lists list) member ⊎ ((list ≡ p) × (member ≡ t))) ⊎ ((list ≡ q) × (member ≡ f)))
 both_in s s1 s2 p t q f one two list member = (
   λ found. elim ((two list member).0 found) [ inl h ↦ inl ((one list member).0 h) | inr h ↦ inr h ],
   λ either. (two list member).1 (elim either [ inl h ↦ inl ((one list member).1 h) | inr h ↦ inr h ]),

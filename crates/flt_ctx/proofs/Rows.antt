@@ -17,7 +17,8 @@ pub AreLinked-kept : (rows new : List Row) (filters : ℕ) (s : Sequences) (cont
 AreLinked-kept rows new filters s contexts same are = record {
   as_many = are.as_many;
   placed = λ x l is. are.placed x l (sym (same x) ∙ is);
-  named = λ list node found. let n = are.named list node found in record { link = n.link; is = same _ ∙ n.is; filter = n.filter; target = n.target };
+  named = λ list node found. let n = are.named list node found in
+      record { link = n.link; is = same _ ∙ n.is; filter = n.filter; target = n.target };
   one = λ x y l m is also. are.one x y l m (sym (same x) ∙ is) (sym (same y) ∙ also);
 }
 
@@ -25,7 +26,8 @@ AreLinked-kept rows new filters s contexts same are = record {
 pub written_links : (rows : List Row) (x : ℕ) (row : Row) → x < length rows → row.link ≡ (row_at rows x).link → (y : ℕ) →
     (row_at (set rows x row) y).link ≡ (row_at rows y).link
 written_links rows x row within same y = elim (cases_eq y x) [
-  | inl here ↦ subst (λ (z : ℕ). (row_at (set rows x row) z).link ≡ (row_at rows z).link) (sym here) (ap (λ (r : Row). r.link) (get_or-set_same rows x row no_row within) ∙ same)
+  | inl here ↦ subst (λ (z : ℕ). (row_at (set rows x row) z).link ≡ (row_at rows z).link) (sym here)
+      (ap (λ (r : Row). r.link) (get_or-set_same rows x row no_row within) ∙ same)
   | inr away ↦ ap (λ (r : Row). r.link) (get_or-set_other rows x y row no_row away)
 ]
 
@@ -60,7 +62,8 @@ module _ (rows : List Row) (closed : List Bool) (h : ContextTable) (view : recor
 
     -- a count that is one less is a dropped reference
     pub dropped : viewed (set rows x (record row { references = row.references - 1 })) ≡ drop_reference h x
-    dropped = wrote (record row { references = row.references - 1 }) _ (ap (λ (c : Context). record c { references = c.references - 1 }) here)
+    dropped = wrote (record row { references = row.references - 1 }) _
+        (ap (λ (c : Context). record c { references = c.references - 1 }) here)
 
     module _ (alive : row.references ≢ 0) where
       not_freed : is_freed (as_context row) ≡ false
@@ -76,19 +79,22 @@ module _ (rows : List Row) (closed : List Bool) (h : ContextTable) (view : recor
       -- a value that is written is put, where the context is not freed
       pub valued : (value : ℕ) → viewed (set rows x (record row { value = value })) ≡ put_value h x value
       valued value =
-          wrote (record row { value = value }) (record (context_at h x) { value = value }) (ap (λ (c : Context). record c { value = value }) here)
+          wrote (record row { value = value }) (record (context_at h x) { value = value })
+          (ap (λ (c : Context). record c { value = value }) here)
           ∙ (λ i. if (sym (ap is_freed (sym here) ∙ not_freed) i) then h else with_context h x (record (context_at h x) { value = value }))
 
     -- a link that is written is that of the context
     pub relinked : (link : Option Link) → viewed (set rows x (record row { link = link })) ≡ with_link h x (key_of link)
-    relinked link = wrote (record row { link = link }) (record (context_at h x) { link = key_of link }) (ap (λ (c : Context). record c { link = key_of link }) here)
+    relinked link = wrote (record row { link = link }) (record (context_at h x) { link = key_of link })
+        (ap (λ (c : Context). record c { link = key_of link }) here)
 
     -- taking the link away changes nothing where there is none
     pub no_link : ((l : Link) → row.link ≡ Some l → ⊥) → h ≡ with_link h x None
     no_link none =
         let c = context_at h x in
         let gone : c.link ≡ None = ap (λ (d : Context). d.link) (sym here) ∙ ap key_of (none_is row.link none) in
-        sym ((λ i. record h { contexts = set h.contexts x (record c { link = sym gone i }) }) ∙ (λ i. record h { contexts = set-get_or h.contexts x no_context i }))
+        sym ((λ i. record h { contexts = set h.contexts x (record c { link = sym gone i }) })
+        ∙ (λ i. record h { contexts = set-get_or h.contexts x no_context i }))
       where
         none_is : (link : Option Link) → ((l : Link) → link ≡ Some l → ⊥) → link ≡ None
         none_is None none = refl

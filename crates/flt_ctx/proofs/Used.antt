@@ -25,16 +25,19 @@ remove-away s key node away =
     contains-remove nat_cmp_total s key node ∙ rw (unsigned_tied node key, differs) refl
 
 -- what is there once a node was made was there, or is that node
-pub made : (s later : FinSet nat_cmp) (key node : ℕ) → later ≡ insert s key → IsTrue (contains later node) → IsTrue (contains s node) ⊎ (node ≡ key)
+pub made : (s later : FinSet nat_cmp) (key node : ℕ) → later ≡ insert s key → IsTrue (contains later node) →
+    IsTrue (contains s node) ⊎ (node ≡ key)
 made s later key node is there = elim (cases_eq node key) [
   | inl same ↦ inr same
   | inr away ↦ inl (sym (ap (λ (q : FinSet nat_cmp). contains q node) is ∙ insert-away s key node away) ∙ there)
 ]
 
 -- what is there once a node was removed was there, and is another
-removed : (s later : FinSet nat_cmp) (key node : ℕ) → later ≡ remove s key → IsTrue (contains later node) → IsTrue (contains s node) × (node ≢ key)
+removed : (s later : FinSet nat_cmp) (key node : ℕ) → later ≡ remove s key → IsTrue (contains later node) →
+    IsTrue (contains s node) × (node ≢ key)
 removed s later key node is there =
-    let away : node ≢ key = λ same. true≢false (sym there ∙ ap (λ (q : FinSet nat_cmp). contains q node) is ∙ ap (contains (remove s key)) same ∙ remove-here s key) in
+    let away : node ≢ key = λ same. true≢false
+    (sym there ∙ ap (λ (q : FinSet nat_cmp). contains q node) is ∙ ap (contains (remove s key)) same ∙ remove-here s key) in
     (sym (ap (λ (q : FinSet nat_cmp). contains q node) is ∙ remove-away s key node away) ∙ there, away)
 
 -- ---- nodes
@@ -62,7 +65,10 @@ AreUsed-more s s1 s2 s4 t f p q used one two nodes lists members = λ node is.
       | inl was ↦ elim (one node was) [
         | inr first ↦ (p, (members p node).1 (inl (inr (refl, first))))
         | inl old ↦
-            let here = used node old in
-            (here.0, (members here.0 node).1 (inl (inl (subst (λ (ls : List (List ℕ)). Contains (nodes_of ls here.0) node) (sym lists) here.1))))
+            let here = used node old in (
+              here.0,
+              (members here.0 node).1 (inl
+                  (inl (subst (λ (ls : List (List ℕ)). Contains (nodes_of ls here.0) node) (sym lists) here.1))),
+            )
       ]
     ]

@@ -57,7 +57,8 @@ link_is key (Some l) is = (l, refl, key_is key l.key is)
 pub walk_found : (test : ℕ → Bool) (nodes rest : List ℕ) (at : Option ℕ) (node : ℕ) → find test nodes ≡ find test (nodes_from nodes at) →
     at ≡ Some node → nodes_from nodes (Some node) ≡ node ∷ rest → test node ≡ true → Some node ≡ find test nodes
 walk_found test nodes rest at node same is from passes =
-    sym (same ∙ ap (λ (o : Option ℕ). find test (nodes_from nodes o)) is ∙ ap (find test) from ∙ ap (λ (b : Bool). cond b (Some node) (find test rest)) passes)
+    sym (same ∙ ap (λ (o : Option ℕ). find test (nodes_from nodes o)) is ∙ ap (find test) from
+    ∙ ap (λ (b : Bool). cond b (Some node) (find test rest)) passes)
 
 -- what is found passes, and where nothing is found nothing passes
 pub found_passes : (test : ℕ → Bool) (nodes : List ℕ) (node : ℕ) → find test nodes ≡ Some node → test node ≡ true
@@ -109,18 +110,22 @@ module _ (rows : List Row) (filters : ℕ) (s : Sequences) (contexts : List ℕ)
       let inside : x < length (map as_context rows) = within x here in
       let place : position_or_len passes (map as_context rows) ≡ x =
       position_or_len_is passes (map as_context rows) x no_context (omega (arith, inside))
-      (λ k less. false_from_ne_true (passes (get_or (map as_context rows) k no_context)) (λ also. absurd (omega (arith, less, alone x k here (sym (at_row k) ∙ also)))))
+      (λ k less. false_from_ne_true (passes (get_or (map as_context rows) k no_context))
+      (λ also. absurd (omega (arith, less, alone x k here (sym (at_row k) ∙ also)))))
       (λ _. at_row x ∙ here) in
-      let less : nat_lt (position_or_len passes (map as_context rows)) (length (map as_context rows)) ≡ true = lt-ltb _ _ (omega (arith, inside, place)) in
+      let less : nat_lt (position_or_len passes (map as_context rows)) (length (map as_context rows)) ≡ true =
+      lt-ltb _ _ (omega (arith, inside, place)) in
       ap (λ (n : ℕ). Some n) (sym place) ∙ sym (ap (λ (b : Bool). cond b (Some (position_or_len passes (map as_context rows))) None) less)
 
   -- the context of the node that a walk finds is the one that is linked there
   pub linked_is : (node : ℕ) → Some node ≡ find test (nodes_of s.lists (filters + place_of key.target)) →
       Some (context_of contexts node) ≡ position passes (map as_context rows)
-  linked_is node is = position_at (context_of contexts node) (found_passes test (nodes_of s.lists (filters + place_of key.target)) node (sym is))
+  linked_is node is = position_at (context_of contexts node)
+      (found_passes test (nodes_of s.lists (filters + place_of key.target)) node (sym is))
 
   -- where a walk finds no node, no context has the key
-  missing : None ≡ find test (nodes_of s.lists (filters + place_of key.target)) → (x : ℕ) → is_key key (key_of (row_at rows x).link) ≡ true → ⊥
+  missing : None ≡ find test (nodes_of s.lists (filters + place_of key.target)) → (x : ℕ) →
+      is_key key (key_of (row_at rows x).link) ≡ true → ⊥
   missing is x has =
       let l = link_is key (row_at rows x).link has in
       let placed = are.placed x l.0 l.1 in
@@ -135,19 +140,22 @@ module _ (rows : List Row) (filters : ℕ) (s : Sequences) (contexts : List ℕ)
       position_or_len_is passes (map as_context rows) (length (map as_context rows)) no_context (omega arith)
       (λ k less. false_from_ne_true (passes (get_or (map as_context rows) k no_context)) (λ also. missing is k (sym (at_row k) ∙ also)))
       (λ less. absurd (omega (arith, less))) in
-      let more : nat_lt (position_or_len passes (map as_context rows)) (length (map as_context rows)) ≡ false = false_from_ne_true _ (λ less. absurd (omega (arith, place, ltb-true _ _ less))) in
+      let more : nat_lt (position_or_len passes (map as_context rows)) (length (map as_context rows)) ≡ false =
+      false_from_ne_true _ (λ less. absurd (omega (arith, place, ltb-true _ _ less))) in
       sym (ap (λ (b : Bool). cond b (Some (position_or_len passes (map as_context rows))) None) more)
 
   -- where none is linked there no link has the key
   pub alone_none : position passes (map as_context rows) ≡ None → (y : ℕ) (m : Link) → (row_at rows y).link ≡ Some m → m.key ≢ key
   alone_none is y m at same =
-      let has : is_key key (key_of (row_at rows y).link) ≡ true = ap (λ (o : Option Link). is_key key (key_of o)) at ∙ ap (λ (k : Key). same_key key k) same ∙ key_self key in
+      let has : is_key key (key_of (row_at rows y).link) ≡ true = ap (λ (o : Option Link). is_key key (key_of o)) at
+      ∙ ap (λ (k : Key). same_key key k) same ∙ key_self key in
       let inside : y < length (map as_context rows) = within y has in
       elim (cases_lt (position_or_len passes (map as_context rows)) (length (map as_context rows))) [
         | inl less ↦
             let test : nat_lt (position_or_len passes (map as_context rows)) (length (map as_context rows)) ≡ true = lt-ltb _ _ less in
             none-some _ (sym is ∙ ap (λ (b : Bool). cond b (Some (position_or_len passes (map as_context rows))) None) test)
-        | inr more ↦ true≢false (sym (at_row y ∙ has) ∙ fails_before_first passes (map as_context rows) y no_context (omega (arith, inside, more)))
+        | inr more ↦ true≢false (sym (at_row y ∙ has)
+            ∙ fails_before_first passes (map as_context rows) y no_context (omega (arith, inside, more)))
       ]
 
   -- to contracts: a context that has the key is the one that is linked there

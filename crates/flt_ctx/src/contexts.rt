@@ -302,7 +302,8 @@ impl Contexts {
     pub fn delete(&mut self, context: usize) -> Release
         ensures released { (result ≡ Freed) ↔
             ((is_some (context_at self.old context).link ≡ true) × ((context_at self.old context).references ≡ 1)) }
-        ensures unlinked { self.new ≡ (if is_some (context_at self.old context).link then after_unlink self.old context false else self.old) }
+        ensures unlinked { self.new ≡ (if is_some (context_at self.old context).link then after_unlink self.old context false
+            else self.old) }
     {
         if self.is_linked(context) {
             self.unlink(context, false)

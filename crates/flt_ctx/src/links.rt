@@ -90,10 +90,12 @@ pub(crate) fn add_named(
     ensures lists { lists.new.lists ≡ lists.old.lists }
     ensures named { IfOk result (λ node. context_of contexts.new.items node ≡ context) }
     ensures within { IfOk result (λ node. node < length contexts.new.items) }
-    ensures others { IfOk result (λ node. (other : ℕ) → other ≢ node → context_of contexts.new.items other ≡ context_of contexts.old.items other) }
+    ensures others { IfOk result (λ node. (other : ℕ) → other ≢ node →
+        context_of contexts.new.items other ≡ context_of contexts.old.items other) }
     ensures longer { length contexts.old.items ≤ length contexts.new.items }
     ensures made { IfOk result (λ node. (other : ℕ) → IsNode lists.new other → IsNode lists.old other ⊎ (other ≡ node)) }
-    ensures undone { IfOk result (λ node. record lists.new { nodes = finite_set.remove lists.new.nodes node; next_node = node } ≡ lists.old) }
+    ensures undone { IfOk result (λ node. record lists.new { nodes = finite_set.remove lists.new.nodes node; next_node = node }
+        ≡ lists.old) }
     ensures unchanged { OnErr result (lists.new ≡ lists.old) }
     ensures refused { OnErr result ((other : ℕ) → context_of contexts.new.items other ≡ context_of contexts.old.items other) }
 {

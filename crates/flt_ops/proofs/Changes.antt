@@ -13,7 +13,8 @@ use Rattle.flt_ops.proofs.OtherFrames.{any_front, any_left, any_last, found_of, 
 
 -- one that isn't there is up, so what isn't up is there
 pub is_there : (rs : List Route) (o : ℕ) → ((get_or rs o no_route).position ≡ Up → ⊥) → o < length rs
-is_there rs o down = ⊎_elim (λ l. l) (λ l. absurd (down (ap (λ (r : Route). r.position) (get_or_past rs o no_route l)))) (cases_lt o (length rs))
+is_there rs o down = ⊎_elim (λ l. l) (λ l. absurd (down (ap (λ (r : Route). r.position) (get_or_past rs o no_route l))))
+    (cases_lt o (length rs))
 
 -- a next frame is the last one
 pub is_last : (frames : List Frame) (p : Position) (frame : Frame) → frame_in frames p ≡ Some frame → last_frame frames ≡ Some frame
@@ -28,13 +29,15 @@ both_right false false h = refl
 
 -- a visit that doesn't drain is there
 pub is_seen : (visits : List Visit) (v : ℕ) → (get_or visits v no_visit).draining ≡ false → v < length visits
-is_seen visits v h = ⊎_elim (λ l. l) (λ l. absurd (let e = ap (λ (x : Visit). x.draining) (get_or_past visits v no_visit l) in cc)) (cases_lt v (length visits))
+is_seen visits v h = ⊎_elim (λ l. l)
+    (λ l. absurd (let e = ap (λ (x : Visit). x.draining) (get_or_past visits v no_visit l) in cc)) (cases_lt v (length visits))
 
 past_push : (rs : List Route) (r : Route) (u : ℕ) → (u ≡ length rs → ⊥) → length rs ≤ u → length (rs ++ r ∷ []) ≤ u
 past_push rs r u d l = let k = length-append rs (r ∷ []) in omega arith
 
 module _ (n : ℕ) (arrivals : List Arrival) (rs : List Route) (seen : VisitRows) (was : AreOperations n arrivals rs seen) where
-  set_there : (o : ℕ) (r : Route) (P : Route → Type 0) → P r → ((u : ℕ) → P (get_or rs u no_route)) → (u : ℕ) → P (get_or (set rs o r) u no_route)
+  set_there : (o : ℕ) (r : Route) (P : Route → Type 0) → P r → ((u : ℕ) → P (get_or rs u no_route)) → (u : ℕ) →
+      P (get_or (set rs o r) u no_route)
   set_there o r P new old u =
       elim (cases_eq u o) [
         | inl e ↦ elim (cases_lt o (length rs)) [
@@ -45,7 +48,8 @@ module _ (n : ℕ) (arrivals : List Arrival) (rs : List Route) (seen : VisitRows
       ]
 
   -- a route is another one, at a place that there is
-  pub with_route_set : (o : ℕ) (r : Route) → IsWithin n r.position → ((f : ℕ) → has_frame f r ≡ true → f < n) → AreOperations n arrivals (set rs o r) seen
+  pub with_route_set : (o : ℕ) (r : Route) → IsWithin n r.position → ((f : ℕ) → has_frame f r ≡ true → f < n) →
+      AreOperations n arrivals (set rs o r) seen
   with_route_set o r within frames = record {
     as_many = was.as_many ∙ sym (length-set rs o r);
     few = let l = length-set rs o r in let few = was.few in omega arith;
@@ -56,7 +60,8 @@ module _ (n : ℕ) (arrivals : List Arrival) (rs : List Route) (seen : VisitRows
   }
 
   -- a visit more, at a filter
-  pub with_visit_pushed : (x : Visit) (settled : List Bool) → x.filter < n → AreOperations n arrivals rs (record { room = seen.room; visits = seen.visits ++ x ∷ []; settled = settled })
+  pub with_visit_pushed : (x : Visit) (settled : List Bool) → x.filter < n →
+      AreOperations n arrivals rs (record { room = seen.room; visits = seen.visits ++ x ∷ []; settled = settled })
   with_visit_pushed x settled here = record {
     as_many = was.as_many;
     few = was.few;
@@ -66,7 +71,8 @@ module _ (n : ℕ) (arrivals : List Arrival) (rs : List Route) (seen : VisitRows
     visited = λ v l.
         elim (cases_eq v (length seen.visits)) [
           | inl e ↦ rw (get_or_push seen.visits x no_visit v (sym e)) here
-          | inr d ↦ let less : v < length seen.visits = before v l d in rw (get_or_append_left seen.visits (x ∷ []) no_visit v less) (was.visited v less)
+          | inr d ↦ let less : v < length seen.visits = before v l d in
+              rw (get_or_append_left seen.visits (x ∷ []) no_visit v less) (was.visited v less)
         ];
   }
     where
@@ -74,7 +80,8 @@ module _ (n : ℕ) (arrivals : List Arrival) (rs : List Route) (seen : VisitRows
       before v l d = let k = length-append seen.visits (x ∷ []) in omega arith
 
   -- a visit is settled
-  pub with_settled : (settled : List Bool) → AreOperations n arrivals rs (record { room = seen.room; visits = seen.visits; settled = settled })
+  pub with_settled : (settled : List Bool) →
+      AreOperations n arrivals rs (record { room = seen.room; visits = seen.visits; settled = settled })
   with_settled settled = record {
     as_many = was.as_many;
     few = was.few;
@@ -85,13 +92,16 @@ module _ (n : ℕ) (arrivals : List Arrival) (rs : List Route) (seen : VisitRows
   }
 
   -- an operation more, where there is room for it and its visits
-  pub with_arrival_pushed : (a : Arrival) (r : Route) (room : ℕ) → length arrivals < 65536 → length arrivals < room → seen.room ≤ room → IsWithin n r.position → r.frames ≡ [] → AreOperations n (arrivals ++ a ∷ []) (rs ++ r ∷ []) (record { room = room; visits = seen.visits; settled = seen.settled })
+  pub with_arrival_pushed : (a : Arrival) (r : Route) (room : ℕ) → length arrivals < 65536 → length arrivals < room →
+      seen.room ≤ room → IsWithin n r.position → r.frames ≡ [] →
+      AreOperations n (arrivals ++ a ∷ []) (rs ++ r ∷ []) (record { room = room; visits = seen.visits; settled = seen.settled })
   with_arrival_pushed a r room few here more within none = record {
     as_many = let l = length-append arrivals (a ∷ []) in let k = length-append rs (r ∷ []) in let e = was.as_many in omega arith;
     few = let k = length-append rs (r ∷ []) in let e = was.as_many in omega arith;
     room = let k = length-append rs (r ∷ []) in let e = was.as_many in omega arith;
     down = pushed (λ (q : Route). IsWithin n q.position) within was.down;
-    framed = λ f. pushed (λ (q : Route). has_frame f q ≡ true → f < n) (λ e. absurd (let g = ap (list_any (is_frame_of f)) none in cc)) (was.framed f);
+    framed = λ f. pushed (λ (q : Route). has_frame f q ≡ true → f < n)
+        (λ e. absurd (let g = ap (list_any (is_frame_of f)) none in cc)) (was.framed f);
     visited = was.visited;
   }
     where
@@ -106,7 +116,8 @@ module _ (n : ℕ) (arrivals : List Arrival) (rs : List Route) (seen : VisitRows
           ]
 
   -- more room for visits alone
-  pub with_room : (room : ℕ) → seen.room ≤ room → AreOperations n arrivals rs (record { room = room; visits = seen.visits; settled = seen.settled })
+  pub with_room : (room : ℕ) → seen.room ≤ room →
+      AreOperations n arrivals rs (record { room = room; visits = seen.visits; settled = seen.settled })
   with_room room more = record {
     as_many = was.as_many;
     few = was.few;
@@ -120,41 +131,64 @@ module _ (n : ℕ) (arrivals : List Arrival) (rs : List Route) (seen : VisitRows
 
 module _ (n : ℕ) (arrivals : List Arrival) (rs : List Route) (seen : VisitRows) (was : AreOperations n arrivals rs seen) (o : ℕ) where
   -- the operation stands elsewhere
-  pub position_kept : (p : Position) → IsWithin n p → AreOperations n arrivals (set rs o (record (get_or rs o no_route) { position = p })) seen
-  position_kept p within = with_route_set n arrivals rs seen was o (record (get_or rs o no_route) { position = p }) within (λ f. was.framed f o)
+  pub position_kept : (p : Position) → IsWithin n p →
+      AreOperations n arrivals (set rs o (record (get_or rs o no_route) { position = p })) seen
+  position_kept p within = with_route_set n arrivals rs seen was o (record (get_or rs o no_route) { position = p }) within
+      (λ f. was.framed f o)
 
   -- it ends, with an outcome
-  pub end_kept : (outcome : Option Outcome) → AreOperations n arrivals (set rs o (record (get_or rs o no_route) { position = Up; outcome = outcome })) seen
-  end_kept outcome = with_route_set n arrivals rs seen was o (record (get_or rs o no_route) { position = Up; outcome = outcome }) tt (λ f. was.framed f o)
+  pub end_kept : (outcome : Option Outcome) →
+      AreOperations n arrivals (set rs o (record (get_or rs o no_route) { position = Up; outcome = outcome })) seen
+  end_kept outcome = with_route_set n arrivals rs seen was o
+      (record (get_or rs o no_route) { position = Up; outcome = outcome }) tt (λ f. was.framed f o)
 
   -- it is cancelled
   pub cancel_kept : AreOperations n arrivals (set rs o (record (get_or rs o no_route) { cancelled = true })) seen
-  cancel_kept = with_route_set n arrivals rs seen was o (record (get_or rs o no_route) { cancelled = true }) (was.down o) (λ f. was.framed f o)
+  cancel_kept = with_route_set n arrivals rs seen was o (record (get_or rs o no_route) { cancelled = true }) (was.down o)
+      (λ f. was.framed f o)
 
   -- it is led from a filter
   pub lead_kept : (f : ℕ) (x : Option ℕ) (way : Way) → f < n → AreOperations n arrivals (set rs o (led f x way (get_or rs o no_route))) seen
   lead_kept f x way l =
-      with_route_set n arrivals rs seen was o (led f x way (get_or rs o no_route)) (led_within n f x way (get_or rs o no_route) l (was.down o)) (led_framed n f x way (get_or rs o no_route) l (λ g. was.framed g o))
+      with_route_set n arrivals rs seen was o (led f x way (get_or rs o no_route))
+      (led_within n f x way (get_or rs o no_route) l (was.down o)) (led_framed n f x way (get_or rs o no_route) l (λ g. was.framed g o))
 
   -- a visit before the filters below begins
-  pub pre_kept : (x : Visit) (settled : List Bool) → x.filter < n → AreOperations n arrivals (set rs o (record (get_or rs o no_route) { position = Visiting })) (record { room = seen.room; visits = seen.visits ++ x ∷ []; settled = settled })
+  pub pre_kept : (x : Visit) (settled : List Bool) → x.filter < n →
+      AreOperations n arrivals (set rs o (record (get_or rs o no_route) { position = Visiting }))
+      (record { room = seen.room; visits = seen.visits ++ x ∷ []; settled = settled })
   pre_kept x settled l =
-      with_route_set n arrivals rs (record { room = seen.room; visits = seen.visits ++ x ∷ []; settled = settled }) (with_visit_pushed n arrivals rs seen was x settled l) o (record (get_or rs o no_route) { position = Visiting }) tt (λ f. was.framed f o)
+      with_route_set n arrivals rs (record { room = seen.room; visits = seen.visits ++ x ∷ []; settled = settled })
+      (with_visit_pushed n arrivals rs seen was x settled l) o (record (get_or rs o no_route) { position = Visiting }) tt
+      (λ f. was.framed f o)
 
   -- a visit after them begins
-  pub post_kept : (x : Visit) (settled : List Bool) → x.filter < n → AreOperations n arrivals (set rs o (record (get_or rs o no_route) { position = Visiting; frames = without_last (get_or rs o no_route).frames })) (record { room = seen.room; visits = seen.visits ++ x ∷ []; settled = settled })
+  pub post_kept : (x : Visit) (settled : List Bool) → x.filter < n →
+      AreOperations n arrivals (set rs o (record
+      (get_or rs o no_route) { position = Visiting; frames = without_last (get_or rs o no_route).frames }))
+      (record { room = seen.room; visits = seen.visits ++ x ∷ []; settled = settled })
   post_kept x settled l =
-      with_route_set n arrivals rs (record { room = seen.room; visits = seen.visits ++ x ∷ []; settled = settled }) (with_visit_pushed n arrivals rs seen was x settled l) o (record (get_or rs o no_route) { position = Visiting; frames = without_last (get_or rs o no_route).frames }) tt (λ f e. was.framed f o (any_front f (get_or rs o no_route).frames e))
+      with_route_set n arrivals rs (record { room = seen.room; visits = seen.visits ++ x ∷ []; settled = settled })
+      (with_visit_pushed n arrivals rs seen was x settled l) o
+      (record (get_or rs o no_route) { position = Visiting; frames = without_last (get_or rs o no_route).frames }) tt
+      (λ f e. was.framed f o (any_front f (get_or rs o no_route).frames e))
 
   -- a draining visit begins
-  pub drain_kept : (g : ℕ) (x : Visit) (settled : List Bool) → x.filter < n → AreOperations n arrivals (set rs o (record (get_or rs o no_route) { frames = other_frames g (get_or rs o no_route).frames })) (record { room = seen.room; visits = seen.visits ++ x ∷ []; settled = settled })
+  pub drain_kept : (g : ℕ) (x : Visit) (settled : List Bool) → x.filter < n →
+      AreOperations n arrivals (set rs o (record
+      (get_or rs o no_route) { frames = other_frames g (get_or rs o no_route).frames }))
+      (record { room = seen.room; visits = seen.visits ++ x ∷ []; settled = settled })
   drain_kept g x settled l =
-      with_route_set n arrivals rs (record { room = seen.room; visits = seen.visits ++ x ∷ []; settled = settled }) (with_visit_pushed n arrivals rs seen was x settled l) o (record (get_or rs o no_route) { frames = other_frames g (get_or rs o no_route).frames }) (was.down o) (λ f e. was.framed f o (any_left g (get_or rs o no_route).frames f e))
+      with_route_set n arrivals rs (record { room = seen.room; visits = seen.visits ++ x ∷ []; settled = settled })
+      (with_visit_pushed n arrivals rs seen was x settled l) o
+      (record (get_or rs o no_route) { frames = other_frames g (get_or rs o no_route).frames }) (was.down o)
+      (λ f e. was.framed f o (any_left g (get_or rs o no_route).frames f e))
 
   -- a frame that is next is of a filter that there is
   pub next_filter : (frame : Frame) → frame_in (get_or rs o no_route).frames (get_or rs o no_route).position ≡ Some frame → frame.filter < n
   next_filter frame next =
-      was.framed frame.filter o (any_last (get_or rs o no_route).frames frame (is_last (get_or rs o no_route).frames (get_or rs o no_route).position frame next))
+      was.framed frame.filter o (any_last (get_or rs o no_route).frames frame
+      (is_last (get_or rs o no_route).frames (get_or rs o no_route).position frame next))
 
   -- and so is one that is found
   pub found_filter : (g : ℕ) (frame : Frame) → find (is_frame_of g) (get_or rs o no_route).frames ≡ Some frame → frame.filter < n
@@ -165,5 +199,7 @@ module _ (n : ℕ) (arrivals : List Arrival) (rs : List Route) (seen : VisitRows
       omega arith
 
   -- and a visit that moves its operation
-  pub led_filter : (v : ℕ) → (not (get_or seen.settled v true) && not (get_or seen.visits v no_visit).draining) ≡ true → (get_or seen.visits v no_visit).filter < n
-  led_filter v moves = was.visited v (is_seen seen.visits v (both_right (get_or seen.settled v true) (get_or seen.visits v no_visit).draining moves))
+  pub led_filter : (v : ℕ) → (not (get_or seen.settled v true) && not (get_or seen.visits v no_visit).draining) ≡ true →
+      (get_or seen.visits v no_visit).filter < n
+  led_filter v moves = was.visited v (is_seen seen.visits v
+      (both_right (get_or seen.settled v true) (get_or seen.visits v no_visit).draining moves))

@@ -8,7 +8,8 @@ use Rattle.flt_model.specs.World.{Visit, no_visit}
 use Rattle.flt_ops.specs.Unsettled.{counted, count_unsettled, AreCounted}
 
 -- a new visit counts once
-pub count_pushed : (o : ℕ) (visits : List Visit) (settled : List Bool) (x : Visit) → length settled ≡ length visits → count_unsettled o (visits ++ x ∷ []) (settled ++ false ∷ []) ≡ count_unsettled o visits settled + counted o x false
+pub count_pushed : (o : ℕ) (visits : List Visit) (settled : List Bool) (x : Visit) → length settled ≡ length visits →
+    count_unsettled o (visits ++ x ∷ []) (settled ++ false ∷ []) ≡ count_unsettled o visits settled + counted o x false
 count_pushed o [] [] x same = omega arith
 count_pushed o [] (b ∷ settled) x same = absurd (omega arith)
 count_pushed o (y ∷ visits) [] x same = absurd (omega arith)
@@ -16,7 +17,9 @@ count_pushed o (y ∷ visits) (b ∷ settled) x same =
     let more = count_pushed o visits settled x (omega arith) in omega arith
 
 -- a visit that is settled counts no more
-pub count_less : (o : ℕ) (visits : List Visit) (settled : List Bool) (v : ℕ) → length settled ≡ length visits → v < length visits → get_or settled v true ≡ false → count_unsettled o visits (set settled v true) + counted o (get_or visits v no_visit) false ≡ count_unsettled o visits settled
+pub count_less : (o : ℕ) (visits : List Visit) (settled : List Bool) (v : ℕ) → length settled ≡ length visits →
+    v < length visits → get_or settled v true ≡ false →
+    count_unsettled o visits (set settled v true) + counted o (get_or visits v no_visit) false ≡ count_unsettled o visits settled
 count_less o [] settled v same here open_ = absurd (omega arith)
 count_less o (y ∷ visits) [] v same here open_ = absurd (omega arith)
 count_less o (y ∷ visits) (b ∷ settled) zero same here open_ =
@@ -30,7 +33,8 @@ step false true n rest h = grind (arith, nat_tests)
 step false false n rest h = grind (arith, nat_tests)
 
 -- none is counted exactly where all are settled
-pub none_counted : (o : ℕ) (visits : List Visit) (settled : List Bool) → (count_unsettled o visits settled == 0) ≡ are_settled o visits settled
+pub none_counted : (o : ℕ) (visits : List Visit) (settled : List Bool) →
+    (count_unsettled o visits settled == 0) ≡ are_settled o visits settled
 none_counted o [] settled = refl
 none_counted o (y ∷ visits) [] = refl
 none_counted o (y ∷ visits) (b ∷ settled) =
@@ -67,7 +71,9 @@ set_here : (counts : List ℕ) (p u w : ℕ) → p ≡ u → p < length counts �
 set_here counts p u w e l = rw (sym e) (get_or-set_same counts p w 0 l)
 
 -- a new visit counts at its operation
-pub counted_more : (visits : List Visit) (settled : List Bool) (counts : List ℕ) (x : Visit) → AreCounted visits settled counts → x.operation < length counts → AreCounted (visits ++ x ∷ []) (settled ++ false ∷ []) (set counts x.operation (get_or counts x.operation 0 + 1))
+pub counted_more : (visits : List Visit) (settled : List Bool) (counts : List ℕ) (x : Visit) → AreCounted visits settled counts →
+    x.operation < length counts → AreCounted (visits ++ x ∷ []) (settled ++ false ∷ [])
+    (set counts x.operation (get_or counts x.operation 0 + 1))
 counted_more visits settled counts x was here = record {
   same = let same = was.same in let l = length-append visits (x ∷ []) in let k = length-append settled (false ∷ []) in omega arith;
   each = λ o.
@@ -75,12 +81,14 @@ counted_more visits settled counts x was here = record {
       let old = was.each o in
       let n = get_or counts x.operation 0 + 1 in
       elim (cases_eq x.operation o) [
-        | inl e ↦ let one = of_itself o x e in let new = set_here counts x.operation o n e here in let alike = ap (λ (k : ℕ). get_or counts k 0) e in omega arith
+        | inl e ↦ let one = of_itself o x e in let new = set_here counts x.operation o n e here in let alike =
+            ap (λ (k : ℕ). get_or counts k 0) e in omega arith
         | inr d ↦ let none = of_another o x d in let new = get_or-set_other counts x.operation o n 0 (λ e. d (sym e)) in omega arith
       ];
 }
 
-open_counts : (visits : List Visit) (settled : List Bool) (v : ℕ) → length settled ≡ length visits → v < length visits → get_or settled v true ≡ false → 1 ≤ count_unsettled (get_or visits v no_visit).operation visits settled
+open_counts : (visits : List Visit) (settled : List Bool) (v : ℕ) → length settled ≡ length visits → v < length visits →
+    get_or settled v true ≡ false → 1 ≤ count_unsettled (get_or visits v no_visit).operation visits settled
 open_counts visits settled v same here unsettled =
     let o = (get_or visits v no_visit).operation in
     let less = count_less o visits settled v same here unsettled in
@@ -88,7 +96,9 @@ open_counts visits settled v same here unsettled =
     omega arith
 
 -- an unsettled visit's operation is counted
-pub counted_there : (visits : List Visit) (settled : List Bool) (counts : List ℕ) (v : ℕ) → AreCounted visits settled counts → v < length visits → get_or settled v true ≡ false → ((get_or visits v no_visit).operation < length counts) × (1 ≤ get_or counts (get_or visits v no_visit).operation 0)
+pub counted_there : (visits : List Visit) (settled : List Bool) (counts : List ℕ) (v : ℕ) → AreCounted visits settled counts →
+    v < length visits → get_or settled v true ≡ false → ((get_or visits v no_visit).operation < length counts)
+    × (1 ≤ get_or counts (get_or visits v no_visit).operation 0)
 counted_there visits settled counts v was here unsettled =
     let o = (get_or visits v no_visit).operation in
     let some = open_counts visits settled v was.same here unsettled in
@@ -97,7 +107,10 @@ counted_there visits settled counts v was here unsettled =
     (⊎_elim (λ l. l) (λ l. absurd (let e = get_or_past counts o 0 l in omega arith)) (cases_lt o (length counts)), one)
 
 -- a visit that is settled counts no more at its operation
-pub counted_less : (visits : List Visit) (settled : List Bool) (counts : List ℕ) (v : ℕ) → AreCounted visits settled counts → v < length visits → get_or settled v true ≡ false → AreCounted visits (set settled v true) (set counts (get_or visits v no_visit).operation (get_or counts (get_or visits v no_visit).operation 0 - 1))
+pub counted_less : (visits : List Visit) (settled : List Bool) (counts : List ℕ) (v : ℕ) → AreCounted visits settled counts →
+    v < length visits → get_or settled v true ≡ false →
+    AreCounted visits (set settled v true)
+    (set counts (get_or visits v no_visit).operation (get_or counts (get_or visits v no_visit).operation 0 - 1))
 counted_less visits settled counts v was here unsettled = record {
   same = length-set settled v true ∙ was.same;
   each = λ u.
@@ -107,14 +120,17 @@ counted_less visits settled counts v was here unsettled = record {
       let n = get_or counts x.operation 0 - 1 in
       let there = counted_there visits settled counts v was here unsettled in
       elim (cases_eq x.operation u) [
-        | inl e ↦ let one = of_itself u x e in let new = set_here counts x.operation u n e there.0 in let alike = ap (λ (k : ℕ). get_or counts k 0) e in omega arith
+        | inl e ↦ let one = of_itself u x e in let new = set_here counts x.operation u n e there.0 in let alike =
+            ap (λ (k : ℕ). get_or counts k 0) e in omega arith
         | inr d ↦ let none = of_another u x d in let new = get_or-set_other counts x.operation u n 0 (λ e. d (sym e)) in omega arith
       ];
 }
 
 -- ---- the same of what is read of them
 
-module _ (visits : List Visit) (settled : List Bool) (counts : List ℕ) (v o : ℕ) (b : Bool) (was : AreCounted visits settled counts) (here : v < length visits) (of : o ≡ (get_or visits v no_visit).operation) (read : b ≡ get_or settled v b) (unsettled : b ≡ false) where
+module _ (visits : List Visit) (settled : List Bool) (counts : List ℕ) (v o : ℕ) (b : Bool)
+    (was : AreCounted visits settled counts) (here : v < length visits) (of : o ≡ (get_or visits v no_visit).operation)
+    (read : b ≡ get_or settled v b) (unsettled : b ≡ false) where
   is_unsettled : get_or settled v true ≡ false
   is_unsettled = let same = was.same in get_or_default settled v true b (omega arith) ∙ sym read ∙ unsettled
 

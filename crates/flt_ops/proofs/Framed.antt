@@ -85,11 +85,13 @@ stays_right false at was e = refl
 
 module _ (rs : List Route) (s : BTreeSet (ℕ × ℕ)) (was : AreFramed rs s) where
   -- the set follows where it has the frames of the new route, and others as before
-  pub framed_set : (o : ℕ) (r : Route) (t : BTreeSet (ℕ × ℕ)) → o < length rs → ((f : ℕ) → has t f o ≡ has_frame f r) → ((f u : ℕ) → (u ≡ o → ⊥) → has t f u ≡ has s f u) → AreFramed (set rs o r) t
+  pub framed_set : (o : ℕ) (r : Route) (t : BTreeSet (ℕ × ℕ)) → o < length rs → ((f : ℕ) → has t f o ≡ has_frame f r) →
+      ((f u : ℕ) → (u ≡ o → ⊥) → has t f u ≡ has s f u) → AreFramed (set rs o r) t
   framed_set o r t here own others = record {
     each = λ f u.
         elim (cases_eq u o) [
-          | inl e ↦ ap (has t f) e ∙ own f ∙ ap (has_frame f) (sym (get_or-set_same rs o r no_route here)) ∙ ap (λ (w : ℕ). has_frame f (get_or (set rs o r) w no_route)) (sym e)
+          | inl e ↦ ap (has t f) e ∙ own f ∙ ap (has_frame f) (sym (get_or-set_same rs o r no_route here))
+              ∙ ap (λ (w : ℕ). has_frame f (get_or (set rs o r) w no_route)) (sym e)
           | inr d ↦ others f u d ∙ was.each f u ∙ ap (has_frame f) (sym (get_or-set_other rs o u r no_route d))
         ];
   }
@@ -100,17 +102,23 @@ module _ (rs : List Route) (s : BTreeSet (ℕ × ℕ)) (was : AreFramed rs s) wh
       framed_set o r s here (λ f. was.each f o ∙ ap (list_any (is_frame_of f)) (sym same)) (λ f u d. refl)
 
   -- a frame more of a filter
-  pub framed_more : (o : ℕ) (r : Route) (t : BTreeSet (ℕ × ℕ)) (frame : Frame) → o < length rs → r.frames ≡ (get_or rs o no_route).frames ++ frame ∷ [] → ((f u : ℕ) → has t f u ≡ (is_pair frame.filter o f u || has s f u)) → AreFramed (set rs o r) t
+  pub framed_more : (o : ℕ) (r : Route) (t : BTreeSet (ℕ × ℕ)) (frame : Frame) → o < length rs →
+      r.frames ≡ (get_or rs o no_route).frames ++ frame ∷ [] →
+      ((f u : ℕ) → has t f u ≡ (is_pair frame.filter o f u || has s f u)) → AreFramed (set rs o r) t
   framed_more o r t frame here same more =
       framed_set o r t here
       (λ f.
       let pushed = list_any-append (is_frame_of f) (get_or rs o no_route).frames (frame ∷ []) in
       let old = was.each f o in
-      more f o ∙ ap (λ (b : Bool). is_pair frame.filter o f o || b) old ∙ own_pair (frame.filter == f) (o == o) (has_frame f (get_or rs o no_route)) (itself o) ∙ sym pushed ∙ ap (list_any (is_frame_of f)) (sym same))
+      more f o ∙ ap (λ (b : Bool). is_pair frame.filter o f o || b) old
+      ∙ own_pair (frame.filter == f) (o == o) (has_frame f (get_or rs o no_route)) (itself o) ∙ sym pushed
+      ∙ ap (list_any (is_frame_of f)) (sym same))
       (λ f u d. more f u ∙ other_pair (frame.filter == f) (o == u) (has s f u) (other o u d))
 
   -- a frame less of a filter, of which none is left
-  pub framed_less : (o g : ℕ) (r : Route) (t : BTreeSet (ℕ × ℕ)) → o < length rs → has_frame g r ≡ false → ((f : ℕ) → (f ≡ g → ⊥) → has_frame f r ≡ has_frame f (get_or rs o no_route)) → ((f u : ℕ) → has t f u ≡ (not (is_pair g o f u) && has s f u)) → AreFramed (set rs o r) t
+  pub framed_less : (o g : ℕ) (r : Route) (t : BTreeSet (ℕ × ℕ)) → o < length rs → has_frame g r ≡ false →
+      ((f : ℕ) → (f ≡ g → ⊥) → has_frame f r ≡ has_frame f (get_or rs o no_route)) →
+      ((f u : ℕ) → has t f u ≡ (not (is_pair g o f u) && has s f u)) → AreFramed (set rs o r) t
   framed_less o g r t here none same less =
       framed_set o r t here
       (λ f. elim (cases_eq f g) [
@@ -120,11 +128,13 @@ module _ (rs : List Route) (s : BTreeSet (ℕ × ℕ)) (was : AreFramed rs s) wh
       (λ f u d. less f u ∙ stays_right (g == f) (o == u) (has s f u) (other o u d))
 
   -- a frame less of a filter, of which another is left
-  pub framed_still : (o g : ℕ) (r : Route) → o < length rs → has_frame g r ≡ true → has_frame g (get_or rs o no_route) ≡ true → ((f : ℕ) → (f ≡ g → ⊥) → has_frame f r ≡ has_frame f (get_or rs o no_route)) → AreFramed (set rs o r) s
+  pub framed_still : (o g : ℕ) (r : Route) → o < length rs → has_frame g r ≡ true → has_frame g (get_or rs o no_route) ≡ true →
+      ((f : ℕ) → (f ≡ g → ⊥) → has_frame f r ≡ has_frame f (get_or rs o no_route)) → AreFramed (set rs o r) s
   framed_still o g r here left there same =
       framed_set o r s here
       (λ f. elim (cases_eq f g) [
-        | inl e ↦ was.each f o ∙ ap (λ (h : ℕ). has_frame h (get_or rs o no_route)) e ∙ there ∙ sym left ∙ ap (λ (h : ℕ). has_frame h r) (sym e)
+        | inl e ↦ was.each f o ∙ ap (λ (h : ℕ). has_frame h (get_or rs o no_route)) e ∙ there ∙ sym left
+            ∙ ap (λ (h : ℕ). has_frame h r) (sym e)
         | inr d ↦ was.each f o ∙ sym (same f d)
       ])
       (λ f u d. refl)
@@ -132,31 +142,40 @@ module _ (rs : List Route) (s : BTreeSet (ℕ × ℕ)) (was : AreFramed rs s) wh
 -- ---- a frame is taken out
 
 module _ (rs : List Route) (s : BTreeSet (ℕ × ℕ)) (was : AreFramed rs s) (o : ℕ) (here : o < length rs) (r : Route) where
-  others_popped : (frame : Frame) → last_frame (get_or rs o no_route).frames ≡ Some frame → r.frames ≡ without_last (get_or rs o no_route).frames → (f : ℕ) → (f ≡ frame.filter → ⊥) → has_frame f r ≡ has_frame f (get_or rs o no_route)
+  others_popped : (frame : Frame) → last_frame (get_or rs o no_route).frames ≡ Some frame →
+      r.frames ≡ without_last (get_or rs o no_route).frames → (f : ℕ) → (f ≡ frame.filter → ⊥) →
+      has_frame f r ≡ has_frame f (get_or rs o no_route)
   others_popped frame last others f d =
       ap (list_any (is_frame_of f)) others
       ∙ sym (any_pushed f (without_last (get_or rs o no_route).frames) frame d)
       ∙ ap (list_any (is_frame_of f)) (sym (last_split (get_or rs o no_route).frames frame last))
 
   -- the last one, of a filter of which none is left
-  pub popped_last : (frame : Frame) (t : BTreeSet (ℕ × ℕ)) → last_frame (get_or rs o no_route).frames ≡ Some frame → r.frames ≡ without_last (get_or rs o no_route).frames → has_frame frame.filter r ≡ false → ((f u : ℕ) → has t f u ≡ (not (is_pair frame.filter o f u) && has s f u)) → AreFramed (set rs o r) t
+  pub popped_last : (frame : Frame) (t : BTreeSet (ℕ × ℕ)) → last_frame (get_or rs o no_route).frames ≡ Some frame →
+      r.frames ≡ without_last (get_or rs o no_route).frames → has_frame frame.filter r ≡ false →
+      ((f u : ℕ) → has t f u ≡ (not (is_pair frame.filter o f u) && has s f u)) → AreFramed (set rs o r) t
   popped_last frame t last others none less = framed_less rs s was o frame.filter r t here none (others_popped frame last others) less
 
   -- the last one, of a filter of which another is left
-  pub popped_one : (frame : Frame) → last_frame (get_or rs o no_route).frames ≡ Some frame → r.frames ≡ without_last (get_or rs o no_route).frames → has_frame frame.filter r ≡ true → AreFramed (set rs o r) s
+  pub popped_one : (frame : Frame) → last_frame (get_or rs o no_route).frames ≡ Some frame →
+      r.frames ≡ without_last (get_or rs o no_route).frames → has_frame frame.filter r ≡ true → AreFramed (set rs o r) s
   popped_one frame last others left =
       framed_still rs s was o frame.filter r here left
-      (ap (list_any (is_frame_of frame.filter)) (last_split (get_or rs o no_route).frames frame last) ∙ any_pushed_own (without_last (get_or rs o no_route).frames) frame)
+      (ap (list_any (is_frame_of frame.filter)) (last_split (get_or rs o no_route).frames frame last)
+      ∙ any_pushed_own (without_last (get_or rs o no_route).frames) frame)
       (others_popped frame last others)
 
   -- there is none to take off
-  pub popped_none : last_frame (get_or rs o no_route).frames ≡ None → r.frames ≡ without_last (get_or rs o no_route).frames → AreFramed (set rs o r) s
+  pub popped_none : last_frame (get_or rs o no_route).frames ≡ None → r.frames ≡ without_last (get_or rs o no_route).frames →
+      AreFramed (set rs o r) s
   popped_none none others = framed_kept rs s was o r here (others ∙ none_before (get_or rs o no_route).frames none)
 
   -- the first of a filter, of which none is left
-  pub taken_last : (g : ℕ) (t : BTreeSet (ℕ × ℕ)) → r.frames ≡ other_frames g (get_or rs o no_route).frames → has_frame g r ≡ false → ((f u : ℕ) → has t f u ≡ (not (is_pair g o f u) && has s f u)) → AreFramed (set rs o r) t
+  pub taken_last : (g : ℕ) (t : BTreeSet (ℕ × ℕ)) → r.frames ≡ other_frames g (get_or rs o no_route).frames →
+      has_frame g r ≡ false → ((f u : ℕ) → has t f u ≡ (not (is_pair g o f u) && has s f u)) → AreFramed (set rs o r) t
   taken_last g t others none less =
-      framed_less rs s was o g r t here none (λ f e. ap (list_any (is_frame_of f)) others ∙ any_other g (get_or rs o no_route).frames f e) less
+      framed_less rs s was o g r t here none
+      (λ f e. ap (list_any (is_frame_of f)) others ∙ any_other g (get_or rs o no_route).frames f e) less
 
   -- the first of a filter, of which another is left
   pub taken_one : (g : ℕ) → r.frames ≡ other_frames g (get_or rs o no_route).frames → has_frame g r ≡ true → AreFramed (set rs o r) s
@@ -193,7 +212,8 @@ module _ (f : ℕ) (rs : List Route) where
   within : (k : ℕ) → has_frame f (get_or rs k no_route) ≡ true → k < length rs
   within k here = ⊎_elim (λ l. l) (λ l. absurd (let e = get_or_past rs k no_route l in cc)) (cases_lt k (length rs))
 
-  least_is : (k : ℕ) → has_frame f (get_or rs k no_route) ≡ true → ((c : ℕ) → c < k → has_frame f (get_or rs c no_route) ≡ false) → position (has_frame f) rs ≡ Some k
+  least_is : (k : ℕ) → has_frame f (get_or rs k no_route) ≡ true →
+      ((c : ℕ) → c < k → has_frame f (get_or rs c no_route) ≡ false) → position (has_frame f) rs ≡ Some k
   least_is k here before =
       let l = within k here in
       let e = position_or_len_is (has_frame f) rs k no_route (omega arith) before (λ _. here) in
@@ -205,6 +225,8 @@ module _ (f : ℕ) (rs : List Route) where
       rw e (grind (arith, nat_tests))
 
   -- what the set says of a filter is said of the routes
-  pub least_framed : (s : BTreeSet (ℕ × ℕ)) (r : Option ℕ) → AreFramed rs s → MatchOption r ((c : ℕ) → has s f c ≡ false) (λ k. (has s f k ≡ true) × ((c : ℕ) → c < k → has s f c ≡ false)) → r ≡ position (has_frame f) rs
+  pub least_framed : (s : BTreeSet (ℕ × ℕ)) (r : Option ℕ) → AreFramed rs s →
+      MatchOption r ((c : ℕ) → has s f c ≡ false) (λ k. (has s f k ≡ true) × ((c : ℕ) → c < k → has s f c ≡ false)) →
+      r ≡ position (has_frame f) rs
   least_framed s None are h = sym (nowhere (λ c. sym (are.each f c) ∙ h c))
   least_framed s (Some k) are h = sym (least_is k (sym (are.each f k) ∙ h.0) (λ c less. sym (are.each f c) ∙ h.1 c less))

@@ -35,11 +35,13 @@ itself f = grind (arith, nat_tests)
 -- ---- the last one
 
 -- what is of a filter among the others is so among all
-pub any_front : (f : ℕ) (frames : List Frame) → list_any (is_frame_of f) (without_last frames) ≡ true → list_any (is_frame_of f) frames ≡ true
+pub any_front : (f : ℕ) (frames : List Frame) → list_any (is_frame_of f) (without_last frames) ≡ true →
+    list_any (is_frame_of f) frames ≡ true
 any_front f [] h = h
 any_front f (g ∷ []) h = absurd (cc)
 any_front f (g ∷ k ∷ frames) h =
-    left_or (is_frame_of f g) (list_any (is_frame_of f) (without_last (k ∷ frames))) true (list_any (is_frame_of f) (k ∷ frames)) (any_front f (k ∷ frames)) h
+    left_or (is_frame_of f g) (list_any (is_frame_of f) (without_last (k ∷ frames))) true (list_any (is_frame_of f) (k ∷ frames))
+    (any_front f (k ∷ frames)) h
 
 -- the last frame is one of them
 pub any_last : (frames : List Frame) (frame : Frame) → last_frame frames ≡ Some frame → list_any (is_frame_of frame.filter) frames ≡ true
@@ -51,7 +53,8 @@ any_last (g ∷ k ∷ frames) frame h =
     either_right (is_frame_of frame.filter g) (list_any (is_frame_of frame.filter) (k ∷ frames)) (any_last (k ∷ frames) frame h)
 
 -- with a last frame of another filter more, as many filters as without
-pub any_pushed : (f : ℕ) (frames : List Frame) (frame : Frame) → (f ≡ frame.filter → ⊥) → list_any (is_frame_of f) (frames ++ frame ∷ []) ≡ list_any (is_frame_of f) frames
+pub any_pushed : (f : ℕ) (frames : List Frame) (frame : Frame) → (f ≡ frame.filter → ⊥) →
+    list_any (is_frame_of f) (frames ++ frame ∷ []) ≡ list_any (is_frame_of f) frames
 any_pushed f frames frame d =
     list_any-append (is_frame_of f) frames (frame ∷ [])
     ∙ none_more (list_any (is_frame_of f) frames) (is_frame_of f frame) (is_another frame.filter f (λ e. d (sym e)))
@@ -64,7 +67,8 @@ any_pushed f frames frame d =
 pub any_pushed_own : (frames : List Frame) (frame : Frame) → list_any (is_frame_of frame.filter) (frames ++ frame ∷ []) ≡ true
 any_pushed_own frames frame =
     list_any-append (is_frame_of frame.filter) frames (frame ∷ [])
-    ∙ either_right (list_any (is_frame_of frame.filter) frames) (is_frame_of frame.filter frame || false) (either_left (is_frame_of frame.filter frame) false (itself frame.filter))
+    ∙ either_right (list_any (is_frame_of frame.filter) frames) (is_frame_of frame.filter frame || false)
+    (either_left (is_frame_of frame.filter frame) false (itself frame.filter))
 
 -- ---- the first of a filter
 
@@ -88,10 +92,14 @@ module _ (g : ℕ) (frames : List Frame) where
   middle_more false false b h = h
 
   module _ (d : Frame) (l : position_or_len (is_frame_of g) frames < length frames) where
-    split : (f : ℕ) → list_any (is_frame_of f) frames ≡ (list_any (is_frame_of f) (before_first (is_frame_of g) frames) || (is_frame_of f (get_or frames (position_or_len (is_frame_of g) frames) d) || list_any (is_frame_of f) (after_first (is_frame_of g) frames)))
+    split : (f : ℕ) → list_any (is_frame_of f) frames ≡
+        (list_any (is_frame_of f) (before_first (is_frame_of g) frames)
+        || (is_frame_of f (get_or frames (position_or_len (is_frame_of g) frames) d)
+        || list_any (is_frame_of f) (after_first (is_frame_of g) frames)))
     split f =
         ap (list_any (is_frame_of f)) (split_at_first (is_frame_of g) frames d l)
-        ∙ list_any-append (is_frame_of f) (before_first (is_frame_of g) frames) (get_or frames (position_or_len (is_frame_of g) frames) d ∷ after_first (is_frame_of g) frames)
+        ∙ list_any-append (is_frame_of f) (before_first (is_frame_of g) frames)
+        (get_or frames (position_or_len (is_frame_of g) frames) d ∷ after_first (is_frame_of g) frames)
 
     not_of : (f : ℕ) → (f ≡ g → ⊥) → is_frame_of f (get_or frames (position_or_len (is_frame_of g) frames) d) ≡ false
     not_of f differs =
@@ -104,7 +112,9 @@ module _ (g : ℕ) (frames : List Frame) where
       elim (cases_lt (position_or_len (is_frame_of g) frames) (length frames)) [
         | inl l ↦
             list_any-append (is_frame_of f) (before_first (is_frame_of g) frames) (after_first (is_frame_of g) frames)
-            ∙ middle (list_any (is_frame_of f) (before_first (is_frame_of g) frames)) (is_frame_of f (get_or frames (position_or_len (is_frame_of g) frames) no_frame)) (list_any (is_frame_of f) (after_first (is_frame_of g) frames)) (not_of no_frame l f differs)
+            ∙ middle (list_any (is_frame_of f) (before_first (is_frame_of g) frames))
+            (is_frame_of f (get_or frames (position_or_len (is_frame_of g) frames) no_frame))
+            (list_any (is_frame_of f) (after_first (is_frame_of g) frames)) (not_of no_frame l f differs)
             ∙ sym (split no_frame l f)
         | inr l ↦ ap (list_any (is_frame_of f)) (none_goes l)
       ]
@@ -115,22 +125,30 @@ module _ (g : ℕ) (frames : List Frame) where
       elim (cases_lt (position_or_len (is_frame_of g) frames) (length frames)) [
         | inl l ↦
             split no_frame l f
-            ∙ middle_more (list_any (is_frame_of f) (before_first (is_frame_of g) frames)) (is_frame_of f (get_or frames (position_or_len (is_frame_of g) frames) no_frame)) (list_any (is_frame_of f) (after_first (is_frame_of g) frames))
+            ∙ middle_more (list_any (is_frame_of f) (before_first (is_frame_of g) frames))
+            (is_frame_of f (get_or frames (position_or_len (is_frame_of g) frames) no_frame))
+            (list_any (is_frame_of f) (after_first (is_frame_of g) frames))
             (sym (list_any-append (is_frame_of f) (before_first (is_frame_of g) frames) (after_first (is_frame_of g) frames)) ∙ h)
         | inr l ↦ ap (list_any (is_frame_of f)) (sym (none_goes l)) ∙ h
       ]
 
-found_here : (g : ℕ) (k : Frame) (frames : List Frame) (frame : Frame) → ((find (is_frame_of g) frames ≡ Some frame) → (frame.filter ≡ g) × (list_any (is_frame_of g) frames ≡ true)) → (b : Bool) → is_frame_of g k ≡ b → cond b (Some k) (find (is_frame_of g) frames) ≡ Some frame → (frame.filter ≡ g) × (list_any (is_frame_of g) (k ∷ frames) ≡ true)
+found_here : (g : ℕ) (k : Frame) (frames : List Frame) (frame : Frame) →
+    ((find (is_frame_of g) frames ≡ Some frame) → (frame.filter ≡ g) × (list_any (is_frame_of g) frames ≡ true)) → (b : Bool) →
+    is_frame_of g k ≡ b → cond b (Some k) (find (is_frame_of g) frames) ≡ Some frame → (frame.filter ≡ g)
+    × (list_any (is_frame_of g) (k ∷ frames) ≡ true)
 found_here g k frames frame rest true e h =
     let found : Some k ≡ Some frame = h in
-    let same : k ≡ frame = cc in
-    (is_one frame.filter g (ap (λ (q : Frame). q.filter == g) (sym same) ∙ e), either_left (is_frame_of g k) (list_any (is_frame_of g) frames) e)
+    let same : k ≡ frame = cc in (
+      is_one frame.filter g (ap (λ (q : Frame). q.filter == g) (sym same) ∙ e),
+      either_left (is_frame_of g k) (list_any (is_frame_of g) frames) e,
+    )
 found_here g k frames frame rest false e h =
     let others = rest h in
     (others.0, either_right (is_frame_of g k) (list_any (is_frame_of g) frames) others.1)
 
 -- a frame that is found is of the filter, and is one of them
-pub found_of : (g : ℕ) (frames : List Frame) (frame : Frame) → find (is_frame_of g) frames ≡ Some frame → (frame.filter ≡ g) × (list_any (is_frame_of g) frames ≡ true)
+pub found_of : (g : ℕ) (frames : List Frame) (frame : Frame) → find (is_frame_of g) frames ≡ Some frame → (frame.filter ≡ g)
+    × (list_any (is_frame_of g) frames ≡ true)
 found_of g [] frame h = absurd (cc)
 found_of g (k ∷ frames) frame h = found_here g k frames frame (found_of g frames frame) (is_frame_of g k) refl h
 
@@ -145,7 +163,8 @@ led_within n f x settling.Rises r l h = tt
 led_within n f x settling.Stays r l h = h
 
 -- its frames are of filters that there are
-pub led_framed : (n f : ℕ) (x : Option ℕ) (way : Way) (r : Route) → f < n → ((g : ℕ) → has_frame g r ≡ true → g < n) → (g : ℕ) → has_frame g (led f x way r) ≡ true → g < n
+pub led_framed : (n f : ℕ) (x : Option ℕ) (way : Way) (r : Route) → f < n → ((g : ℕ) → has_frame g r ≡ true → g < n) → (g : ℕ) →
+    has_frame g (led f x way r) ≡ true → g < n
 led_framed n f x settling.Passes r l h g e = h g e
 led_framed n f x settling.Frames r l h g e =
     elim (cases_eq g f) [

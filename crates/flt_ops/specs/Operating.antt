@@ -113,4 +113,5 @@ with_cancel o s = with_route s o (record (route_at s o) { cancelled = true })
 abbrev pub IsStarted : Operating → Option Frame → (Frame → Store → Store) → Option Started → Operating → Type 0
 IsStarted old next change started new =
     MatchOption next ((started ≡ None) × (new ≡ old))
-    (λ frame. (started ≡ Some (record { visit = length old.visits; filter = frame.filter; context = frame.context })) × (new ≡ after (change frame) old))
+    (λ frame. (started ≡ Some (record { visit = length old.visits; filter = frame.filter; context = frame.context }))
+    × (new ≡ after (change frame) old))

@@ -39,7 +39,13 @@ impl Model for Operations {
 
     ghost Value = { Operating };
 
-    ghost view = { λ s. record { filters = s.filters; arrivals = s.arrivals.items; routes = s.routes; visits = s.visits.visits; settled = s.visits.settled } };
+    ghost view = { λ s. record {
+      filters = s.filters;
+      arrivals = s.arrivals.items;
+      routes = s.routes;
+      visits = s.visits.visits;
+      settled = s.visits.settled;
+    } };
 
     ghost invariant = { λ s. AreOperations s.filters s.arrivals.items s.routes s.visits };
 }
@@ -168,7 +174,8 @@ impl Operations {
     /// One more operation arrives at the highest filter. The answer is its serial number. Any kind may come in any mode, on any
     /// file: whether they go together is the caller's question.
     pub fn arrive(&mut self, kind: Operation, mode: Mode, file: u32) -> Result<u32, ArriveFault>
-        ensures arrived { IfOk result (λ serial. (serial ≡ length self.old.arrivals) × (self.new ≡ after (λ s. moves.with_arrival s (record { kind = kind; mode = mode; file = file })) self.old)) }
+        ensures arrived { IfOk result (λ serial. (serial ≡ length self.old.arrivals)
+            × (self.new ≡ after (λ s. moves.with_arrival s (record { kind = kind; mode = mode; file = file })) self.old)) }
         ensures full { (result ≡ Err Full) ↔ (65536 ≤ length self.old.arrivals) }
         ensures refused { OnErr result (self.new ≡ self.old) }
     {
@@ -185,7 +192,10 @@ impl Operations {
 
     /// The pre callback of the filter that the operation is at starts. `None` where it isn't at one on its way down.
     pub fn start_pre(&mut self, serial: u32) -> Result<Option<Started>, OutOfMemory>
-        ensures started { IfOk result (λ started. MatchOption (filter_at self.old serial) ((started ≡ None) × (self.new ≡ self.old)) (λ f. (started ≡ Some (record { visit = length self.old.visits; filter = f; context = None })) × (self.new ≡ after (in_pre_visit serial f) self.old))) }
+        ensures started { IfOk result (λ started. MatchOption (filter_at self.old serial)
+            ((started ≡ None) × (self.new ≡ self.old))
+            (λ f. (started ≡ Some (record { visit = length self.old.visits; filter = f; context = None }))
+            × (self.new ≡ after (in_pre_visit serial f) self.old))) }
         ensures refused { OnErr result (self.new ≡ self.old) }
     {
         let Some(filter) = self.filter_at(serial) else {
@@ -207,7 +217,8 @@ impl Operations {
 
     /// The operation passes the filter that it is at, and `true` is answered. `false` where it isn't at one on its way down.
     pub fn skip(&mut self, serial: u32) -> bool
-        ensures { MatchOption (filter_at self.old serial) ((result ≡ false) × (self.new ≡ self.old)) (λ f. (result ≡ true) × (self.new ≡ after (past_filter serial f) self.old)) }
+        ensures { MatchOption (filter_at self.old serial) ((result ≡ false) × (self.new ≡ self.old))
+            (λ f. (result ≡ true) × (self.new ≡ after (past_filter serial f) self.old)) }
     {
         match self.filter_at(serial) {
             Some(filter) => {
@@ -258,7 +269,8 @@ impl Operations {
     /// `None` where it has no frame of the filter.
     #[tactic(auto, using(std::proofs::lemmas::Grind::common_steps, crate::proofs::OtherFrames::any_left, crate::proofs::OtherFrames::found_of))]
     pub fn drain(&mut self, filter: usize, serial: u32) -> Result<Option<Started>, OutOfMemory>
-        ensures started { IfOk result (λ started. IsStarted self.old (find (moves.is_frame_of filter) (route_of self.old serial).frames) (in_draining_visit serial) started self.new) }
+        ensures started { IfOk result (λ started. IsStarted self.old
+            (find (moves.is_frame_of filter) (route_of self.old serial).frames) (in_draining_visit serial) started self.new) }
         ensures refused { OnErr result (self.new ≡ self.old) }
     {
         let Some(frame) = self.routes.first_frame(serial, filter) else {
@@ -281,7 +293,8 @@ impl Operations {
     /// The operation is cancelled, and `true` is answered. `false` where it is over or cancelled already.
     pub fn cancel(&mut self, serial: u32) -> bool
         ensures answer { result ≡ not (moves.is_done (store_of self.old) serial || (route_of self.old serial).cancelled) }
-        ensures cancelled { self.new ≡ (if moves.is_done (store_of self.old) serial || (route_of self.old serial).cancelled then self.old else after (with_cancel serial) self.old) }
+        ensures cancelled { self.new ≡ (if moves.is_done (store_of self.old) serial || (route_of self.old serial).cancelled
+            then self.old else after (with_cancel serial) self.old) }
     {
         if self.is_done(serial) || self.routes.cancelled(serial) {
             return false;

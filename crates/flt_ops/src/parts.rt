@@ -91,7 +91,12 @@ impl Model for Route {
     ghost use Rattle.std.specs.Prelude.{option_map};
     ghost use Rattle.flt_ops.specs.Parts.{position_of, outcome_of};
 
-    ghost view = { λ r. record { position = position_of r.position; frames = r.frames.items; cancelled = r.cancelled; outcome = option_map outcome_of r.outcome } };
+    ghost view = { λ r. record {
+      position = position_of r.position;
+      frames = r.frames.items;
+      cancelled = r.cancelled;
+      outcome = option_map outcome_of r.outcome;
+    } };
 }
 
 /// One passing of an operation through a filter, before or after those below it; it never changes.

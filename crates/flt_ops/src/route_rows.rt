@@ -195,7 +195,8 @@ impl Routes {
 impl Routes {
     /// One more operation, at the highest filter.
     pub(crate) fn add(&mut self) -> Result<(), AllocError>
-        ensures ok { OnOk result (self.new ≡ self.old ++ record { position = machine.Down 0; frames = []; cancelled = false; outcome = None } ∷ []) }
+        ensures ok { OnOk result (self.new ≡ self.old
+            ++ record { position = machine.Down 0; frames = []; cancelled = false; outcome = None } ∷ []) }
         ensures refused { OnErr result (self.new ≡ self.old) }
     {
         let route = arrived(self.alloc);
@@ -205,7 +206,8 @@ impl Routes {
 
     /// The operation stands there from now on.
     pub(crate) fn set_position(&mut self, operation: u32, position: Position)
-        ensures { self.new ≡ set self.old operation (record (get_or self.old operation machine.no_route) { position = position_of position }) }
+        ensures { self.new ≡ set self.old operation
+            (record (get_or self.old operation machine.no_route) { position = position_of position }) }
     {
         if let Some(route) = self.routes.get_mut(operation as usize) {
             route.position = position;
@@ -214,7 +216,8 @@ impl Routes {
 
     /// The operation goes up from here, with this outcome.
     pub(crate) fn end(&mut self, operation: u32, outcome: Outcome)
-        ensures { self.new ≡ set self.old operation (record (get_or self.old operation machine.no_route) { position = machine.Up; outcome = Some (outcome_of outcome) }) }
+        ensures { self.new ≡ set self.old operation
+            (record (get_or self.old operation machine.no_route) { position = machine.Up; outcome = Some (outcome_of outcome) }) }
     {
         if let Some(route) = self.routes.get_mut(operation as usize) {
             route.position = Position::Up;
@@ -239,7 +242,8 @@ impl Routes {
         context: Option<usize>,
     ) -> Result<(), AllocError>
         requires { filter < usize.MAX }
-        ensures ok { OnOk result (self.new ≡ set self.old operation (settling.led filter context settling.Frames (get_or self.old operation machine.no_route))) }
+        ensures ok { OnOk result (self.new ≡ set self.old operation
+            (settling.led filter context settling.Frames (get_or self.old operation machine.no_route))) }
         ensures refused { OnErr result (self.new ≡ self.old) }
     {
         if let Some(route) = self.routes.get_mut(operation as usize) {
@@ -260,7 +264,8 @@ impl Routes {
         way: Way,
     ) -> Result<(), AllocError>
         requires { filter < usize.MAX }
-        ensures ok { OnOk result (self.new ≡ set self.old operation (settling.led filter context (way_of way) (get_or self.old operation machine.no_route))) }
+        ensures ok { OnOk result (self.new ≡ set self.old operation
+            (settling.led filter context (way_of way) (get_or self.old operation machine.no_route))) }
         ensures refused { OnErr result (self.new ≡ self.old) }
     {
         match way {
@@ -276,7 +281,11 @@ impl Routes {
     /// The last frame is removed, and the operation is in a visit.
     #[tactic(auto, using(std::proofs::lemmas::Grind::common_steps, crate::proofs::Framed::popped_last, crate::proofs::Framed::popped_one, crate::proofs::Framed::popped_none))]
     pub(crate) fn pop_frame(&mut self, operation: u32)
-        ensures { self.new ≡ set self.old operation (record (get_or self.old operation machine.no_route) { position = machine.Visiting; frames = moves.without_last (get_or self.old operation machine.no_route).frames }) }
+        ensures { self.new ≡ set self.old operation
+            (record (get_or self.old operation machine.no_route) {
+              position = machine.Visiting;
+              frames = moves.without_last (get_or self.old operation machine.no_route).frames;
+            }) }
     {
         if let Some(route) = self.routes.get_mut(operation as usize) {
             if let Some(frame) = route.take_last() {
@@ -290,7 +299,11 @@ impl Routes {
     /// The first frame of a filter is removed.
     #[tactic(auto, using(std::proofs::lemmas::Grind::common_steps, crate::proofs::Framed::taken_last, crate::proofs::Framed::taken_one))]
     pub(crate) fn take_frame(&mut self, operation: u32, filter: usize)
-        ensures { self.new ≡ set self.old operation (record (get_or self.old operation machine.no_route) { frames = moves.other_frames filter (get_or self.old operation machine.no_route).frames }) }
+        ensures { self.new ≡ set self.old operation
+            (record (get_or self.old operation machine.no_route) {
+              frames =
+                  moves.other_frames filter (get_or self.old operation machine.no_route).frames;
+            }) }
     {
         if let Some(route) = self.routes.get_mut(operation as usize) {
             take_first(&mut route.frames, filter);

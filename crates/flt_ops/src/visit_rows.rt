@@ -102,7 +102,10 @@ impl Visits {
     pub(crate) fn add(&mut self, visit: Visit) -> Result<usize, AllocError>
         requires { visit.operation < self.old.room }
         ensures number { IfOk result (λ number. number ≡ length self.old.visits) }
-        ensures ok { OnOk result (self.new ≡ record self.old { visits = self.old.visits ++ visit ∷ []; settled = self.old.settled ++ false ∷ [] }) }
+        ensures ok { OnOk result (self.new ≡ record self.old {
+          visits = self.old.visits ++ visit ∷ [];
+          settled = self.old.settled ++ false ∷ [];
+        }) }
         ensures refused { OnErr result (self.new ≡ self.old) }
     {
         self.visits.reserve(1)?;

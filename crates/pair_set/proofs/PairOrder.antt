@@ -69,14 +69,16 @@ module _ (s : BTreeSet (ℕ × ℕ)) (f : ℕ) (r : List (ℕ × ℕ)) (h : IsKe
   module _ (p : ℕ × ℕ) (rest : List (ℕ × ℕ)) (is : r ≡ p ∷ rest) where
     first_is : (is_gt (pair_cmp (f, 0) p) ≡ false × ⊤) × IsTrue (contains pair_cmp s p)
     first_is =
-        subst (λ (xs : List (ℕ × ℕ)). IfSome (slice_get xs 0) (λ (q : ℕ × ℕ). (is_gt (pair_cmp (f, 0) q) ≡ false × ⊤) × IsTrue (contains pair_cmp s q))) is h.1
+        subst (λ (xs : List (ℕ × ℕ)). IfSome (slice_get xs 0)
+        (λ (q : ℕ × ℕ). (is_gt (pair_cmp (f, 0) q) ≡ false × ⊤) × IsTrue (contains pair_cmp s q))) is h.1
 
     from_start : NotAfter f 0 p.0 p.1
     from_start = not_after f 0 p.0 p.1 first_is.0.0
 
     to_each : (u : ℕ) → contains pair_cmp s (f, u) ≡ true → NotAfter p.0 p.1 f u
     to_each u is_in =
-        let upto = subst (λ (xs : List (ℕ × ℕ)). IfSome (slice_get xs 0) (λ (q : ℕ × ℕ). is_gt (pair_cmp q (f, u)) ≡ false)) is (h.2 (f, u) (from_least f u, tt) is_in) in
+        let upto = subst (λ (xs : List (ℕ × ℕ)). IfSome (slice_get xs 0) (λ (q : ℕ × ℕ). is_gt (pair_cmp q (f, u)) ≡ false)) is
+        (h.2 (f, u) (from_least f u, tt) is_in) in
         not_after p.0 p.1 f u upto
 
     -- where it has the first number, its second is the least

@@ -8,14 +8,19 @@ loop-visit-init c = found_none c.args.entries.now (nodes_of c.args.lists.now.lis
 
 pub loop-visit-preserved-in_default : goal.loop-visit-preserved-in_default
 loop-visit-preserved-in_default c =
-    found_still c.args.entries.now c.args.visits.now (nodes_of c.args.lists.now.lists c.args.list) c.loop-visit.visit-index c.loop-visit-test.true c.loop-visit.found c.loop-visit.invariant
-    (first_is c.args.entries.now (nodes_of c.args.lists.now.lists c.args.list) _ _ _ (c.requires.noted (get_or c.args.visits.now c.loop-visit.visit-index 0)) (sym c.in_default.is ∙ c.first.ensures))
+    found_still c.args.entries.now c.args.visits.now
+    (nodes_of c.args.lists.now.lists c.args.list) c.loop-visit.visit-index c.loop-visit-test.true c.loop-visit.found c.loop-visit.invariant
+    (first_is c.args.entries.now (nodes_of c.args.lists.now.lists c.args.list) _ _ _
+    (c.requires.noted (get_or c.args.visits.now c.loop-visit.visit-index 0)) (sym c.in_default.is ∙ c.first.ensures))
 
 pub loop-visit-preserved : goal.loop-visit-preserved
 loop-visit-preserved c =
-    found_now c.args.entries.now c.args.visits.now (nodes_of c.args.lists.now.lists c.args.list) c.loop-visit.visit-index c.loop-visit-test.true (Some c.in-Some.node)
+    found_now c.args.entries.now c.args.visits.now
+    (nodes_of c.args.lists.now.lists c.args.list) c.loop-visit.visit-index c.loop-visit-test.true (Some c.in-Some.node)
     (none_is c.loop-visit.found (sym c.is_some.ensures ∙ c.if-is_some.false) ∙ c.loop-visit.invariant)
-    (first_is c.args.entries.now (nodes_of c.args.lists.now.lists c.args.list) _ _ _ (c.requires.noted (get_or c.args.visits.now c.loop-visit.visit-index 0)) (sym c.in-Some.is ∙ c.first.ensures))
+    (first_is c.args.entries.now (nodes_of c.args.lists.now.lists c.args.list) _ _ _
+    (c.requires.noted (get_or c.args.visits.now c.loop-visit.visit-index 0)) (sym c.in-Some.is ∙ c.first.ensures))
 
 pub returns : goal.returns
-returns c = found_all c.args.entries.now c.args.visits.now (nodes_of c.args.lists.now.lists c.args.list) c.loop-visit.visit-index c.loop-visit.found (omega arith) c.loop-visit.invariant
+returns c = found_all c.args.entries.now c.args.visits.now
+    (nodes_of c.args.lists.now.lists c.args.list) c.loop-visit.visit-index c.loop-visit.found (omega arith) c.loop-visit.invariant

@@ -12,7 +12,8 @@ fetch_or-requires c =
     let t = c.args.self.now.words.table.shared.table_id.slots in let s = c.args.serial in let seat = c.args.seat.now.token in (
       c.requires.seat,
       omega (arith, c.args.self.now.words.size, c.requires.serial),
-      subst (λ (k : ℕ). Allows Kept t seat.id seat.me (s / 64) (λ n. bit_or n k) (Asked (step t (s / 64) k 0 none) seat.me)) (sym (one_shl (s % 64) 64 (omega arith)))
+      subst (λ (k : ℕ). Allows Kept t seat.id seat.me (s / 64) (λ n. bit_or n k) (Asked (step t (s / 64) k 0 none) seat.me))
+          (sym (one_shl (s % 64) 64 (omega arith)))
           (asks t seat.id s seat.me c.requires.serial),
     )
 
