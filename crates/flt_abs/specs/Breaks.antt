@@ -3,8 +3,9 @@
 -- they leave a choice the rule is this project's own.
 use Rattle.std.specs.Prelude.{ℕ, Bool, true, false, not, ◌&&◌, ◌||◌, List, [], ◌∷◌, Option, Some, None, find, slice_set, take, is_none}
 use Rattle.std.specs.List.{list_any}
-use Rattle.flt_rules.specs.Call.{is_legal_in_draining, place_of}
+use Rattle.flt_rules.specs.Call.{is_legal_in_draining}
 use Rattle.flt_rules.specs.Columns.{has_place}
+use Rattle.flt_rules.specs.Held.{holds_lock, is_latest}
 use Rattle.flt_rules.specs.Place.{is_above, answers, fits_stage, is_pre_create}
 use Rattle.flt_rules.specs.Status.{status_row, is_complete, is_with_callback}
 use Rattle.flt_rules.specs.Table.{row}
@@ -14,6 +15,7 @@ use Rattle.flt_rules.specs.declared.columns.LockNeed.TheVariants as lock
 use Rattle.flt_rules.specs.declared.columns.Need.{Need}
 use Rattle.flt_rules.specs.declared.columns.Need.TheVariants as need
 use Rattle.flt_rules.specs.declared.columns.Row.{Row}
+use Rattle.flt_rules.specs.declared.held.HeldLock.{HeldLock}
 use Rattle.flt_rules.specs.declared.place.Mode.{Mode}
 use Rattle.flt_rules.specs.declared.place.Mode.TheVariants.{Irp, Fast}
 use Rattle.flt_rules.specs.declared.place.Place.{Place}
@@ -36,13 +38,12 @@ use Rattle.flt_tree.specs.declared.variable.OperationVariable.TheVariants.{Remov
 use Rattle.flt_graph.specs.declared.instruction.Instruction.{Instruction}
 use Rattle.flt_graph.specs.declared.instruction.Instruction.TheVariants as instruction
 use Rattle.flt_graph.specs.declared.instruction.Invocation.{Invocation}
-use Rattle.flt_abs.specs.Locks.{holds_lock, is_latest}
 use Rattle.flt_abs.specs.Sets.{StatusSet, ModeSet, null_alone, is_held, is_stale}
 use Rattle.flt_abs.specs.State.{State}
 use Rattle.flt_abs.specs.Variables.{context_in, operation_in}
 use Rattle.flt_abs.specs.declared.setting.Setting.{Setting}
 
-abbrev pub is_empty : List ℕ → Bool
+abbrev pub is_empty : List HeldLock → Bool
 is_empty [] = true
 is_empty (x ∷ xs) = false
 
@@ -134,11 +135,11 @@ is_need_not_held lock.NotHeld = true
 is_need_not_held _ = false
 
 abbrev pub releases_wrong_lock : State → Option LockNumber → Bool
-releases_wrong_lock x (Some l) = not (is_latest (place_of l) x.locks)
+releases_wrong_lock x (Some l) = not (is_latest l x.locks)
 releases_wrong_lock x None = false
 
 abbrev pub takes_held_lock : State → Option LockNumber → Bool
-takes_held_lock x (Some l) = holds_lock (place_of l) x.locks
+takes_held_lock x (Some l) = holds_lock l x.locks
 takes_held_lock x None = false
 
 -- a call, by its row of the call table
