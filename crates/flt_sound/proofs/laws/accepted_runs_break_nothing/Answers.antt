@@ -14,5 +14,5 @@ returns c =
       follows = c.transfer_follows_situations.ensures;
       below = c.is_partial_order.ensures.computed;
     } in
-    let locks : Excluding = record { opened = c.locks_stay_exclusive.ensures.opened; kept = c.locks_stay_exclusive.ensures.kept } in
+    let locks : Excluding = record { opened = c.locks_stay_exclusive.ensures.opening; kept = c.locks_stay_exclusive.ensures.steps } in
     λ p xs ok. nothing_breaks laws locks p ok xs
