@@ -1,4 +1,4 @@
-pub mod LockLaws
+pub mod LockLemmas
 pub mod Monotone
 pub mod Order
 pub mod Outcomes

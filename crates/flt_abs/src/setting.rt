@@ -2,10 +2,11 @@
 
 ghost use Rattle.std.specs.Prelude.{◌≡◌};
 ghost use Rattle.flt_abs.specs.Setting as spec;
+ghost use Rattle.flt_rules.specs.Held as held_spec;
 
 use crate::state::Abs;
-use flt_graph::{CallbackGraph, Graph, LockKind, Operation, Place};
-use flt_rules::{Level, entry_level, raised_by};
+use flt_graph::{CallbackGraph, Graph, LockKind, LockNumber, Operation, Place};
+use flt_rules::{HeldLock, Level, entry_level, raised_by};
 
 /// Where a point stands.
 #[derive(Clone, Copy)]
@@ -59,19 +60,19 @@ fn are_paired(callbacks: &[CallbackGraph]) -> bool
     callbacks.iter().all(|c| is_paired(callbacks, c))
 }
 
-/// The level to which the lock of a place raises.
-fn raised_at(kinds: &[LockKind], place: u8) -> Level
-    ensures { result ≡ spec.raised_at kinds.now place }
+/// The kind of a declared lock.
+fn kind_at(kinds: &[LockKind], lock: LockNumber) -> Option<LockKind>
+    ensures { result ≡ spec.kind_at kinds.now lock }
 {
-    raised_by(kinds.get(usize::from(place)).copied())
+    kinds.get(usize::from(lock.place())).copied()
 }
 
-fn level_with(kinds: &[LockKind], locks: &[u8], entry: Level) -> Level
-    ensures { result ≡ spec.level_with kinds.now entry locks.now }
+fn level_with(kinds: &[LockKind], locks: &[HeldLock], entry: Level) -> Level
+    ensures { result ≡ held_spec.level_with (spec.kind_at kinds.now) entry locks.now }
 {
     let mut level = entry;
-    for place in locks {
-        level = level.max(raised_at(kinds, *place));
+    for held in locks {
+        level = level.max(raised_by(kind_at(kinds, held.lock)));
     }
     level
 }
