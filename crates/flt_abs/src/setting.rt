@@ -1,8 +1,13 @@
 //! What the rules of a point read besides its variables: where it stands and at which level.
 
-ghost use Rattle.std.specs.Prelude.{◌≡◌};
+ghost use Rattle.std.specs.Prelude.{◌≡◌, List};
 ghost use Rattle.flt_abs.specs.Setting as spec;
 ghost use Rattle.flt_rules.specs.Held as held_spec;
+ghost use Rattle.flt_rules.specs.declared.place.Operation.{Operation};
+ghost use Rattle.flt_tree.specs.Registered as registered;
+ghost use Rattle.flt_tree.specs.declared.filter.Callback.{Callback};
+ghost use Rattle.flt_graph.specs.Lowering.{AreGraphsOf};
+ghost use Rattle.flt_graph.specs.declared.graph.CallbackGraph.{CallbackGraph};
 
 use crate::state::Abs;
 use flt_graph::{CallbackGraph, Graph, LockKind, LockNumber, Operation, Place};
@@ -94,3 +99,10 @@ pub(crate) fn setting_of(graph: &Graph, callback: usize, state: &Abs) -> Setting
         all_registered: are_paired(callbacks),
     }
 }
+
+/// A filter's graphs are registered as its callbacks are. It does nothing: its clauses are the law.
+#[tactic(auto, using(crate::proofs::Registrations::posts_agree, crate::proofs::Registrations::pairs_agree))]
+pub fn graphs_are_registered_alike()
+    ensures posts { (all cs : List Callback) (gs : List CallbackGraph) (kind : Operation) → AreGraphsOf all cs gs → spec.has_post gs kind ≡ registered.has_post cs kind }
+    ensures pairs { (cs : List Callback) (gs : List CallbackGraph) → AreGraphsOf cs cs gs → spec.are_paired gs ≡ registered.are_paired cs }
+{}
