@@ -125,7 +125,7 @@ fn byte_at(text: &[u8]) -> Option<(u8, &[u8])>
 /// The lock of a digit, if it isn't among those found.
 fn lock_of(found: &LockList, digit: u8) -> Option<LockNumber>
     ensures value { result ≡ spec.lock_of found.now digit }
-    ensures new { IfSome result (λ l. holds_lock l found.now ≡ false) }
+    ensures unheld { IfSome result (λ l. holds_lock l found.now ≡ false) }
 {
     let place = digit.checked_sub(b'0')?;
     let lock = LockNumber::at(place as usize)?;
