@@ -10,7 +10,7 @@ use Rattle.flt_rules.specs.declared.place.Mode.{Mode}
 use Rattle.flt_rules.specs.declared.place.Mode.TheVariants.{Irp, Fast}
 use Rattle.flt_abs.specs.Sets.{StatusSet, ModeSet, DrainingSet, either_status, statuses_within, modes_within, drainings_within, is_possible, is_mode_possible, is_draining_possible}
 use Rattle.flt_abs.specs.State.{Status, Null, Held, Stale, Situation, State, IsBelow, IsJoin, has_status, has_mode, has_draining, have_statuses, is_proper, is_below, all_within, either_all, join_of}
-use Rattle.flt_abs.specs.LockLaws.{same_locks-Decides}
+use Rattle.flt_abs.specs.LockLaws.{same_locks_decides}
 use Rattle.flt_abs.specs.Locks.{are_locks}
 
 -- ---- one set
@@ -120,7 +120,7 @@ below_means a b h =
     let modes = and_parts (modes_within a.modes b.modes) _ locks.1 in
     let draining = and_parts (drainings_within a.draining b.draining) _ modes.1 in
     let lists = and_parts (all_within a.contexts b.contexts) _ draining.1 in
-    let same : a.locks ≡ b.locks = (same_locks-Decides a.locks b.locks).0 locks.0 in
+    let same : a.locks ≡ b.locks = (same_locks_decides a.locks b.locks).0 locks.0 in
     record {
       situations = λ t m. record {
         contexts = all_hold a.contexts b.contexts t.contexts lists.0 m.contexts;
@@ -160,7 +160,7 @@ below_from a b p h =
     let contexts = have_some_statuses a.contexts parts.contexts in
     let operations = have_some_statuses a.operations parts.operations in
     let at : List Status → List Status → Mode → Bool → Situation = λ c o m d. record { contexts = c; operations = o; mode = m; draining = d; locks = a.locks } in
-    and_from _ _ ((same_locks-Decides a.locks b.locks).1 h.locks)
+    and_from _ _ ((same_locks_decides a.locks b.locks).1 h.locks)
     (and_from _ _ (mode_within_from _ _ (λ x e. (h.situations (at (map some_status a.contexts) (map some_status a.operations) x draining.0)
     (record { contexts = contexts; operations = operations; mode = e; draining = draining.1; locks = refl })).mode))
     (and_from _ _ (draining_within_from _ _ (λ x e. (h.situations (at (map some_status a.contexts) (map some_status a.operations) mode.0 x)
@@ -221,7 +221,7 @@ all_union_within (a ∷ xs) (b ∷ ys) (d ∷ zs) h e =
     and_from _ _ (union_within a b d left.0 right.0) (all_union_within xs ys zs left.1 right.1)
 
 locks_same : (xs ys : List HeldLock) → xs ≡ ys → same_locks xs ys ≡ true
-locks_same xs ys h = (same_locks-Decides xs ys).1 h
+locks_same xs ys h = (same_locks_decides xs ys).1 h
 
 join_left : (a b : State) → Proper a → Proper b → is_below a (join_of a b) ≡ true
 join_left a b p q =
@@ -373,7 +373,7 @@ below_same a b h e =
     let same_fast = same_from a.modes.fast b.modes.fast irp.1 irp-2.1 in
     let same_no = same_from a.draining.no b.draining.no no.0 no-2.0 in
     let same_yes = same_from a.draining.yes b.draining.yes no.1 no-2.1 in
-    let one_list : a.locks ≡ b.locks = (same_locks-Decides a.locks b.locks).0 locks.0 in
+    let one_list : a.locks ≡ b.locks = (same_locks_decides a.locks b.locks).0 locks.0 in
     let made : state_with a.contexts a.operations a.modes.irp a.modes.fast a.draining.no a.draining.yes a.locks
     ≡ state_with b.contexts b.operations b.modes.irp b.modes.fast b.draining.no b.draining.yes b.locks = cc in
     made
@@ -435,8 +435,8 @@ below_chain a b c h e =
     let lists-2 = and_parts (all_within b.contexts c.contexts) _ draining-2.1 in
     let irp-2 = and_parts (not b.modes.irp || c.modes.irp) _ modes-2.0 in
     let no-2 = and_parts (not b.draining.no || c.draining.no) _ draining-2.0 in
-    let first : a.locks ≡ b.locks = (same_locks-Decides a.locks b.locks).0 locks.0 in
-    let second : b.locks ≡ c.locks = (same_locks-Decides b.locks c.locks).0 locks-2.0 in
+    let first : a.locks ≡ b.locks = (same_locks_decides a.locks b.locks).0 locks.0 in
+    let second : b.locks ≡ c.locks = (same_locks_decides b.locks c.locks).0 locks-2.0 in
     and_from _ _ (locks_same a.locks c.locks (first ∙ second))
     (and_from _ _ (and_from _ _ (chain a.modes.irp b.modes.irp c.modes.irp irp.0 irp-2.0) (chain a.modes.fast b.modes.fast c.modes.fast irp.1 irp-2.1))
     (and_from _ _ (and_from _ _ (chain a.draining.no b.draining.no c.draining.no no.0 no-2.0) (chain a.draining.yes b.draining.yes c.draining.yes no.1 no-2.1))

@@ -95,8 +95,8 @@ locks_themselves [] = refl
 locks_themselves (h ∷ hs) = and_from _ _ (held_itself h) (locks_themselves hs)
 
 -- two lists are the same, as it is computed, exactly where they are one
-pub same_locks-Decides : (hs ks : List HeldLock) → Decides (same_locks hs ks) (hs ≡ ks)
-same_locks-Decides hs ks = (one_list hs ks, λ e. subst (λ xs. same_locks hs xs ≡ true) e (locks_themselves hs))
+pub same_locks_decides : (hs ks : List HeldLock) → Decides (same_locks hs ks) (hs ≡ ks)
+same_locks_decides hs ks = (one_list hs ks, λ e. subst (λ xs. same_locks hs xs ≡ true) e (locks_themselves hs))
 
 -- ---- eight at most
 

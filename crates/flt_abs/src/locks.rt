@@ -77,7 +77,7 @@ impl LockList {
     }
 
     /// Whether both lists have the same locks in the same order, each held in the same way.
-    #[tactic(auto, using(crate::specs::LockLaws::same_locks-Decides))]
+    #[tactic(auto, using(crate::specs::LockLaws::same_locks_decides))]
     pub fn is_same(&self, other: &LockList) -> bool
         ensures value { result ≡ held_spec.same_locks self.now other.now }
         ensures meaning { IsTrue result ↔ (self.now ≡ other.now) }

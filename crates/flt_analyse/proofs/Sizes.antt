@@ -5,7 +5,7 @@ use Rattle.std.proofs.Common.{inl, inr}
 use Rattle.std.specs.List.{list_all}
 use Rattle.flt_rules.specs.Held.{same_locks}
 use Rattle.std.proofs.lemmas.Bool.{and_parts, and_cases, eqb-true, true≢false}
-use Rattle.flt_abs.specs.LockLaws.{same_locks-Decides}
+use Rattle.flt_abs.specs.LockLaws.{same_locks_decides}
 use Rattle.flt_abs.specs.Sets.{StatusSet, statuses_within, modes_within, drainings_within, either_status, is_possible, is_mode_possible, is_draining_possible}
 use Rattle.flt_abs.specs.State.{State, is_below, is_proper, all_within, either_all, join_of}
 
@@ -234,7 +234,7 @@ grows_modes x y p q h = by_side (and_cases (modes_within y.modes x.modes) _ h)
 
 pub join_grows : (x y : State) → is_proper x ≡ true → is_proper y ≡ true → same_locks x.locks y.locks ≡ true → is_below y x ≡ false → size x + 1 ≤ size (join_of x y)
 join_grows x y p q e h =
-    let same : same_locks y.locks x.locks ≡ true = (same_locks-Decides y.locks x.locks).1 (sym ((same_locks-Decides x.locks y.locks).0 e)) in
+    let same : same_locks y.locks x.locks ≡ true = (same_locks_decides y.locks x.locks).1 (sym ((same_locks_decides x.locks y.locks).0 e)) in
     by_side same (and_cases (same_locks y.locks x.locks) _ h)
   where
     by_side : same_locks y.locks x.locks ≡ true → ((same_locks y.locks x.locks ≡ false) ⊎

@@ -6,7 +6,7 @@ use Rattle.std.specs.Prelude.{◌⊎◌, if◌then◌else◌}
 use Rattle.flt_rules.specs.Held.{same_locks}
 use Rattle.std.proofs.lemmas.Bool.{and_parts, cases_eq, ltb-true, ltb-false, true≢false}
 use Rattle.std.proofs.lemmas.List.{get_or-set_same, get_or-set_other, length-set}
-use Rattle.flt_abs.specs.LockLaws.{same_locks-Decides}
+use Rattle.flt_abs.specs.LockLaws.{same_locks_decides}
 use Rattle.std.proofs.lemmas.Option.{none-some, same_Some}
 use Rattle.flt_rules.specs.declared.rule.Rule.{Rule}
 use Rattle.flt_rules.specs.declared.rule.Rule.TheVariants.{R12, R14}
@@ -206,7 +206,7 @@ lead_at laws w next (Some y) e h k all good =
     joined : is_proper y ≡ true → is_below next.state y ≡ false → same_locks y.locks next.state.locks ≡ true → Reached w (arrived w next.point (join_of y next.state)) (Some next)
     joined proper s t =
         let both = laws.proper y next.state proper in
-        let same : y.locks ≡ next.state.locks = (same_locks-Decides y.locks next.state.locks).0 t in
+        let same : y.locks ≡ next.state.locks = (same_locks_decides y.locks next.state.locks).0 t in
         let above = laws.left y next.state proper good in
         let less = less_join next.state y good both proper t s in
         record {
@@ -225,10 +225,10 @@ lead_at laws w next (Some y) e h k all good =
     parted t ys b one =
         let mine = b next.point y e in
         let there : one.0 ≡ mine.0 = same_Some one.0 mine.0 (sym one.1 ∙ mine.1) in
-        let first : y.locks ≡ mine.0.locks = (same_locks-Decides y.locks mine.0.locks).0 (and_parts (same_locks y.locks mine.0.locks) _ mine.2).0 in
-        let second : next.state.locks ≡ one.0.locks = (same_locks-Decides next.state.locks one.0.locks).0 (and_parts (same_locks next.state.locks one.0.locks) _ one.2).0 in
+        let first : y.locks ≡ mine.0.locks = (same_locks_decides y.locks mine.0.locks).0 (and_parts (same_locks y.locks mine.0.locks) _ mine.2).0 in
+        let second : next.state.locks ≡ one.0.locks = (same_locks_decides next.state.locks one.0.locks).0 (and_parts (same_locks next.state.locks one.0.locks) _ one.2).0 in
         let same : y.locks ≡ next.state.locks = first ∙ (sym (ap (λ (i : State). i.locks) there) ∙ sym second) in
-        true≢false (sym ((same_locks-Decides y.locks next.state.locks).1 same) ∙ t)
+        true≢false (sym ((same_locks_decides y.locks next.state.locks).1 same) ∙ t)
 
 pub lead : Laws → (w : Walk) (s : Option Successor) → length w.points ≤ length w.pending → AllProper w → ProperNext s → Leading w s (reach w s)
 lead laws w None k all good = record { kept = kept_same laws w; led = tt; below = λ ys b one. b }

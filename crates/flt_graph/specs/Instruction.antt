@@ -22,6 +22,7 @@ plain (plain_call.DeleteContext c) = record (bare call.DeleteContext) { context 
 plain (plain_call.ReferenceContext c d) = record (bare call.ReferenceContext) { context = Some c; output = Some d }
 plain (plain_call.ReleaseContext c) = record (bare call.ReleaseContext) { context = Some c }
 plain (plain_call.AcquireLock k l) = record (bare (call.AcquireLock k)) { lock = Some l }
+plain (plain_call.AcquirePushLockShared l) = record (bare call.AcquirePushLockShared) { lock = Some l }
 plain (plain_call.ReleaseLock k l) = record (bare (call.ReleaseLock k)) { lock = Some l }
 plain (plain_call.CompletePendedPreOperation d st) =
     record (bare (call.CompletePendedPreOperation (whose d))) { operation = Some d; context = context_of st; status = Some st }

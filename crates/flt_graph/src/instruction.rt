@@ -80,6 +80,10 @@ pub fn plain(call: PlainCall) -> Invocation
             lock: Some(lock),
             ..bare(Call::AcquireLock(kind))
         },
+        PlainCall::AcquirePushLockShared(lock) => Invocation {
+            lock: Some(lock),
+            ..bare(Call::AcquirePushLockShared)
+        },
         PlainCall::ReleaseLock(kind, lock) => Invocation {
             lock: Some(lock),
             ..bare(Call::ReleaseLock(kind))

@@ -1,5 +1,5 @@
 -- What a filter is registered for, and the numbers of its routines, from 0. Source: FLT_REGISTRATION in the driver kit.
-use Rattle.std.specs.Prelude.{ℕ, Bool, true, not, ◌||◌, List, [], ◌∷◌, Option, position}
+use Rattle.std.specs.Prelude.{ℕ, Bool, not, ◌||◌, List, [], ◌∷◌, Option, position}
 use Rattle.std.specs.List.{list_all, position_or_len}
 use Rattle.flt_rules.specs.declared.place.Operation.{Operation}
 use Rattle.flt_rules.specs.declared.place.Operation.TheVariants.{Create, Read, Write, Cleanup}
