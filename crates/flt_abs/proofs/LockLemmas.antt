@@ -1,9 +1,9 @@
 -- A list of locks has eight at most, and stays one as locks are taken and released.
-use Rattle.std.proofs.Common.{◌≡◌, ◌<◌, ◌≤◌, ◌+◌, ◌-◌, ℕ, suc, Bool, true, false, List, [], ◌∷◌, ◌++◌, length, map, sym, refl, ap, subst, arith, ◌∙◌, length-append, Option, Some, None}
+use Rattle.std.proofs.Common.{◌≡◌, ◌<◌, ◌≤◌, ◌+◌, ◌-◌, ℕ, suc, Bool, true, false, List, [], ◌∷◌, ◌++◌, length, sym, refl, ap, subst, arith, ◌∙◌, length-append, Some, None}
 use native.Mathlib.Numerals.{unary_clauses}
-use Rattle.std.specs.Prelude.{not, ◌==◌, ◌&&◌, ◌||◌, nat_lt, slice_index_or, if◌then◌else◌}
+use Rattle.std.specs.Prelude.{not, ◌&&◌, nat_lt, slice_index_or, if◌then◌else◌}
 use Rattle.std.specs.List.{position, position_or_len, remove}
-use Rattle.std.proofs.lemmas.Bool.{and_parts, and_from, or_parts, or_from, not-true, ltb-true, lt-ltb, ltb-false, eqb-true, not_from_false}
+use Rattle.std.proofs.lemmas.Bool.{and_parts, and_from, or_parts, or_from, not-true, ltb-true, ltb-false, eqb-true, not_from_false}
 use Rattle.flt_rules.specs.Call.{place_of}
 use Rattle.flt_rules.specs.Held.{held, same_lock, holds_lock, is_latest, without_last, same_locks}
 use Rattle.flt_rules.specs.declared.call.LockNumber.{LockNumber}

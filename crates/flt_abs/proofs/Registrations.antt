@@ -6,8 +6,6 @@ use Rattle.std.proofs.lemmas.Bool.{and_parts, and_from}
 use Rattle.flt_rules.specs.Place.{same_operation}
 use Rattle.flt_rules.specs.declared.place.Operation.{Operation}
 use Rattle.flt_rules.specs.declared.place.Operation.TheVariants.{Create, Read, Write, Cleanup}
-use Rattle.flt_rules.specs.declared.place.Place.{Place}
-use Rattle.flt_rules.specs.declared.place.Place.TheVariants as place
 use Rattle.flt_tree.specs.Filter.{head_place}
 use Rattle.flt_tree.specs.Registered as registered
 use Rattle.flt_tree.specs.declared.filter.Callback.{Callback}

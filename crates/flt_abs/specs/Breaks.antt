@@ -1,7 +1,7 @@
 -- Which rules an instruction breaks in a state: the call table, the table of statuses and the rules of the other
 -- statements, read on what may be so. Source: the driver kit's pages on each call and on the callback statuses; where
 -- they leave a choice the rule is this project's own.
-use Rattle.std.specs.Prelude.{ℕ, Bool, true, false, not, ◌&&◌, ◌||◌, List, [], ◌∷◌, Option, Some, None, find, slice_set, take, is_none}
+use Rattle.std.specs.Prelude.{Bool, true, false, not, ◌&&◌, ◌||◌, List, [], ◌∷◌, Option, Some, None, find, slice_set, take, is_none}
 use Rattle.std.specs.List.{list_any}
 use Rattle.flt_rules.specs.Call.{is_legal_in_draining}
 use Rattle.flt_rules.specs.Columns.{has_place}
