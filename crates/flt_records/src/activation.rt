@@ -6,7 +6,7 @@ ghost use Rattle.flt_records.specs.Rest.{others};
 ghost use Rattle.flt_records.specs.Writes.{written};
 
 use crate::rest::Rest;
-use flt_rules::LockNumber;
+use flt_rules::{HeldLock, LockNumber};
 use flt_tree::{
     Atom, ContextVariable, Expression, NumberVariable, OperationVariable, RemovedVariable,
     Statement,
@@ -22,7 +22,7 @@ pub struct Activation<'a> {
     numbers: [u64; 8],
     contexts: [Option<usize>; 9],
     operations: [Option<usize>; 5],
-    pub locks: Items<LockNumber>,
+    pub locks: Items<HeldLock>,
     pub ended: bool,
 }
 
@@ -48,8 +48,8 @@ pub enum Write {
     /// A visit and a context, as of an entry of a queue.
     Entry(RemovedVariable, ContextVariable, Option<usize>, Option<usize>),
     /// The lock is taken.
-    Lock(LockNumber),
-    /// The last such lock is given up.
+    Lock(HeldLock),
+    /// The last entry of the lock is given up, of either kind.
     Unlock(LockNumber),
 }
 
@@ -156,7 +156,7 @@ impl<'a> Activation<'a> {
                 self.set_operation(OperationVariable::Removed(removed), visit);
                 self.set_context(variable, context);
             }
-            Write::Lock(lock) => self.locks.push(lock)?,
+            Write::Lock(held) => self.locks.push(held)?,
             Write::Unlock(lock) => self.remove_lock(lock),
         }
         Ok(())

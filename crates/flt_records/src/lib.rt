@@ -2,12 +2,14 @@
 //! that save searches.
 //!
 //! `parts` and `route` are the records, `activation`, `rest` and `lock_list` one run of a callback, and `local` its steps that nobody
-//! else sees. `linked` keeps contexts with their links, `visit_list` visits by operation, and `waiting_list` queues and work items;
+//! else sees. `linked` keeps contexts with their links, `visit_list` visits by operation, `holders` who holds a lock, and
+//! `waiting_list` queues and work items;
 //! `place_set` and `counts` are their indices. Contracts see each list as the machine's own, and mention no index.
 #![tactic(auto)]
 
 mod activation;
 mod counts;
+mod holders;
 mod laws;
 mod linked;
 mod local;
@@ -22,11 +24,12 @@ mod waiting_list;
 
 pub use activation::{Activation, Write};
 pub use counts::Counts;
+pub use holders::{Holders, is_free_for};
 pub use laws::same_tests_find_the_same;
 pub use linked::Contexts;
 pub use lock_list::holds_lock;
 pub use parts::{
-    Actor, Arrival, Context, Entry, Frame, Item, Link, Outcome, Position, Presence, Route,
+    Actor, Arrival, Context, Entry, Frame, Holder, Item, Link, Outcome, Position, Presence, Route,
     Standing, Visit,
 };
 pub use rest::{Rest, Upcoming};

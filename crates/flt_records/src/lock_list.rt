@@ -1,26 +1,20 @@
 //! The locks that an activation holds, the oldest first.
 
 ghost use Rattle.std.specs.Prelude.{◌≡◌, ◌<◌, length, remove, is_some, IfSome, MatchOption};
-ghost use Rattle.flt_model.specs.Locks as spec;
+ghost use Rattle.flt_rules.specs.Held as spec;
 
 use crate::activation::Activation;
-use flt_rules::LockNumber;
+use flt_rules::{HeldLock, LockNumber};
 
-fn same_lock(lock: LockNumber, other: LockNumber) -> bool
-    ensures { result ≡ spec.same_lock lock other }
-{
-    lock.place() == other.place()
-}
-
-/// Whether a lock stands among some.
-pub fn holds_lock(lock: LockNumber, locks: &[LockNumber]) -> bool
+/// Whether a lock stands among some, held in either way.
+pub fn holds_lock(lock: LockNumber, locks: &[HeldLock]) -> bool
     ensures { result ≡ spec.holds_lock lock locks.now }
 {
-    locks.iter().any(|held| same_lock(lock, *held))
+    locks.iter().any(|held| lock.is_same(held.lock))
 }
 
-/// Where the last such lock stands.
-fn last_place(lock: LockNumber, locks: &[LockNumber]) -> Option<usize>
+/// Where the last entry of the lock stands.
+fn last_place(lock: LockNumber, locks: &[HeldLock]) -> Option<usize>
     ensures held { spec.holds_lock lock locks.now ≡ is_some result }
     ensures within { IfSome result (λ at. at < length locks.now) }
     ensures last { MatchOption result (spec.without_last lock locks.now ≡ locks.now) (λ at. spec.without_last lock locks.now ≡ remove locks.now at) }
@@ -30,7 +24,7 @@ fn last_place(lock: LockNumber, locks: &[LockNumber]) -> Option<usize>
     };
     match last_place(lock, others) {
         Some(at) => Some(at + 1),
-        None if same_lock(lock, *first) => Some(0),
+        None if lock.is_same(first.lock) => Some(0),
         None => None,
     }
 }
@@ -43,7 +37,7 @@ impl<'a> Activation<'a> {
         holds_lock(lock, self.locks.as_slice())
     }
 
-    /// Takes the last such lock out of the list.
+    /// Takes the last entry of the lock out of the list, of either kind.
     pub fn remove_lock(&mut self, lock: LockNumber)
         ensures { self.new ≡ record self.old { locks = spec.without_last lock self.old.locks } }
     {

@@ -1,7 +1,7 @@
 //! What activations share: operations, visits, contexts and what waits, one struct for each record of the machine.
 
 use flt_model::Key;
-use flt_rules::{FinalStatus, Mode, Operation, Place, Stage};
+use flt_rules::{Access, FinalStatus, Mode, Operation, Place, Stage};
 use sqlite_items::Items;
 use std::marker::Model;
 
@@ -178,6 +178,23 @@ impl Model for Item {
     ghost Value = { machine.Item };
 
     ghost view = { λ i. record { filter = i.filter; routine = i.routine; visit = i.visit; context = i.context } };
+}
+
+/// An activation that holds a lock, and how.
+#[derive(Clone, Copy)]
+pub struct Holder {
+    pub activation: usize,
+    pub access: Access,
+}
+
+impl Model for Holder {
+    ghost use Rattle.flt_model.specs.World as machine;
+
+    ghost Value = { machine.Holder };
+
+    ghost view = { λ h. record { activation = h.activation; access = h.access } };
+
+    ghost inverse = { λ h. record { activation = h.activation; access = h.access } };
 }
 
 /// Whose callback an activation runs, and where; it never changes.

@@ -1,8 +1,11 @@
 -- One accepted filter, so that the theorem says something: it queues reads and lets a worker complete them, takes a lock in its pre callback
 -- of writes, and hands a context to its post callback.
 use Rattle.std.specs.Prelude.{ℕ, List, [], ◌∷◌, map, Option, Some, None}
+use Rattle.flt_rules.specs.Held.{held}
 use Rattle.flt_rules.specs.declared.call.LockKind.TheVariants.{Push}
 use Rattle.flt_rules.specs.declared.call.LockNumber.TheVariants.{L0}
+use Rattle.flt_rules.specs.declared.held.Access.TheVariants.{Exclusive}
+use Rattle.flt_rules.specs.declared.held.HeldLock.{HeldLock}
 use Rattle.flt_rules.specs.declared.place.Operation.TheVariants.{Read, Write}
 use Rattle.flt_rules.specs.declared.place.Place.TheVariants as place
 use Rattle.flt_rules.specs.declared.status.FinalStatus.TheVariants as final
@@ -103,7 +106,7 @@ worked_graph = record {
 -- ---- its certificate: in each state a digit for each variable, as a certificate's text has it
 
 -- what may be so of c0 and arg, and of o0 and data; the other variables are NULL
-abbrev pub state : ℕ → ℕ → ℕ → ℕ → ModeSet → DrainingSet → List ℕ → Option State
+abbrev pub state : ℕ → ℕ → ℕ → ℕ → ModeSet → DrainingSet → List HeldLock → Option State
 state c0 arg o0 data_ modes draining locks = Some (record {
   contexts = map statuses (c0 ∷ 1 ∷ 1 ∷ 1 ∷ 1 ∷ 1 ∷ 1 ∷ 1 ∷ arg ∷ []);
   operations = map statuses (o0 ∷ 1 ∷ 1 ∷ 1 ∷ data_ ∷ []);
@@ -127,7 +130,7 @@ certificate =
     ∷ state 1 1 1 2 either_way no_alone []
     ∷ None ∷ [])
     ∷ (state 1 1 1 2 either_way no_alone []
-    ∷ state 1 1 1 2 either_way no_alone (0 ∷ [])
+    ∷ state 1 1 1 2 either_way no_alone (held L0 Exclusive ∷ [])
     ∷ state 1 1 1 2 either_way no_alone []
     ∷ state 2 1 1 2 either_way no_alone []
     ∷ state 1 1 1 2 either_way no_alone []

@@ -17,7 +17,7 @@ use flt_check::covering_is_faultless;
 use flt_graph::{
     callbacks_have_graphs, filters_have_graphs, instructions_are_served, lists_have_points,
 };
-use flt_model::first_faults_are_told;
+use flt_model::{first_faults_are_told, locks_stay_exclusive};
 
 /// No run of accepted filters breaks anything: for all filters and all lists of transitions, where each filter is accepted, `breaks` finds
 /// nothing. It does nothing: its clause is the law.
@@ -29,6 +29,7 @@ pub fn accepted_runs_break_nothing()
     instructions_are_served();
     transfer_follows_situations();
     is_partial_order();
+    locks_stay_exclusive();
 }
 
 /// Accepted filters are accepted in the order of their altitudes too, in which the machine takes them; and no journal of theirs is

@@ -6,8 +6,11 @@ use std::test::Fail;
 const WORKED: &str =
     "fltcert 1\ncallback 0 5\n0 111111111 11112 3 1 -\n1 111111111 11112 1 1 -\n2 111111111 11114 1 1 -\n3 111111111 11112 3 1 -\n4 !\ncallback 1 4\n0 111111113 11112 1 1 -\n1 111111112 11112 1 1 -\n2 111111115 11112 1 1 -\n3 111111115 11114 1 1 -\nend\n";
 
+/// Locks that are shared, and one that isn't.
+const SHARED: &str = "fltcert 1\ncallback 0 1\n0 111111111 11112 1 1 1s,0,7s\nend\n";
+
 /// Texts that are no certificate, and the first line that isn't as asked.
-const REFUSED: [(&str, usize); 31] = [
+const REFUSED: [(&str, usize); 38] = [
     ("", 1),
     ("fltcert 1", 1),
     ("fltcert 2\ncallback 0 1\n0 !\nend\n", 1),
@@ -46,6 +49,34 @@ const REFUSED: [(&str, usize); 31] = [
         "fltcert 1\ncallback 0 1\n0 111111111 11112 1 1 0,\nend\n",
         3,
     ),
+    (
+        "fltcert 1\ncallback 0 1\n0 111111111 11112 1 1 0,0s\nend\n",
+        3,
+    ),
+    (
+        "fltcert 1\ncallback 0 1\n0 111111111 11112 1 1 0s,1,0\nend\n",
+        3,
+    ),
+    (
+        "fltcert 1\ncallback 0 1\n0 111111111 11112 1 1 0ss\nend\n",
+        3,
+    ),
+    (
+        "fltcert 1\ncallback 0 1\n0 111111111 11112 1 1 0S\nend\n",
+        3,
+    ),
+    (
+        "fltcert 1\ncallback 0 1\n0 111111111 11112 1 1 s0\nend\n",
+        3,
+    ),
+    (
+        "fltcert 1\ncallback 0 1\n0 111111111 11112 1 1 8s\nend\n",
+        3,
+    ),
+    (
+        "fltcert 1\ncallback 0 1\n0 111111111 11112 1 1 -s\nend\n",
+        3,
+    ),
     ("fltcert 1\ncallback 0 2\n0 !\nend\n", 4),
     ("fltcert 1\ncallback 0 1\n0 !\n", 4),
     ("fltcert 1\ncallback 0 1\n0 !\nend", 4),
@@ -77,9 +108,11 @@ fn worked_certificate(rt: HostRuntime) -> Result<(), Fail> {
 /// `tools/refuse-allocations.sh tests flt_tests memory` refuses each request for memory in turn.
 #[test]
 fn reads_and_writes_within_memory(rt: HostRuntime) -> Result<(), Fail> {
-    let cert = read(rt.alloc(), WORKED.as_bytes())?;
-    let text = write(rt.alloc(), &cert)?;
-    assert_eq!(rt; text.as_slice(), WORKED.as_bytes());
+    for own in [WORKED, SHARED] {
+        let cert = read(rt.alloc(), own.as_bytes())?;
+        let text = write(rt.alloc(), &cert)?;
+        assert_eq!(rt; text.as_slice(), own.as_bytes());
+    }
     Ok(())
 }
 

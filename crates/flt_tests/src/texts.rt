@@ -41,7 +41,7 @@ const NAMES_AND_BLOCKS: &[u8] =
     b"filter a altitude 100\nlock spin s\nlock fast f\nqueue\npre read {\nif FltQueueDeferredIoWorkItem data w context c0 {\nKeAcquireSpinLock s\nExReleaseFastMutex f\n} else {\nrepeat 2 {\nn0 = n1 + 3\n}\n}\nreturn PENDING\n}\ncanceled {\n}\ndeferred_pre w {\nif FltQueueGenericWorkItem g {\n}\n}\ngeneric g {\n}\n";
 
 /// Texts, and what is said of each.
-const TEXTS: [(&[u8], &str); 83] = [
+const TEXTS: [(&[u8], &str); 88] = [
     // Bytes and words that are wrong.
     (
         b"filter a altitude 100\npre read {\nreturn $\n}\n",
@@ -187,6 +187,26 @@ const TEXTS: [(&[u8], &str); 83] = [
     (
         b"filter a altitude 100\npre read {\nExReleaseFastMutex s\n}\n",
         "3:20 E04",
+    ),
+    (
+        b"filter p altitude 1\nlock spin l\npre read {\nFltAcquirePushLockShared l\n}\n",
+        "4:26 E04",
+    ),
+    (
+        b"filter p altitude 1\nlock fast l\npre read {\nFltAcquirePushLockShared l\n}\n",
+        "4:26 E04",
+    ),
+    (
+        b"filter p altitude 1\npre read {\nFltAcquirePushLockShared l\n}\n",
+        "3:26 E04",
+    ),
+    (
+        b"filter p altitude 1\nlock push l\npre read {\nFltAcquirePushLockShared l\nn0 = file data\nFltReleasePushLock l\nreturn NO_CALLBACK\n}\n",
+        "ok",
+    ),
+    (
+        b"filter p altitude 1\nlock push l\npre read {\nFltAcquirePushLockShared 0\n}\n",
+        "4:26 E03",
     ),
     (
         b"filter a altitude 100\npre read {\nif FltQueueGenericWorkItem w {\n}\n}\n",

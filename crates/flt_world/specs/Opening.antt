@@ -1,5 +1,5 @@
 -- The world before the first move, by how many filters there are.
-use Rattle.std.specs.Prelude.{ℕ, [], None, replicate}
+use Rattle.std.specs.Prelude.{ℕ, [], replicate}
 use Rattle.flt_model.specs.World.{World, Attached}
 
 abbrev pub opened : ℕ → World
@@ -9,7 +9,7 @@ opened n = record {
   store = record {
     presences = replicate n Attached;
     queues = replicate n [];
-    holders = replicate n (replicate 8 None);
+    holders = replicate n (replicate 8 []);
     arrivals = [];
     routes = [];
     visits = [];

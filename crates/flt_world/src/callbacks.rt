@@ -3,8 +3,9 @@
 ghost use Rattle.std.specs.Prelude.{◌≡◌, ◌≤◌, length};
 ghost use Rattle.flt_model.specs.Levels as levels;
 ghost use Rattle.flt_model.specs.Program as spec;
+ghost use Rattle.flt_rules.specs.Held as held;
 
-use flt_rules::{Level, LockKind, LockNumber, Operation, Place, entry_level, raised_by};
+use flt_rules::{HeldLock, Level, LockKind, LockNumber, Operation, Place, entry_level, raised_by};
 use flt_tree::{Callback, Filter, Head, Routine, Statement};
 
 fn is_pre_of(kind: Operation, head: &Head) -> bool
@@ -130,20 +131,20 @@ fn kind_of_lock(filter: &Filter, lock: LockNumber) -> Option<LockKind>
     }
 }
 
-fn level_with(filter: &Filter, level: Level, locks: &[LockNumber]) -> Level
-    ensures { result ≡ levels.level_with filter.now level locks.now }
+fn level_with(filter: &Filter, level: Level, locks: &[HeldLock]) -> Level
+    ensures { result ≡ held.level_with (spec.kind_of_lock filter.now) level locks.now }
 {
     match locks {
         [] => level,
-        [lock, others @ ..] => {
-            let raised = raised_by(kind_of_lock(filter, *lock));
+        [first, others @ ..] => {
+            let raised = raised_by(kind_of_lock(filter, first.lock));
             level_with(filter, level.max(raised), others)
         }
     }
 }
 
 /// The level of a callback of a place that holds these locks.
-pub(crate) fn level_at(filter: &Filter, place: Place, locks: &[LockNumber]) -> Level
+pub(crate) fn level_at(filter: &Filter, place: Place, locks: &[HeldLock]) -> Level
     ensures { result ≡ levels.level_at filter.now place locks.now }
 {
     level_with(filter, entry_level(place), locks)

@@ -16,10 +16,10 @@ ghost use Rattle.flt_records.specs.Writes.{written};
 ghost use Rattle.flt_world.specs.Happening.{later};
 
 use flt_records::{
-    Activation, Actor, Arrival, Context, Contexts, Entry, Item, Link, Position, Presence, Route,
-    Standing, Visit, Visits, Waiting, Write, same_tests_find_the_same,
+    Activation, Actor, Arrival, Context, Contexts, Entry, Holder, Holders, Item, Link, Position,
+    Presence, Route, Standing, Visit, Visits, Waiting, Write, same_tests_find_the_same,
 };
-use flt_rules::{LockNumber, Mode, Operation, Place, Stage};
+use flt_rules::{HeldLock, LockNumber, Mode, Operation, Place, Stage};
 use flt_tree::{Atom, ContextVariable, OperationVariable, Statement};
 use sqlite_items::{Items, at};
 use std::alloc::{AllocError, Global};
@@ -31,7 +31,8 @@ pub struct World<'a> {
     pub actors: Vec<Actor>,
     pub activations: Vec<Activation<'a>>,
     presences: Vec<Standing>,
-    holders: Vec<[Option<usize>; 8]>,
+    /// By lock.
+    holders: Vec<[Holders; 8]>,
     pub arrivals: Vec<Arrival>,
     pub routes: Vec<Route>,
     visits: Visits,
@@ -60,6 +61,22 @@ fn presence_among(presences: &[Standing], filter: usize) -> Presence
         Some(standing) => standing.presence,
         None => Presence::Detached,
     }
+}
+
+/// Locks that nobody holds.
+fn unheld(alloc: Global) -> [Holders; 8]
+    ensures { result ≡ replicate 8 [] }
+{
+    [
+        Holders::new(alloc),
+        Holders::new(alloc),
+        Holders::new(alloc),
+        Holders::new(alloc),
+        Holders::new(alloc),
+        Holders::new(alloc),
+        Holders::new(alloc),
+        Holders::new(alloc),
+    ]
 }
 
 // ---- what is there at a number
@@ -343,14 +360,14 @@ impl<'a> World<'a> {
         }
     }
 
-    /// The activation that holds a lock of a filter, if one does.
+    /// Who holds a lock of a filter, in the order in which they took it.
     #[tactic(auto, using(crate::proofs::Reading::found, crate::proofs::Reading::missing))]
-    pub fn holder(&self, filter: usize, lock: LockNumber) -> Option<usize>
-        ensures { result ≡ locks.holder_of self.now.store filter lock }
+    pub fn holders(&self, filter: usize, lock: LockNumber) -> &[Holder]
+        ensures { result.now ≡ locks.holders_of self.now.store filter lock }
     {
         match self.holders.get(filter) {
-            Some(holders) => holders[usize::from(lock.place())],
-            None => None,
+            Some(holders) => holders[usize::from(lock.place())].as_slice(),
+            None => &[],
         }
     }
 
@@ -366,11 +383,7 @@ impl<'a> World<'a> {
     }
 
     /// The locks that an activation holds.
-    pub fn locks_of(
-        &self,
-        alloc: Global,
-        activation: usize,
-    ) -> Result<Items<LockNumber>, AllocError>
+    pub fn locks_of(&self, alloc: Global, activation: usize) -> Result<Items<HeldLock>, AllocError>
         ensures { IfOk result (λ locks. locks ≡ (spec.activation_at self.now activation).locks) }
     {
         match self.activations.get(activation) {
@@ -456,13 +469,13 @@ impl<'a> World<'a> {
 
     /// One more filter, which is there, has an empty queue and whose locks nobody holds.
     pub fn add_filter(&mut self, alloc: Global) -> Result<(), AllocError>
-        ensures { OnOk result (self.new ≡ record self.old { store = record self.old.store { presences = self.old.store.presences ++ spec.Attached ∷ []; queues = self.old.store.queues ++ [] ∷ []; holders = self.old.store.holders ++ replicate 8 None ∷ [] } }) }
+        ensures { OnOk result (self.new ≡ record self.old { store = record self.old.store { presences = self.old.store.presences ++ spec.Attached ∷ []; queues = self.old.store.queues ++ [] ∷ []; holders = self.old.store.holders ++ replicate 8 [] ∷ [] } }) }
     {
         self.presences.push(Standing {
             presence: Presence::Attached,
         })?;
         self.waiting.add_queue(alloc)?;
-        self.holders.push([None; 8])?;
+        self.holders.push(unheld(alloc))?;
         Ok(())
     }
 
@@ -508,12 +521,27 @@ impl<'a> World<'a> {
         }
     }
 
-    /// Who holds a lock of a filter from now on.
-    pub fn set_holder(&mut self, filter: usize, lock: LockNumber, holder: Option<usize>)
-        ensures { self.new ≡ record self.old { store = locks.with_holder self.old.store filter lock holder } }
+    /// One more holder of a lock of a filter.
+    pub fn add_holder(
+        &mut self,
+        filter: usize,
+        lock: LockNumber,
+        holder: Holder,
+    ) -> Result<(), AllocError>
+        ensures { OnOk result (self.new ≡ record self.old { store = locks.with_holder self.old.store filter lock holder }) }
     {
         if let Some(holders) = self.holders.get_mut(filter) {
-            holders[usize::from(lock.place())] = holder;
+            holders[usize::from(lock.place())].push(holder)?;
+        }
+        Ok(())
+    }
+
+    /// The activation holds a lock of a filter no longer.
+    pub fn remove_holder(&mut self, filter: usize, lock: LockNumber, activation: usize)
+        ensures { self.new ≡ record self.old { store = locks.without_holder self.old.store filter lock activation } }
+    {
+        if let Some(holders) = self.holders.get_mut(filter) {
+            holders[usize::from(lock.place())].remove(activation);
         }
     }
 

@@ -41,10 +41,15 @@ fn accepts_the_smallest_filter(rt: HostRuntime) -> Result<(), Fail> {
 /// Only the exact line `fltcert 1` begins a certificate in FILE, and none does where CERT is named.
 #[test]
 fn tells_each_error_in_one_line(rt: HostRuntime) -> Result<(), Fail> {
-    let table: [(&[&str], &[u8], &str); 12] = [
+    let table: [(&[&str], &[u8], &str); 13] = [
         (&["check", "-"], b"", "syntax 1:1 E03\n"),
         (&["check", "-"], CUT, "certificate line 5\n"),
         (&["check", "-"], SMALLEST, "certificate line 1\n"),
+        (
+            &["check", "-"],
+            b"filter p altitude 1\nlock push l\npre read {\nFltAcquirePushLockShared l\nreturn NO_CALLBACK\n}\nfltcert 1\ncallback 0 3\n0 111111111 11112 3 1 -\n1 111111111 11112 3 1 0,0s\n2 !\nend\n",
+            "certificate line 4\n",
+        ),
         (
             &["check", "-"],
             b"filter a altitude 100\npre read {\nreturn NO_CALLBACK\n}\nfltcert 1",

@@ -202,8 +202,12 @@ pub(super) const LEVELS: [Example; 4] = [
     ),
 ];
 
+/// Reads that look at their file under a push lock that they share.
+const SHARED_READS: &str =
+    "filter p altitude 1\nlock push l\npre read {\nFltAcquirePushLockShared l\nn0 = file data\nFltReleasePushLock l\nreturn NO_CALLBACK\n}\n";
+
 /// What becomes of locks.
-pub(super) const LOCKS: [Example; 6] = [
+pub(super) const LOCKS: [Example; 13] = [
     (
         "filter a altitude 100\nlock spin s\npre read {\nif n0 == 0 {\nKeAcquireSpinLock s\n}\nreturn NO_CALLBACK\n}\n",
         &[&[
@@ -258,10 +262,79 @@ pub(super) const LOCKS: [Example; 6] = [
         &[&["111111111 11112 3 1 -", "111111111 11112 3 1 0", "!", "!"]],
         "refused callback 0 point 1 line 5 R11 lock taken twice\n",
     ),
+    (
+        SHARED_READS,
+        &[&[
+            "111111111 11112 3 1 -",
+            "111111111 11112 3 1 0s",
+            "111111111 11112 3 1 0s",
+            "111111111 11112 3 1 -",
+            "!",
+        ]],
+        "accepted\n",
+    ),
+    (
+        "filter p altitude 1\nlock push l\npre read {\nFltAcquirePushLockShared l\nFltAcquirePushLockExclusive l\nreturn NO_CALLBACK\n}\n",
+        &[&["111111111 11112 3 1 -", "111111111 11112 3 1 0s", "!", "!"]],
+        "refused callback 0 point 1 line 5 R11 lock taken twice\n",
+    ),
+    (
+        "filter p altitude 1\nlock push l\npre read {\nif n0 == 0 {\nFltAcquirePushLockShared l\n} else {\nFltAcquirePushLockExclusive l\n}\nFltReleasePushLock l\nreturn NO_CALLBACK\n}\n",
+        &[&[
+            "111111111 11112 3 1 -",
+            "111111111 11112 3 1 -",
+            "111111111 11112 3 1 -",
+            "111111111 11112 3 1 0s",
+            "111111111 11112 3 1 -",
+            "!",
+        ]],
+        "refused callback 0 point 2 line 7 R12 lock lists differ where paths meet\n",
+    ),
+    (
+        "filter p altitude 1\nlock push l\npre read {\nif n0 == 0 {\nFltAcquirePushLockShared l\n} else {\nFltAcquirePushLockShared l\n}\nFltReleasePushLock l\nreturn NO_CALLBACK\n}\n",
+        &[&[
+            "111111111 11112 3 1 -",
+            "111111111 11112 3 1 -",
+            "111111111 11112 3 1 -",
+            "111111111 11112 3 1 0s",
+            "111111111 11112 3 1 -",
+            "!",
+        ]],
+        "accepted\n",
+    ),
+    (
+        "filter p altitude 1\nlock spin s\nlock push l\npre read {\nKeAcquireSpinLock s\nFltAcquirePushLockShared l\nFltReleasePushLock l\nKeReleaseSpinLock s\nreturn NO_CALLBACK\n}\n",
+        &[&[
+            "111111111 11112 3 1 -",
+            "111111111 11112 3 1 0",
+            "!",
+            "!",
+            "!",
+            "!",
+        ]],
+        "refused callback 0 point 1 line 6 R07 call above its level\n",
+    ),
+    (
+        "filter p altitude 1\nlock push k\nlock push l\npre read {\nFltAcquirePushLockExclusive k\nFltAcquirePushLockShared l\nFltReleasePushLock k\nFltReleasePushLock l\nreturn NO_CALLBACK\n}\n",
+        &[&[
+            "111111111 11112 3 1 -",
+            "111111111 11112 3 1 0",
+            "111111111 11112 3 1 0,1s",
+            "!",
+            "!",
+            "!",
+        ]],
+        "refused callback 0 point 2 line 7 R09 lock not the latest taken\n",
+    ),
+    (
+        "filter p altitude 1\nlock push l\npre read {\nFltAcquirePushLockShared l\nreturn NO_CALLBACK\n}\n",
+        &[&["111111111 11112 3 1 -", "111111111 11112 3 1 0s", "!"]],
+        "refused callback 0 point 1 line 5 R10 lock kept at end\n",
+    ),
 ];
 
 /// What a certificate lacks.
-const CERTIFICATES: [Example; 5] = [
+const CERTIFICATES: [Example; 6] = [
     (
         STREAM_CONTEXTS,
         &[&[
@@ -296,6 +369,17 @@ const CERTIFICATES: [Example; 5] = [
         "filter a altitude 100\npre read {\nreturn NO_CALLBACK\n}\n",
         &[&["111111111 11112 3 1 -", "!"], &["!"]],
         "refused callback 0 point 0 line 3 R14 certificate does not cover\n",
+    ),
+    (
+        SHARED_READS,
+        &[&[
+            "111111111 11112 3 1 -",
+            "111111111 11112 3 1 0",
+            "111111111 11112 3 1 0",
+            "111111111 11112 3 1 -",
+            "!",
+        ]],
+        "refused callback 0 point 0 line 4 R12 lock lists differ where paths meet\n",
     ),
 ];
 

@@ -48,7 +48,7 @@ use Rattle.flt_sound.proofs.points.Rows.{AtCall, at_call, AtAct, at_act, at_test
 use Rattle.flt_sound.proofs.calls.Contexts.{allocate_good, get_good, delete_at_good, delete_good, reference_good, release_good}
 use Rattle.flt_sound.proofs.calls.SetContext.{set_good}
 use Rattle.flt_sound.proofs.calls.Handing.{insert_good}
-use Rattle.flt_sound.proofs.calls.Locking.{acquire_good, release_lock_good}
+use Rattle.flt_sound.proofs.calls.Locking.{acquire_good, acquire_shared_good, release_lock_good}
 use Rattle.flt_sound.proofs.calls.Queueing.{Fits, IsRoutineAt, deferred_good, generic_good}
 use Rattle.flt_sound.proofs.calls.Reading.{read_value_good, write_value_good, read_file_good, test_irp_good}
 use Rattle.flt_sound.proofs.calls.Removing.{remove_good}
@@ -124,6 +124,7 @@ module _ {p : List Filter} {m : Moment} {a : ℕ} (s : Shadow) (st : Statement) 
       by (plain_call.ReferenceContext c d) k = reference_good at c d rest k
       by (plain_call.ReleaseContext c) k = release_good at c rest k
       by (plain_call.AcquireLock kind l) k = acquire_good at kind l rest k
+      by (plain_call.AcquirePushLockShared l) k = acquire_shared_good at l rest k
       by (plain_call.ReleaseLock kind l) k = release_lock_good at kind l rest k
       by (plain_call.CompletePendedPreOperation d status) k = complete_pre_good at d status rest k
       by plain_call.CompletePendedPostOperation k = complete_post_good at rest k

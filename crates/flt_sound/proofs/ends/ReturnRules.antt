@@ -10,10 +10,9 @@ use Rattle.std.proofs.Math.ListN.{set, get_or}
 use Rattle.std.proofs.lemmas.Bool.{and_from, and_parts, cases_eq, cases_lt, or_parts, not-false}
 use Rattle.std.proofs.lemmas.List.{get_or_past, get_or-set_same, get_or-set_other}
 use Rattle.std.proofs.lemmas.List.Sums.{sum_by-cons}
-use Rattle.flt_rules.specs.Call.{place_of}
 use Rattle.flt_rules.specs.Place.{answers, fits_stage, is_pre_create, same_mode}
 use Rattle.flt_rules.specs.Status.{status_row}
-use Rattle.flt_rules.specs.declared.call.LockNumber.{LockNumber}
+use Rattle.flt_rules.specs.declared.held.HeldLock.{HeldLock}
 use Rattle.flt_rules.specs.declared.place.Mode.{Mode}
 use Rattle.flt_rules.specs.declared.place.Mode.TheVariants.{Irp, Fast}
 use Rattle.flt_rules.specs.declared.place.Place.{Place}
@@ -74,11 +73,10 @@ unfolding own_all
 own_none x [] h = refl
 own_none x (s ∷ slots) h = omega (arith, sum_by-cons (own x) s slots, h zero, own_none x slots (λ i. h (suc i)))
 
--- no lock is held where no place of one is
-places_empty : (locks : List LockNumber) (places : List ℕ) → places ≡ map place_of locks → not (abs.is_empty places) ≡ false → locks ≡ []
-places_empty [] places e h = refl
-places_empty (l ∷ locks) [] e h = absurd (cc)
-places_empty (l ∷ locks) (q ∷ places) e h = absurd (cc)
+-- where the rule finds no lock kept, the machine finds none
+none_kept : (locks : List HeldLock) → not (abs.is_empty locks) ≡ false → is_empty locks ≡ true
+none_kept [] h = refl
+none_kept (l ∷ locks) h = absurd (cc)
 
 -- a set of modes that is one mode alone means that mode
 mode_by : (irp fast : Bool) (mode wanted : Mode) → abs.is_mode_alone (record { irp = irp; fast = fast }) wanted ≡ true →
@@ -123,8 +121,7 @@ module _ {p : List Filter} {m : Moment} {a : ℕ} {s : Shadow} (at : IsAt p m a 
   -- no lock is held
   pub no_locks : (st : Option Status) → AtReturn st → is_empty (activation_at m.world a).locks ≡ true
   no_locks st f =
-      let none : s.locks ≡ [] = places_empty s.locks (state_of at).locks (spot at).means.locks f.r10 in
-      ap (λ (act : Activation). is_empty act.locks) (activation_is at) ∙ ap is_empty none
+      ap (λ (act : Activation). is_empty act.locks) (activation_is at) ∙ none_kept s.locks (rw (sym (spot at).means.locks) f.r10)
 
   -- ---- R02
 

@@ -7,6 +7,7 @@ use Rattle.std.proofs.Math.ListN.{get_or}
 use Rattle.std.proofs.lemmas.Bool.{and_from}
 use Rattle.std.proofs.lemmas.List.Sums.{get_or-le-sum_by}
 use Rattle.std.specs.List.{list_all}
+use Rattle.flt_rules.specs.Held.{holds_lock, is_latest}
 use Rattle.flt_rules.specs.declared.call.Call.{Call}
 use Rattle.flt_rules.specs.declared.call.LockNumber.{LockNumber}
 use Rattle.flt_tree.specs.declared.filter.Filter.{Filter}
@@ -16,12 +17,11 @@ use Rattle.flt_model.specs.declared.event.Event.TheVariants as event
 use Rattle.flt_model.specs.declared.event.Object.{Object}
 use Rattle.flt_model.specs.declared.event.Object.TheVariants.{Context, Visit}
 use Rattle.flt_model.specs.Effects.{freed_by_drop}
-use Rattle.flt_model.specs.Locks.{holds_lock, is_latest}
 use Rattle.flt_model.specs.Moves.{is_empty}
 use Rattle.flt_model.specs.Runs.{Moment}
 use Rattle.flt_model.specs.Statuses.{may_answer, may_pend}
 use Rattle.flt_model.specs.Trace.{gain, lose, gains, loses, same_object}
-use Rattle.flt_model.specs.Violations.{leaks_nothing, is_legal, is_low_enough, is_disciplined, is_in_place, is_let_go, no_leak, legal_statuses, levels_kept, lock_discipline, legal_places}
+use Rattle.flt_model.specs.Violations.{leaks_nothing, is_legal, is_low_enough, is_disciplined, is_in_place, is_let_go, no_leak, legal_statuses, levels_kept, legal_places}
 use Rattle.flt_model.specs.World.{Store, activation_at, context_at}
 use Rattle.flt_sound.proofs.sums.Counts.{held_where, counts, of_actor-other, Has, not_held_where, gains-nil, loses-nil}
 use Rattle.flt_sound.proofs.sums.Shadows.{Slot, Unset, Owns, own, own_all, Shadow}
@@ -61,7 +61,7 @@ pub record Events (p : List Filter) (m : Moment) (a : ℕ) (t es : List Event) :
   -- V6: calls are low enough
   pub low : levels_kept p m.world m.trace es ≡ true
   -- V7: locks are disciplined
-  pub disciplined : lock_discipline p m.world m.trace es ≡ true
+  pub disciplined : list_all (is_disciplined p m.world m.trace) es ≡ true
   -- V8: calls are in place
   pub in_place : legal_places p m.world m.trace es ≡ true
   -- no other activation gains

@@ -3,6 +3,7 @@
 -- equations between sums, so that a step of one activation is shown by a few linear equations (`StepOf`), whatever the call was.
 -- Here p is the program, m a moment, a, b are activations, s, old, new shadows or stores, es the events of the step.
 use Rattle.std.proofs.Common.{◌≡◌, ◌≢◌, ℕ, ◌+◌, ◌<◌, ◌≤◌, Bool, true, false, List, length, map, Some, refl, sym, ap, ◌∙◌, subst, arith, inl, inr, sum_by, ◌++◌}
+use Rattle.std.specs.List.{list_all}
 use Rattle.std.specs.Prelude.{if◌then◌else◌}
 use Rattle.std.proofs.lemmas.List.Sums.{get_or-le-sum_by, sum_by-set}
 use Rattle.std.proofs.Math.ListN.{set, get_or, get_or-map}
@@ -15,7 +16,7 @@ use Rattle.flt_model.specs.declared.event.Object.TheVariants.{Context, Visit}
 use Rattle.flt_model.specs.Effects.{Step}
 use Rattle.flt_model.specs.Runs.{Moment, after}
 use Rattle.flt_model.specs.Trace.{gains, loses, settles, frees}
-use Rattle.flt_model.specs.Violations.{no_leak, legal_statuses, levels_kept, lock_discipline, legal_places, along}
+use Rattle.flt_model.specs.Violations.{no_leak, legal_statuses, levels_kept, is_disciplined, legal_places, along}
 use Rattle.flt_model.specs.World.{Store, Link, context_at, Activation, nobody, actor_at, activation_at, is_settled}
 use Rattle.flt_sound.proofs.sums.Belonging.{IsOf, Mine}
 use Rattle.flt_sound.proofs.sums.Counts.{counts, Has, made}
@@ -83,8 +84,8 @@ pub record Good (p : List Filter) (m : Moment) (s : Step) : Type 0 where
   pub legal : legal_statuses p m.world m.trace s.events ≡ true
   -- V6: calls are low enough
   pub low : levels_kept p m.world m.trace s.events ≡ true
-  -- V7: locks are disciplined
-  pub disciplined : lock_discipline p m.world m.trace s.events ≡ true
+  -- V7: locks are disciplined. That they exclude one another is a law of steps, whatever the filters
+  pub disciplined : list_all (is_disciplined p m.world m.trace) s.events ≡ true
   -- V8: calls are in place
   pub in_place : legal_places p m.world m.trace s.events ≡ true
   -- V1: what is touched is live and the filter's own

@@ -7,10 +7,11 @@ use Rattle.std.proofs.lemmas.Bool.{and_from, or_parts, not-false}
 use Rattle.std.proofs.lemmas.Option.{slice_get-map}
 use Rattle.flt_rules.specs.Call.{place_of, is_legal_in_draining}
 use Rattle.flt_rules.specs.Columns.{has_place}
+use Rattle.flt_rules.specs.Held.{level_with}
 use Rattle.flt_rules.specs.Place.{entry_level, greater_level, raised_by}
 use Rattle.flt_rules.specs.Table.{row}
 use Rattle.flt_rules.specs.declared.call.Call.{Call}
-use Rattle.flt_rules.specs.declared.call.LockNumber.{LockNumber}
+use Rattle.flt_rules.specs.declared.held.HeldLock.{HeldLock}
 use Rattle.flt_rules.specs.declared.place.Level.{Level}
 use Rattle.flt_rules.specs.declared.place.Place.{Place}
 use Rattle.flt_tree.specs.declared.filter.Filter.{Filter}
@@ -19,10 +20,10 @@ use Rattle.flt_tree.specs.declared.filter.Statement.{Statement}
 use Rattle.flt_graph.specs.declared.instruction.Instruction.TheVariants as instruction
 use Rattle.flt_graph.specs.declared.instruction.Invocation.{Invocation}
 use Rattle.flt_abs.specs.Breaks.{breaks}
-use Rattle.flt_abs.specs.Setting as abs
+use Rattle.flt_abs.specs.Setting.{kind_at}
 use Rattle.flt_abs.specs.State.{Situation, has_draining}
 use Rattle.flt_model.specs.declared.event.Event.TheVariants as event
-use Rattle.flt_model.specs.Levels.{level_with, level_at}
+use Rattle.flt_model.specs.Levels.{level_at}
 use Rattle.flt_model.specs.Program.{filter_at, callbacks_at, kind_of_lock}
 use Rattle.flt_model.specs.Violations.{is_low_enough, is_in_place}
 use Rattle.flt_model.specs.Runs.{Moment}
@@ -31,16 +32,16 @@ use Rattle.flt_sound.proofs.sums.Shadows.{Shadow, situation}
 use Rattle.flt_sound.proofs.points.Kept.{IsAt, activation_is, stood_at}
 use Rattle.flt_sound.proofs.points.Placed.{setting_here, Placed, here, fine, Fine, graph_of}
 
--- ---- lists of locks, and the program's filters
+-- ---- locks, and the program's filters
 
--- the graph's level of a list of lock places is the machine's of the locks
-level_same : (f : Filter) (level : Level) (locks : List LockNumber) →
-    abs.level_with (map (λ (l : Lock). l.kind) f.locks) level (map place_of locks) ≡ level_with f level locks
+-- by the graph's kinds of locks the level is as by the filter's
+level_same : (f : Filter) (level : Level) (locks : List HeldLock) →
+    level_with (kind_at (map (λ (l : Lock). l.kind) f.locks)) level locks ≡ level_with (kind_of_lock f) level locks
 level_same f level [] = refl
-level_same f level (l ∷ locks) =
-    let one : slice_get (map (λ (l : Lock). l.kind) f.locks) (place_of l) ≡ kind_of_lock f l = slice_get-map (λ (l : Lock). l.kind) f.locks (place_of l) in
-    ap (λ k. abs.level_with (map (λ (l : Lock). l.kind) f.locks) (greater_level level (raised_by k)) (map place_of locks)) one
-    ∙ level_same f (greater_level level (raised_by (kind_of_lock f l))) locks
+level_same f level (h ∷ locks) =
+    let one : kind_at (map (λ (l : Lock). l.kind) f.locks) h.lock ≡ kind_of_lock f h.lock = slice_get-map (λ (l : Lock). l.kind) f.locks (place_of h.lock) in
+    ap (λ k. level_with (kind_at (map (λ (l : Lock). l.kind) f.locks)) (greater_level level (raised_by k)) locks) one
+    ∙ level_same f (greater_level level (raised_by (kind_of_lock f h.lock))) locks
 
 -- a filter that the program has is the one at its number
 pub filter_there : (p : List Filter) (f : ℕ) (x : Filter) → slice_get p f ≡ Some x → filter_at p f ≡ x
@@ -65,11 +66,9 @@ module _ {p : List Filter} {f : ℕ} {place : Place} {rest : List Statement} {t 
   place_same = (graph_of q).place ∙ sym q.place_is
 
   -- the setting's level is the machine's
-  level_is : (locks : List LockNumber) → t.locks ≡ map place_of locks →
-      (setting_here q).level ≡ level_at (filter_at p f) place locks
-  level_is locks e =
-      let a : q.state.locks ≡ map place_of locks = q.means.locks ∙ e in
-      rw (place_same, a, q.lowered.locks, filter_there p f q.filter q.there) (level_same q.filter (entry_level place) locks)
+  level_is : (setting_here q).level ≡ level_at (filter_at p f) place t.locks
+  level_is =
+      rw (place_same, q.means.locks, q.lowered.locks, filter_there p f q.filter q.there) (level_same q.filter (entry_level place) t.locks)
 
 -- a call of the activation is neither too high nor out of place: V6 and V8 of that event
 pub record Cleared (p : List Filter) (m : Moment) (a : ℕ) (k : Call) : Type 0 where
@@ -92,7 +91,7 @@ module _ {p : List Filter} {m : Moment} {a : ℕ} {s : Shadow} (at : IsAt p m a 
       let r08 = or_parts (not (has_place (row c.call).places (setting_here q).place)) _ f.r08 in
       let locks : (activation_at m.world a).locks ≡ s.locks = ap (λ act. act.locks) (activation_is at) in
       record {
-        low = rw (locks, ← level_is q s.locks refl) (ap not f.r07);
+        low = rw (locks, ← level_is q) (ap not f.r07);
         in_place = and_from _ _ (subst (λ l. has_place (row c.call).places l ≡ true) (place_same q) (not-false _ r08.0))
             (draining_fits q.state.draining.yes q.state.draining.no (actor_at m.world a).draining (is_legal_in_draining c.call) q.means.draining r08.1);
       }

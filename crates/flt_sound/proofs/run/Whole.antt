@@ -1,8 +1,9 @@
 -- No run of accepted filters breaks anything. A good step keeps each of the eight violations' tests (V3 and V4 follow from the invariant after
--- the step alone), so nothing is broken there, and the invariant goes on to the next step: by the length of the run, the theorem.
+-- the step alone; that locks exclude is a law of all steps), so nothing is broken there, and the invariant goes on to the next step: by the
+-- length of the run, the theorem.
 -- Here p is the program, m a moment, s a step, t a trace, e, es events, xs the transitions of a run.
 use Rattle.std.proofs.Common.{◌≡◌, ℕ, ◌+◌, ◌≤◌, true, List, [], ◌∷◌, ◌++◌, length, Option, Some, None, refl, arith}
-use Rattle.std.specs.Prelude.{◌==◌}
+use Rattle.std.specs.Prelude.{◌==◌, IsTrue}
 use Rattle.std.proofs.lemmas.Bool.{and_from, and_parts}
 use Rattle.flt_tree.specs.declared.filter.Filter.{Filter}
 use Rattle.flt_model.specs.declared.event.Event.{Event}
@@ -10,11 +11,12 @@ use Rattle.flt_model.specs.declared.event.Event.TheVariants as event
 use Rattle.flt_model.specs.declared.verdict.Violation.{Violation}
 use Rattle.flt_model.specs.declared.verdict.Violation.TheVariants.{V1, V2, V3, V4, V5, V6, V7, V8}
 use Rattle.flt_model.specs.Effects.{Step}
+use Rattle.flt_model.specs.Locks.{locks_exclude}
 use Rattle.flt_model.specs.Runs.{Moment, start, after, next, keeps, broken, breaks, breaks_from, on_step, first_or, Break}
-use Rattle.flt_model.specs.Steps.{Transition}
+use Rattle.flt_model.specs.Steps.{Transition, step}
 use Rattle.flt_model.specs.Trace.{settles}
 use Rattle.flt_model.specs.Violations.{along, is_fresh, no_stale_use, is_first_settling, settled_once, is_owned}
-use Rattle.flt_model.specs.World.{World}
+use Rattle.flt_model.specs.World.{World, opening}
 use Rattle.flt_sound.specs.Soundness.{AreAccepted}
 use Rattle.flt_sound.proofs.sums.Counts.{made_few, counts, one_if-same}
 use Rattle.flt_sound.proofs.sums.Owners.{visit_owned, all_owned}
@@ -76,7 +78,7 @@ once_along t (e ∷ es) h = and_from _ _ (first_one t es e h)
 
 -- ---- all eight, of a step
 
-module _ (p : List Filter) (m : Moment) (s : Step) (g : Good p m s) where
+module _ (p : List Filter) (m : Moment) (s : Step) (g : Good p m s) (exclude : IsTrue (locks_exclude s.world)) where
   -- a good step keeps each of the eight
   keeps_all : (v : Violation) → keeps p m s v ≡ true
   keeps_all V1 = both s.world m.trace s.events g.had.is g.clean
@@ -87,28 +89,37 @@ module _ (p : List Filter) (m : Moment) (s : Step) (g : Good p m s) where
       (λ b. record { balance = g.kept.visits b v; idle = λ e. g.kept.idle b e v }) (g.kept.owners v))
   keeps_all V5 = g.legal
   keeps_all V6 = g.low
-  keeps_all V7 = g.disciplined
+  keeps_all V7 = and_from _ _ g.disciplined exclude
   keeps_all V8 = g.in_place
 
-  -- a good step breaks nothing
+  -- a good step after which locks exclude breaks nothing
   unbroken : broken p m s ≡ None
   unbroken = rw (keeps_all V1, keeps_all V2, keeps_all V3, keeps_all V4, keeps_all V5, keeps_all V6, keeps_all V7, keeps_all V8) refl
 
 -- ---- runs
 
-module _ (laws : Laws) (p : List Filter) (ok : AreAccepted p) where
-  -- a step that there may be breaks nothing, and the run goes on
-  on_one : (m : Moment) (o : Option Step) → AfterStep o (Good p m) → (n : ℕ) (f : Step → Option Break) → ((s : Step) → Kept p (after m s) → f s ≡ None) →
-      on_step o (λ s. first_or (broken p m s) n (f s)) ≡ None
-  on_one m None g n f ih = refl
-  on_one m (Some s) g n f ih = rw (unbroken p m s g) (ih s g.kept)
+-- what flt_model proves of locks: at the start they exclude, and each step keeps that
+pub record Excluding : Type 0 where
+  pub opened : (p : List Filter) → IsTrue (locks_exclude (opening p))
+  pub kept : (p : List Filter) (w : World) (t : List Event) (x : Transition) (s : Step) → step p w t x ≡ Some s → IsTrue (locks_exclude w) →
+      IsTrue (locks_exclude s.world)
 
-  -- a run from a moment of the invariant breaks nothing
-  none_from : (xs : List Transition) (m : Moment) (n : ℕ) → Kept p m → breaks_from p m n xs ≡ None
-  none_from [] m n k = refl
-  none_from (x ∷ xs) m n k = on_one m (next p m x) (step_good laws p ok m k x) (n + 1) (λ s. breaks_from p (after m s) (n + 1) xs)
-      (λ s k. none_from xs (after m s) (n + 1) k)
+module _ (laws : Laws) (locks : Excluding) (p : List Filter) (ok : AreAccepted p) where
+  -- a step that there may be breaks nothing, and the run goes on
+  on_one : (m : Moment) (x : Transition) (o : Option Step) → next p m x ≡ o → AfterStep o (Good p m) → IsTrue (locks_exclude m.world) →
+      (n : ℕ) (f : Step → Option Break) → ((s : Step) → Kept p (after m s) → IsTrue (locks_exclude s.world) → f s ≡ None) →
+      on_step o (λ s. first_or (broken p m s) n (f s)) ≡ None
+  on_one m x None e g h n f ih = refl
+  on_one m x (Some s) e g h n f ih =
+      let exclude = locks.kept p m.world m.trace x s e h in
+      rw (unbroken p m s g exclude) (ih s g.kept exclude)
+
+  -- a run from a moment of the invariant, where locks exclude, breaks nothing
+  none_from : (xs : List Transition) (m : Moment) (n : ℕ) → Kept p m → IsTrue (locks_exclude m.world) → breaks_from p m n xs ≡ None
+  none_from [] m n k h = refl
+  none_from (x ∷ xs) m n k h = on_one m x (next p m x) refl (step_good laws p ok m k x) h (n + 1) (λ s. breaks_from p (after m s) (n + 1) xs)
+      (λ s k h. none_from xs (after m s) (n + 1) k h)
 
   -- a run from the start breaks nothing
   pub nothing_breaks : (xs : List Transition) → breaks p xs ≡ None
-  nothing_breaks xs = none_from xs (start p) 0 (opens p)
+  nothing_breaks xs = none_from xs (start p) 0 (opens p) (locks.opened p)

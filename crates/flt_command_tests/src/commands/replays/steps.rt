@@ -185,6 +185,47 @@ const LOCKED: [Replay; 6] = [
     ),
 ];
 
+/// Reads share a lock, which a write has alone.
+const SHARES_LOCKS: &str =
+    "filter p altitude 1\nlock push l\npre read {\nFltAcquirePushLockShared l\nn0 = file data\nFltReleasePushLock l\nreturn NO_CALLBACK\n}\npre write {\nFltAcquirePushLockExclusive l\nn0 = file data\nFltReleasePushLock l\nreturn NO_CALLBACK\n}\n";
+
+/// Any number share it, beside none that has it alone. Who gives it up leaves the others their share.
+const SHARED: [Replay; 9] = [
+    (
+        "arrive read irp 0\narrive read irp 0\npre 0\npre 1\ngo 0 1 yes\ngo 1 1 yes\n",
+        "legal\n",
+    ),
+    (
+        "arrive write irp 0\narrive write irp 0\npre 0\npre 1\ngo 0 1 yes\ngo 1 1 yes\n",
+        "not a run at 5\n",
+    ),
+    (
+        "arrive read irp 0\narrive write irp 0\npre 0\npre 1\ngo 0 1 yes\ngo 1 1 yes\n",
+        "not a run at 5\n",
+    ),
+    (
+        "arrive write irp 0\narrive read irp 0\npre 0\npre 1\ngo 0 1 yes\ngo 1 1 yes\n",
+        "not a run at 5\n",
+    ),
+    (
+        "arrive read irp 0\narrive read irp 0\narrive read irp 0\npre 0\npre 1\npre 2\ngo 0 1 yes\ngo 1 1 yes\ngo 2 1 yes\ngo 1 1 yes\ngo 1 1 yes\ngo 0 1 yes\ngo 0 1 yes\ngo 2 1 yes\ngo 2 1 yes\ngo 0 1 yes\ngo 1 1 yes\ngo 2 1 yes\n",
+        "legal\n",
+    ),
+    (
+        "arrive read irp 0\narrive read irp 0\narrive write irp 0\npre 0\npre 1\npre 2\ngo 0 1 yes\ngo 1 1 yes\ngo 0 1 yes\ngo 0 1 yes\ngo 2 1 yes\n",
+        "not a run at 10\n",
+    ),
+    (
+        "arrive read irp 0\narrive read irp 0\narrive write irp 0\npre 0\npre 1\npre 2\ngo 0 1 yes\ngo 1 1 yes\ngo 0 1 yes\ngo 0 1 yes\ngo 1 1 yes\ngo 1 1 yes\ngo 2 1 yes\n",
+        "legal\n",
+    ),
+    (
+        "arrive write irp 0\narrive read irp 0\npre 0\npre 1\ngo 0 1 yes\ngo 0 1 yes\ngo 0 1 yes\ngo 1 1 yes\ngo 0 1 yes\n",
+        "legal\n",
+    ),
+    ("arrive read irp 0\npre 0\ngo 0 1 no\n", "not a run at 2\n"),
+];
+
 // ---- what is so at that moment
 
 /// The first write leaves a 7 in the instance's context, and all others are denied.
@@ -239,7 +280,7 @@ const QUEUED_TOO_LATE: [Replay; 2] = [
     ),
 ];
 
-const CASES: [Case; 12] = [
+const CASES: [Case; 13] = [
     (PASSES_ON, "", &STEPS),
     (SETS_A_NUMBER, "", &LOCAL),
     (REPEATS, "", &TURNS),
@@ -248,6 +289,7 @@ const CASES: [Case; 12] = [
     (PENDING_READS, "", &PENDED),
     (STREAM_CONTEXTS, "", &SET),
     (TAKES_LOCKS, "", &LOCKED),
+    (SHARES_LOCKS, "", &SHARED),
     (REMEMBERS, "", &REMEMBERED),
     (REFERENCES, "", &REFERENCED),
     (STREAM_CONTEXTS, "", &SET_TOO_LATE),

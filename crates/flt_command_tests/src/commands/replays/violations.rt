@@ -242,7 +242,7 @@ const TOO_HIGH: [Broken; 4] = [
 ];
 
 /// V7: released out of order or without being held, taken twice, kept.
-const NOT_DISCIPLINED: [Broken; 5] = [
+const NOT_DISCIPLINED: [Broken; 10] = [
     (
         "filter a altitude 100\nlock spin s\nlock spin t\npre read {\nKeAcquireSpinLock s\nKeAcquireSpinLock t\nKeReleaseSpinLock s\nKeReleaseSpinLock t\nreturn NO_CALLBACK\n}\n",
         "arrive read irp 0\npre 0\ngo 0 1 yes\ngo 0 1 yes\ngo 0 1 yes\n",
@@ -267,6 +267,31 @@ const NOT_DISCIPLINED: [Broken; 5] = [
         "filter a altitude 100\nlock push p\npre read {\nFltAcquirePushLockExclusive p\nreturn NO_CALLBACK\n}\n",
         "arrive read irp 0\npre 0\ngo 0 1 yes\ngo 0 1 yes\n",
         "breaks V7 at 3\n",
+    ),
+    (
+        "filter a altitude 100\nlock push p\npre read {\nFltAcquirePushLockShared p\nFltAcquirePushLockExclusive p\nreturn NO_CALLBACK\n}\n",
+        "arrive read irp 0\npre 0\ngo 0 1 yes\ngo 0 1 yes\n",
+        "breaks V7 at 3\n",
+    ),
+    (
+        "filter a altitude 100\nlock push p\npre read {\nFltAcquirePushLockExclusive p\nFltAcquirePushLockShared p\nreturn NO_CALLBACK\n}\n",
+        "arrive read irp 0\npre 0\ngo 0 1 yes\ngo 0 1 yes\n",
+        "breaks V7 at 3\n",
+    ),
+    (
+        "filter a altitude 100\nlock push p\npre read {\nFltAcquirePushLockShared p\nreturn NO_CALLBACK\n}\n",
+        "arrive read irp 0\npre 0\ngo 0 1 yes\ngo 0 1 yes\n",
+        "breaks V7 at 3\n",
+    ),
+    (
+        "filter a altitude 100\nlock push p\nlock push q\npre read {\nFltAcquirePushLockShared p\nFltAcquirePushLockShared q\nFltReleasePushLock p\nFltReleasePushLock q\nreturn NO_CALLBACK\n}\n",
+        "arrive read irp 0\npre 0\ngo 0 1 yes\ngo 0 1 yes\ngo 0 1 yes\n",
+        "breaks V7 at 4\n",
+    ),
+    (
+        "filter a altitude 100\nlock push p\npre read {\nFltAcquirePushLockShared p\nreturn NO_CALLBACK\n}\npre write {\nFltReleasePushLock p\nreturn NO_CALLBACK\n}\n",
+        "arrive read irp 0\npre 0\ngo 0 1 yes\narrive write irp 0\npre 1\ngo 1 1 yes\n",
+        "breaks V7 at 5\n",
     ),
 ];
 

@@ -1,6 +1,6 @@
 use Rattle.flt_sound.proofs.laws.accepted_runs_break_nothing.Goals as goal
 use Rattle.flt_sound.proofs.points.Placed.{Laws}
-use Rattle.flt_sound.proofs.run.Whole.{nothing_breaks}
+use Rattle.flt_sound.proofs.run.Whole.{Excluding, nothing_breaks}
 
 pub returns : goal.returns
 returns c =
@@ -14,4 +14,5 @@ returns c =
       follows = c.transfer_follows_situations.ensures;
       below = c.is_partial_order.ensures.computed;
     } in
-    λ p xs ok. nothing_breaks laws p ok xs
+    let locks : Excluding = record { opened = c.locks_stay_exclusive.ensures.opening; kept = c.locks_stay_exclusive.ensures.steps } in
+    λ p xs ok. nothing_breaks laws locks p ok xs
