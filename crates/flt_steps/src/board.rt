@@ -16,6 +16,7 @@ use crate::contexts::{Branches, Setting};
 use crate::{contexts, ending, locking, queueing, reads, settling};
 use flt_model::Event;
 use flt_records::Upcoming;
+use flt_rules::Access;
 use flt_tree::{Action, Condition, FallibleCall, PlainCall, Routine, Statement, Test};
 use flt_world::{Stack, World};
 use std::alloc::{AllocError, Global};
@@ -58,8 +59,12 @@ fn may_go(world: &World<'_>, a: usize, grant: bool, statement: &Statement) -> bo
 {
     match statement {
         Statement::If(_, condition, _, _) => grant || leaves_choice(condition),
-        Statement::Call(_, PlainCall::AcquireLock(_, lock)) => grant
-            && locking::is_free(world, a, *lock),
+        Statement::Call(_, PlainCall::AcquireLock(_, lock)) => {
+            grant && locking::may_take(world, a, *lock, Access::Exclusive)
+        }
+        Statement::Call(_, PlainCall::AcquirePushLockShared(lock)) => {
+            grant && locking::may_take(world, a, *lock, Access::Shared)
+        }
         _ => grant,
     }
 }
@@ -98,6 +103,7 @@ fn plain_step<'a>(
         PlainCall::ReferenceContext(c, d) => contexts::reference(world, a, c, d, events),
         PlainCall::ReleaseContext(c) => contexts::release(world, a, c, events),
         PlainCall::AcquireLock(kind, lock) => locking::acquire(world, a, kind, lock, events),
+        PlainCall::AcquirePushLockShared(lock) => locking::acquire_shared(world, a, lock, events),
         PlainCall::ReleaseLock(kind, lock) => locking::release_lock(world, a, kind, lock, events),
         PlainCall::CompletePendedPreOperation(d, status) => {
             settling::complete_pre(world, stack, a, d, status, events)
@@ -223,7 +229,7 @@ fn statement_step<'a>(
     }
 }
 
-/// False where the choice isn't there, or a lock is another's.
+/// False where the choice isn't there, or others hold a lock in a way that refuses it.
 fn first_step<'a>(
     world: &mut World<'a>,
     stack: &Stack<'a>,

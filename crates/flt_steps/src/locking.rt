@@ -2,28 +2,26 @@
 
 ghost use Rattle.std.specs.Prelude.{◌≡◌, [], OnOk};
 ghost use Rattle.flt_model.specs.Calls as calls;
-ghost use Rattle.flt_model.specs.Locks as locks;
+ghost use Rattle.flt_model.specs.Steps as steps;
 ghost use Rattle.flt_model.specs.World as spec;
+ghost use Rattle.flt_rules.specs.Held as held;
 ghost use Rattle.flt_world.specs.Happening.{later, Happened};
 
 use flt_model::Event;
-use flt_records::Write;
-use flt_rules::{Call, LockKind, LockNumber};
+use flt_records::{Holder, Write, is_free_for};
+use flt_rules::{Access, Call, HeldLock, LockKind, LockNumber};
 use flt_world::World;
 use std::alloc::AllocError;
 
-/// An activation may take a lock that nobody else holds.
-pub(crate) fn is_free(world: &World<'_>, a: usize, lock: LockNumber) -> bool
-    ensures { result ≡ locks.is_free_for a (locks.holder_of world.now.store (spec.actor_at world.now a).filter lock) }
+/// Whether an activation may take a lock so, beside the others that hold it.
+pub(crate) fn may_take(world: &World<'_>, a: usize, lock: LockNumber, access: Access) -> bool
+    ensures { result ≡ steps.may_take world.now a lock access }
 {
-    match world.holder(world.filter(a), lock) {
-        Some(holder) => holder == a,
-        None => true,
-    }
+    is_free_for(a, access, world.holders(world.filter(a), lock))
 }
 
 fn holds_lock(world: &World<'_>, a: usize, lock: LockNumber) -> bool
-    ensures { result ≡ locks.holds_lock lock (spec.activation_at world.now a).locks }
+    ensures { result ≡ held.holds_lock lock (spec.activation_at world.now a).locks }
 {
     match world.activations.get(a) {
         Some(activation) => activation.holds_lock(lock),
@@ -31,17 +29,25 @@ fn holds_lock(world: &World<'_>, a: usize, lock: LockNumber) -> bool
     }
 }
 
-/// The lock is the latest of the list, and its holder is the activation. No event is pushed.
-fn taken(world: &mut World<'_>, a: usize, lock: LockNumber) -> Result<(), AllocError>
-    ensures { OnOk result (Happened world.new [] [] (calls.taken world.old a lock (later world.old a))) }
+/// The lock is the latest of the list, and the activation is one of its holders. No event is pushed.
+fn taken(
+    world: &mut World<'_>,
+    a: usize,
+    lock: LockNumber,
+    access: Access,
+) -> Result<(), AllocError>
+    ensures { OnOk result (Happened world.new [] [] (calls.taken world.old a lock access (later world.old a))) }
 {
     if holds_lock(world, a, lock) {
         return world.go_on(a, &[], Write::Nothing);
     }
     let filter = world.filter(a);
-    world.go_on(a, &[], Write::Lock(lock))?;
-    world.set_holder(filter, lock, Some(a));
-    Ok(())
+    let holder = Holder {
+        activation: a,
+        access,
+    };
+    world.go_on(a, &[], Write::Lock(HeldLock { lock, access }))?;
+    world.add_holder(filter, lock, holder)
 }
 
 pub(crate) fn acquire(
@@ -55,10 +61,23 @@ pub(crate) fn acquire(
 {
     events.push(Event::Call(a, Call::AcquireLock(kind)))?;
     events.push(Event::Lock(a, lock))?;
-    taken(world, a, lock)
+    taken(world, a, lock, Access::Exclusive)
 }
 
-/// The lock leaves the list, and nobody holds it. No event is pushed.
+pub(crate) fn acquire_shared(
+    world: &mut World<'_>,
+    a: usize,
+    lock: LockNumber,
+    events: &mut Vec<Event>,
+) -> Result<(), AllocError>
+    ensures { OnOk result (Happened world.new events.old.items events.new.items (calls.acquire_shared world.old a lock (later world.old a))) }
+{
+    events.push(Event::Call(a, Call::AcquirePushLockShared))?;
+    events.push(Event::Lock(a, lock))?;
+    taken(world, a, lock, Access::Shared)
+}
+
+/// The last entry of the lock leaves the list, and the activation is none of its holders. No event is pushed.
 fn given_up(world: &mut World<'_>, a: usize, lock: LockNumber) -> Result<(), AllocError>
     ensures { OnOk result (Happened world.new [] [] (calls.given_up world.old a lock (later world.old a))) }
 {
@@ -67,7 +86,7 @@ fn given_up(world: &mut World<'_>, a: usize, lock: LockNumber) -> Result<(), All
     }
     let filter = world.filter(a);
     world.go_on(a, &[], Write::Unlock(lock))?;
-    world.set_holder(filter, lock, None);
+    world.remove_holder(filter, lock, a);
     Ok(())
 }
 

@@ -33,8 +33,7 @@ use Rattle.flt_model.specs.Variables.{with_context_in, with_old}
 use Rattle.flt_model.specs.World.{Store, Link, no_context, is_linked_to, same_key, with_link, add_reference, drop_reference, actor_at, activation_at, arrival_of, context_at, linked_at}
 use Rattle.flt_model.specs.World as world
 use Rattle.flt_sound.proofs.sums.Counts.{counts, of_actor-same, made_self}
-use Rattle.flt_sound.proofs.sums.Ledger as ledger
-use Rattle.flt_sound.proofs.sums.Ledger.{Ledger, ledger_behind}
+use Rattle.flt_sound.proofs.sums.Ledger.{Ledger}
 use Rattle.flt_sound.proofs.sums.Shadows.{Unset, Owns, Past, own, own_all, own_all-set, Shadow, context_slot, with_rest, put_context, put_old}
 use Rattle.flt_sound.proofs.sums.Slots.{owned_there, not_held, context_there, own_all-put}
 use Rattle.flt_sound.proofs.points.Events.{none, lost, gained, dropped}
@@ -45,7 +44,7 @@ use Rattle.flt_sound.proofs.calls.Effects.{GoodBehind, own_filter, has_owned_con
 use Rattle.flt_sound.proofs.calls.Links.{some_link, IsAvailable, IsLinked, link_refs, link_available, available_touch, found_link}
 use Rattle.flt_sound.proofs.points.Opened.{Opened, opened_call, opened_use, given_good, behind, ledger_after, clean_after}
 use Rattle.flt_sound.proofs.points.Stepping.{row_good, CalmStore, same_calm, calm_of, running, Touched, held_touch, held_refs, stood_contexts}
-use Rattle.flt_sound.proofs.sums.Belonging.{IsOf, Older, newest}
+use Rattle.flt_sound.proofs.sums.Belonging.{newest}
 use Rattle.flt_sound.proofs.sums.Handovers.{gains-dropped, loses-dropped, settles-dropped}
 use Rattle.flt_sound.proofs.sums.Touching.{CleanBy, drop_clean}
 use Rattle.std.proofs.lemmas.Bool.{or_parts}

@@ -28,7 +28,7 @@ use Rattle.flt_model.specs.Effects.{Step, onward, freed_by_drop, after_unlink, g
 use Rattle.flt_model.specs.Runs.{Moment}
 use Rattle.flt_model.specs.Variables.{with_old}
 use Rattle.flt_model.specs.World.{Link, actor_at, arrival_of, linked_at}
-use Rattle.flt_sound.proofs.sums.Counts.{gains-nil, loses-nil, frees-nil, Has, made_self}
+use Rattle.flt_sound.proofs.sums.Counts.{gains-nil, loses-nil, frees-nil, Has}
 use Rattle.flt_sound.proofs.sums.Ledger as ledger
 use Rattle.flt_sound.proofs.sums.Ledger.{Ledger, ledger_behind}
 use Rattle.flt_sound.proofs.sums.Shadows.{Owns, own, Shadow}
@@ -39,8 +39,6 @@ use Rattle.flt_sound.proofs.calls.Links.{IsLinked, CanLink, link_refs, link_avai
 use Rattle.flt_sound.proofs.calls.Contexts.{nulls, nothing_given, gets, drops, adds}
 use Rattle.flt_sound.proofs.points.Opened.{Opened, opened_use, opened_uses}
 use Rattle.flt_sound.proofs.points.Stepping.{same_calm}
-use Rattle.flt_sound.proofs.sums.Belonging.{IsOf, Older, newest}
-use Rattle.flt_sound.proofs.sums.Touching.{drop_clean}
 use Rattle.std.proofs.lemmas.Bool.{or_parts}
 use Rattle.flt_sound.proofs.sums.References as references
 

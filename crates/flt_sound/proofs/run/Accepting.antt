@@ -1,7 +1,7 @@
 -- The worked filter is accepted: it is well-formed, and its certificate has no fault at any point of its graph.
-use Rattle.std.proofs.Common.{◌≡◌, ℕ, zero, suc, ◌+◌, ◌<◌, ◌≤◌, Bool, true, false, List, [], ◌∷◌, length, Option, Some, None, refl, ap, sym, subst, ◌∙◌, arith, inl, inr, lit≤}
+use Rattle.std.proofs.Common.{◌≡◌, ℕ, zero, suc, ◌<◌, Bool, true, false, List, [], ◌∷◌, Option, Some, None, refl, ap, sym, subst, ◌∙◌, arith, inl, inr, lit≤}
 use Rattle.std.specs.Prelude.{◌&&◌, not, is_none, IsTrue}
-use Rattle.std.proofs.lemmas.Bool.{and_parts, cases_lt, cases_eq}
+use Rattle.std.proofs.lemmas.Bool.{and_parts, cases_eq}
 use Rattle.flt_tree.specs.WellFormed as fine
 use Rattle.flt_tree.specs.WellFormed.{IsWellFormed, IsPlain, IsStatement, AreCallbacks}
 use Rattle.flt_tree.specs.declared.filter.Callback.{Callback}
@@ -15,7 +15,7 @@ use Rattle.flt_graph.specs.Graph.{points_at}
 use Rattle.flt_graph.specs.Lowering.{IsLowered, graph_of}
 use Rattle.flt_graph.specs.declared.graph.Graph.{Graph}
 use Rattle.flt_cert.specs.Format.{Certificate, is_certificate}
-use Rattle.flt_check.specs.Checker.{AgreeOnCounts, IsFaultless, NoneIn, differs, point_fault}
+use Rattle.flt_check.specs.Checker.{IsFaultless, differs, point_fault}
 use Rattle.flt_check.specs.Covering.{Covers}
 use Rattle.flt_model.specs.WorkedParts.{computed, release_if}
 use Rattle.flt_rules.specs.declared.call.LockKind.TheVariants.{Push}

@@ -1,13 +1,12 @@
 -- Filters stay accepted when they are put in the order of their altitudes, as the machine takes them; so no journal of theirs breaks
 -- anything.
-use Rattle.std.proofs.Common.{◌≡◌, ℕ, zero, suc, ◌<◌, Bool, true, false, List, [], ◌∷◌, length, Option, Some, None, refl, ap, sym, ◌∙◌, arith}
+use Rattle.std.proofs.Common.{◌≡◌, ℕ, suc, Bool, true, false, List, [], ◌∷◌, Option, Some, None, arith}
 use Rattle.std.proofs.lemmas.List.Elements.{All-cons}
-use Rattle.std.specs.Prelude.{nat_lt, slice_index_or, if◌then◌else◌, option_map}
+use Rattle.std.specs.Prelude.{nat_lt, if◌then◌else◌, option_map}
 use Rattle.flt_tree.specs.declared.filter.Filter.{Filter}
-use Rattle.flt_model.specs.Expansion.{IsBrokenAt, verdict}
+use Rattle.flt_model.specs.Expansion.{IsBrokenAt}
 use Rattle.flt_model.specs.Program.{by_altitude, put_by_altitude}
 use Rattle.flt_model.specs.Runs.{Break, breaks}
-use Rattle.flt_model.specs.Steps.{Transition}
 use Rattle.flt_model.specs.declared.moves.JournalEntry.{JournalEntry}
 use Rattle.flt_model.specs.declared.verdict.Violation.{Violation}
 use Rattle.flt_sound.specs.Soundness.{IsAccepted, AreAccepted, AcceptedRunsBreakNothing}

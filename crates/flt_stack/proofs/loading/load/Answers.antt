@@ -1,7 +1,6 @@
 use Rattle.std.proofs.Common.{◌≡◌, List, ap, subst, ◌∙◌, sym}
 use Rattle.std.specs.List.{AllZip}
 use Rattle.flt_tree.specs.declared.filter.Filter.{Filter}
-use Rattle.flt_tree.specs.declared.tree.Tree.{Tree}
 use Rattle.flt_graph.specs.Lowering.{IsLowered}
 use Rattle.flt_model.specs.Program.{IsRepeated, by_altitude, filters_of}
 use Rattle.flt_sound.specs.Soundness.{AreAccepted}
