@@ -4,6 +4,7 @@ pub mod FirstFaults
 pub mod LocalLaws
 mod JournalLaws
 mod LineEnds
+mod LinePartLaws
 mod LinesOnline
 mod Numbers
 mod Online

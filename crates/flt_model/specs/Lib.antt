@@ -25,4 +25,5 @@ pub mod WorkedCalls
 pub mod WorkedMisuse
 pub mod JournalText
 pub mod JournalTextReading
+pub mod LineParts
 pub mod Streams

@@ -17,6 +17,8 @@ mod operations;
 #[cfg(test)]
 mod queues;
 #[cfg(test)]
+mod scripts;
+#[cfg(test)]
 mod states;
 #[cfg(test)]
 mod texts;
