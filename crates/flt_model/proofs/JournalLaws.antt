@@ -37,7 +37,7 @@ data Goes (left : ℕ) (found : Entries) (text : Text) : Reading → Type 0 wher
 
 -- ---- a front of what is read
 
-exactly_again : (front text : Text) → exactly front (front ++ text) ≡ Ok (tt, text)
+pub exactly_again : (front text : Text) → exactly front (front ++ text) ≡ Ok (tt, text)
 exactly_again [] text = refl
 exactly_again (b ∷ front) text = rw (eq-eqb b b refl) (exactly_again front text)
 

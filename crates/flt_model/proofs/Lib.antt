@@ -5,6 +5,7 @@ pub mod LocalLaws
 pub mod LockLaws
 mod JournalLaws
 mod LineEnds
+mod LinePartLaws
 mod LinesOnline
 mod Numbers
 mod Online

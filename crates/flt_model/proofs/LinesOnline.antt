@@ -100,7 +100,7 @@ grant_online = node Gr _ 121 yes_online (λ b. pick Gr b 121 _ _ yes_online (λ 
 -- ---- moves
 
 -- the line of a move behind its front
-abbrev Behind : Text → Text → Move → Type 0
+abbrev pub Behind : Text → Text → Move → Type 0
 Behind front c m = (front ++ c ≡ move_line m) × IsMove m
 
 arrive_online : Online (Behind (codes "a")) arrive
@@ -110,10 +110,10 @@ arrive_online = after (Behind (codes "a")) (codes "rrive ") _ (named operation_t
     ends (λ w m. Behind (codes "arrive ") (operation_text o ++ (mode_text x ++ w)) m) (moves.Arrive o x) (λ n small. (refl, small)))))
 
 -- the rest of a word, and a number
-abbrev Numbered : Text → Text → ℕ → Type 0
+abbrev pub Numbered : Text → Text → ℕ → Type 0
 Numbered front c n = (c ≡ front ++ number_text n 10) × (n < 2 ^ 32)
 
-numbered_online : (front : Text) → Online (Numbered front) (numbered front)
+pub numbered_online : (front : Text) → Online (Numbered front) (numbered front)
 unfolding numbered
 numbered_online front = after (Numbered front) front (number 10)
     (said (Whole 10) (λ c n. Numbered front (front ++ c) n) (number 10) (λ c n h. (ap (λ z. front ++ z) h.0, h.1)) (number_online 10))
@@ -229,7 +229,7 @@ go_line_online : Online (λ w x. Line (103 ∷ w) x) (go >>= λ entry. pure (Som
 go_line_online = then_online BehindGo (λ w x. Line (103 ∷ w) x) go _ go_online (λ c e h.
     pure_online (λ w x. Line (103 ∷ (c ++ w)) x) (Some e) (ap (λ z. 103 ∷ z) (append-nil c) ∙ h.0, h.1))
 
-move_choice : (b : ℕ) → Choice (λ w m. Behind [] (b ∷ w) m) (move_by b)
+pub move_choice : (b : ℕ) → Choice (λ w m. Behind [] (b ∷ w) m) (move_by b)
 unfolding move_by
 move_choice b =
     pick (Behind []) b 97 _ _ arrive_online (λ e. pick (Behind []) b 112 _ _ pre_or_post_online (λ e. pick (Behind []) b 115 _ _ skip_online (λ e.

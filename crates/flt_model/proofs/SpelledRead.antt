@@ -19,7 +19,7 @@ unfolding grant
 grant_again true text = refl
 grant_again false text = refl
 
-line_again : (entry : JournalEntry) (text : Text) → IsEntry entry → line (entry_line entry ++ text) ≡ Ok (Some entry, text)
+pub line_again : (entry : JournalEntry) (text : Text) → IsEntry entry → line (entry_line entry ++ text) ≡ Ok (Some entry, text)
 unfolding line operation mode key numbered twice_numbered arrive pre_or_post cancel_or_canceled detach_or_detached detach_or_drain unlink go move_by
 line_again (entries.Move (moves.Arrive Create Irp file)) text h = rw (number_again 10 file text (omega arith) h) refl
 line_again (entries.Move (moves.Arrive Create Fast file)) text h = rw (number_again 10 file text (omega arith) h) refl

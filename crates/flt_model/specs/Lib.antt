@@ -26,4 +26,5 @@ pub mod WorkedMisuse
 pub mod WorkedLocks
 pub mod JournalText
 pub mod JournalTextReading
+pub mod LineParts
 pub mod Streams

@@ -6,6 +6,7 @@ mod event;
 mod fault;
 mod journal;
 mod laws;
+mod line_parts;
 mod lines;
 mod moves;
 mod program;
@@ -22,9 +23,11 @@ pub use laws::{
     first_faults_are_told, legal_journals_are_clean_runs, local_steps_are_quiet,
     locks_stay_exclusive, one_first_fault_at_most,
 };
+pub use line_parts::{read_move, read_number};
 pub use moves::{JournalEntry, Key, Move};
 pub use program::{filters_have_places, first_repeated};
 pub use reader::{MAX_ENTRIES, read};
+pub use scanner::Stop;
 pub use streams::{ReadFault, Sink, Source, WriteFault, put_all};
 pub use verdict::{Verdict, Violation};
 pub use writer::write;

@@ -101,7 +101,7 @@ fn grant<R: Source>(reader: &mut R) -> Result<bool, Stop>
 
 /// The rest of a word, and the number behind it that ends the line.
 #[tactic(auto, unfolding(crate::specs::JournalTextReading::numbered))]
-fn numbered<R: Source>(reader: &mut R, word: &[u8]) -> Result<u32, Stop>
+pub(crate) fn numbered<R: Source>(reader: &mut R, word: &[u8]) -> Result<u32, Stop>
     ensures read { spec.Reads (spec.numbered word.now (R.coming reader.old)) result (R.coming reader.new) }
     ensures fails { spec.Counts result (R.failures reader.old) (R.failures reader.new) }
     ensures reads { R.reads reader.new ≤ R.reads reader.old + (length word.now + 11) }
@@ -247,7 +247,7 @@ fn go<R: Source>(reader: &mut R) -> Result<JournalEntry, Stop>
 
 /// A move's line that begins with this byte.
 #[tactic(auto, unfolding(crate::specs::JournalTextReading::move_by))]
-fn move_by<R: Source>(reader: &mut R, first: u8) -> Result<Move, Stop>
+pub(crate) fn move_by<R: Source>(reader: &mut R, first: u8) -> Result<Move, Stop>
     ensures read { spec.Reads (spec.move_by first (R.coming reader.old)) result (R.coming reader.new) }
     ensures fails { spec.Counts result (R.failures reader.old) (R.failures reader.new) }
     ensures reads { R.reads reader.new ≤ R.reads reader.old + 35 }

@@ -7,7 +7,7 @@ use crate::streams::{ReadFault, Source};
 
 /// Why reading stopped.
 #[derive(Clone, Copy)]
-pub(crate) enum Stop {
+pub enum Stop {
     /// The latest byte isn't as asked, or one is missing.
     Wrong,
     /// The reader failed.

@@ -31,6 +31,25 @@ pub trait Source {
         ensures reads { reads self.new ≤ reads self.old + 1 };
 }
 
+/// The bytes that are left of a slice. No read fails.
+impl Source for &[u8] {
+    ghost coming = { λ s. s.now };
+
+    ghost failures = { λ _. 0 };
+
+    ghost reads = { λ _. 0 };
+
+    fn next(&mut self) -> Result<Option<u8>, ReadFault> {
+        match *self {
+            [first, others @ ..] => {
+                *self = others;
+                Ok(Some(*first))
+            }
+            [] => Ok(None),
+        }
+    }
+}
+
 /// Takes bytes, some at a time, and counts its failures, of which an interruption is one.
 pub trait Sink {
     // What it has taken; none where it can't say.

@@ -21,6 +21,8 @@ mod pairs;
 #[cfg(test)]
 mod queues;
 #[cfg(test)]
+mod scripts;
+#[cfg(test)]
 mod states;
 #[cfg(test)]
 mod texts;

@@ -1,0 +1,83 @@
+//! Which commands may stand in a script, and where.
+
+ghost use Rattle.std.specs.Prelude.{◌≡◌, ◌==◌};
+ghost use Rattle.std.specs.List.{list_any};
+ghost use Rattle.flt_model.specs.Moves.{fits_mode};
+ghost use Rattle.flt_model.specs.Program.{filters_of};
+ghost use Rattle.flt_script.specs.ScriptText as spec;
+
+use crate::command::Command;
+use flt_rules::{Mode, Operation};
+use flt_tree::Tree;
+
+/// How many files there are.
+const FILES: u32 = 1024;
+
+/// How many operations a stack takes.
+const OPERATIONS: u32 = 65536;
+
+fn fits_mode(operation: Operation, mode: Mode) -> bool
+    ensures { result ≡ fits_mode operation mode }
+{
+    match (operation, mode) {
+        (Operation::Create | Operation::Cleanup, Mode::Fast) => false,
+        _ => true,
+    }
+}
+
+/// Whether its mode and numbers are within their bounds.
+fn is_command(command: Command) -> bool
+    ensures { result ≡ spec.is_command command }
+{
+    match command {
+        Command::Arrive {
+            operation,
+            mode,
+            file,
+        } => fits_mode(operation, mode) && file < FILES,
+        Command::Cancel { serial } => serial < OPERATIONS,
+        Command::Detach { .. } | Command::Refuse { .. } => true,
+    }
+}
+
+fn is_loaded(trees: &[Tree], altitude: u32) -> bool
+    ensures { result ≡ spec.is_loaded (filters_of trees.now) altitude }
+{
+    trees
+        .iter()
+        .any(|tree| tree.filter.altitude == altitude as u64)
+}
+
+fn detaches(command: &Command, altitude: u32) -> bool
+    ensures { result ≡ spec.detaches altitude command.now }
+{
+    match command {
+        Command::Detach { altitude: other } => *other == altitude,
+        _ => false,
+    }
+}
+
+fn is_detached(commands: &[Command], altitude: u32) -> bool
+    ensures { result ≡ list_any (spec.detaches altitude) commands.now }
+{
+    commands.iter().any(|command| detaches(command, altitude))
+}
+
+/// Whether the command, behind others, detaches no filter but one of the stack, and that for the first time.
+fn detaches_legally(trees: &[Tree], before: &[Command], command: Command) -> bool
+    ensures { result ≡ spec.detaches_legally (filters_of trees.now) before.now command }
+{
+    match command {
+        Command::Detach { altitude } => {
+            is_loaded(trees, altitude) && !is_detached(before, altitude)
+        }
+        _ => true,
+    }
+}
+
+/// Whether the command may stand behind others, on a stack of these filters.
+pub(crate) fn may_follow(trees: &[Tree], before: &[Command], command: Command) -> bool
+    ensures { result ≡ spec.may_follow (filters_of trees.now) before.now command }
+{
+    is_command(command) && detaches_legally(trees, before, command)
+}
