@@ -11,6 +11,7 @@ mod moves;
 mod program;
 mod reader;
 mod scanner;
+mod spelled;
 mod streams;
 mod verdict;
 mod writer;
@@ -25,6 +26,7 @@ pub use laws::{
 pub use moves::{JournalEntry, Key, Move};
 pub use program::{filters_have_places, first_repeated};
 pub use reader::{MAX_ENTRIES, read};
+pub use spelled::one_journal_is_spelled;
 pub use streams::{ReadFault, Sink, Source, WriteFault, put_all};
 pub use verdict::{Verdict, Violation};
 pub use writer::write;
