@@ -1,6 +1,7 @@
 pub mod Bits
 pub mod Certificates
 pub mod Counts
+pub mod LeastOnce
 pub mod One
 pub mod Order
 pub mod Shares

@@ -4,6 +4,7 @@
 mod all;
 mod analyser;
 mod fault;
+mod laws;
 mod pending;
 mod ticks;
 mod walk;
@@ -11,4 +12,5 @@ mod walk;
 pub use all::{Start, analyse_all};
 pub use analyser::{analyse, one_fault_is_named};
 pub use fault::AnalyseFault;
+pub use laws::one_certificate_is_least;
 pub use ticks::Ticks;

@@ -3,6 +3,7 @@ pub mod Complete
 pub mod FieldLaws
 pub mod FirstFault
 pub mod LineLaws
+pub mod Once
 pub mod ReadLaws
 pub mod Sound
 pub mod WriteLaws

@@ -4,11 +4,13 @@
 mod cert;
 mod fault;
 mod fields;
+mod laws;
 mod lines;
 mod reader;
 mod writer;
 
 pub use cert::{Cert, MAX_CALLBACKS, MAX_POINTS};
 pub use fault::CertFault;
+pub use laws::{one_certificate_is_spelled, one_fault_is_first};
 pub use reader::read;
 pub use writer::write;

@@ -1,5 +1,11 @@
 pub mod Covered
 pub mod Firsts
+pub mod OneAnalysis
+pub mod OneAnswer
+pub mod OneCheck
+pub mod OnePlace
+pub mod OneReading
+pub mod OneVerdict
 pub mod Outputs
 pub mod Readings
 pub mod Requests

@@ -6,5 +6,6 @@ pub mod Commands
 pub mod Failure
 pub mod Inputs
 pub mod Replay
+pub mod Single
 pub mod Split
 pub mod Words

@@ -11,9 +11,11 @@ mod failure;
 mod host;
 mod inputs;
 mod replay;
+mod single;
 mod split;
 mod words;
 
 pub use commands::{CommandFault, command};
 pub use host::run;
 pub use inputs::{Inputs, MAX_INPUT, read_within};
+pub use single::one_answer_at_most;

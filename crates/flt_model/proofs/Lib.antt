@@ -10,5 +10,6 @@ mod LinesOnline
 mod Numbers
 mod Online
 mod ReadingSteps
+mod SpelledOnce
 mod SpelledRead
 mod WritingSteps

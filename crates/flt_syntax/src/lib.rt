@@ -13,6 +13,7 @@ mod names;
 mod naming;
 mod operand;
 mod scope;
+mod spelled;
 mod statement;
 mod status;
 mod token;
@@ -27,5 +28,6 @@ pub use flt_tree::{
     Statement, Status, Test, Tree, named_context,
 };
 pub use lex::{reads_back_words, same_kind};
+pub use spelled::spelled_is_read;
 pub use token::Kind;
 pub use vocabulary::keywords;

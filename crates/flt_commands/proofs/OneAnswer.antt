@@ -1,0 +1,56 @@
+-- A command line has one answer at most.
+use Rattle.std.proofs.Common.{◌≡◌, ◌≢◌, ℕ, List, Option, Some, None, Result, Ok, Err, refl, sym, ap, ◌∙◌}
+use Rattle.flt_commands.proofs.OneReading.{says_once}
+use Rattle.flt_commands.specs.Analyse.{IsAnalysed}
+use Rattle.flt_commands.specs.Answer.{output, status_of}
+use Rattle.flt_commands.specs.Check.{IsChecked}
+use Rattle.flt_commands.specs.Commands.{IsReported, IsSaid, IsSaidOf, PrintsFor, names_of}
+use Rattle.flt_commands.specs.Inputs.{Giving}
+use Rattle.flt_commands.specs.Replay.{IsReplayed}
+use Rattle.flt_commands.specs.Single.{AreSame, GivesOne, SaysOne, seen, told}
+use Rattle.flt_commands.specs.Words.{Asked, Check, Analyse, Replay}
+use Rattle.flt_commands.specs.declared.answer.Answer.{Answer}
+use Rattle.flt_commands.specs.declared.failure.Failure.{Failure}
+use Rattle.flt_commands.specs.declared.failure.Failure.TheVariants.{OutOfMemory}
+
+-- an answer isn't want of memory, nor is any other failure
+an_answer : (a : Answer) → Ok a ≢ Err OutOfMemory
+an_answer a e = cc
+
+a_failure : (f : Failure) → f ≢ OutOfMemory → (r : Result Answer Failure) → r ≡ Err f → r ≢ Err OutOfMemory
+a_failure f other r is e = let same : f ≡ OutOfMemory = cc in other same
+
+same_pair : (p q : List ℕ × ℕ) (r s : Result (List ℕ × ℕ) Failure) → r ≡ s → r ≡ Ok p → s ≡ Ok q → p ≡ q
+same_pair p q r s h e f = cc
+
+not_both : (p : List ℕ × ℕ) (f : Failure) (r s : Result (List ℕ × ℕ) Failure) → r ≡ s → r ≡ Ok p → s ≡ Err f → ⊥
+not_both p f r s h e g = cc
+
+module _ (bytes other : List ℕ) (status other_status : ℕ) where
+  -- of what is the same one thing is reported
+  reported_once : (a b : Result Answer Failure) → AreSame a b → IsReported a bytes status → IsReported b other other_status → (bytes ≡ other) × (status ≡ other_status)
+  reported_once (Ok a) (Ok b) same x y =
+      let once = same_pair (output a, status_of a) (output b, status_of b) (seen (Ok a)) (seen (Ok b)) (same (an_answer a) (an_answer b)) refl refl in
+      (x.0 ∙ ap (λ (p : List ℕ × ℕ). p.0) once ∙ sym y.0, x.1 ∙ ap (λ (p : List ℕ × ℕ). p.1) once ∙ sym y.1)
+  reported_once (Ok a) (Err f) same x y =
+      absurd (not_both (output a, status_of a) (told f) (seen (Ok a)) (seen (Err f)) (same (an_answer a) (a_failure f y.0 (Err f) refl)) refl refl)
+  reported_once (Err f) (Ok b) same x y =
+      absurd (not_both (output b, status_of b) (told f) (seen (Ok b)) (seen (Err f)) (sym (same (a_failure f x.0 (Err f) refl) (an_answer b))) refl refl)
+  reported_once (Err f) (Err h) same x y = (x.1.0 ∙ sym y.1.0, x.1.1 ∙ sym y.1.1)
+
+module _ (checked : SaysOne IsChecked) (analysed : SaysOne IsAnalysed) (replayed : SaysOne IsReplayed) where
+  of_one : (request : Asked) → SaysOne (IsSaidOf request)
+  of_one (Check file cert) = checked
+  of_one (Analyse file) = analysed
+  of_one (Replay journal files) = replayed
+
+  -- of what is asked for one thing is said at most
+  pub said_once : (gives : Giving) (request : Asked) (a b : Result Answer Failure) → GivesOne gives → IsSaid gives request a → IsSaid gives request b → AreSame a b
+  said_once gives request a b one x y = says_once gives one (names_of request) (IsSaidOf request) (of_one request) a b x y
+
+  -- one thing is printed at most, with one exit status
+  pub printed_once : (gives : Giving) (request : Option Asked) (bytes other : List ℕ) (status other_status : ℕ) → GivesOne gives → PrintsFor gives request bytes status →
+      PrintsFor gives request other other_status → (bytes ≡ other) × (status ≡ other_status)
+  printed_once gives None bytes other status other_status one x y = (x.0 ∙ sym y.0, x.1 ∙ sym y.1)
+  printed_once gives (Some request) bytes other status other_status one x y =
+      reported_once bytes other status other_status x.0 y.0 (said_once gives request x.0 y.0 one x.1 y.1) x.2 y.2
