@@ -3,21 +3,18 @@
 use Rattle.std.specs.Prelude.{ℕ, ◌≡◌, ◌≢◌, Bool, true, false, not, ◌||◌, ◌==◌, nat_lt, if◌then◌else◌, List, [], ◌∷◌, ◌++◌, length, Option, Some, None, AllPairs, find, get_or, map, option_map, slice_get}
 use Rattle.std.specs.List.{list_any, list_all, position_or_len}
 use Rattle.flt_rules.specs.Call.{place_of}
-use Rattle.flt_rules.specs.Place.{same_operation}
 use Rattle.flt_rules.specs.declared.call.LockKind.{LockKind}
 use Rattle.flt_rules.specs.declared.call.LockNumber.{LockNumber}
-use Rattle.flt_rules.specs.declared.place.Operation.{Operation}
-use Rattle.flt_rules.specs.declared.place.Operation.TheVariants.{Create, Read, Write, Cleanup}
 use Rattle.flt_rules.specs.declared.place.Place.{Place}
 use Rattle.flt_rules.specs.declared.place.Place.TheVariants as place
-use Rattle.flt_tree.specs.Filter.{head_place, is_named}
+use Rattle.flt_tree.specs.Filter.{head_place}
 use Rattle.flt_tree.specs.declared.filter.Callback.{Callback}
 use Rattle.flt_tree.specs.declared.filter.Filter.{Filter}
 use Rattle.flt_tree.specs.declared.filter.Head.{Head}
 use Rattle.flt_tree.specs.declared.filter.Head.TheVariants as head
-use Rattle.flt_tree.specs.declared.filter.Routine.{Routine}
 use Rattle.flt_tree.specs.declared.filter.Statement.{Statement}
 use Rattle.flt_tree.specs.declared.tree.Tree.{Tree}
+pub use Rattle.flt_tree.specs.Registered.{is_pre_of, is_post_of, has_pre, has_post, is_paired, are_paired, routine_of}
 
 -- ---- filters by number
 
@@ -71,16 +68,6 @@ filter_of p altitude = position_or_len (λ (f : Filter). f.altitude == altitude)
 
 -- ---- callbacks by what they are registered for
 
--- a pre callback of the operation
-abbrev pub is_pre_of : Operation → Head → Bool
-is_pre_of kind (head.Pre own) = same_operation own kind
-is_pre_of kind _ = false
-
--- a post callback of the operation
-abbrev pub is_post_of : Operation → Head → Bool
-is_post_of kind (head.Post own) = same_operation own kind
-is_post_of kind _ = false
-
 -- the CompleteCanceledIo callback
 abbrev pub is_canceled : Head → Bool
 is_canceled head.Canceled = true
@@ -99,10 +86,6 @@ body_of (Some c) = c.body
 abbrev pub body_for : (Head → Bool) → List Callback → List Statement
 body_for test cs = body_of (find (λ (c : Callback). test c.head) cs)
 
--- the number of the routine that a call names; past all callbacks where there is none
-abbrev pub routine_of : List Callback → Routine → ℕ
-routine_of cs r = position_or_len (λ (c : Callback). is_named r.name c.head) cs
-
 -- the statements of the callback of a number
 abbrev pub body_at : List Callback → ℕ → List Statement
 body_at cs routine = body_of (slice_get cs routine)
@@ -116,23 +99,7 @@ place_for (Some c) = head_place c.head
 abbrev pub place_at : List Callback → ℕ → Place
 place_at cs routine = place_for (slice_get cs routine)
 
--- ---- what a filter is registered for
-
--- whether the operation has a pre callback
-abbrev pub has_pre : List Callback → Operation → Bool
-has_pre cs kind = has_head (is_pre_of kind) cs
-
--- whether the operation has a post callback
-abbrev pub has_post : List Callback → Operation → Bool
-has_post cs kind = has_head (is_post_of kind) cs
-
--- the operation has a post callback, or no pre callback
-abbrev pub is_paired : List Callback → Operation → Bool
-is_paired cs kind = not (has_pre cs kind) || has_post cs kind
-
--- each operation with a pre callback has a post callback
-abbrev pub are_paired : List Callback → Bool
-are_paired cs = list_all (is_paired cs) (Create ∷ Read ∷ Write ∷ Cleanup ∷ [])
+-- ---- locks
 
 -- the kind of a declared lock
 abbrev pub kind_of_lock : Filter → LockNumber → Option LockKind

@@ -3,6 +3,7 @@
 -- own rule.
 use Rattle.std.specs.Prelude.{ℕ, Bool, true, false, not, ◌&&◌, ◌||◌, List, Option, Some, None}
 use Rattle.flt_rules.specs.Place.{same_mode, same_stage, fits_stage, is_pre_create}
+use Rattle.flt_rules.specs.Status as asked
 use Rattle.flt_rules.specs.Status.{status_row, is_complete, is_with_callback}
 use Rattle.flt_rules.specs.declared.call.Call.{Call}
 use Rattle.flt_rules.specs.declared.call.Call.TheVariants as call
@@ -34,13 +35,11 @@ use Rattle.flt_model.specs.World.{World, activation_at, actor_at, arrival_of, vi
 
 -- held, or given away
 abbrev pub is_possessed : Bool → Possession → Bool
-is_possessed held possession.Held = held
-is_possessed held possession.GivenAway = not held
+is_possessed held = asked.is_possessed held (not held)
 
 -- the mode that a row asks for, if it asks for one
 abbrev pub is_of_mode : Mode → Option Mode → Bool
-is_of_mode m None = true
-is_of_mode m (Some wanted) = same_mode m wanted
+is_of_mode m = asked.is_of_mode (same_mode m)
 
 module _ (p : List Filter) (w : World) (t : List Event) (a : ℕ) where
   -- the status of a row may be returned about a visit
