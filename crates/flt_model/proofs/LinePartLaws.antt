@@ -25,8 +25,9 @@ move_is_spelled b text made left e = by (move_choice b)
   where
     seen : (out : Outcome Move) → out ≡ Ok (made, left) → Seen (λ w x. Behind [] (b ∷ w) x) (move_by b) text out → b ∷ text ≡ move_line made ++ left
     seen _ e (took c x rest same h l) =
-        let value : x ≡ made = cc in
-        let behind : rest ≡ left = cc in
+        let both : (x, rest) ≡ (made, left) = cc in
+        let value = ap (λ (q : Move × Text). q.0) both in
+        let behind = ap (λ (q : Move × Text). q.1) both in
         ap (λ z. b ∷ z) same ∙ ap (λ z. z ++ rest) h.0 ∙ ap (λ z. move_line z ++ rest) value ∙ ap (λ z. move_line made ++ z) behind
     seen _ e (stopped c d rest w x same l h) = cc
     seen _ e (missing c w x same h) = cc
@@ -50,11 +51,16 @@ begins_as_move b text (moves.Drain altitude serial) behind e = let first : b ≡
 begins_as_move b text (moves.Unlink altitude key) behind e = let first : b ≡ 117 = ap (λ t. get_or t 0 0) e in rw first (refl, refl)
 begins_as_move b text (moves.Detached altitude) behind e = let first : b ≡ 100 = ap (λ t. get_or t 0 0) e in rw first (refl, refl)
 
+same_pair : {A : Type 0} (x y : A × Text) (out : Outcome A) → out ≡ Ok x → out ≡ Ok y → x ≡ y
+same_pair x y out h k = cc
+
 -- a line that reads as a move is the move's
 only_move : (out : Outcome Move) (made : Move) (behind : Text) → and_then out (λ q. Ok (Some (entries.Move q.0), q.1)) ≡ Ok (Some (entries.Move made), behind) → out ≡ Ok (made, behind)
 only_move (Ok q) made behind e =
+    let both = same_pair (Some (entries.Move q.0), q.1) (Some (entries.Move made), behind) (Ok (Some (entries.Move q.0), q.1)) refl e in
+    let entry : Some (entries.Move q.0) ≡ Some (entries.Move made) = ap (λ (z : Option JournalEntry × Text). z.0) both in
     let value : q.0 ≡ made = cc in
-    let rest : q.1 ≡ behind = cc in
+    let rest : q.1 ≡ behind = ap (λ (z : Option JournalEntry × Text). z.1) both in
     ap (λ z. Ok (z, q.1)) value ∙ ap (λ z. Ok (made, z)) rest
 only_move (Err left) made behind e = cc
 
@@ -73,8 +79,9 @@ number_is_spelled word text n left e = seen (numbered word text) e ((numbered_on
   where
     seen : (out : Outcome ℕ) → out ≡ Ok (n, left) → Seen (Numbered word) (numbered word) text out → text ≡ word ++ (number_text n 10 ++ left)
     seen _ e (took c m rest same h l) =
-        let value : m ≡ n = cc in
-        let behind : rest ≡ left = cc in
+        let both : (m, rest) ≡ (n, left) = cc in
+        let value = ap (λ (q : ℕ × Text). q.0) both in
+        let behind = ap (λ (q : ℕ × Text). q.1) both in
         same ∙ ap (λ z. z ++ rest) h.0 ∙ append_assoc word (number_text m 10) rest ∙ ap (λ z. word ++ (number_text z 10 ++ rest)) value ∙ ap (λ z. word ++ (number_text n 10 ++ z)) behind
     seen _ e (stopped c d rest w x same l h) = cc
     seen _ e (missing c w x same h) = cc
@@ -93,7 +100,8 @@ pub reads_move_again : (b : ℕ) (text : Text) (r : Result Move Stop) (left : Te
     (made : Move) → IsMove made → (behind : Text) → b ∷ text ≡ move_line made ++ behind → IsReadAs made behind r left
 reads_move_again b text (Ok found) left h made good behind e =
     let read : move_by b text ≡ Ok (made, behind) = move_is_read b text made behind good e in
-    (cc, cc)
+    let both : (found, left) ≡ (made, behind) = cc in
+    (ap (λ (q : Move × Text). q.0) both, ap (λ (q : Move × Text). q.1) both)
 reads_move_again b text (Err Wrong) left h made good behind e = let read : move_by b text ≡ Ok (made, behind) = move_is_read b text made behind good e in cc
 reads_move_again b text (Err Failed) left h made good behind e = tt
 
@@ -105,6 +113,7 @@ pub reads_number_again : (word text : Text) (r : Result ℕ Stop) (left : Text) 
     (n : ℕ) → IsNumber n → (behind : Text) → text ≡ word ++ (number_text n 10 ++ behind) → IsReadAs n behind r left
 reads_number_again word text (Ok found) left h n good behind e =
     let read : numbered word text ≡ Ok (n, behind) = number_is_read word text n behind good e in
-    (cc, cc)
+    let both : (found, left) ≡ (n, behind) = cc in
+    (ap (λ (q : ℕ × Text). q.0) both, ap (λ (q : ℕ × Text). q.1) both)
 reads_number_again word text (Err Wrong) left h n good behind e = let read : numbered word text ≡ Ok (n, behind) = number_is_read word text n behind good e in cc
 reads_number_again word text (Err Failed) left h n good behind e = tt
