@@ -1,6 +1,7 @@
 -- What the monitor's parts say of a moment and of a step, each of its share of the violations.
 use Rattle.std.specs.Prelude.{◌≡◌, ℕ, Bool, true, not, ◌==◌, List, [], ◌∷◌, Option, Some, find, set}
-use Rattle.flt_rules.specs.declared.call.LockNumber.{LockNumber}
+use Rattle.std.specs.List.{list_all}
+use Rattle.flt_rules.specs.declared.held.HeldLock.{HeldLock}
 use Rattle.flt_tree.specs.declared.filter.Filter.{Filter}
 use Rattle.flt_model.specs.declared.event.Event.{Event}
 use Rattle.flt_model.specs.declared.event.Event.TheVariants.{Call, Status, Lock, Unlock, End}
@@ -9,7 +10,7 @@ use Rattle.flt_model.specs.declared.verdict.Violation.TheVariants.{V1, V2, V3, V
 use Rattle.flt_model.specs.Effects.{Step}
 use Rattle.flt_model.specs.Runs.{Moment, next, keeps}
 use Rattle.flt_model.specs.Steps.{Transition}
-use Rattle.flt_model.specs.Violations.{legal_statuses, levels_kept, lock_discipline, legal_places}
+use Rattle.flt_model.specs.Violations.{legal_statuses, levels_kept, is_disciplined, legal_places}
 use Rattle.flt_model.specs.World.{World, activation_at}
 pub use Rattle.flt_world.specs.Filters.{filters_of}
 
@@ -36,14 +37,15 @@ pub record Follows (p : List Filter) (m : Moment) (x : Transition) (s : Step) (w
 -- ---- rules, read in the world after a step: it has all that they read as it was before, but the locks
 
 -- the world where an activation has these locks
-abbrev pub with_locks : World → ℕ → List LockNumber → World
+abbrev pub with_locks : World → ℕ → List HeldLock → World
 with_locks w a locks = record w { activations = set w.activations a (record (activation_at w a) { locks = locks }) }
 
--- whether some events keep a rule, in a world before them
+-- whether some events keep a rule, in a world before them. What V7 asks of the world after them needs no look: no step leads to
+-- a world where a lock is held exclusively beside another activation
 abbrev pub keeps_rule : List Filter → World → List Event → List Event → Violation → Bool
 keeps_rule p w t events V5 = legal_statuses p w t events
 keeps_rule p w t events V6 = levels_kept p w t events
-keeps_rule p w t events V7 = lock_discipline p w t events
+keeps_rule p w t events V7 = list_all (is_disciplined p w t) events
 keeps_rule p w t events V8 = legal_places p w t events
 keeps_rule p w t events _ = true
 

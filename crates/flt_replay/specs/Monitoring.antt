@@ -1,7 +1,8 @@
 -- How far the monitor has come, and what comes of transitions.
-use Rattle.std.specs.Prelude.{◌≡◌, Bool, true, false, List}
+use Rattle.std.specs.Prelude.{◌≡◌, Bool, true, false, List, IsTrue}
 use Rattle.flt_tree.specs.declared.filter.Filter.{Filter}
 use Rattle.flt_model.specs.Expansion as spec
+use Rattle.flt_model.specs.Locks.{locks_exclude}
 use Rattle.flt_model.specs.Runs.{Moment}
 use Rattle.flt_model.specs.Steps.{Transition}
 use Rattle.flt_replay.specs.Ledger.{Agrees}
@@ -9,10 +10,11 @@ use Rattle.flt_replay.specs.declared.monitor.Course.{Course}
 use Rattle.flt_replay.specs.declared.monitor.Course.TheVariants.{Reaches, Stops, Fails}
 use Rattle.flt_replay.specs.declared.monitor.Monitor.{Monitor}
 
--- the monitor stands at a moment
+-- the monitor stands at a moment, where no lock is held exclusively beside another activation
 pub record IsAt (monitor : Monitor) (m : Moment) : Type 0 where
   pub world : monitor.world ≡ m.world
   pub counts : Agrees m monitor.ledger
+  pub exclusive : IsTrue (locks_exclude m.world)
 
 -- what comes of transitions, after which the monitor stands where they lead
 abbrev pub ComesTo : Course → Monitor → spec.Course → Type 0

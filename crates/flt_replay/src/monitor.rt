@@ -18,7 +18,7 @@ use crate::ledger::Ledger;
 use crate::rules::Scene;
 use flt_model::{
     Event, Journal, JournalEntry, Move, Object, Verdict, Violation, first_faults_are_told,
-    legal_journals_are_clean_runs, local_steps_are_quiet,
+    legal_journals_are_clean_runs, local_steps_are_quiet, locks_stay_exclusive,
 };
 use flt_steps::Setup;
 use flt_tree::{OperationVariable, Tree};
@@ -70,6 +70,7 @@ impl<'a> Monitor<'a> {
     fn make(&mut self, alloc: Global, stack: &Stack<'a>, next: Move) -> Result<Course, AllocError>
         ensures { IfOk result (λ c. (m : Moment) → IsAt self.old m → ComesTo c self.new (spec.course stack.now m (Make next ∷ []))) }
     {
+        locks_stay_exclusive();
         let mut events = Vec::new(alloc);
         if !flt_moves::make(&mut self.world, alloc, stack, next, &mut events)? {
             return Ok(Course::Stops);
@@ -87,6 +88,7 @@ impl<'a> Monitor<'a> {
     ) -> Result<Course, AllocError>
         ensures { IfOk result (λ c. (m : Moment) → IsAt self.old m → ComesTo c self.new (spec.course stack.now m (Board a grant ∷ []))) }
     {
+        locks_stay_exclusive();
         let setup = Setup {
             alloc,
             activation: a,
@@ -114,6 +116,7 @@ impl<'a> Monitor<'a> {
         ensures { IfOk result (λ unseen. (p : List Filter) (m : Moment) (xs : List Transition) → IsAt self.old m → GoesOn unseen self.new p xs (spec.course p m (replicate steps (Local a) ++ xs))) }
     {
         local_steps_are_quiet();
+        locks_stay_exclusive();
         for _ in 0..steps {
             if !flt_steps::step_unseen(&mut self.world, a)? {
                 return Ok(false);
@@ -163,6 +166,7 @@ impl<'a> Monitor<'a> {
 fn verdict_of(alloc: Global, trees: &[Tree], journal: &Journal) -> Result<Verdict, AllocError>
     ensures { IfOk result (λ v. v ≡ spec.verdict (filters_of trees.now) journal.now) }
 {
+    locks_stay_exclusive();
     let stack = Stack::of(alloc, trees)?;
     let mut monitor = Monitor {
         world: World::opening(alloc, stack.len())?,

@@ -3,7 +3,6 @@
 ghost use Rattle.std.specs.Prelude.{◌≡◌, ℕ, true, not, ◌&&◌, ◌||◌, List, find};
 ghost use Rattle.std.specs.List.{list_all};
 ghost use Rattle.flt_model.specs.Levels.{level_at};
-ghost use Rattle.flt_model.specs.Locks as locks;
 ghost use Rattle.flt_model.specs.Program as program;
 ghost use Rattle.flt_model.specs.Statuses as statuses;
 ghost use Rattle.flt_model.specs.Trace.{is_held};
@@ -15,6 +14,7 @@ ghost use Rattle.flt_model.specs.declared.event.Object.TheVariants.{Visit};
 ghost use Rattle.flt_replay.specs.Judging.{is_by, keeps_rule, of_rules};
 ghost use Rattle.flt_replay.specs.Scenes.{before};
 ghost use Rattle.flt_world.specs.Happening.{holds_visit, holds_given};
+ghost use Rattle.flt_rules.specs.Held as held;
 ghost use Rattle.flt_rules.specs.Place as places;
 ghost use Rattle.flt_rules.specs.Status.{is_with_callback, status_row};
 ghost use Rattle.flt_rules.specs.declared.place.Stage.TheVariants as stage;
@@ -25,19 +25,19 @@ use crate::statuses::{is_of_mode, is_possessed};
 use flt_model::{Answer, Event, Violation};
 use flt_records::holds_lock;
 use flt_rules::{
-    Call, Level, LockNumber, Mode, Operation, Place, Possessed, Stage, StatusRow, StatusWord,
-    is_legal_in_draining, row, status_row,
+    Call, HeldLock, Level, LockNumber, Mode, Operation, Place, Possessed, Stage, StatusRow,
+    StatusWord, is_legal_in_draining, row, status_row,
 };
 use flt_tree::{OperationVariable, Status};
 use flt_world::{Stack, World};
 
 /// Whether the lock is the latest taken.
-fn is_latest(lock: LockNumber, held: &[LockNumber]) -> bool
-    ensures { result ≡ locks.is_latest lock held.now }
+fn is_latest(lock: LockNumber, locks: &[HeldLock]) -> bool
+    ensures { result ≡ held.is_latest lock locks.now }
 {
-    match held {
+    match locks {
         [] => false,
-        [last] => lock.place() == last.place(),
+        [last] => lock.is_same(last.lock),
         [_, others @ ..] => is_latest(lock, others),
     }
 }
@@ -52,7 +52,7 @@ pub(crate) struct Scene<'b, 'a> {
     /// Whether the activation held the visit that it was given, before the step.
     pub(crate) held: bool,
     /// The locks that it held before the step.
-    pub(crate) locks: &'b [LockNumber],
+    pub(crate) locks: &'b [HeldLock],
 }
 
 // ---- what is read as it was before the step
@@ -60,7 +60,7 @@ pub(crate) struct Scene<'b, 'a> {
 impl<'b, 'a> Scene<'b, 'a> {
     /// An activation that isn't there holds no locks.
     #[tactic(auto, using(crate::proofs::Judging::Scenes::found_set, crate::proofs::Judging::Scenes::missing_set))]
-    fn locks(&self) -> &'b [LockNumber]
+    fn locks(&self) -> &'b [HeldLock]
         ensures { result.now ≡ (activation_at (before self.now) self.now.activation).locks }
     {
         let world = self.world;
@@ -289,7 +289,7 @@ impl<'b, 'a> Scene<'b, 'a> {
     }
 
     fn are_disciplined(&self, events: &[Event]) -> bool
-        ensures { (t : List Event) → list_all (is_by self.now.activation) events.now ≡ true → result ≡ spec.lock_discipline self.now.stack.now (before self.now) t events.now }
+        ensures { (t : List Event) → list_all (is_by self.now.activation) events.now ≡ true → result ≡ list_all (spec.is_disciplined self.now.stack.now (before self.now) t) events.now }
     {
         match events {
             [] => true,

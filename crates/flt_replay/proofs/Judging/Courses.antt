@@ -2,19 +2,21 @@
 use Rattle.std.proofs.Common.{◌≡◌, ◌<◌, ◌-◌, ◌+◌, ℕ, zero, suc, Bool, true, false, List, [], ◌∷◌, ◌++◌, Option, Some, None, Result, Ok, Err, IfOk, find, not, if◌then◌else◌, replicate, drop, get_or, length, add-one, refl, sym, ◌∙◌, ap, subst, arith, sub-one}
 use Rattle.std.specs.List.{list_all}
 use Rattle.std.specs.Option.{option_or}
-use Rattle.flt_rules.specs.declared.call.LockNumber.{LockNumber}
+use Rattle.std.specs.Prelude.{IsTrue}
+use Rattle.flt_rules.specs.declared.held.HeldLock.{HeldLock}
 use Rattle.flt_tree.specs.declared.filter.Filter.{Filter}
 use Rattle.flt_model.specs.declared.event.Event.{Event}
 use Rattle.flt_model.specs.declared.moves.JournalEntry.{JournalEntry}
 use Rattle.flt_model.specs.declared.moves.Move.{Move}
 use Rattle.flt_model.specs.declared.verdict.Verdict.{Verdict}
 use Rattle.flt_model.specs.declared.verdict.Violation.{Violation}
-use Rattle.flt_model.specs.declared.verdict.Violation.TheVariants.{V4}
+use Rattle.flt_model.specs.declared.verdict.Violation.TheVariants.{V4, V7}
 use Rattle.flt_model.specs.Effects.{Step}
 use Rattle.flt_model.specs.Expansion.{Course, Reaches, Stops, Fails, unless_broken, course, go_on, entry_course, expansion, judged, verdict_from}
+use Rattle.flt_model.specs.Locks.{locks_exclude}
 use Rattle.flt_model.specs.Moves.{make}
 use Rattle.flt_model.specs.Runs.{Moment, start, after, next, broken}
-use Rattle.flt_model.specs.Steps.{Transition, Make, Local, Board, board, local}
+use Rattle.flt_model.specs.Steps.{Transition, Make, Local, Board, board, local, step}
 use Rattle.flt_model.specs.Violations.{one_owner}
 use Rattle.flt_model.specs.World.{World, activation_at, opening}
 use Rattle.flt_replay.specs.Judging.{Follows, first_of, of_holding, of_rules, with_locks, keeps_rule, is_by}
@@ -25,7 +27,7 @@ use Rattle.flt_replay.specs.declared.monitor.Course.{Course as Code}
 use Rattle.flt_replay.specs.declared.monitor.Course.TheVariants as code
 use Rattle.flt_replay.specs.declared.monitor.Monitor.{Monitor}
 use Rattle.flt_replay.proofs.Machine.Frames.{stepped}
-use Rattle.flt_replay.proofs.Judging.Judgements.{least_of_both, rules_of_step, no_rule_of_move}
+use Rattle.flt_replay.proofs.Judging.Judgements.{least_of_both, rules_of_step, no_rule_of_move, exclusive_after}
 use Rattle.flt_replay.proofs.Counting.Ledgers.{agrees_unseen}
 use Rattle.flt_replay.proofs.Judging.RulesAfter.{alike_after}
 
@@ -51,6 +53,10 @@ none_of : (o other : Option Violation) → option_or o other ≡ None → o ≡ 
 none_of None other e = refl
 none_of (Some v) other e = absurd (cc)
 
+no_other : (o other : Option Violation) → option_or o other ≡ None → other ≡ None
+no_other None other e = e
+no_other (Some v) other e = absurd (cc)
+
 module _ (p : List Filter) (m : Moment) (s : Step) (monitor : Monitor) (found rule : Option Violation)
     (holding : found ≡ first_of of_holding p m s) (rules : rule ≡ first_of of_rules p m s) where
   both : broken p m s ≡ option_or found rule
@@ -63,7 +69,7 @@ module _ (p : List Filter) (m : Moment) (s : Step) (monitor : Monitor) (found ru
       ComesTo code.Reaches monitor (unless_broken (broken p m s) (Reaches (after m s)))
   reaches e world counts =
       let none : found ≡ None = none_of found rule e in
-      rw (both, e) (record { world = world; counts = counts none })
+      rw (both, e) (record { world = world; counts = counts none; exclusive = exclusive_after p m s (sym rules ∙ no_other found rule e) })
 
 -- ---- one transition
 
@@ -75,16 +81,26 @@ module _ (p : List Filter) (m : Moment) (x : Transition) where
       ComesTo c monitor (unless_broken (broken p m s) (Reaches (after m s))) → ComesTo c monitor (course p m (x ∷ []))
   goes_to c monitor s e h = rw e h
 
+-- ---- no lock is held exclusively beside another activation
+
+-- not at the opening, and not after a step from where it was so
+pub record StayExclusive : Type 0 where
+  pub opening : (p : List Filter) → IsTrue (locks_exclude (opening p))
+  pub steps : (p : List Filter) (w : World) (t : List Event) (x : Transition) (s : Step) → step p w t x ≡ Some s → IsTrue (locks_exclude w) →
+      IsTrue (locks_exclude s.world)
+
 -- ---- a move
 
 pub made : (p : List Filter) (m : Moment) (x : Move) (old new : Monitor) (u : World) (es : List Event) (enabled : Bool) (c : Code) →
-    IsAt old m → ComesOf (make p old.world x) enabled u [] es → enabled ≡ true →
+    StayExclusive → IsAt old m → ComesOf (make p old.world x) enabled u [] es → enabled ≡ true →
     ((s : Step) → Follows p m (Make x) s u es → None ≡ first_of of_rules p m s → ComesTo c new (unless_broken (broken p m s) (Reaches (after m s)))) →
     ComesTo c new (course p m (Make x ∷ []))
-made p m x old new u es enabled c at h is judges =
+made p m x old new u es enabled c stay at h is judges =
     let here : ComesOf (make p m.world x) enabled u [] es = subst (λ w. ComesOf (make p w x) enabled u [] es) at.world h in
     let t = happened (make p m.world x) enabled u [] es is here in
-    goes_to p m (Make x) c new t.0 t.1 (judges t.0 (record { is = t.1; world = sym t.2.0; events_are = sym t.2.1 }) (no_rule_of_move p m x t.0 t.1))
+    let exclusive = stay.steps p m.world m.trace (Make x) t.0 t.1 at.exclusive in
+    goes_to p m (Make x) c new t.0 t.1
+    (judges t.0 (record { is = t.1; world = sym t.2.0; events_are = sym t.2.1 }) (no_rule_of_move p m x t.0 t.1 exclusive))
 
 pub not_made : (p : List Filter) (m : Moment) (x : Move) (old new : Monitor) (u : World) (es : List Event) (enabled : Bool) →
     IsAt old m → ComesOf (make p old.world x) enabled u [] es → enabled ≡ false → ComesTo code.Stops new (course p m (Make x ∷ []))
@@ -111,14 +127,14 @@ module _ (p : List Filter) (m : Moment) (a : ℕ) (grant held : Bool) (old new :
   not_seen is = stops p m (Board a grant) new (not_enabled (board p m.trace m.world a grant) enabled u [] es is board_here)
 
   -- the least broken rule, as it is read in a world after the step
-  abbrev IsRule : Option Violation → World → List Event → List LockNumber → Type 0
+  abbrev IsRule : Option Violation → World → List Event → List HeldLock → Type 0
   IsRule rule w events locks =
       (t : List Event) → held ≡ holds_given t (with_locks w a locks) a → list_all (is_by a) events ≡ true →
       rule ≡ find (λ v. not (keeps_rule p (with_locks w a locks) t events v)) of_rules
 
-  module _ (rule : Option Violation) (locks : List LockNumber) (are : locks ≡ (activation_at old.world a).locks) (rules : IsRule rule u es locks)
-      (s : Step) (e : board p m.trace m.world a grant ≡ Some s) (world : u ≡ s.world) (events : es ≡ s.events) where
-    abbrev own : List LockNumber
+  module _ (rule : Option Violation) (locks : List HeldLock) (are : locks ≡ (activation_at old.world a).locks) (rules : IsRule rule u es locks)
+      (s : Step) (e : board p m.trace m.world a grant ≡ Some s) (exclusive : locks_exclude s.world ≡ true) (world : u ≡ s.world) (events : es ≡ s.events) where
+    abbrev own : List HeldLock
     own = (activation_at m.world a).locks
 
     read_after : IsRule rule s.world s.events own
@@ -129,15 +145,15 @@ module _ (p : List Filter) (m : Moment) (a : ℕ) (grant held : Bool) (old new :
     rule_is : rule ≡ first_of of_rules p m s
     rule_is =
         read_after m.trace (is_held ∙ sym (held_after p m a grant s e)) (stepped p m.trace m.world a grant s e).framed.by_actor
-        ∙ sym (rules_of_step p m a grant s e)
+        ∙ sym (rules_of_step p m a grant s e exclusive)
 
-  pub seen : (c : Code) (rule : Option Violation) (locks : List LockNumber) → enabled ≡ true → locks ≡ (activation_at old.world a).locks → IsRule rule u es locks →
+  pub seen : (c : Code) (rule : Option Violation) (locks : List HeldLock) → StayExclusive → enabled ≡ true → locks ≡ (activation_at old.world a).locks → IsRule rule u es locks →
       ((s : Step) → Follows p m (Board a grant) s u es → rule ≡ first_of of_rules p m s → ComesTo c new (unless_broken (broken p m s) (Reaches (after m s)))) →
       ComesTo c new (course p m (Board a grant ∷ []))
-  seen c rule locks is are rules judges =
+  seen c rule locks stay is are rules judges =
       let t = happened (board p m.trace m.world a grant) enabled u [] es is board_here in
       goes_to p m (Board a grant) c new t.0 t.1
-      (judges t.0 (record { is = t.1; world = sym t.2.0; events_are = sym t.2.1 }) (rule_is rule locks are rules t.0 t.1 t.2.0 t.2.1))
+      (judges t.0 (record { is = t.1; world = sym t.2.0; events_are = sym t.2.1 }) (rule_is rule locks are rules t.0 t.1 (stay.steps p m.world m.trace (Board a grant) t.0 t.1 at.exclusive) t.2.0 t.2.1))
 
 -- ---- steps that nobody else sees
 
@@ -145,7 +161,7 @@ module _ (p : List Filter) (m : Moment) (a : ℕ) (grant held : Bool) (old new :
 pub record AreQuiet : Type 0 where
   pub events : (p : List Filter) (m : Moment) (a : ℕ) (s : Step) → next p m (Local a) ≡ Some s → s.events ≡ []
   pub breaks : (p : List Filter) (m : Moment) (a : ℕ) (s : Step) → next p m (Local a) ≡ Some s →
-      broken p m s ≡ (if one_owner m.world m.trace then None else Some V4)
+      broken p m s ≡ (if one_owner m.world m.trace then (if locks_exclude m.world then None else Some V7) else Some V4)
 
 module _ (p : List Filter) (m : Moment) (a : ℕ) (old : Monitor) (u : World) (enabled : Bool) (at : IsAt old m)
     (h : (p : List Filter) → (t : List Event) → ComesOf (local p t old.world a) enabled u [] []) (ys : List Transition) where
@@ -155,18 +171,22 @@ module _ (p : List Filter) (m : Moment) (a : ℕ) (old : Monitor) (u : World) (e
   pub not_unseen : enabled ≡ false → course p m (Local a ∷ ys) ≡ Stops
   not_unseen is = rw (not_enabled (local p m.trace m.world a) enabled u [] [] is local_here) refl
 
-  unseen_by : AreQuiet → (s : Step) → next p m (Local a) ≡ Some s → u ≡ s.world →
+  unseen_by : AreQuiet → StayExclusive → (s : Step) → next p m (Local a) ≡ Some s → u ≡ s.world →
       GoesOn true (record { world = u; ledger = old.ledger }) p ys (course p m (Local a ∷ ys))
-  unseen_by quiet s e world = (
+  unseen_by quiet stay s e world = (
     after m s,
-    record { world = world; counts = agrees_unseen p m a s old.ledger at.counts e (quiet.events p m a s e) },
-    rw (e, quiet.breaks p m a s e, at.counts.owned) refl,
+    record {
+      world = world;
+      counts = agrees_unseen p m a s old.ledger at.counts e (quiet.events p m a s e);
+      exclusive = stay.steps p m.world m.trace (Local a) s e at.exclusive;
+    },
+    rw (e, quiet.breaks p m a s e, at.counts.owned, at.exclusive) refl,
   )
 
-  pub unseen : AreQuiet → enabled ≡ true → GoesOn true (record { world = u; ledger = old.ledger }) p ys (course p m (Local a ∷ ys))
-  unseen quiet is =
+  pub unseen : AreQuiet → StayExclusive → enabled ≡ true → GoesOn true (record { world = u; ledger = old.ledger }) p ys (course p m (Local a ∷ ys))
+  unseen quiet stay is =
       let t = happened (local p m.trace m.world a) enabled u [] [] is local_here in
-      unseen_by quiet t.0 t.1 t.2.0
+      unseen_by quiet stay t.0 t.1 t.2.0
 
 -- one more of some steps is made
 pub one_less : (steps made : ℕ) → made < steps → steps - made ≡ suc (steps - (made + 1))
@@ -208,5 +228,5 @@ judged_at p m n entries d whole k h is e =
     ap (λ c. judged c n (λ r. verdict_from p r (n + 1) (drop (n + 1) entries))) (sym e) ∙ (sym (ap (verdict_from p m n) left) ∙ is)
 
 -- before the first entry
-pub begins : (p : List Filter) (monitor : Monitor) → monitor.world ≡ opening p → Agrees (start p) monitor.ledger → IsAt monitor (start p)
-begins p monitor world counts = record { world = world; counts = counts }
+pub begins : (p : List Filter) (monitor : Monitor) → StayExclusive → monitor.world ≡ opening p → Agrees (start p) monitor.ledger → IsAt monitor (start p)
+begins p monitor stay world counts = record { world = world; counts = counts; exclusive = stay.opening p }

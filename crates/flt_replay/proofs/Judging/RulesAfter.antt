@@ -8,7 +8,7 @@ use Rattle.std.specs.List.{list_all}
 use Rattle.std.specs.Prelude.{◌&&◌}
 use Rattle.flt_rules.specs.declared.call.Call.{Call}
 use Rattle.flt_rules.specs.declared.call.Call.TheVariants as call
-use Rattle.flt_rules.specs.declared.call.LockNumber.{LockNumber}
+use Rattle.flt_rules.specs.declared.held.HeldLock.{HeldLock}
 use Rattle.flt_tree.specs.declared.filter.Filter.{Filter}
 use Rattle.flt_tree.specs.declared.filter.Status.{Status}
 use Rattle.flt_tree.specs.declared.variable.OperationVariable.TheVariants.{Data}
@@ -119,7 +119,7 @@ module _ (w : World) (a : ℕ) (s : Step) (h : Stepped w a s) where
   pub length_after : length s.world.activations ≡ length w.activations
   length_after = ap length h.framed.one_activation ∙ length-set w.activations a h.framed.act
 
-  module _ (locks : List LockNumber) where
+  module _ (locks : List HeldLock) where
     within_after : a < length s.world.activations
     within_after = omega (arith, length_after, h.within)
 
@@ -141,7 +141,7 @@ module _ (w : World) (a : ℕ) (s : Step) (h : Stepped w a s) where
 
 module _ (p : List Filter) (t : List Event) (w : World) (a : ℕ) (grant : Bool) (s : Step) (e : board p t w a grant ≡ Some s) where
   -- any locks would do
-  pub same_given_with : (locks : List LockNumber) → holds_given t (with_locks s.world a locks) a ≡ holds_given t w a
+  pub same_given_with : (locks : List HeldLock) → holds_given t (with_locks s.world a locks) a ≡ holds_given t w a
   same_given_with locks = ap (λ v. holds_visit t a v) (data_after w a s (stepped p t w a grant s e) locks)
 
   pub same_given : holds_given t (with_locks s.world a (activation_at w a).locks) a ≡ holds_given t w a

@@ -7,6 +7,7 @@ use Rattle.std.proofs.lemmas.List.{get_or-set_other, get_or_past}
 use Rattle.std.proofs.lemmas.List.Folds.{list_all-append}
 use Rattle.std.specs.List.{list_all}
 use Rattle.std.specs.Prelude.{◌||◌, ◌==◌, if◌then◌else◌, is_some}
+use Rattle.flt_rules.specs.Held.{holds_lock}
 use Rattle.flt_rules.specs.Place.{answers, is_irp}
 use Rattle.flt_rules.specs.declared.call.Anchor.{Anchor}
 use Rattle.flt_rules.specs.declared.call.Call.{Call}
@@ -14,6 +15,8 @@ use Rattle.flt_rules.specs.declared.call.Existing.{Existing}
 use Rattle.flt_rules.specs.declared.call.Existing.TheVariants.{Keep, Replace}
 use Rattle.flt_rules.specs.declared.call.LockKind.{LockKind}
 use Rattle.flt_rules.specs.declared.call.LockNumber.{LockNumber}
+use Rattle.flt_rules.specs.declared.held.Access.{Access}
+use Rattle.flt_rules.specs.declared.held.Access.TheVariants.{Exclusive, Shared}
 use Rattle.flt_tree.specs.Filter.{context_of, named_context}
 use Rattle.flt_tree.specs.Variable.{whose}
 use Rattle.flt_tree.specs.declared.filter.FallibleCall.{FallibleCall}
@@ -36,9 +39,8 @@ use Rattle.flt_model.specs.declared.event.Event.{Event}
 use Rattle.flt_model.specs.declared.event.Event.TheVariants as event
 use Rattle.flt_model.specs.declared.event.Object.{Object}
 use Rattle.flt_model.specs.declared.event.Object.TheVariants.{Visit}
-use Rattle.flt_model.specs.Calls.{needs_of, link_of, set_there, set_by, cannot_set, got, kept, get_by, allocate, allocated, get, set_context, unlinked, delete_by, delete_at, deleted, delete, referenced, reference, released, release, taken, acquire, given_up, release_lock, enqueued, insert_by, insert, removed, remove_next, deferred, defer_by, queue_deferred, queued, queue_by, queue_generic, completed, status_of, complete_by, complete_pre, status_of_post, complete_post_by, complete_post}
+use Rattle.flt_model.specs.Calls.{needs_of, link_of, set_there, set_by, cannot_set, got, kept, get_by, allocate, allocated, get, set_context, unlinked, delete_by, delete_at, deleted, delete, referenced, reference, released, release, taken, acquire, acquire_shared, given_up, release_lock, enqueued, insert_by, insert, removed, remove_next, deferred, defer_by, queue_deferred, queued, queue_by, queue_generic, completed, status_of, complete_by, complete_pre, status_of_post, complete_post_by, complete_post}
 use Rattle.flt_model.specs.Effects.{Step, context, operation, optional, uses, empties, gains_context, loses_context, freed_by_drop, after_unlink, events_of_unlink, onward, goes_on, unchanged, gives_nothing, needing, calling}
-use Rattle.flt_model.specs.Locks.{holds_lock}
 use Rattle.flt_model.specs.Program.{callbacks_at, routine_of}
 use Rattle.flt_model.specs.Reads.{put_value, read_value_of, write_value_of, read_file_of, test_irp_of}
 use Rattle.flt_model.specs.Returns.{ends, status_given, context_used, visit_given_back, returned, returns, there}
@@ -339,10 +341,16 @@ module _ (w : World) (a : ℕ) where
 
   -- ---- locks
 
+  taken_framed : (l : LockNumber) (access : Access) (rest : List Statement) → Framed w a (taken w a l access rest)
+  taken_framed l access rest = if_framed (holds_lock l here.locks) _ _ (stays rest) (goes_plain _ _ _ refl refl refl refl)
+
   acquire_framed : (k : LockKind) (l : LockNumber) (rest : List Statement) → Framed w a (acquire w a k l rest)
   acquire_framed k l rest =
-      called _ (event.Lock a l ∷ []) [] (taken w a l rest) (and_from (a == a) true (self_by a) refl)
-      (if_framed (holds_lock l here.locks) _ _ (stays rest) (goes_plain _ _ _ refl refl refl refl))
+      called _ (event.Lock a l ∷ []) [] (taken w a l Exclusive rest) (and_from (a == a) true (self_by a) refl) (taken_framed l Exclusive rest)
+
+  acquire_shared_framed : (l : LockNumber) (rest : List Statement) → Framed w a (acquire_shared w a l rest)
+  acquire_shared_framed l rest =
+      called _ (event.Lock a l ∷ []) [] (taken w a l Shared rest) (and_from (a == a) true (self_by a) refl) (taken_framed l Shared rest)
 
   release_lock_framed : (k : LockKind) (l : LockNumber) (rest : List Statement) → Framed w a (release_lock w a k l rest)
   release_lock_framed k l rest =
@@ -518,6 +526,7 @@ module _ (w : World) (a : ℕ) where
       plain_framed rest (plain.ReferenceContext c d) = reference_framed c d rest
       plain_framed rest (plain.ReleaseContext c) = release_framed c rest
       plain_framed rest (plain.AcquireLock k l) = acquire_framed k l rest
+      plain_framed rest (plain.AcquirePushLockShared l) = acquire_shared_framed l rest
       plain_framed rest (plain.ReleaseLock k l) = release_lock_framed k l rest
       plain_framed rest (plain.CompletePendedPreOperation d st) = complete_framed d st rest
       plain_framed rest plain.CompletePendedPostOperation = complete_post_framed rest

@@ -3,13 +3,14 @@ use Rattle.flt_model.specs.Expansion.{verdict}
 use Rattle.flt_model.specs.Program.{by_altitude}
 use Rattle.flt_model.specs.Runs.{start}
 use Rattle.flt_world.specs.Filters.{filters_of}
-use Rattle.flt_replay.proofs.Judging.Courses.{stopped, failed, reached, judged_at, begins}
+use Rattle.flt_replay.proofs.Judging.Courses.{StayExclusive, stopped, failed, reached, judged_at, begins}
 use Rattle.flt_replay.proofs.monitor.verdict_of.Goals as goal
 
 pub loop-number-init : goal.loop-number-init
 loop-number-init c =
     let p = by_altitude (filters_of c.args.trees.now) in
-    (start p, begins p (record { world = c.in_ok-opening.field-0; ledger = c.new.result }) (c.in_ok-opening.ensures p (sym (rw c.in_ok-stack.ensures at c.len.ensures))) (c.new.ensures p), refl)
+    let stay : StayExclusive = record { opening = c.locks_stay_exclusive.ensures.opening; steps = c.locks_stay_exclusive.ensures.steps } in
+    (start p, begins p (record { world = c.in_ok-opening.field-0; ledger = c.new.result }) stay (c.in_ok-opening.ensures p (sym (rw c.in_ok-stack.ensures at c.len.ensures))) (c.new.ensures p), refl)
 
 pub returns-in-Stops : goal.returns-in-Stops
 returns-in-Stops c =
