@@ -1,12 +1,11 @@
 -- Where a point stands, and at which level it is reached.
-use Rattle.std.specs.Prelude.{ℕ, Bool, true, false, List, [], Option, slice_get}
+use Rattle.std.specs.Prelude.{ℕ, Bool, true, false, List, Option, slice_get}
 use Rattle.std.specs.List.{list_any, list_all}
 use Rattle.flt_rules.specs.Call.{place_of}
 use Rattle.flt_rules.specs.Held.{level_with}
 use Rattle.flt_rules.specs.Place.{entry_level, same_operation}
 use Rattle.flt_rules.specs.declared.call.LockKind.{LockKind}
 use Rattle.flt_rules.specs.declared.call.LockNumber.{LockNumber}
-use Rattle.flt_rules.specs.declared.place.Level.{Level}
 use Rattle.flt_rules.specs.declared.place.Operation.{Operation}
 use Rattle.flt_rules.specs.declared.place.Place.{Place}
 use Rattle.flt_rules.specs.declared.place.Place.TheVariants.{Pre, Post}

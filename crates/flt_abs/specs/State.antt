@@ -1,5 +1,5 @@
 -- Abstract states, and the situations that they mean. This project's own definitions.
-use Rattle.std.specs.Prelude.{◌≡◌, ◌==◌, ℕ, Bool, true, false, ◌&&◌, List, [], ◌∷◌, length}
+use Rattle.std.specs.Prelude.{◌≡◌, ◌==◌, Bool, true, false, ◌&&◌, List, [], ◌∷◌, length}
 use Rattle.std.specs.List.{list_all}
 use Rattle.flt_rules.specs.Held.{same_locks}
 use Rattle.flt_rules.specs.declared.held.HeldLock.{HeldLock}

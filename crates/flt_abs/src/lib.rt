@@ -17,7 +17,7 @@ pub use locks::LockList;
 pub use outcome::transfer_follows_situations;
 pub use sets::{Draining, Modes, Statuses};
 /// No call answers it: the definitions of the rules speak of it.
-pub use setting::Setting;
+pub use setting::{Setting, graphs_are_registered_alike};
 pub use state::{
     Abs, CONTEXTS, LocksDiffer, OPERATIONS, is_partial_order, join, joins_are_least, leq,
 };

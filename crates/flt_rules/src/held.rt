@@ -46,6 +46,16 @@ impl Access {
     }
 }
 
+/// What stands in a place of a list that isn't filled. Nothing reads it.
+impl Default for HeldLock {
+    fn default() -> HeldLock {
+        HeldLock {
+            lock: LockNumber::L0,
+            access: Access::Exclusive,
+        }
+    }
+}
+
 impl HeldLock {
     /// Whether both are one lock, held in one way.
     pub fn is_same(self, other: HeldLock) -> bool

@@ -248,9 +248,11 @@ pub fn row(call: Call) -> Row
             lifetime_row(Level::Dispatch, Need::Held, Need::Output, GIVES_HELD)
         }
         Call::ReleaseContext => release_row(),
-        Call::AcquireLock(kind) => {
-            lock_row(kind, LockNeed::NotHeld, LockChange::Taken(Access::Exclusive))
-        }
+        Call::AcquireLock(kind) => lock_row(
+            kind,
+            LockNeed::NotHeld,
+            LockChange::Taken(Access::Exclusive),
+        ),
         Call::AcquirePushLockShared => lock_row(
             LockKind::Push,
             LockNeed::NotHeld,
