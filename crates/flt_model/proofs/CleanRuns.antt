@@ -1,8 +1,11 @@
 -- The verdict about a journal, and the run that its transitions are.
 use Rattle.std.proofs.Common.{◌≡◌, ℕ, zero, suc, ◌+◌, Bool, true, false, List, [], ◌∷◌, ◌++◌, Option, Some, None, ap, arith, sym, subst, refl, ◌∙◌, append_assoc, append-nil}
+use Rattle.std.proofs.lemmas.Bool.{and_parts}
+use Rattle.std.specs.List.{list_all}
 use Rattle.std.specs.Prelude.{not, cond, replicate, take, drop, find, option_map, option_and_then, ◌↔◌}
 use Rattle.flt_tree.specs.declared.filter.Filter.{Filter}
 use Rattle.flt_model.proofs.LocalLaws.{local_clean}
+use Rattle.flt_model.proofs.LockLaws.{opening_excludes}
 use Rattle.flt_model.specs.declared.moves.JournalEntry.{JournalEntry}
 use Rattle.flt_model.specs.declared.moves.JournalEntry.TheVariants.{Move, Go}
 use Rattle.flt_model.specs.declared.verdict.Verdict.{Verdict}
@@ -11,10 +14,11 @@ use Rattle.flt_model.specs.declared.verdict.Violation.{Violation}
 use Rattle.flt_model.specs.declared.verdict.Violation.TheVariants.{V1, V2, V3, V4, V5, V6, V7, V8}
 use Rattle.flt_model.specs.Effects.{Step}
 use Rattle.flt_model.specs.Expansion.{expansion, expand, IsCleanRun, IsStoppedAt, IsBrokenAt, Course, Reaches, Stops, Fails, unless_broken, course_by, course, entry_course, judged, verdict_from, verdict}
+use Rattle.flt_model.specs.Locks.{locks_exclude}
 use Rattle.flt_model.specs.Program.{by_altitude}
 use Rattle.flt_model.specs.Runs.{Moment, start, after, next, run_from, keeps, broken, Break, on_step, first_or, breaks_from}
 use Rattle.flt_model.specs.Steps.{Transition, Make, Local, Board}
-use Rattle.flt_model.specs.Violations.{one_owner}
+use Rattle.flt_model.specs.Violations.{one_owner, is_disciplined}
 
 -- ---- a course that reaches a moment is a run that breaks nothing
 
@@ -256,39 +260,55 @@ run_append : (p : List Filter) (m : Moment) (xs ys : List Transition) →
 run_append p m [] ys = refl
 run_append p m (x ∷ xs) ys = append_run p m xs ys (next p m x) (λ s. run_append p (after m s) xs ys)
 
--- ---- along a run that breaks nothing each visit has its owner
+-- ---- along a run that breaks nothing each visit has its owner, and no lock is held exclusively beside another
 
-abbrev Owned : Moment → Type 0
-Owned m = one_owner m.world m.trace ≡ true
+record Orderly (m : Moment) : Type 0 where
+  owned : one_owner m.world m.trace ≡ true
+  exclusive : locks_exclude m.world ≡ true
 
-fourth_kept : (a b c d : Bool) (rest : Option Violation) →
-    cond (not a) (Some V1) (cond (not b) (Some V2) (cond (not c) (Some V3) (cond (not d) (Some V4) rest))) ≡ None → d ≡ true
-fourth_kept false b c d rest e = absurd (cc)
-fourth_kept true false c d rest e = absurd (cc)
-fourth_kept true true false d rest e = absurd (cc)
-fourth_kept true true true false rest e = absurd (cc)
-fourth_kept true true true true rest e = refl
+orderly_start : (p : List Filter) → Orderly (start p)
+orderly_start p = record { owned = refl; exclusive = opening_excludes p }
 
-owned_after : (p : List Filter) (m : Moment) (s : Step) → broken p m s ≡ None → Owned (after m s)
-owned_after p m s e =
-    fourth_kept (keeps p m s V1) (keeps p m s V2) (keeps p m s V3) (keeps p m s V4)
-    (find (λ v. not (keeps p m s v)) (V5 ∷ V6 ∷ V7 ∷ V8 ∷ [])) e
+-- the fourth and the seventh of what is kept, where all is
+record Both (d g : Bool) : Type 0 where
+  fourth : d ≡ true
+  seventh : g ≡ true
+
+all_kept : (a b c d e f g : Bool) (rest : Option Violation) →
+    cond (not a) (Some V1) (cond (not b) (Some V2) (cond (not c) (Some V3) (cond (not d) (Some V4)
+    (cond (not e) (Some V5) (cond (not f) (Some V6) (cond (not g) (Some V7) rest)))))) ≡ None → Both d g
+all_kept false b c d e f g rest h = absurd (cc)
+all_kept true false c d e f g rest h = absurd (cc)
+all_kept true true false d e f g rest h = absurd (cc)
+all_kept true true true false e f g rest h = absurd (cc)
+all_kept true true true true false f g rest h = absurd (cc)
+all_kept true true true true true false g rest h = absurd (cc)
+all_kept true true true true true true false rest h = absurd (cc)
+all_kept true true true true true true true rest h = record { fourth = refl; seventh = refl }
+
+orderly_after : (p : List Filter) (m : Moment) (s : Step) → broken p m s ≡ None → Orderly (after m s)
+orderly_after p m s e =
+    let kept =
+    all_kept (keeps p m s V1) (keeps p m s V2) (keeps p m s V3) (keeps p m s V4) (keeps p m s V5) (keeps p m s V6) (keeps p m s V7)
+    (find (λ v. not (keeps p m s v)) (V8 ∷ [])) e in
+    let disciplined = list_all (is_disciplined p m.world m.trace) s.events in
+    record { owned = kept.fourth; exclusive = (and_parts disciplined (locks_exclude s.world) kept.seventh).1 }
 
 module _ (p : List Filter) (m last : Moment) (xs : List Transition) where
-  owned_broken : (s : Step) (b : Option Violation) → broken p m s ≡ b →
-      (Owned (after m s) → course p (after m s) xs ≡ Reaches last → Owned last) →
-      unless_broken b (course p (after m s) xs) ≡ Reaches last → Owned last
-  owned_broken s None h ih e = ih (owned_after p m s h) e
-  owned_broken s (Some v) h ih e = absurd (cc)
+  orderly_broken : (s : Step) (b : Option Violation) → broken p m s ≡ b →
+      (Orderly (after m s) → course p (after m s) xs ≡ Reaches last → Orderly last) →
+      unless_broken b (course p (after m s) xs) ≡ Reaches last → Orderly last
+  orderly_broken s None h ih e = ih (orderly_after p m s h) e
+  orderly_broken s (Some v) h ih e = absurd (cc)
 
-  owned_step : (o : Option Step) → ((s : Step) → Owned (after m s) → course p (after m s) xs ≡ Reaches last → Owned last) →
-      course_by o (λ s. unless_broken (broken p m s) (course p (after m s) xs)) ≡ Reaches last → Owned last
-  owned_step None ih e = absurd (cc)
-  owned_step (Some s) ih e = owned_broken s (broken p m s) refl (ih s) e
+  orderly_step : (o : Option Step) → ((s : Step) → Orderly (after m s) → course p (after m s) xs ≡ Reaches last → Orderly last) →
+      course_by o (λ s. unless_broken (broken p m s) (course p (after m s) xs)) ≡ Reaches last → Orderly last
+  orderly_step None ih e = absurd (cc)
+  orderly_step (Some s) ih e = orderly_broken s (broken p m s) refl (ih s) e
 
-course_owned : (p : List Filter) (m last : Moment) (xs : List Transition) → Owned m → course p m xs ≡ Reaches last → Owned last
-course_owned p m last [] h e = let same : m ≡ last = cc in subst Owned same h
-course_owned p m last (x ∷ xs) h e = owned_step p m last xs (next p m x) (λ s. course_owned p (after m s) last xs) e
+course_orderly : (p : List Filter) (m last : Moment) (xs : List Transition) → Orderly m → course p m xs ≡ Reaches last → Orderly last
+course_orderly p m last [] h e = let same : m ≡ last = cc in subst Orderly same h
+course_orderly p m last (x ∷ xs) h e = orderly_step p m last xs (next p m x) (λ s. course_orderly p (after m s) last xs) e
 
 -- ---- an entry breaks nothing but by its last transition, so one that breaks something is a run
 
@@ -303,30 +323,30 @@ module _ (p : List Filter) (m : Moment) (v : Violation) where
   last_runs (Some s) e = (after m s, refl)
 
   local_runs : (xs : List Transition) (o : Option Step) → ((s : Step) → o ≡ Some s → broken p m s ≡ None) →
-      ((s : Step) → Owned (after m s) → course p (after m s) xs ≡ Fails v → IsRun p (after m s) xs) →
+      ((s : Step) → Orderly (after m s) → course p (after m s) xs ≡ Fails v → IsRun p (after m s) xs) →
       course_by o (λ s. unless_broken (broken p m s) (course p (after m s) xs)) ≡ Fails v →
       (last : Moment) × (option_and_then (λ s. run_from p (after m s) xs) o ≡ Some last)
   local_runs xs None quiet ih e = absurd (cc)
   local_runs xs (Some s) quiet ih e =
       let h = quiet s refl in
-      ih s (owned_after p m s h) (sym (ap (λ b. unless_broken b (course p (after m s) xs)) h) ∙ e)
+      ih s (orderly_after p m s h) (sym (ap (λ b. unless_broken b (course p (after m s) xs)) h) ∙ e)
 
-go_runs : (p : List Filter) (m : Moment) (v : Violation) (a n : ℕ) (grant : Bool) → Owned m →
+go_runs : (p : List Filter) (m : Moment) (v : Violation) (a n : ℕ) (grant : Bool) → Orderly m →
     course p m (replicate n (Local a) ++ Board a grant ∷ []) ≡ Fails v → IsRun p m (replicate n (Local a) ++ Board a grant ∷ [])
-go_runs p m v a zero grant owned e = last_runs p m v (next p m (Board a grant)) e
-go_runs p m v a (suc n) grant owned e =
-    local_runs p m v (replicate n (Local a) ++ Board a grant ∷ []) (next p m (Local a)) (λ s h. local_clean p m a s owned h)
+go_runs p m v a zero grant at e = last_runs p m v (next p m (Board a grant)) e
+go_runs p m v a (suc n) grant at e =
+    local_runs p m v (replicate n (Local a) ++ Board a grant ∷ []) (next p m (Local a)) (λ s h. local_clean p m a s at.owned at.exclusive h)
     (λ s h. go_runs p (after m s) v a n grant h) e
 
-entry_runs : (p : List Filter) (m : Moment) (v : Violation) (x : JournalEntry) (xs : List Transition) → expansion x ≡ Some xs → Owned m →
+entry_runs : (p : List Filter) (m : Moment) (v : Violation) (x : JournalEntry) (xs : List Transition) → expansion x ≡ Some xs → Orderly m →
     course p m xs ≡ Fails v → IsRun p m xs
-entry_runs p m v (Move x) xs h owned e =
+entry_runs p m v (Move x) xs h at e =
     let same : Make x ∷ [] ≡ xs = cc in
     subst (λ z. course p m z ≡ Fails v → IsRun p m z) same (last_runs p m v (next p m (Make x))) e
-entry_runs p m v (Go a zero grant) xs h owned e = absurd (cc)
-entry_runs p m v (Go a (suc n) grant) xs h owned e =
+entry_runs p m v (Go a zero grant) xs h at e = absurd (cc)
+entry_runs p m v (Go a (suc n) grant) xs h at e =
     let same : replicate n (Local a) ++ Board a grant ∷ [] ≡ xs = cc in
-    subst (λ z. course p m z ≡ Fails v → IsRun p m z) same (go_runs p m v a n grant owned) e
+    subst (λ z. course p m z ≡ Fails v → IsRun p m z) same (go_runs p m v a n grant at) e
 
 -- ---- behind entries that break nothing
 
@@ -523,13 +543,13 @@ module _ (p : List Filter) (m last : Moment) (front : List Transition) (reaches 
       sym (course_behind xs) ∙ (ap (λ l. course p m l) same ∙ run_fails p m end ys v 0 r b)
 
   -- of the entries that follow, the first decides
-  next_stops : (n : ℕ) (es : List JournalEntry) → Owned last →
+  next_stops : (n : ℕ) (es : List JournalEntry) → Orderly last →
       option_and_then (λ xs. run_from p m xs) (option_map (λ ys. front ++ ys) (expand (take 1 es))) ≡ None → verdict_from p last n es ≡ NotARun n
-  next_stops n [] owned e = absurd (not_both (run_from p m (front ++ [])) last (run_behind []) e)
-  next_stops n (x ∷ es) owned e =
+  next_stops n [] at e = absurd (not_both (run_from p m (front ++ [])) last (run_behind []) e)
+  next_stops n (x ∷ es) at e =
       let none = ap (λ o. option_and_then (λ xs. run_from p m xs) o) (sym (with_next front x (x ∷ es) es refl)) ∙ e in
       ap (λ c. judged c n (λ r. verdict_from p r (n + 1) es))
-      (no_run_behind (expansion x) (λ xs v h. entry_runs p last v x xs h owned) none)
+      (no_run_behind (expansion x) (λ xs v h. entry_runs p last v x xs h at) none)
 
   next_fails : (v : Violation) (n : ℕ) (es : List JournalEntry) (ys : List Transition) (end : Moment) →
       option_map (λ zs. front ++ zs) (expand (take 1 es)) ≡ Some ys → run_from p m ys ≡ Some end →
@@ -565,7 +585,7 @@ record Fault (filters : List Filter) (entries : List JournalEntry) (n : ℕ) (c 
   entry : JournalEntry
   before : IsCleanRun filters (take n entries)
   reaches : course (by_altitude filters) (start (by_altitude filters)) front ≡ Reaches last
-  owned : Owned last
+  orderly : Orderly last
   more : expand (take (n + 1) entries) ≡ option_map (λ ys. front ++ ys) (expansion entry)
   ends : entry_course (by_altitude filters) last (expansion entry) ≡ c
 
@@ -583,7 +603,7 @@ fault_at filters entries n c w r count ends =
       entry = r.entry;
       before = clean_front filters (take n entries) r.front r.last expanded r.reaches;
       reaches = r.reaches;
-      owned = course_owned p (start p) r.last r.front refl r.reaches;
+      orderly = course_orderly p (start p) r.last r.front (orderly_start p) r.reaches;
       more = one_more n entries ∙ q.more ∙ with_next r.front r.entry (drop n entries) r.rest there;
       ends = ends;
     }
@@ -601,7 +621,7 @@ broken_by : (filters : List Filter) (entries : List JournalEntry) (v : Violation
     IsBrokenAt filters entries v n
 broken_by filters entries v n f =
     let p = by_altitude filters in
-    let b = fails_behind p (start p) f.last f.front f.reaches v (expansion f.entry) (λ xs h. entry_runs p f.last v f.entry xs h f.owned) f.ends in
+    let b = fails_behind p (start p) f.last f.front f.reaches v (expansion f.entry) (λ xs h. entry_runs p f.last v f.entry xs h f.orderly) f.ends in
     record { before = f.before; transitions = b.0; last = b.1.0; expanded = f.more ∙ b.1.1.0; runs = b.1.1.1.0; broken = b.1.1.1.1 }
 
 told_stopped : (filters : List Filter) (entries : List JournalEntry) (n : ℕ) → verdict filters entries ≡ NotARun n → IsStoppedAt filters entries n
@@ -627,7 +647,7 @@ stopped_told filters entries n r =
     let q = parted p (start p) b.last 0 n entries b.transitions b.expanded reaches in
     q.told
     ∙ ap (λ k. verdict_from p b.last k (drop n entries)) (none_before n)
-    ∙ next_stops p (start p) b.last b.transitions reaches n (drop n entries) (course_owned p (start p) b.last b.transitions refl reaches)
+    ∙ next_stops p (start p) b.last b.transitions reaches n (drop n entries) (course_orderly p (start p) b.last b.transitions (orderly_start p) reaches)
     (sym (ap (λ o. option_and_then (λ xs. run_from p (start p) xs) o) (one_more n entries ∙ q.more)) ∙ r.stopped)
 
 broken_told : (filters : List Filter) (entries : List JournalEntry) (v : Violation) (n : ℕ) → IsBrokenAt filters entries v n →

@@ -2,6 +2,7 @@ pub mod Altitudes
 pub mod CleanRuns
 pub mod FirstFaults
 pub mod LocalLaws
+pub mod LockLaws
 mod JournalLaws
 mod LineEnds
 mod LinesOnline

@@ -1,4 +1,4 @@
--- A local step has no events, and each visit has as many owners after it as before.
+-- A local step has no events. Each visit has as many owners after it as before, and each lock the same holders.
 use Rattle.std.proofs.Common.{◌≡◌, ℕ, zero, suc, ◌+◌, Bool, true, false, List, [], ◌∷◌, ◌++◌, length, Option, Some, None, ap, sym, subst, refl, ◌∙◌}
 use Rattle.std.proofs.Math.ListN.{set, get_or}
 use Rattle.std.proofs.lemmas.List.{append-nil}
@@ -11,9 +11,10 @@ use Rattle.flt_tree.specs.declared.filter.Statement.TheOpen.{Statement-F}
 use Rattle.flt_model.specs.declared.event.Event.{Event}
 use Rattle.flt_model.specs.declared.event.Object.TheVariants.{Visit}
 use Rattle.flt_model.specs.declared.verdict.Violation.{Violation}
-use Rattle.flt_model.specs.declared.verdict.Violation.TheVariants.{V4}
+use Rattle.flt_model.specs.declared.verdict.Violation.TheVariants.{V4, V7}
 use Rattle.flt_model.specs.Effects.{Step}
 use Rattle.flt_model.specs.LocalSteps.{after_action, goes_on_to, holds_condition, after_statement, local_step}
+use Rattle.flt_model.specs.Locks.{locks_exclude}
 use Rattle.flt_model.specs.Runs.{Moment, next, broken}
 use Rattle.flt_model.specs.Steps.{Local, moved_on}
 use Rattle.flt_model.specs.Trace.{is_held}
@@ -82,17 +83,19 @@ below_same (suc n) f g h = ap (λ b. b && all_below n f) (h n) ∙ ap (λ b. g n
 
 -- ---- the law
 
--- what a step without events breaks: V4 alone, where a visit hasn't its owner
-abbrev broken_by_owners : Bool → Option Violation
-broken_by_owners owned = if owned then None else Some V4
+-- what a step without events breaks: V4 where a visit hasn't its owner, V7 where a lock isn't exclusive
+abbrev broken_by : Bool → Bool → Option Violation
+broken_by owned exclusive = if owned then (if exclusive then None else Some V7) else Some V4
 
 record Quiet (p : List Filter) (m : Moment) (s : Step) : Type 0 where
   events : s.events ≡ []
-  breaks : broken p m s ≡ broken_by_owners (one_owner m.world m.trace)
+  breaks : broken p m s ≡ broken_by (one_owner m.world m.trace) (locks_exclude m.world)
 
-not_owned : (b : Bool) → cond (not b) (Some V4) None ≡ broken_by_owners b
-not_owned true = refl
-not_owned false = refl
+-- the same, as it is searched for
+searched : (owned exclusive : Bool) → cond (not owned) (Some V4) (cond (not exclusive) (Some V7) None) ≡ broken_by owned exclusive
+searched true true = refl
+searched true false = refl
+searched false exclusive = refl
 
 module _ (p : List Filter) (m : Moment) (a : ℕ) where
   owners_stay : (act : Activation) → act.ended ≡ (activation_at m.world a).ended →
@@ -105,7 +108,12 @@ module _ (p : List Filter) (m : Moment) (a : ℕ) where
   moved_quiet : (act : Activation) → act.ended ≡ (activation_at m.world a).ended → Quiet p m (moved_on p m.trace m.world a act)
   moved_quiet act h =
       let none : Option Violation = None in
-      record { events = refl; breaks = ap (λ b. cond (not b) (Some V4) none) (owners_stay act h) ∙ not_owned (one_owner m.world m.trace) }
+      let exclusive = locks_exclude m.world in
+      record {
+        events = refl;
+        breaks = ap (λ b. cond (not b) (Some V4) (cond (not exclusive) (Some V7) none)) (owners_stay act h)
+            ∙ searched (one_owner m.world m.trace) exclusive;
+      }
 
   quiet_by : (b : Bool) (o : Option Activation) (s : Step) → ((act : Activation) → o ≡ Some act → act.ended ≡ (activation_at m.world a).ended) →
       (if b then None else option_map (moved_on p m.trace m.world a) o) ≡ Some s → Quiet p m s
@@ -124,11 +132,13 @@ module _ (p : List Filter) (m : Moment) (a : ℕ) where
 pub local_silent : (p : List Filter) (m : Moment) (a : ℕ) (s : Step) → next p m (Local a) ≡ Some s → s.events ≡ []
 local_silent p m a s e = (local_quiet_step p m a s e).events
 
--- a local step breaks nothing but V4, and that where it was broken before
+-- a local step breaks nothing but V4 and V7, and these where they were broken before
 pub local_breaks : (p : List Filter) (m : Moment) (a : ℕ) (s : Step) → next p m (Local a) ≡ Some s →
-    broken p m s ≡ (if one_owner m.world m.trace then None else Some V4)
+    broken p m s ≡ (if one_owner m.world m.trace then (if locks_exclude m.world then None else Some V7) else Some V4)
 local_breaks p m a s e = (local_quiet_step p m a s e).breaks
 
--- a local step breaks nothing where each visit had its owner
-pub local_clean : (p : List Filter) (m : Moment) (a : ℕ) (s : Step) → one_owner m.world m.trace ≡ true → next p m (Local a) ≡ Some s → broken p m s ≡ None
-local_clean p m a s owned e = local_breaks p m a s e ∙ ap broken_by_owners owned
+-- a local step breaks nothing where each visit had its owner and locks were exclusive
+pub local_clean : (p : List Filter) (m : Moment) (a : ℕ) (s : Step) → one_owner m.world m.trace ≡ true → locks_exclude m.world ≡ true →
+    next p m (Local a) ≡ Some s → broken p m s ≡ None
+local_clean p m a s owned exclusive e =
+    local_breaks p m a s e ∙ ap (λ b. broken_by b (locks_exclude m.world)) owned ∙ ap (broken_by true) exclusive

@@ -182,7 +182,7 @@ module _ (w : World) (a : ℕ) where
       if holds_lock l act.locks
       then unchanged w a rest
       else goes_on w a (record (onward w a rest) { locks = act.locks ++ held l access ∷ [] })
-        (with_holder w.store filter l (record { activation = a; access = access })) []
+      (with_holder w.store filter l (record { activation = a; access = access })) []
 
   -- KeAcquireSpinLock, ExAcquireFastMutex, FltAcquirePushLockExclusive
   abbrev pub acquire : LockKind → LockNumber → List Statement → Step

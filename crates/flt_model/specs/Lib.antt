@@ -23,6 +23,7 @@ pub mod WorkedContexts
 pub mod WorkedBreaks
 pub mod WorkedCalls
 pub mod WorkedMisuse
+pub mod WorkedLocks
 pub mod JournalText
 pub mod JournalTextReading
 pub mod Streams

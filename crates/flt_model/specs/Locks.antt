@@ -1,5 +1,5 @@
 -- Who holds a lock of a filter. Source: the driver kit's pages on spin locks, fast mutexes and push locks.
-use Rattle.std.specs.Prelude.{ℕ, Bool, true, false, not, ◌||◌, ◌==◌, List, [], ◌∷◌, ◌++◌, filter, get_or, set}
+use Rattle.std.specs.Prelude.{ℕ, Bool, not, ◌||◌, ◌==◌, List, [], ◌∷◌, ◌++◌, filter, get_or, set}
 use Rattle.std.specs.List.{list_all}
 use Rattle.flt_rules.specs.Call.{place_of}
 use Rattle.flt_rules.specs.Held.{are_compatible}

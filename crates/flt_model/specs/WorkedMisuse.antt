@@ -1,7 +1,9 @@
 -- What the machine does where callbacks use it wrongly: the violation, and how the run goes on.
 use Rattle.std.specs.Prelude.{◌≡◌, refl, List, [], ◌∷◌, ◌++◌, Some, None}
+use Rattle.flt_rules.specs.Held.{held}
 use Rattle.flt_rules.specs.declared.call.Anchor.TheVariants.{Instance}
 use Rattle.flt_rules.specs.declared.call.LockNumber.TheVariants.{L1}
+use Rattle.flt_rules.specs.declared.held.Access.TheVariants.{Exclusive}
 use Rattle.flt_rules.specs.declared.place.Operation.TheVariants.{Create, Read, Write}
 use Rattle.flt_rules.specs.declared.status.FinalStatus.TheVariants as final
 use Rattle.flt_tree.specs.declared.filter.FallibleCall.TheVariants as fallible
@@ -169,11 +171,11 @@ pub taken_twice : locks_after (with_locks (takes_first ∷ takes_first ∷ gives
 unfolding computed
 taken_twice = refl
 
-pub older_released : locks_after (with_locks (takes_first ∷ takes_second ∷ gives_first ∷ [])) three_steps ≡ Some ((L1 ∷ []) ∷ [])
+pub older_released : locks_after (with_locks (takes_first ∷ takes_second ∷ gives_first ∷ [])) three_steps ≡ Some ((held L1 Exclusive ∷ []) ∷ [])
 unfolding computed
 older_released = refl
 
-pub not_held : locks_after (with_locks (takes_second ∷ gives_first ∷ no_callback ∷ [])) three_steps ≡ Some ((L1 ∷ []) ∷ [])
+pub not_held : locks_after (with_locks (takes_second ∷ gives_first ∷ no_callback ∷ [])) three_steps ≡ Some ((held L1 Exclusive ∷ []) ∷ [])
 unfolding computed
 not_held = refl
 

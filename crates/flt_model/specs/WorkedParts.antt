@@ -1,7 +1,7 @@
 -- Short names for the trees and the journals of worked runs. Everything stands on line 1, and names are a byte or none.
 use Rattle.std.specs.Prelude.{ℕ, true, List, [], ◌∷◌, Option, Some, None, option_and_then, option_map, map}
 use Rattle.flt_rules.specs.declared.call.LockKind.{LockKind}
-use Rattle.flt_rules.specs.declared.call.LockNumber.{LockNumber}
+use Rattle.flt_rules.specs.declared.held.HeldLock.{HeldLock}
 use Rattle.flt_rules.specs.declared.place.Mode.TheVariants.{Irp}
 use Rattle.flt_rules.specs.declared.place.Operation.{Operation}
 use Rattle.flt_tree.specs.declared.filter.Callback.{Callback}
@@ -120,7 +120,7 @@ outcomes_after filters entries = option_map (λ m. map (λ (r : Route). r.outcom
 abbrev pub positions_after : List Filter → List JournalEntry → Option (List Position)
 positions_after filters entries = option_map (λ m. map (λ (r : Route). r.position) m.world.store.routes) (played filters entries)
 
-abbrev pub locks_after : List Filter → List JournalEntry → Option (List (List LockNumber))
+abbrev pub locks_after : List Filter → List JournalEntry → Option (List (List HeldLock))
 locks_after filters entries = option_map (λ m. map (λ (act : Activation). act.locks) m.world.activations) (played filters entries)
 
 -- its first break

@@ -1,19 +1,22 @@
-//! Laws of the machine's definitions: what ties the verdict about a journal to runs, and what local steps leave as it is. And one
-//! of the text of journals: that a fault stands at one place.
+//! Laws of the machine's definitions: what ties the verdict about a journal to runs, what local steps leave as it is, and that
+//! locks stay exclusive. And one of the text of journals: that a fault stands at one place.
 
-ghost use Rattle.std.specs.Prelude.{◌≡◌, ◌↔◌, ℕ, List, [], Some, None, if◌then◌else◌};
+ghost use Rattle.std.specs.Prelude.{◌≡◌, ◌↔◌, ℕ, List, [], Some, None, if◌then◌else◌, IsTrue};
 ghost use Rattle.flt_tree.specs.declared.filter.Filter.{Filter};
 ghost use Rattle.flt_model.specs.Effects.{Step};
 ghost use Rattle.flt_model.specs.Expansion.{IsCleanRun, IsStoppedAt, IsBrokenAt, verdict};
 ghost use Rattle.flt_model.specs.JournalText.{Entries, IsFirstFault, IsJournal, spelling};
+ghost use Rattle.flt_model.specs.Locks.{locks_exclude};
 ghost use Rattle.flt_model.specs.Runs.{Moment, broken, next};
-ghost use Rattle.flt_model.specs.Steps.{Local};
+ghost use Rattle.flt_model.specs.Steps.{Local, Transition, step};
 ghost use Rattle.flt_model.specs.Streams.{Text};
 ghost use Rattle.flt_model.specs.Violations.{one_owner};
+ghost use Rattle.flt_model.specs.World.{World, opening};
+ghost use Rattle.flt_model.specs.declared.event.Event.{Event};
 ghost use Rattle.flt_model.specs.declared.moves.JournalEntry.{JournalEntry};
 ghost use Rattle.flt_model.specs.declared.verdict.Verdict.TheVariants.{Legal, NotARun, Breaks};
 ghost use Rattle.flt_model.specs.declared.verdict.Violation.{Violation};
-ghost use Rattle.flt_model.specs.declared.verdict.Violation.TheVariants.{V4};
+ghost use Rattle.flt_model.specs.declared.verdict.Violation.TheVariants.{V4, V7};
 
 /// A journal is legal exactly where its transitions are a run that breaks nothing. It does nothing: its clause is the law.
 pub fn legal_journals_are_clean_runs()
@@ -29,10 +32,18 @@ pub fn first_faults_are_told()
 {}
 
 /// A local step has no events, and it breaks nothing that wasn't broken before it: V4, where a visit hadn't its owner
-/// already, and otherwise nothing. It does nothing: its clauses are the law.
+/// already, V7, where a lock was held exclusively beside another activation, and otherwise nothing. It does nothing: its
+/// clauses are the law.
 pub fn local_steps_are_quiet()
     ensures events { (p : List Filter) (m : Moment) (a : ℕ) (s : Step) → next p m (Local a) ≡ Some s → s.events ≡ [] }
-    ensures breaks { (p : List Filter) (m : Moment) (a : ℕ) (s : Step) → next p m (Local a) ≡ Some s → broken p m s ≡ (if one_owner m.world m.trace then None else Some V4) }
+    ensures breaks { (p : List Filter) (m : Moment) (a : ℕ) (s : Step) → next p m (Local a) ≡ Some s → broken p m s ≡ (if one_owner m.world m.trace then (if locks_exclude m.world then None else Some V7) else Some V4) }
+{}
+
+/// No step leads from a world where no lock is held exclusively beside another activation to one where one is, and so it is at
+/// the opening. Whatever the filters do, the second half of V7 is kept by every run. It does nothing: its clauses are the law.
+pub fn locks_stay_exclusive()
+    ensures opening { (p : List Filter) → IsTrue (locks_exclude (opening p)) }
+    ensures steps { (p : List Filter) (w : World) (t : List Event) (x : Transition) (s : Step) → step p w t x ≡ Some s → IsTrue (locks_exclude w) → IsTrue (locks_exclude s.world) }
 {}
 
 /// A text has one first fault at most, and none where it spells a journal. It does nothing: its clauses are the law.

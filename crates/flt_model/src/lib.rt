@@ -20,7 +20,7 @@ pub use fault::JournalFault;
 pub use journal::Journal;
 pub use laws::{
     first_faults_are_told, legal_journals_are_clean_runs, local_steps_are_quiet,
-    one_first_fault_at_most,
+    locks_stay_exclusive, one_first_fault_at_most,
 };
 pub use moves::{JournalEntry, Key, Move};
 pub use program::{filters_have_places, first_repeated};
