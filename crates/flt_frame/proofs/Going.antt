@@ -1,5 +1,5 @@
 -- Many local steps: one more at the end of them, and that they come to an end.
-use Rattle.std.proofs.Common.{◌≡◌, ℕ, zero, suc, ◌+◌, ◌<◌, ◌≤◌, Bool, List, Option, Some, None, IfSome, ap, sym, subst, refl, ◌∙◌, arith}
+use Rattle.std.proofs.Common.{◌≡◌, ℕ, zero, suc, ◌+◌, ◌≤◌, Bool, Option, Some, None, ap, sym, subst, arith}
 use Rattle.std.specs.Prelude.{option_and_then}
 use Rattle.flt_tree.specs.Measures.{cost}
 use Rattle.flt_model.specs.LocalSteps.{local_step}

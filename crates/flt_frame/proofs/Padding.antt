@@ -1,9 +1,10 @@
 -- Lists in padded places.
-use Rattle.std.proofs.Common.{◌≡◌, ℕ, ◌+◌, ◌-◌, ◌<◌, ◌≤◌, List, [], ◌∷◌, ◌++◌, length, take, drop, replicate, refl, sym, ap, ◌∙◌, arith}
+use Rattle.std.proofs.Common.{◌≡◌, ℕ, ◌+◌, ◌-◌, ◌<◌, ◌≤◌, true, nat_lt, List, [], ◌∷◌, length, take, drop, replicate, Some, refl, sym, ap, ◌∙◌, arith}
+use Rattle.std.proofs.lemmas.Bool.{lt-ltb}
 use Rattle.std.proofs.Math.Seq.{take-append_seam}
 use Rattle.flt_graph.specs.declared.turns.Turn.{Turn}
 use Rattle.flt_frame.specs.Padded.{padded, IsPadded}
-use Rattle.flt_frame.specs.Turns.{no_turn, without_first}
+use Rattle.flt_frame.specs.Turns.{no_turn, without_first, with_turn}
 
 -- places that are padded behind a list hold the list
 pub holds : (A : Type 0) (places : ℕ) (blank : A) (xs cells : List A) (used : ℕ) → length xs ≤ places → cells ≡ padded places blank xs →
@@ -39,6 +40,15 @@ one_more t cells used p less =
     let counts : used + 1 ≡ length (t ∷ take used cells) = omega arith in
     holds Turn 4 no_turn (t ∷ take used cells) (t ∷ take 3 cells) (used + 1) most
     (ap (λ (l : List Turn). t ∷ take 3 l) (sym p.filled) ∙ first_more t (take used cells) few) counts
+
+-- as `with_turn` says
+pub one_within : (t : Turn) (cells more : List Turn) (used : ℕ) (turns : List Turn) → IsPadded Turn 4 no_turn cells used → used < 4 →
+    more ≡ t ∷ take 3 cells → take used cells ≡ turns → Some (take (used + 1) more) ≡ with_turn t turns
+one_within t cells more used turns p less is seen =
+    let counted : length (take used cells) ≡ used = p.counted in
+    let long : length turns ≡ used = ap (λ (l : List Turn). length l) (sym seen) ∙ counted in
+    let room : nat_lt (length turns) 4 ≡ true = lt-ltb (length turns) 4 (omega arith) in
+    rw (room, is) (ap (λ (l : List Turn). Some l) ((one_more t cells used p less).1 ∙ ap (λ (l : List Turn). t ∷ l) seen))
 
 length_behind : (xs : List Turn) → length (drop 1 xs) ≡ length xs - 1
 length_behind [] = refl

@@ -1,5 +1,5 @@
 -- A local step of a standing is the machine's: it leads to a standing for what remains, or there is none where others see the step.
-use Rattle.std.proofs.Common.{◌≡◌, ℕ, zero, suc, ◌+◌, ◌-◌, ◌<◌, ◌≤◌, Bool, true, false, cond, nat_lt, List, [], ◌∷◌, ◌++◌, length, Option, Some, None, refl, sym, ap, subst, arith}
+use Rattle.std.proofs.Common.{◌≡◌, ℕ, zero, suc, ◌+◌, ◌-◌, ◌≤◌, Bool, true, false, nat_lt, List, [], ◌∷◌, ◌++◌, length, Option, Some, None, refl, sym, ap, subst, arith}
 use Rattle.std.specs.Prelude.{slice_get, option_map, if◌then◌else◌}
 use Rattle.std.proofs.lemmas.Bool.{lt-ltb}
 use Rattle.flt_tree.specs.Limits.{max_repeats}
@@ -8,7 +8,6 @@ use Rattle.flt_tree.specs.WellFormed.{IsWellFormed}
 use Rattle.flt_tree.specs.declared.filter.Action.{Action}
 use Rattle.flt_tree.specs.declared.filter.Action.TheVariants as action
 use Rattle.flt_tree.specs.declared.filter.Callback.{Callback}
-use Rattle.flt_tree.specs.declared.filter.Condition.{Condition}
 use Rattle.flt_tree.specs.declared.filter.Condition.TheVariants as condition
 use Rattle.flt_tree.specs.declared.filter.Filter.{Filter}
 use Rattle.flt_tree.specs.declared.filter.Statement.{Statement, out-Statement}
@@ -22,7 +21,7 @@ use Rattle.flt_tree.specs.declared.variable.Expression.{Expression}
 use Rattle.flt_tree.specs.declared.variable.Expression.TheVariants as expression
 use Rattle.flt_graph.specs.Graph.{point_in, callback_at, instruction_at}
 use Rattle.flt_graph.specs.Lowering.{IsGraphOf, IsLowered, end_of}
-use Rattle.flt_graph.specs.Points.{entry, instruction_of, point_of, Stands, IsFirst, IsLeftOf, remaining, remaining_of, successor}
+use Rattle.flt_graph.specs.Points.{entry, instruction_of, Stands, IsFirst, IsLeftOf, remaining, remaining_of, successor}
 use Rattle.flt_graph.specs.Turns.{StandsWith, StandsAtWith, HasLeft, left_at, turns_after, turns_round}
 use Rattle.flt_graph.specs.declared.graph.CallbackGraph.{CallbackGraph}
 use Rattle.flt_graph.specs.declared.graph.Graph.{Graph}
@@ -34,9 +33,8 @@ use Rattle.flt_model.specs.LocalSteps.{after_action, after_statement, goes_on_to
 use Rattle.flt_model.specs.Variables.{atom_value, expression_value}
 use Rattle.flt_model.specs.World.{Activation}
 use Rattle.flt_frame.specs.Loading.{IsLoaded}
-use Rattle.flt_frame.specs.Standings.{activation_with, with_variables}
-use Rattle.flt_frame.specs.Steps.{turned_with, turned, stepped}
-use Rattle.flt_frame.specs.Turns.{with_turn}
+use Rattle.flt_frame.specs.Standings.{activation_with}
+use Rattle.flt_frame.specs.Steps.{turned_with, stepped}
 use Rattle.flt_frame.specs.declared.standing.Standing.{Standing}
 
 -- ---- what the crate below proves
@@ -139,7 +137,7 @@ module _ (all : List Callback) (body : List Statement) (draining : Bool) (s : St
   turn_follows line (suc left) text body_at block few is on =
       let less : left_at s.point text s.turns - 1 ≡ left = omega arith in
       let stands : StandsWith body body_at (record { point = s.point; left = left } ∷ turns_round s.point s.turns) (block ++ tree.Repeat line left block ∷ rest) =
-        subst (λ (n : ℕ). StandsWith body body_at (record { point = s.point; left = n } ∷ turns_round s.point s.turns) (block ++ tree.Repeat line left block ∷ rest)) less (on true) in
+      subst (λ (n : ℕ). StandsWith body body_at (record { point = s.point; left = n } ∷ turns_round s.point s.turns) (block ++ tree.Repeat line left block ∷ rest)) less (on true) in
       let most : length (record { point = s.point; left = left } ∷ turns_round s.point s.turns) ≤ max_repeats = few _ _ stands in
       let room : nat_lt (length (turns_round s.point s.turns)) max_repeats ≡ true = lt-ltb (length (turns_round s.point s.turns)) max_repeats (omega arith) in
       rw room (block ++ tree.Repeat line left block ∷ rest, (refl, stands))

@@ -1,6 +1,6 @@
 -- The way of an advance: how far it has come after some steps, and that it comes to its end.
-use Rattle.std.proofs.Common.{◌≡◌, ℕ, zero, suc, ◌+◌, ◌<◌, ◌≤◌, Bool, true, ◌&&◌, nat_le, List, [], ◌∷◌, length, Option, Some, None, refl, sym, ap, ◌∙◌, subst, arith, add-one}
-use Rattle.std.specs.Prelude.{slice_get, option_map, if◌then◌else◌, IsTrue}
+use Rattle.std.proofs.Common.{◌≡◌, ℕ, zero, suc, ◌+◌, ◌≤◌, Bool, true, nat_le, List, [], ◌∷◌, Option, Some, None, refl, sym, ap, ◌∙◌, subst, arith, add-one}
+use Rattle.std.specs.Prelude.{slice_get, option_map, if◌then◌else◌}
 use Rattle.std.specs.List.{list_all}
 use Rattle.std.proofs.lemmas.Bool.{and_parts, leb-true}
 use Rattle.std.proofs.lemmas.Option.{none-some, same_Some}
@@ -9,9 +9,8 @@ use Rattle.flt_tree.specs.declared.filter.Action.{Action}
 use Rattle.flt_tree.specs.declared.filter.Action.TheVariants as action
 use Rattle.flt_tree.specs.declared.filter.Callback.{Callback}
 use Rattle.flt_tree.specs.declared.filter.Filter.{Filter}
-use Rattle.flt_tree.specs.declared.filter.Statement.{Statement}
 use Rattle.flt_graph.specs.Graph.{instruction_at}
-use Rattle.flt_graph.specs.Turns.{StandsWith, left_at, turns_round}
+use Rattle.flt_graph.specs.Turns.{left_at, turns_round}
 use Rattle.flt_graph.specs.declared.graph.Graph.{Graph}
 use Rattle.flt_graph.specs.declared.instruction.Instruction.{Instruction}
 use Rattle.flt_graph.specs.declared.instruction.Instruction.TheVariants as instruction
@@ -21,7 +20,7 @@ use Rattle.flt_model.specs.Program.{filter_at, callbacks_at}
 use Rattle.flt_model.specs.World.{Activation}
 use Rattle.flt_frame.proofs.Going.{locally_more, costs_fall}
 use Rattle.flt_frame.proofs.Stepping.{Laws, Follows, step_follows}
-use Rattle.flt_frame.specs.Leads.{locally, Leads, IsFrom, IsAdvanceOn, IsAdvance}
+use Rattle.flt_frame.specs.Leads.{locally, IsFrom, IsAdvanceOn, IsAdvance}
 use Rattle.flt_frame.specs.Loading.{IsLoaded, AreLoaded}
 use Rattle.flt_frame.specs.Standings.{activation_with, StandsFor}
 use Rattle.flt_frame.specs.Steps.{stepped, turned_with}
@@ -89,42 +88,46 @@ module _ (laws : Laws) (f : Filter) (g : Graph) (loaded : IsLoaded f g) (frame :
   pub goes_further : (further : Standing) → stepped frame.draining (instruction_at g after.callback after.point) after ≡ Some further →
       IsOnWay f.callbacks frame (steps + 1) further
   goes_further further is = record {
-      gained = kept.gained ∙ way.gained;
-      lost = kept.lost ∙ way.lost;
-      led = λ act h. on act (way.led act h);
-    }
+    gained = kept.gained ∙ way.gained;
+    lost = kept.lost ∙ way.lost;
+    led = λ act h. on act (way.led act h);
+  }
     where
       kept : Keeps after further
       kept = subst (KeepsIn after) is (stepped_keeps frame.draining (instruction_at g after.callback after.point) after)
+
       on : (act : Activation) → ((last : Activation) × ((locally frame.draining steps act ≡ Some last) × StandsFor f.callbacks after last)) →
           ((last : Activation) × ((locally frame.draining (steps + 1) act ≡ Some last) × StandsFor f.callbacks further last))
       on act led =
           let last : Activation = led.0 in
           let stands : StandsFor f.callbacks after last = led.1.1 in
           let follows : Follows stands.callback.body (local_step frame.draining (activation_with after last.rest) last.rest) (Some further) =
-            subst (Follows stands.callback.body (local_step frame.draining (activation_with after last.rest) last.rest)) is
-            (step_follows laws f g loaded stands.callback after stands.is frame.draining last.rest stands.stands) in
+          subst (Follows stands.callback.body (local_step frame.draining (activation_with after last.rest) last.rest)) is
+          (step_follows laws f g loaded stands.callback after stands.is frame.draining last.rest stands.stands) in
           let step : local_step frame.draining last last.rest ≡ Some (activation_with further follows.0) =
-            subst (λ (x : Activation). local_step frame.draining x last.rest ≡ Some (activation_with further follows.0)) (sym stands.same) follows.1.0 in
+          subst (λ (x : Activation). local_step frame.draining x last.rest ≡ Some (activation_with further follows.0)) (sym stands.same) follows.1.0 in
           let more : locally frame.draining (suc steps) act ≡ Some (activation_with further follows.0) =
-            locally_more frame.draining steps act last (activation_with further follows.0) led.1.0 step in
-          (activation_with further follows.0,
-          (ap (λ (n : ℕ). locally frame.draining n act) (add-one steps) ∙ more,
-          record {
-            same = refl;
-            callback = stands.callback;
-            is = ap (λ (n : ℕ). slice_get f.callbacks n) kept.callback ∙ stands.is;
-            stands = follows.1.1;
-          }))
+          locally_more frame.draining steps act last (activation_with further follows.0) led.1.0 step in (
+            activation_with further follows.0,
+            (
+              ap (λ (n : ℕ). locally frame.draining n act) (add-one steps) ∙ more,
+              record {
+                same = refl;
+                callback = stands.callback;
+                is = ap (λ (n : ℕ). slice_get f.callbacks n) kept.callback ∙ stands.is;
+                stands = follows.1.1;
+              },
+            ),
+          )
 
   -- the next step isn't local
   pub ends : stepped frame.draining (instruction_at g after.callback after.point) after ≡ None →
       IsAdvanceOn f.callbacks (record { frame = frame; after = after; steps = steps })
   ends is = record {
-      gained = way.gained;
-      lost = way.lost;
-      leads = λ act h. at act (way.led act h);
-    }
+    gained = way.gained;
+    lost = way.lost;
+    leads = λ act h. at act (way.led act h);
+  }
     where
       at : (act : Activation) → ((last : Activation) × ((locally frame.draining steps act ≡ Some last) × StandsFor f.callbacks after last)) →
           IsFrom f.callbacks (record { frame = frame; after = after; steps = steps }) act
@@ -132,8 +135,8 @@ module _ (laws : Laws) (f : Filter) (g : Graph) (loaded : IsLoaded f g) (frame :
           let last : Activation = led.0 in
           let stands : StandsFor f.callbacks after last = led.1.1 in
           let none : local_step frame.draining (activation_with after last.rest) last.rest ≡ None =
-            subst (Follows stands.callback.body (local_step frame.draining (activation_with after last.rest) last.rest)) is
-            (step_follows laws f g loaded stands.callback after stands.is frame.draining last.rest stands.stands) in
+          subst (Follows stands.callback.body (local_step frame.draining (activation_with after last.rest) last.rest)) is
+          (step_follows laws f g loaded stands.callback after stands.is frame.draining last.rest stands.stands) in
           record {
             last = last;
             leads = record {
@@ -146,16 +149,17 @@ module _ (laws : Laws) (f : Filter) (g : Graph) (loaded : IsLoaded f g) (frame :
   -- so many steps as no callback costs are never made
   pub runs_out : max_cost ≤ steps → IsAdvanceOn f.callbacks (record { frame = frame; after = after; steps = steps })
   runs_out most = record {
-      gained = way.gained;
-      lost = way.lost;
-      leads = λ act h. absurd (never act h (way.led act h));
-    }
+    gained = way.gained;
+    lost = way.lost;
+    leads = λ act h. absurd (never act h (way.led act h));
+  }
     where
       small_at : (cs : List Callback) (k : ℕ) (c : Callback) → list_all is_small cs ≡ true → slice_get cs k ≡ Some c → is_small c ≡ true
       small_at [] k c small there = absurd (none-some c there)
       small_at (x ∷ cs) zero c small there =
           subst (λ (y : Callback). is_small y ≡ true) (same_Some x c there) (and_parts (is_small x) (list_all is_small cs) small).0
       small_at (x ∷ cs) (suc k) c small there = small_at cs k c (and_parts (is_small x) (list_all is_small cs) small).1 there
+
       never : (act : Activation) → StandsFor f.callbacks frame.standing act →
           ((last : Activation) × ((locally frame.draining steps act ≡ Some last) × StandsFor f.callbacks after last)) → ⊥
       never act h led =
@@ -163,7 +167,7 @@ module _ (laws : Laws) (f : Filter) (g : Graph) (loaded : IsLoaded f g) (frame :
           let whole : cost act.rest ≤ cost h.callback.body = laws.cost h.callback.body frame.standing.point frame.standing.turns act.rest h.stands in
           let small : is_small h.callback ≡ true = small_at f.callbacks frame.standing.callback h.callback loaded.well_formed.small h.is in
           let few : cost h.callback.body + 1 ≤ max_cost =
-            leb-true _ _ (and_parts (nat_le (points h.callback.body + 1) max_points) (nat_le (cost h.callback.body + 1) max_cost) small).1 in
+          leb-true _ _ (and_parts (nat_le (points h.callback.body + 1) max_points) (nat_le (cost h.callback.body + 1) max_cost) small).1 in
           omega arith
 
 -- ---- filters by number
@@ -184,3 +188,21 @@ none_at (f ∷ p) (h ∷ gs) zero k c made is there = none-some h (sym is)
 none_at (f ∷ p) (h ∷ gs) (suc n) k c made is there = none_at p gs n k c made.1 is there
 none_at [] (h ∷ gs) n k c made is there = absurd made
 none_at (f ∷ p) [] n k c made is there = absurd made
+
+-- ---- answers
+
+-- an advance by its parts
+pub put_together : (cs : List Callback) (a : Advanced) (frame : Frame) (steps : ℕ) → a.frame ≡ frame → a.steps ≡ steps →
+    IsAdvanceOn cs (record { frame = frame; after = a.after; steps = steps }) → IsAdvanceOn cs a
+put_together cs a frame steps frame_is steps_is advance =
+    let same : record { frame = frame; after = a.after; steps = steps } ≡ a = (λ i. record { frame = sym frame_is i; after = a.after; steps = sym steps_is i }) in
+    subst (λ (x : Advanced). IsAdvanceOn cs x) same advance
+
+-- where the frame's filter isn't there, the frame stands for nothing
+pub stays : (p : List Filter) (gs : List Graph) (frame : Frame) → AreLoaded p gs → slice_get gs frame.filter ≡ None →
+    IsAdvance p (record { frame = frame; after = frame.standing; steps = 0 })
+stays p gs frame made none = record {
+  gained = refl;
+  lost = refl;
+  leads = λ act h. absurd (none_at p gs frame.filter frame.standing.callback h.callback made none h.is);
+}

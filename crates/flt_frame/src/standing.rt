@@ -29,6 +29,18 @@ pub struct Standing {
     pub lost: u64,
 }
 
+fn are_same_numbers(left: &[u64], right: &[u64]) -> bool
+    ensures { IsTrue result ↔ (left.now ≡ right.now) }
+{
+    left == right
+}
+
+fn are_same_names(left: &[Option<usize>], right: &[Option<usize>]) -> bool
+    ensures { IsTrue result ↔ (left.now ≡ right.now) }
+{
+    left == right
+}
+
 impl Standing {
     /// At entry all is 0 or NULL but the given operation and the given context. Nothing is gained or lost yet.
     pub fn starting(callback: usize, given: Option<usize>, arg: Option<usize>) -> Standing
@@ -77,21 +89,24 @@ impl Standing {
     pub fn set_number(&mut self, variable: NumberVariable, value: u64)
         ensures { self.new ≡ spec.with_variables self.old (model.with_number (spec.activation_with self.old []) variable value) }
     {
-        self.numbers[variable.place()] = value;
+        let place = variable.place();
+        self.numbers[place] = value;
     }
 
     /// Sets a context variable, or makes it NULL.
     pub fn set_context(&mut self, variable: ContextVariable, context: Option<usize>)
         ensures { self.new ≡ spec.with_variables self.old (model.with_context_in (spec.activation_with self.old []) variable context) }
     {
-        self.contexts[variable.place()] = context;
+        let place = variable.place();
+        self.contexts[place] = context;
     }
 
     /// Sets an operation variable, or makes it NULL.
     pub fn set_operation(&mut self, variable: OperationVariable, visit: Option<usize>)
         ensures { self.new ≡ spec.with_variables self.old (model.with_operation_in (spec.activation_with self.old []) variable visit) }
     {
-        self.operations[variable.place()] = visit;
+        let place = variable.place();
+        self.operations[place] = visit;
     }
 
     /// The value of a number or of a variable.
@@ -120,9 +135,9 @@ impl Standing {
     fn has_same_variables(&self, other: &Standing) -> bool
         ensures { IsTrue result ↔ spec.HaveSameVariables self.now other.now }
     {
-        self.numbers == other.numbers
-            && self.contexts == other.contexts
-            && self.operations == other.operations
+        are_same_numbers(&self.numbers, &other.numbers)
+            && are_same_names(&self.contexts, &other.contexts)
+            && are_same_names(&self.operations, &other.operations)
     }
 
     fn has_same_place(&self, other: &Standing) -> bool

@@ -7,6 +7,8 @@ mod certificates;
 #[cfg(test)]
 mod contexts;
 #[cfg(test)]
+mod frames;
+#[cfg(test)]
 mod journals;
 #[cfg(test)]
 mod lists;
