@@ -15,7 +15,6 @@ use Rattle.flt_rules.specs.declared.place.Place.{Place}
 use Rattle.flt_rules.specs.declared.place.Place.TheVariants as place
 use Rattle.flt_rules.specs.declared.place.Stage.TheVariants as stage
 use Rattle.flt_rules.specs.declared.status.Possession.{Possession}
-use Rattle.flt_rules.specs.declared.status.Possession.TheVariants as possession
 use Rattle.flt_rules.specs.declared.status.StatusRow.{StatusRow}
 use Rattle.flt_rules.specs.declared.status.StatusWord.{StatusWord}
 use Rattle.flt_tree.specs.Filter.{word_of, completes_pending}

@@ -1,0 +1,69 @@
+-- Lists in padded places.
+use Rattle.std.proofs.Common.{◌≡◌, ℕ, ◌+◌, ◌-◌, ◌<◌, ◌≤◌, true, nat_lt, List, [], ◌∷◌, length, take, drop, replicate, Some, refl, sym, ap, ◌∙◌, arith}
+use Rattle.std.proofs.lemmas.Bool.{lt-ltb}
+use Rattle.std.proofs.Math.Seq.{take-append_seam}
+use Rattle.flt_graph.specs.declared.turns.Turn.{Turn}
+use Rattle.flt_frame.specs.Padded.{padded, IsPadded}
+use Rattle.flt_frame.specs.Turns.{no_turn, without_first, with_turn}
+
+-- places that are padded behind a list hold the list
+pub holds : (A : Type 0) (places : ℕ) (blank : A) (xs cells : List A) (used : ℕ) → length xs ≤ places → cells ≡ padded places blank xs →
+    used ≡ length xs → IsPadded A places blank cells used × (take used cells ≡ xs)
+holds A places blank xs cells used most is counts =
+    let seen : take used cells ≡ xs = rw (counts, is) (take-append_seam xs (replicate (places - length xs) blank)) in
+    (record { within = omega arith; counted = rw seen (sym counts); filled = rw seen (sym is) }, seen)
+
+-- ---- turns
+
+first_more : (t : Turn) (xs : List Turn) → length xs < 4 → t ∷ take 3 (padded 4 no_turn xs) ≡ padded 4 no_turn (t ∷ xs)
+first_more t [] h = refl
+first_more t (a ∷ []) h = refl
+first_more t (a ∷ b ∷ []) h = refl
+first_more t (a ∷ b ∷ c ∷ []) h = refl
+first_more t (a ∷ b ∷ c ∷ d ∷ xs) h = absurd (omega arith)
+
+first_less : (xs : List Turn) → 0 < length xs → length xs ≤ 4 → without_first (padded 4 no_turn xs) ≡ padded 4 no_turn (drop 1 xs)
+first_less [] h most = absurd (omega arith)
+first_less (a ∷ []) h most = refl
+first_less (a ∷ b ∷ []) h most = refl
+first_less (a ∷ b ∷ c ∷ []) h most = refl
+first_less (a ∷ b ∷ c ∷ d ∷ []) h most = refl
+first_less (a ∷ b ∷ c ∷ d ∷ e ∷ xs) h most = absurd (omega arith)
+
+-- one turn more, in front
+pub one_more : (t : Turn) (cells : List Turn) (used : ℕ) → IsPadded Turn 4 no_turn cells used → used < 4 →
+    IsPadded Turn 4 no_turn (t ∷ take 3 cells) (used + 1) × (take (used + 1) (t ∷ take 3 cells) ≡ t ∷ take used cells)
+one_more t cells used p less =
+    let counted : length (take used cells) ≡ used = p.counted in
+    let few : length (take used cells) < 4 = omega arith in
+    let most : length (t ∷ take used cells) ≤ 4 = omega arith in
+    let counts : used + 1 ≡ length (t ∷ take used cells) = omega arith in
+    holds Turn 4 no_turn (t ∷ take used cells) (t ∷ take 3 cells) (used + 1) most
+    (ap (λ (l : List Turn). t ∷ take 3 l) (sym p.filled) ∙ first_more t (take used cells) few) counts
+
+-- as `with_turn` says
+pub one_within : (t : Turn) (cells more : List Turn) (used : ℕ) (turns : List Turn) → IsPadded Turn 4 no_turn cells used → used < 4 →
+    more ≡ t ∷ take 3 cells → take used cells ≡ turns → Some (take (used + 1) more) ≡ with_turn t turns
+one_within t cells more used turns p less is seen =
+    let counted : length (take used cells) ≡ used = p.counted in
+    let long : length turns ≡ used = ap (λ (l : List Turn). length l) (sym seen) ∙ counted in
+    let room : nat_lt (length turns) 4 ≡ true = lt-ltb (length turns) 4 (omega arith) in
+    rw (room, is) (ap (λ (l : List Turn). Some l) ((one_more t cells used p less).1 ∙ ap (λ (l : List Turn). t ∷ l) seen))
+
+length_behind : (xs : List Turn) → length (drop 1 xs) ≡ length xs - 1
+length_behind [] = refl
+length_behind (x ∷ xs) = omega arith
+
+-- one turn less, in front
+pub one_less : (cells : List Turn) (used : ℕ) → IsPadded Turn 4 no_turn cells used → 0 < used →
+    IsPadded Turn 4 no_turn (without_first cells) (used - 1) × (take (used - 1) (without_first cells) ≡ drop 1 (take used cells))
+one_less cells used p some =
+    let counted : length (take used cells) ≡ used = p.counted in
+    let within : used ≤ 4 = p.within in
+    let behind = length_behind (take used cells) in
+    let one : 0 < length (take used cells) = omega arith in
+    let four : length (take used cells) ≤ 4 = omega arith in
+    let most : length (drop 1 (take used cells)) ≤ 4 = omega arith in
+    let counts : used - 1 ≡ length (drop 1 (take used cells)) = omega arith in
+    holds Turn 4 no_turn (drop 1 (take used cells)) (without_first cells) (used - 1) most
+    (ap (λ (l : List Turn). without_first l) (sym p.filled) ∙ first_less (take used cells) one four) counts

@@ -1,0 +1,208 @@
+-- The way of an advance: how far it has come after some steps, and that it comes to its end.
+use Rattle.std.proofs.Common.{◌≡◌, ℕ, zero, suc, ◌+◌, ◌≤◌, Bool, true, nat_le, List, [], ◌∷◌, Option, Some, None, refl, sym, ap, ◌∙◌, subst, arith, add-one}
+use Rattle.std.specs.Prelude.{slice_get, option_map, if◌then◌else◌}
+use Rattle.std.specs.List.{list_all}
+use Rattle.std.proofs.lemmas.Bool.{and_parts, leb-true}
+use Rattle.std.proofs.lemmas.Option.{none-some, same_Some}
+use Rattle.flt_tree.specs.Measures.{cost, points, is_small, max_points, max_cost}
+use Rattle.flt_tree.specs.declared.filter.Action.{Action}
+use Rattle.flt_tree.specs.declared.filter.Action.TheVariants as action
+use Rattle.flt_tree.specs.declared.filter.Callback.{Callback}
+use Rattle.flt_tree.specs.declared.filter.Filter.{Filter}
+use Rattle.flt_graph.specs.Graph.{instruction_at}
+use Rattle.flt_graph.specs.Turns.{left_at, turns_round}
+use Rattle.flt_graph.specs.declared.graph.Graph.{Graph}
+use Rattle.flt_graph.specs.declared.instruction.Instruction.{Instruction}
+use Rattle.flt_graph.specs.declared.instruction.Instruction.TheVariants as instruction
+use Rattle.flt_graph.specs.declared.turns.Turn.{Turn}
+use Rattle.flt_model.specs.LocalSteps.{holds_test, local_step}
+use Rattle.flt_model.specs.Program.{filter_at, callbacks_at}
+use Rattle.flt_model.specs.World.{Activation}
+use Rattle.flt_frame.proofs.Going.{locally_more, costs_fall}
+use Rattle.flt_frame.proofs.Stepping.{Laws, Follows, step_follows}
+use Rattle.flt_frame.specs.Leads.{locally, IsFrom, IsAdvanceOn, IsAdvance}
+use Rattle.flt_frame.specs.Loading.{IsLoaded, AreLoaded}
+use Rattle.flt_frame.specs.Standings.{activation_with, StandsFor}
+use Rattle.flt_frame.specs.Steps.{stepped, turned_with}
+use Rattle.flt_frame.specs.Turns.{with_turn}
+use Rattle.flt_frame.specs.declared.frame.Advanced.{Advanced}
+use Rattle.flt_frame.specs.declared.frame.Frame.{Frame}
+use Rattle.flt_frame.specs.declared.standing.Standing.{Standing}
+
+-- ---- what no local step changes
+
+record Keeps (s t : Standing) : Type 0 where
+  callback : t.callback ≡ s.callback
+  gained : t.gained ≡ s.gained
+  lost : t.lost ≡ s.lost
+
+abbrev KeepsIn : Standing → Option Standing → Type 0
+KeepsIn s None = Unit {0}
+KeepsIn s (Some t) = Keeps s t
+
+act_keeps : (draining : Bool) (s : Standing) (a : Action) (next : ℕ) → KeepsIn s (stepped draining (instruction.Act a next) s)
+act_keeps draining s (action.SetNumber n e) next = record { callback = refl; gained = refl; lost = refl }
+act_keeps draining s (action.ClearContext c) next = record { callback = refl; gained = refl; lost = refl }
+act_keeps draining s (action.ClearOperation o) next = record { callback = refl; gained = refl; lost = refl }
+act_keeps draining s (action.ReadValue n c) next = tt
+act_keeps draining s (action.ReadFile n d) next = tt
+act_keeps draining s (action.WriteValue c x) next = tt
+
+test_keeps : (s : Standing) (granted refused : ℕ) (o : Option Bool) →
+    KeepsIn s (option_map (λ (b : Bool). record s { point = if b then granted else refused }) o)
+test_keeps s granted refused None = tt
+test_keeps s granted refused (Some b) = record { callback = refl; gained = refl; lost = refl }
+
+within_keeps : (s : Standing) (body : ℕ) (o : Option (List Turn)) → KeepsIn s (option_map (λ (turns : List Turn). record s { point = body; turns = turns }) o)
+within_keeps s body None = tt
+within_keeps s body (Some turns) = record { callback = refl; gained = refl; lost = refl }
+
+turn_keeps : (left body behind : ℕ) (s : Standing) → KeepsIn s (turned_with left body behind s)
+turn_keeps zero body behind s = record { callback = refl; gained = refl; lost = refl }
+turn_keeps (suc left) body behind s = within_keeps s body (with_turn (record { point = s.point; left = left }) (turns_round s.point s.turns))
+
+stepped_keeps : (draining : Bool) (i : Instruction) (s : Standing) → KeepsIn s (stepped draining i s)
+stepped_keeps draining (instruction.Act a next) s = act_keeps draining s a next
+stepped_keeps draining (instruction.Test t granted refused) s = test_keeps s granted refused (holds_test draining (activation_with s []) t)
+stepped_keeps draining (instruction.Repeat text body behind) s = turn_keeps (left_at s.point text s.turns) body behind s
+stepped_keeps draining (instruction.Call call granted refused) s = tt
+stepped_keeps draining (instruction.Return status) s = tt
+stepped_keeps draining instruction.End s = tt
+
+-- ---- after some steps
+
+-- so many local steps lead from each activation that the frame stands for to one that this standing stands for
+pub record IsOnWay (cs : List Callback) (frame : Frame) (steps : ℕ) (after : Standing) : Type 0 where
+  pub gained : after.gained ≡ frame.standing.gained
+  pub lost : after.lost ≡ frame.standing.lost
+  pub led : (act : Activation) → StandsFor cs frame.standing act →
+      (last : Activation) × ((locally frame.draining steps act ≡ Some last) × StandsFor cs after last)
+
+-- before the first step
+pub begins : (cs : List Callback) (frame : Frame) → IsOnWay cs frame 0 frame.standing
+begins cs frame = record { gained = refl; lost = refl; led = λ act h. (act, (refl, h)) }
+
+module _ (laws : Laws) (f : Filter) (g : Graph) (loaded : IsLoaded f g) (frame : Frame) (steps : ℕ) (after : Standing)
+    (way : IsOnWay f.callbacks frame steps after) where
+  -- one step more
+  pub goes_further : (further : Standing) → stepped frame.draining (instruction_at g after.callback after.point) after ≡ Some further →
+      IsOnWay f.callbacks frame (steps + 1) further
+  goes_further further is = record {
+    gained = kept.gained ∙ way.gained;
+    lost = kept.lost ∙ way.lost;
+    led = λ act h. on act (way.led act h);
+  }
+    where
+      kept : Keeps after further
+      kept = subst (KeepsIn after) is (stepped_keeps frame.draining (instruction_at g after.callback after.point) after)
+
+      on : (act : Activation) → ((last : Activation) × ((locally frame.draining steps act ≡ Some last) × StandsFor f.callbacks after last)) →
+          ((last : Activation) × ((locally frame.draining (steps + 1) act ≡ Some last) × StandsFor f.callbacks further last))
+      on act led =
+          let last : Activation = led.0 in
+          let stands : StandsFor f.callbacks after last = led.1.1 in
+          let follows : Follows stands.callback.body (local_step frame.draining (activation_with after last.rest) last.rest) (Some further) =
+          subst (Follows stands.callback.body (local_step frame.draining (activation_with after last.rest) last.rest)) is
+          (step_follows laws f g loaded stands.callback after stands.is frame.draining last.rest stands.stands) in
+          let step : local_step frame.draining last last.rest ≡ Some (activation_with further follows.0) =
+          subst (λ (x : Activation). local_step frame.draining x last.rest ≡ Some (activation_with further follows.0)) (sym stands.same) follows.1.0 in
+          let more : locally frame.draining (suc steps) act ≡ Some (activation_with further follows.0) =
+          locally_more frame.draining steps act last (activation_with further follows.0) led.1.0 step in (
+            activation_with further follows.0,
+            (
+              ap (λ (n : ℕ). locally frame.draining n act) (add-one steps) ∙ more,
+              record {
+                same = refl;
+                callback = stands.callback;
+                is = ap (λ (n : ℕ). slice_get f.callbacks n) kept.callback ∙ stands.is;
+                stands = follows.1.1;
+              },
+            ),
+          )
+
+  -- the next step isn't local
+  pub ends : stepped frame.draining (instruction_at g after.callback after.point) after ≡ None →
+      IsAdvanceOn f.callbacks (record { frame = frame; after = after; steps = steps })
+  ends is = record {
+    gained = way.gained;
+    lost = way.lost;
+    leads = λ act h. at act (way.led act h);
+  }
+    where
+      at : (act : Activation) → ((last : Activation) × ((locally frame.draining steps act ≡ Some last) × StandsFor f.callbacks after last)) →
+          IsFrom f.callbacks (record { frame = frame; after = after; steps = steps }) act
+      at act led =
+          let last : Activation = led.0 in
+          let stands : StandsFor f.callbacks after last = led.1.1 in
+          let none : local_step frame.draining (activation_with after last.rest) last.rest ≡ None =
+          subst (Follows stands.callback.body (local_step frame.draining (activation_with after last.rest) last.rest)) is
+          (step_follows laws f g loaded stands.callback after stands.is frame.draining last.rest stands.stands) in
+          record {
+            last = last;
+            leads = record {
+              steps_are = led.1.0;
+              seen = subst (λ (x : Activation). local_step frame.draining x last.rest ≡ None) (sym stands.same) none;
+            };
+            after = stands;
+          }
+
+  -- so many steps as no callback costs are never made
+  pub runs_out : max_cost ≤ steps → IsAdvanceOn f.callbacks (record { frame = frame; after = after; steps = steps })
+  runs_out most = record {
+    gained = way.gained;
+    lost = way.lost;
+    leads = λ act h. absurd (never act h (way.led act h));
+  }
+    where
+      small_at : (cs : List Callback) (k : ℕ) (c : Callback) → list_all is_small cs ≡ true → slice_get cs k ≡ Some c → is_small c ≡ true
+      small_at [] k c small there = absurd (none-some c there)
+      small_at (x ∷ cs) zero c small there =
+          subst (λ (y : Callback). is_small y ≡ true) (same_Some x c there) (and_parts (is_small x) (list_all is_small cs) small).0
+      small_at (x ∷ cs) (suc k) c small there = small_at cs k c (and_parts (is_small x) (list_all is_small cs) small).1 there
+
+      never : (act : Activation) → StandsFor f.callbacks frame.standing act →
+          ((last : Activation) × ((locally frame.draining steps act ≡ Some last) × StandsFor f.callbacks after last)) → ⊥
+      never act h led =
+          let fall : cost led.0.rest + steps ≤ cost act.rest = costs_fall frame.draining steps act led.0 led.1.0 in
+          let whole : cost act.rest ≤ cost h.callback.body = laws.cost h.callback.body frame.standing.point frame.standing.turns act.rest h.stands in
+          let small : is_small h.callback ≡ true = small_at f.callbacks frame.standing.callback h.callback loaded.well_formed.small h.is in
+          let few : cost h.callback.body + 1 ≤ max_cost =
+          leb-true _ _ (and_parts (nat_le (points h.callback.body + 1) max_points) (nat_le (cost h.callback.body + 1) max_cost) small).1 in
+          omega arith
+
+-- ---- filters by number
+
+-- a graph is that of the filter of its number
+pub loaded_at : (p : List Filter) (gs : List Graph) (n : ℕ) (g : Graph) → AreLoaded p gs → slice_get gs n ≡ Some g → IsLoaded (filter_at p n) g
+loaded_at [] [] n g made is = absurd (none-some g is)
+loaded_at (f ∷ p) (h ∷ gs) zero g made is = subst (IsLoaded f) (same_Some h g is) made.0
+loaded_at (f ∷ p) (h ∷ gs) (suc n) g made is = loaded_at p gs n g made.1 is
+loaded_at [] (h ∷ gs) n g made is = absurd made
+loaded_at (f ∷ p) [] n g made is = absurd made
+
+-- where there is no graph there is no callback
+pub none_at : (p : List Filter) (gs : List Graph) (n k : ℕ) (c : Callback) → AreLoaded p gs → slice_get gs n ≡ None →
+    slice_get (callbacks_at p n) k ≡ Some c → ⊥
+none_at [] [] n k c made is there = none-some c there
+none_at (f ∷ p) (h ∷ gs) zero k c made is there = none-some h (sym is)
+none_at (f ∷ p) (h ∷ gs) (suc n) k c made is there = none_at p gs n k c made.1 is there
+none_at [] (h ∷ gs) n k c made is there = absurd made
+none_at (f ∷ p) [] n k c made is there = absurd made
+
+-- ---- answers
+
+-- an advance by its parts
+pub put_together : (cs : List Callback) (a : Advanced) (frame : Frame) (steps : ℕ) → a.frame ≡ frame → a.steps ≡ steps →
+    IsAdvanceOn cs (record { frame = frame; after = a.after; steps = steps }) → IsAdvanceOn cs a
+put_together cs a frame steps frame_is steps_is advance =
+    let same : record { frame = frame; after = a.after; steps = steps } ≡ a = (λ i. record { frame = sym frame_is i; after = a.after; steps = sym steps_is i }) in
+    subst (λ (x : Advanced). IsAdvanceOn cs x) same advance
+
+-- where the frame's filter isn't there, the frame stands for nothing
+pub stays : (p : List Filter) (gs : List Graph) (frame : Frame) → AreLoaded p gs → slice_get gs frame.filter ≡ None →
+    IsAdvance p (record { frame = frame; after = frame.standing; steps = 0 })
+stays p gs frame made none = record {
+  gained = refl;
+  lost = refl;
+  leads = λ act h. absurd (none_at p gs frame.filter frame.standing.callback h.callback made none h.is);
+}

@@ -1,0 +1,7 @@
+pub mod Padded
+pub mod Turns
+pub mod HeldLocks
+pub mod Standings
+pub mod Steps
+pub mod Leads
+pub mod Loading

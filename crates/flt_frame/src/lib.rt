@@ -1,0 +1,23 @@
+//! How far activations have come, and their local steps, on points with turns in place of trees.
+//!
+//! A standing is what a machine keeps of an activation: its point, the repeats in progress round it, its variables and the locks that
+//! it holds. A frame is a standing that was taken from a machine; `advance` makes its local steps, up to the next one that others see,
+//! without the machine. Nothing here allocates. Contracts say which of the machine's activations a standing stands for.
+#![tactic(auto)]
+
+mod advancing;
+mod frame;
+mod held_locks;
+mod loaded;
+mod local;
+mod standing;
+mod turns;
+
+pub use advancing::advance;
+pub use flt_graph::{Graph, Turn};
+pub use flt_rules::HeldLock;
+pub use frame::{Advanced, Frame};
+pub use held_locks::HeldLocks;
+pub use loaded::Loaded;
+pub use standing::Standing;
+pub use turns::Turns;

@@ -1,0 +1,148 @@
+//! The repeats in progress round a point.
+
+ghost use Rattle.std.specs.Prelude.{◌≡◌, ◌↔◌, ◌<◌, ◌≤◌, [], ◌∷◌, take, drop, length, IsTrue};
+ghost use Rattle.std.specs.Cmp.Lexicographic.{pointwise};
+ghost use Rattle.flt_graph.specs.Turns as graph;
+ghost use Rattle.flt_frame.specs.Turns as spec;
+
+use flt_graph::Turn;
+use std::marker::Model;
+
+/// How deep repeats may nest.
+const MAX_REPEATS: usize = 4;
+
+/// What stands in an unused place.
+const NO_TURN: Turn = Turn { point: 0, left: 0 };
+
+/// The repeats in progress round a point, the innermost first, at most four. Unused places are blank, so that equal repeats are
+/// equal values.
+#[derive(Clone, Copy)]
+pub struct Turns {
+    turns: [Turn; 4],
+    used: usize,
+}
+
+impl Model for Turns {
+    ghost use Rattle.std.specs.Prelude.{List, length, take};
+    ghost use Rattle.flt_graph.specs.declared.turns.Turn.{Turn};
+
+    ghost Value = { List Turn };
+
+    ghost use Rattle.flt_frame.specs.Padded.{IsPadded, padded};
+    ghost use Rattle.flt_frame.specs.Turns.{no_turn};
+
+    ghost view = { λ t. take t.used t.turns };
+
+    ghost invariant = { λ t. IsPadded Turn 4 no_turn t.turns t.used };
+
+    ghost inverse = { λ turns. record { turns = padded 4 no_turn turns; used = length turns } };
+
+    ghost inverse_ok = { λ t h i. record { turns = h.filled i; used = h.counted i } };
+}
+
+fn is_same_turn(left: Turn, right: Turn) -> bool
+    ensures { result ≡ spec.same_turn left right }
+{
+    left.point == right.point && left.left == right.left
+}
+
+/// Whether two lists have the same turns of the same repeats.
+fn are_same(left: &[Turn], right: &[Turn]) -> bool
+    ensures { result ≡ pointwise spec.same_turn left.now right.now }
+{
+    match left {
+        [] => right.is_empty(),
+        [first, rest @ ..] => match right {
+            [] => false,
+            [other, others @ ..] => is_same_turn(*first, *other) && are_same(rest, others),
+        },
+    }
+}
+
+/// The turns moved back by one place, with a first one; the last is gone.
+fn with_first(turns: [Turn; 4], first: Turn) -> [Turn; 4]
+    ensures { result ≡ first ∷ take 3 turns }
+{
+    let [a, b, c, _] = turns;
+    [first, a, b, c]
+}
+
+/// The turns without the first one, and a blank behind them.
+fn without_first(turns: [Turn; 4]) -> [Turn; 4]
+    ensures { result ≡ spec.without_first turns }
+{
+    let [_, b, c, d] = turns;
+    [b, c, d, NO_TURN]
+}
+
+impl Turns {
+    /// No `repeat` is in progress.
+    pub(crate) fn none() -> Turns
+        ensures { result ≡ [] }
+    {
+        Turns {
+            turns: [NO_TURN; 4],
+            used: 0,
+        }
+    }
+
+    /// The repeats, the innermost first.
+    pub(crate) fn as_slice(&self) -> &[Turn]
+        ensures { result.now ≡ self.now }
+    {
+        &self.turns[..self.used]
+    }
+
+    /// How many turns are left of the `repeat` at a point; where it isn't in progress, as many as its text has.
+    pub(crate) fn left_at(&self, point: usize, text: u64) -> u64
+        ensures { result ≡ graph.left_at point text self.now }
+    {
+        match self.as_slice() {
+            [first, ..] if first.point == point => first.left,
+            _ => text,
+        }
+    }
+
+    /// Without the innermost.
+    fn outer(&self) -> Turns
+        ensures { result ≡ drop 1 self.now }
+    {
+        if self.used == 0 {
+            return *self;
+        }
+        Turns {
+            turns: without_first(self.turns),
+            used: self.used - 1,
+        }
+    }
+
+    /// The repeats round the one at a point, without itself.
+    pub(crate) fn round(&self, point: usize) -> Turns
+        ensures { result ≡ graph.turns_round point self.now }
+    {
+        match self.as_slice() {
+            [first, ..] if first.point == point => self.outer(),
+            _ => *self,
+        }
+    }
+
+    /// The repeats with one more within them; none where four are in progress.
+    pub(crate) fn with(&self, turn: Turn) -> Option<Turns>
+        ensures { result ≡ spec.with_turn turn self.now }
+    {
+        if self.used < MAX_REPEATS {
+            Some(Turns {
+                turns: with_first(self.turns, turn),
+                used: self.used + 1,
+            })
+        } else {
+            None
+        }
+    }
+
+    pub(crate) fn is_same(&self, other: &Turns) -> bool
+        ensures { IsTrue result ↔ (self.now ≡ other.now) }
+    {
+        are_same(self.as_slice(), other.as_slice())
+    }
+}
