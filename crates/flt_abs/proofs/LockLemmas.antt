@@ -15,14 +15,16 @@ use Rattle.flt_abs.specs.LockLaws.{one_lock, turned, eight_at_most}
 -- ---- a lock is taken
 
 -- one more that isn't held can be taken
-pub are_locks_more : (hs : List HeldLock) (l : LockNumber) (a : Access) → are_locks hs ≡ true → holds_lock l hs ≡ false → are_locks (hs ++ held l a ∷ []) ≡ true
+pub are_locks_more : (hs : List HeldLock) (l : LockNumber) (a : Access) → are_locks hs ≡ true → holds_lock l hs ≡ false →
+    are_locks (hs ++ held l a ∷ []) ≡ true
 are_locks_more [] l a h new = refl
 are_locks_more (k ∷ hs) l a h new =
     let parts = and_parts (not (holds_lock k.lock hs)) (are_locks hs) h in
     let apart = or_parts (same_lock l k.lock) (holds_lock l hs) new in
     and_from _ _ (not_from_false _ (more k.lock hs (not-true _ parts.0) (turned l k.lock apart.0))) (are_locks_more hs l a parts.1 apart.1)
   where
-    more : (q : LockNumber) (hs : List HeldLock) → holds_lock q hs ≡ false → same_lock q l ≡ false → holds_lock q (hs ++ held l a ∷ []) ≡ false
+    more : (q : LockNumber) (hs : List HeldLock) → holds_lock q hs ≡ false → same_lock q l ≡ false →
+        holds_lock q (hs ++ held l a ∷ []) ≡ false
     more q [] h new = or_from _ _ new refl
     more q (r ∷ hs) h new = let parts = or_parts (same_lock q r.lock) (holds_lock q hs) h in or_from _ _ parts.0 (more q hs parts.1 new)
 
@@ -40,7 +42,8 @@ fewer q l (k ∷ hs) h =
     let parts = or_parts (same_lock q k.lock) (holds_lock q hs) h in
     by_first (same_lock l k.lock && not (holds_lock l hs)) hs (k ∷ without_last l hs) parts.1 (or_from _ _ parts.0 (fewer q l hs parts.1))
   where
-    by_first : (b : Bool) (xs ys : List HeldLock) → holds_lock q xs ≡ false → holds_lock q ys ≡ false → holds_lock q (if b then xs else ys) ≡ false
+    by_first : (b : Bool) (xs ys : List HeldLock) → holds_lock q xs ≡ false → holds_lock q ys ≡ false →
+        holds_lock q (if b then xs else ys) ≡ false
     by_first true xs ys h k = h
     by_first false xs ys h k = k
 
@@ -66,13 +69,15 @@ remove_later : (k : HeldLock) (hs : List HeldLock) (n : ℕ) → remove (k ∷ h
 remove_later k hs n = let e : 1 + n ≡ suc n = omega arith in rw e refl
 
 -- the first of a lock is the last, since it stands in the list once
-removed : (l : LockNumber) (hs : List HeldLock) → are_locks hs ≡ true → first_of l hs < length hs → remove hs (first_of l hs) ≡ without_last l hs
+removed : (l : LockNumber) (hs : List HeldLock) → are_locks hs ≡ true → first_of l hs < length hs →
+    remove hs (first_of l hs) ≡ without_last l hs
 removed l [] h e = absurd (omega arith)
 removed l (k ∷ hs) h e =
     let parts = and_parts (not (holds_lock k.lock hs)) (are_locks hs) h in
     by_first (same_lock l k.lock) refl (not-true _ parts.0) (first_of l hs) e (removed l hs parts.1)
   where
-    by_first : (b : Bool) → same_lock l k.lock ≡ b → holds_lock k.lock hs ≡ false → (n : ℕ) → (if not b then 1 + n else 0) < suc (length hs) →
+    by_first : (b : Bool) → same_lock l k.lock ≡ b → holds_lock k.lock hs ≡ false → (n : ℕ) →
+        (if not b then 1 + n else 0) < suc (length hs) →
         (n < length hs → remove hs n ≡ without_last l hs) →
         remove (k ∷ hs) (if not b then 1 + n else 0) ≡ (if b && not (holds_lock l hs) then hs else k ∷ without_last l hs)
     by_first true same once n e rest =
@@ -95,15 +100,19 @@ pub without_found : (l : LockNumber) (hs : List HeldLock) (place : ℕ) → are_
     position (λ (h : HeldLock). same_lock l h.lock) hs ≡ Some place → remove hs place ≡ without_last l hs
 without_found l hs place h e = by_found (nat_lt (first_of l hs) (length hs)) refl e
   where
-    by_found : (b : Bool) → nat_lt (first_of l hs) (length hs) ≡ b → (if b then Some (first_of l hs) else None) ≡ Some place → remove hs place ≡ without_last l hs
-    by_found true t e = let same : first_of l hs ≡ place = cc in subst (λ n. remove hs n ≡ without_last l hs) same (removed l hs h (ltb-true _ _ t))
+    by_found : (b : Bool) → nat_lt (first_of l hs) (length hs) ≡ b → (if b then Some (first_of l hs) else None) ≡ Some place →
+        remove hs place ≡ without_last l hs
+    by_found true t e = let same : first_of l hs ≡ place = cc in
+        subst (λ n. remove hs n ≡ without_last l hs) same (removed l hs h (ltb-true _ _ t))
     by_found false t e = cc
 
 -- a lock that wasn't found doesn't go
-pub without_none : (l : LockNumber) (hs : List HeldLock) → position (λ (h : HeldLock). same_lock l h.lock) hs ≡ None → without_last l hs ≡ hs
+pub without_none : (l : LockNumber) (hs : List HeldLock) → position (λ (h : HeldLock). same_lock l h.lock) hs ≡ None →
+    without_last l hs ≡ hs
 without_none l hs e = by_found (nat_lt (first_of l hs) (length hs)) refl e
   where
-    by_found : (b : Bool) → nat_lt (first_of l hs) (length hs) ≡ b → (if b then Some (first_of l hs) else None) ≡ None → without_last l hs ≡ hs
+    by_found : (b : Bool) → nat_lt (first_of l hs) (length hs) ≡ b → (if b then Some (first_of l hs) else None) ≡ None →
+        without_last l hs ≡ hs
     by_found true t e = cc
     by_found false t e = unchanged l hs (ltb-false _ _ t)
 
@@ -116,7 +125,8 @@ more_not_same (x ∷ hs) [] h e = refl
 more_not_same (x ∷ hs) (y ∷ ks) h e = absurd (omega arith)
 
 -- the latest is the last
-pub latest_at : (l : LockNumber) (d : HeldLock) (hs : List HeldLock) → 1 ≤ length hs → same_lock l (slice_index_or hs (length hs - 1) d).lock ≡ is_latest l hs
+pub latest_at : (l : LockNumber) (d : HeldLock) (hs : List HeldLock) → 1 ≤ length hs →
+    same_lock l (slice_index_or hs (length hs - 1) d).lock ≡ is_latest l hs
 latest_at l d [] h = absurd (omega arith)
 latest_at l d (k ∷ []) h = refl
 latest_at l d (k ∷ r ∷ hs) h = simp unary_clauses (simp unary_clauses at (latest_at l d (r ∷ hs) (omega arith)))

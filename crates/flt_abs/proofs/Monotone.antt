@@ -108,7 +108,8 @@ some_other true b p e = refl
 some_other false true p e = e
 some_other false false p e = p
 
-surely_mode : (a b : ModeSet) (m : Mode) → modes_within a b ≡ true → is_mode_possible a ≡ true → is_mode_alone b m ≡ true → is_mode_alone a m ≡ true
+surely_mode : (a b : ModeSet) (m : Mode) → modes_within a b ≡ true → is_mode_possible a ≡ true → is_mode_alone b m ≡ true →
+    is_mode_alone a m ≡ true
 surely_mode a b Irp h p e =
     let within = and_parts (not a.irp || b.irp) (not a.fast || b.fast) h in
     let parts = and_parts b.irp (not b.fast) e in
@@ -129,20 +130,23 @@ surely_mode a b Fast h p e =
         or_false true p = refl
         or_false false p = p
 
-surely_of_mode : (a b : ModeSet) (m : Option Mode) → modes_within a b ≡ true → is_mode_possible a ≡ true → is_of_mode b m ≡ true → is_of_mode a m ≡ true
+surely_of_mode : (a b : ModeSet) (m : Option Mode) → modes_within a b ≡ true → is_mode_possible a ≡ true → is_of_mode b m ≡ true →
+    is_of_mode a m ≡ true
 surely_of_mode a b (Some m) h p e = surely_mode a b m h p e
 surely_of_mode a b None h p e = refl
 
 -- ---- lists of sets
 
-within_at : (xs ys : List StatusSet) (i : ℕ) → all_within xs ys ≡ true → statuses_within (get_or xs i null_alone) (get_or ys i null_alone) ≡ true
+within_at : (xs ys : List StatusSet) (i : ℕ) → all_within xs ys ≡ true →
+    statuses_within (get_or xs i null_alone) (get_or ys i null_alone) ≡ true
 within_at [] [] i h = refl
 within_at [] (b ∷ ys) i h = cc
 within_at (a ∷ xs) [] i h = cc
 within_at (a ∷ xs) (b ∷ ys) zero h = (and_parts _ _ h).0
 within_at (a ∷ xs) (b ∷ ys) (suc i) h = within_at xs ys i (and_parts _ _ h).1
 
-within_set : (xs ys : List StatusSet) (i : ℕ) (s t : StatusSet) → all_within xs ys ≡ true → statuses_within s t ≡ true → all_within (set xs i s) (set ys i t) ≡ true
+within_set : (xs ys : List StatusSet) (i : ℕ) (s t : StatusSet) → all_within xs ys ≡ true → statuses_within s t ≡ true →
+    all_within (set xs i s) (set ys i t) ≡ true
 within_set [] [] i s t h e = refl
 within_set [] (b ∷ ys) i s t h e = cc
 within_set (a ∷ xs) [] i s t h e = cc
@@ -184,7 +188,13 @@ below_parts x y h =
     let modes = and_parts (modes_within x.modes y.modes) _ locks.1 in
     let draining = and_parts (drainings_within x.draining y.draining) _ modes.1 in
     let lists = and_parts (all_within x.contexts y.contexts) _ draining.1 in
-    record { locks = (same_locks_decides x.locks y.locks).0 locks.0; modes = modes.0; draining = draining.0; contexts = lists.0; operations = lists.1 }
+    record {
+      locks = (same_locks_decides x.locks y.locks).0 locks.0;
+      modes = modes.0;
+      draining = draining.0;
+      contexts = lists.0;
+      operations = lists.1;
+    }
 
 from_below : (x y : State) → Below x y → is_below x y ≡ true
 from_below x y b =
@@ -199,19 +209,26 @@ operation_within x y d b = within_at x.operations y.operations (operation_place 
 
 -- ---- operands
 
-grows-lacks_context : (x y : State) (c : Option ContextVariable) → Below x y → Proper x → lacks_context x c ≡ true → lacks_context y c ≡ true
-grows-lacks_context x y (Some c) b p = grows-not _ _ (surely_held (context_in x c) (context_in y c) (context_within x y c b) (possible_at x.contexts (context_place c) p.contexts))
+grows-lacks_context : (x y : State) (c : Option ContextVariable) → Below x y → Proper x → lacks_context x c ≡ true →
+    lacks_context y c ≡ true
+grows-lacks_context x y (Some c) b p =
+    grows-not _ _ (surely_held (context_in x c) (context_in y c) (context_within x y c b)
+    (possible_at x.contexts (context_place c) p.contexts))
 grows-lacks_context x y None b p = same false
 
-grows-lacks_operation : (x y : State) (d : Option OperationVariable) → Below x y → Proper x → lacks_operation x d ≡ true → lacks_operation y d ≡ true
-grows-lacks_operation x y (Some d) b p = grows-not _ _ (surely_held (operation_in x d) (operation_in y d) (operation_within x y d b) (possible_at x.operations (operation_place d) p.operations))
+grows-lacks_operation : (x y : State) (d : Option OperationVariable) → Below x y → Proper x → lacks_operation x d ≡ true →
+    lacks_operation y d ≡ true
+grows-lacks_operation x y (Some d) b p =
+    grows-not _ _ (surely_held (operation_in x d) (operation_in y d) (operation_within x y d b)
+    (possible_at x.operations (operation_place d) p.operations))
 grows-lacks_operation x y None b p = same false
 
 grows-may_hold_context : (x y : State) (c : Option ContextVariable) → Below x y → may_hold_context x c ≡ true → may_hold_context y c ≡ true
 grows-may_hold_context x y (Some c) b = status_within (context_in x c) (context_in y c) Held (context_within x y c b)
 grows-may_hold_context x y None b = same false
 
-grows-may_hold_operation : (x y : State) (d : Option OperationVariable) → Below x y → may_hold_operation x d ≡ true → may_hold_operation y d ≡ true
+grows-may_hold_operation : (x y : State) (d : Option OperationVariable) → Below x y → may_hold_operation x d ≡ true →
+    may_hold_operation y d ≡ true
 grows-may_hold_operation x y (Some d) b = status_within (operation_in x d) (operation_in y d) Held (operation_within x y d b)
 grows-may_hold_operation x y None b = same false
 
@@ -225,7 +242,8 @@ grows-action x y (action.ClearOperation o) R03 b p = grows-may_hold_operation x 
 grows-action x y (action.ReadFile n d) R04 b p = grows-lacks_operation x y (Some d) b p
 grows-action x y a r b p = λ e. e
 
-grows-test : (s : Setting) (x y : State) (t : Test) (r : Rule) → Below x y → Proper x → test_breaks s x t r ≡ true → test_breaks s y t r ≡ true
+grows-test : (s : Setting) (x y : State) (t : Test) (r : Rule) → Below x y → Proper x → test_breaks s x t r ≡ true →
+    test_breaks s y t r ≡ true
 grows-test s x y test.IsIrp R04 b p = grows-lacks_operation x y (Some Data) b p
 grows-test s x y test.IsDraining R08 b p = λ e. e
 grows-test s x y t r b p = λ e. e
@@ -242,7 +260,8 @@ takes x y None b h = h
 drained : (x y : State) → Below x y → x.draining.yes ≡ true → y.draining.yes ≡ true
 drained x y b = implies _ _ (and_parts _ _ b.draining).1
 
-grows-row : (w : Row) (s : Setting) (x y : State) (c : Invocation) (r : Rule) → Below x y → Proper x → row_breaks w s x c r ≡ true → row_breaks w s y c r ≡ true
+grows-row : (w : Row) (s : Setting) (x y : State) (c : Invocation) (r : Rule) → Below x y → Proper x →
+    row_breaks w s x c r ≡ true → row_breaks w s y c r ≡ true
 grows-row w s x y c R01 b p = grows-and _ _ _ _ (same (is_need_held w.needs.context)) (grows-lacks_context x y c.context b p)
 grows-row w s x y c R03 b p =
     grows-or _ _ _ _ (grows-and _ _ _ _ (same (is_need_output w.needs.output)) (grows-may_hold_context x y c.output b))
@@ -253,35 +272,43 @@ grows-row w s x y c R06 b p =
     (same (w.needs.status && hands_illegally s c))
 grows-row w s x y c R07 b p = λ e. e
 grows-row w s x y c R08 b p =
-    grows-or _ _ _ _ (same (not (has_place w.places s.place))) (grows-and _ _ _ _ (drained x y b) (same (not (is_legal_in_draining c.call))))
+    grows-or _ _ _ _ (same (not (has_place w.places s.place)))
+    (grows-and _ _ _ _ (drained x y b) (same (not (is_legal_in_draining c.call))))
 grows-row w s x y c R09 b p = grows-and _ _ _ _ (same (is_need_latest w.needs.lock)) (releases x y c.lock b)
 grows-row w s x y c R11 b p = grows-and _ _ _ _ (same (is_need_not_held w.needs.lock)) (takes x y c.lock b)
 grows-row w s x y c R13 b p = grows-and _ _ _ _ (same (is_need_handed_over w.needs.context)) (grows-lacks_context x y c.context b p)
 grows-row w s x y c r b p = λ e. e
 
-surely_possessed : (a b : StatusSet) (q : Possession) → statuses_within a b ≡ true → is_possible a ≡ true → is_possessed b q ≡ true → is_possessed a q ≡ true
+surely_possessed : (a b : StatusSet) (q : Possession) → statuses_within a b ≡ true → is_possible a ≡ true →
+    is_possessed b q ≡ true → is_possessed a q ≡ true
 surely_possessed a b possession.Held h p = surely_held a b h p
 surely_possessed a b possession.GivenAway h p = surely_stale a b h p
 
 surely_fits : (w : StatusRow) (x y : State) → Below x y → Proper x → fits_state w y ≡ true → fits_state w x ≡ true
 surely_fits w x y b p =
     grows-and _ _ _ _
-    (grows-and _ _ _ _ (surely_possessed (operation_in x Data) (operation_in y Data) w.data (operation_within x y Data b) (possible_at x.operations (operation_place Data) p.operations))
+    (grows-and _ _ _ _ (surely_possessed (operation_in x Data) (operation_in y Data) w.data (operation_within x y Data b)
+    (possible_at x.operations (operation_place Data) p.operations))
     (surely_of_mode x.modes y.modes w.mode b.modes p.modes))
     (grows-or _ _ _ _ (same w.in_draining) (grows-not _ _ (drained x y b)))
 
-grows-returns : (s : Setting) (x y : State) (st : Option Status) → Below x y → Proper x → returns_illegally s x st ≡ true → returns_illegally s y st ≡ true
+grows-returns : (s : Setting) (x y : State) (st : Option Status) → Below x y → Proper x → returns_illegally s x st ≡ true →
+    returns_illegally s y st ≡ true
 grows-returns s x y (Some st) b p =
-    grows-not _ _ (grows-and _ _ _ _ (grows-and _ _ _ _ (same (fits_setting (status_row (word_of st)) s)) (surely_fits (status_row (word_of st)) x y b p))
+    grows-not _ _ (grows-and _ _ _ _ (grows-and _ _ _ _ (same (fits_setting (status_row (word_of st)) s))
+    (surely_fits (status_row (word_of st)) x y b p))
     (same (not (completes_pending st))))
 grows-returns s x y None b p = λ e. e
 
-within_without : (xs ys : List StatusSet) (c : Option ContextVariable) → all_within xs ys ≡ true → all_within (contexts_without xs c) (contexts_without ys c) ≡ true
+within_without : (xs ys : List StatusSet) (c : Option ContextVariable) → all_within xs ys ≡ true →
+    all_within (contexts_without xs c) (contexts_without ys c) ≡ true
 within_without xs ys (Some c) h = within_set xs ys (context_place c) null_alone null_alone h (set_itself null_alone)
 within_without xs ys None h = h
 
-grows-return : (s : Setting) (x y : State) (st : Option Status) (r : Rule) → Below x y → Proper x → return_breaks s x st r ≡ true → return_breaks s y st r ≡ true
-grows-return s x y st R02 b p = any_held (contexts_without x.contexts (named_context st)) (contexts_without y.contexts (named_context st)) (within_without x.contexts y.contexts (named_context st) b.contexts)
+grows-return : (s : Setting) (x y : State) (st : Option Status) (r : Rule) → Below x y → Proper x →
+    return_breaks s x st r ≡ true → return_breaks s y st r ≡ true
+grows-return s x y st R02 b p = any_held (contexts_without x.contexts (named_context st))
+    (contexts_without y.contexts (named_context st)) (within_without x.contexts y.contexts (named_context st) b.contexts)
 grows-return s x y st R05 b p =
     grows-or _ _ _ _ (any_held (take 4 x.operations) (take 4 y.operations) (within_take 4 x.operations y.operations b.operations))
     (grows-and _ _ _ _ (same (owes_data s.place)) (grows-may_hold_operation x y (Some Data) b))
@@ -291,7 +318,8 @@ grows-return s x y st R13 b p = grows-lacks_context x y (named_context st) b p
 grows-return s x y st R15 b p = λ e. e
 grows-return s x y st r b p = λ e. e
 
-grows-breaks : (s : Setting) (x y : State) (i : Instruction) (r : Rule) → Below x y → Proper x → breaks s x i r ≡ true → breaks s y i r ≡ true
+grows-breaks : (s : Setting) (x y : State) (i : Instruction) (r : Rule) → Below x y → Proper x → breaks s x i r ≡ true →
+    breaks s y i r ≡ true
 grows-breaks s x y (instruction.Act a next) r b p = grows-action x y a r b p
 grows-breaks s x y (instruction.Call c granted failed) r b p = grows-row (row c.call) s x y c r b p
 grows-breaks s x y (instruction.Test t granted failed) r b p = grows-test s x y t r b p
@@ -321,26 +349,51 @@ none_broken : (g : Graph) (callback : ℕ) (x y : State) (i : Instruction) → B
     first_broken (setting_of g callback y) y i ≡ None → first_broken (setting_of g callback x) x i ≡ None
 none_broken g callback x y i b p e =
     let here : first_broken (setting_of g callback x) y i ≡ None = ap (λ s. first_broken s y i) (same_setting g callback x y b) ∙ e in
-    none_then (breaks (setting_of g callback x) x i) (breaks (setting_of g callback x) y i) rules (λ r. grows-breaks (setting_of g callback x) x y i r b p) here
+    none_then (breaks (setting_of g callback x) x i) (breaks (setting_of g callback x) y i) rules
+    (λ r. grows-breaks (setting_of g callback x) x y i r b p) here
 
 -- ---- successors
 
-below_context : (x y : State) (c : ContextVariable) (s t : StatusSet) → Below x y → statuses_within s t ≡ true → Below (with_context x c s) (with_context y c t)
-below_context x y c s t b h = record { locks = b.locks; modes = b.modes; draining = b.draining; contexts = within_set x.contexts y.contexts (context_place c) s t b.contexts h; operations = b.operations }
+below_context : (x y : State) (c : ContextVariable) (s t : StatusSet) → Below x y → statuses_within s t ≡ true →
+    Below (with_context x c s) (with_context y c t)
+below_context x y c s t b h = record {
+  locks = b.locks;
+  modes = b.modes;
+  draining = b.draining;
+  contexts = within_set x.contexts y.contexts (context_place c) s t b.contexts h;
+  operations = b.operations;
+}
 
-below_operation : (x y : State) (d : OperationVariable) (s t : StatusSet) → Below x y → statuses_within s t ≡ true → Below (with_operation x d s) (with_operation y d t)
-below_operation x y d s t b h = record { locks = b.locks; modes = b.modes; draining = b.draining; contexts = b.contexts; operations = within_set x.operations y.operations (operation_place d) s t b.operations h }
+below_operation : (x y : State) (d : OperationVariable) (s t : StatusSet) → Below x y → statuses_within s t ≡ true →
+    Below (with_operation x d s) (with_operation y d t)
+below_operation x y d s t b h = record {
+  locks = b.locks;
+  modes = b.modes;
+  draining = b.draining;
+  contexts = b.contexts;
+  operations = within_set x.operations y.operations (operation_place d) s t b.operations h;
+}
 
-below-set_context : (x y : State) (c : Option ContextVariable) (s : Option StatusSet) → Below x y → Below (set_context c s x) (set_context c s y)
+below-set_context : (x y : State) (c : Option ContextVariable) (s : Option StatusSet) → Below x y →
+    Below (set_context c s x) (set_context c s y)
 below-set_context x y (Some c) (Some s) b = below_context x y c s s b (set_itself s)
 below-set_context x y c s b = b
 
-below-set_operation : (x y : State) (d : Option OperationVariable) (s : Option StatusSet) → Below x y → Below (set_operation d s x) (set_operation d s y)
+below-set_operation : (x y : State) (d : Option OperationVariable) (s : Option StatusSet) → Below x y →
+    Below (set_operation d s x) (set_operation d s y)
 below-set_operation x y (Some d) (Some s) b = below_operation x y d s s b (set_itself s)
 below-set_operation x y d s b = b
 
-below-set_locks : (x y : State) (l : Option LockNumber) (change : LockChange) → Below x y → Below (set_locks l change x) (set_locks l change y)
-below-set_locks x y (Some l) change b = record { locks = ap (λ k. changed_locks k l change) b.locks; modes = b.modes; draining = b.draining; contexts = b.contexts; operations = b.operations }
+below-set_locks : (x y : State) (l : Option LockNumber) (change : LockChange) → Below x y →
+    Below (set_locks l change x) (set_locks l change y)
+below-set_locks x y (Some l) change b =
+    record {
+      locks = ap (λ k. changed_locks k l change) b.locks;
+      modes = b.modes;
+      draining = b.draining;
+      contexts = b.contexts;
+      operations = b.operations;
+    }
 below-set_locks x y None change b = b
 
 below-after_call : (x y : State) (c : Invocation) (e : Effects) → Below x y → Below (after_call c e x) (after_call c e y)
@@ -355,7 +408,8 @@ below-after_action x y (action.ClearContext c) b = below_context x y c null_alon
 below-after_action x y (action.ClearOperation o) b = below_operation x y (Removed o) null_alone null_alone b (set_itself null_alone)
 below-after_action x y a b = b
 
-if_below : (p : ℕ) (a b : Bool) (x y : State) → (a ≡ true → b ≡ true) → Below x y → IsSuccessorBelow (at p (if a then Some x else None)) (at p (if b then Some y else None))
+if_below : (p : ℕ) (a b : Bool) (x y : State) → (a ≡ true → b ≡ true) → Below x y →
+    IsSuccessorBelow (at p (if a then Some x else None)) (at p (if b then Some y else None))
 if_below p true true x y f b = (refl, from_below x y b)
 if_below p true false x y f b = let no = f refl in cc
 if_below p false true x y f b = tt
@@ -377,38 +431,56 @@ below-where_true p x y (test.OperationIsSome o) b =
     let some = without_null (operation_in x (Removed o)) in
     let more = without_null (operation_in y (Removed o)) in
     let within = without_within (operation_in x (Removed o)) (operation_in y (Removed o)) (operation_within x y (Removed o) b) in
-    if_below p (is_possible some) (is_possible more) _ _ (possible_grows some more within) (below_operation x y (Removed o) some more b within)
+    if_below p (is_possible some) (is_possible more) _ _ (possible_grows some more within)
+    (below_operation x y (Removed o) some more b within)
 below-where_true p x y test.IsIrp b =
-    if_below p _ _ _ _ (implies _ _ (and_parts _ _ b.modes).0) (record { locks = b.locks; modes = refl; draining = b.draining; contexts = b.contexts; operations = b.operations })
+    if_below p _ _ _ _ (implies _ _ (and_parts _ _ b.modes).0)
+    (record { locks = b.locks; modes = refl; draining = b.draining; contexts = b.contexts; operations = b.operations })
 below-where_true p x y test.IsDraining b =
-    if_below p _ _ _ _ (drained x y b) (record { locks = b.locks; modes = b.modes; draining = refl; contexts = b.contexts; operations = b.operations })
+    if_below p _ _ _ _ (drained x y b) (record {
+      locks = b.locks;
+      modes = b.modes;
+      draining = refl;
+      contexts = b.contexts;
+      operations = b.operations;
+    })
 below-where_true p x y t b = (refl, from_below x y b)
 
 below-where_false : (p : ℕ) (x y : State) (t : Test) → Below x y → IsSuccessorBelow (at p (where_false x t)) (at p (where_false y t))
 below-where_false p x y (test.ContextIsSome c) b =
-    if_below p _ _ _ _ (status_within (context_in x c) (context_in y c) Null (context_within x y c b)) (below_context x y c null_alone null_alone b (set_itself null_alone))
+    if_below p _ _ _ _ (status_within (context_in x c) (context_in y c) Null (context_within x y c b))
+    (below_context x y c null_alone null_alone b (set_itself null_alone))
 below-where_false p x y (test.OperationIsSome o) b =
-    if_below p _ _ _ _ (status_within (operation_in x (Removed o)) (operation_in y (Removed o)) Null (operation_within x y (Removed o) b)) (below_operation x y (Removed o) null_alone null_alone b (set_itself null_alone))
+    if_below p _ _ _ _ (status_within (operation_in x (Removed o)) (operation_in y (Removed o)) Null
+    (operation_within x y (Removed o) b)) (below_operation x y (Removed o) null_alone null_alone b (set_itself null_alone))
 below-where_false p x y test.IsIrp b =
-    if_below p _ _ _ _ (implies _ _ (and_parts _ _ b.modes).1) (record { locks = b.locks; modes = refl; draining = b.draining; contexts = b.contexts; operations = b.operations })
+    if_below p _ _ _ _ (implies _ _ (and_parts _ _ b.modes).1)
+    (record { locks = b.locks; modes = refl; draining = b.draining; contexts = b.contexts; operations = b.operations })
 below-where_false p x y test.IsDraining b =
-    if_below p _ _ _ _ (implies _ _ (and_parts _ _ b.draining).0) (record { locks = b.locks; modes = b.modes; draining = refl; contexts = b.contexts; operations = b.operations })
+    if_below p _ _ _ _ (implies _ _ (and_parts _ _ b.draining).0)
+    (record { locks = b.locks; modes = b.modes; draining = refl; contexts = b.contexts; operations = b.operations })
 below-where_false p x y t b = (refl, from_below x y b)
 
-below-after_failure : (x y : State) (c : Invocation) (e : Option Effects) (p : ℕ) → Below x y → IsSuccessorBelow (after_failure x c e p) (after_failure y c e p)
+below-after_failure : (x y : State) (c : Invocation) (e : Option Effects) (p : ℕ) → Below x y →
+    IsSuccessorBelow (after_failure x c e p) (after_failure y c e p)
 below-after_failure x y c (Some e) p b = (refl, from_below _ _ (below-after_call x y c e b))
 below-after_failure x y c None p b = tt
 
 below-leads_to : (x y : State) (i : Instruction) → Below x y → AreBelow (leads_to x i) (leads_to y i)
 below-leads_to x y (instruction.Act a next) b = record { first = (refl, from_below _ _ (below-after_action x y a b)); second = tt }
 below-leads_to x y (instruction.Call c granted failed) b =
-    record { first = (refl, from_below _ _ (below-after_call x y c (row c.call).on_ok b)); second = below-after_failure x y c (row c.call).on_fail failed b }
-below-leads_to x y (instruction.Test t yes' no') b = record { first = below-where_true yes' x y t b; second = below-where_false no' x y t b }
+    record {
+      first = (refl, from_below _ _ (below-after_call x y c (row c.call).on_ok b));
+      second = below-after_failure x y c (row c.call).on_fail failed b;
+    }
+below-leads_to x y (instruction.Test t yes' no') b =
+    record { first = below-where_true yes' x y t b; second = below-where_false no' x y t b }
 below-leads_to x y (instruction.Repeat turns body next) b = record { first = (refl, from_below x y b); second = (refl, from_below x y b) }
 below-leads_to x y (instruction.Return st) b = record { first = tt; second = tt }
 below-leads_to x y instruction.End b = record { first = tt; second = tt }
 
-outcome_below : (a b : Option Rule) (m n : Successors) → (b ≡ None → a ≡ None) → AreBelow m n → IsOutcomeBelow (unless_broken a m) (unless_broken b n)
+outcome_below : (a b : Option Rule) (m n : Successors) → (b ≡ None → a ≡ None) → AreBelow m n →
+    IsOutcomeBelow (unless_broken a m) (unless_broken b n)
 outcome_below None None m n f h = h
 outcome_below None (Some r) m n f h = tt
 outcome_below (Some q) (Some r) m n f h = tt
@@ -418,4 +490,5 @@ pub transfer_below : (g : Graph) (callback point : ℕ) (x y : State) → is_pro
     IsOutcomeBelow (transfer g callback point x) (transfer g callback point y)
 transfer_below g callback point x y p h =
     let b = below_parts x y h in
-    outcome_below _ _ _ _ (none_broken g callback x y (instruction_at g callback point) b (proper_parts x p)) (below-leads_to x y (instruction_at g callback point) b)
+    outcome_below _ _ _ _ (none_broken g callback x y (instruction_at g callback point) b (proper_parts x p))
+    (below-leads_to x y (instruction_at g callback point) b)

@@ -27,7 +27,11 @@ pub status_within : (a b : StatusSet) (x : Status) → statuses_within a b ≡ t
 status_within a b x h =
     let parts = and_parts _ _ h in
     let later = and_parts _ _ parts.1 in
-    elim x as (λ x. has_status a x ≡ true → has_status b x ≡ true) [ Null ↦ implies _ _ parts.0 | Held ↦ implies _ _ later.0 | Stale ↦ implies _ _ later.1 ]
+    elim x as (λ x. has_status a x ≡ true → has_status b x ≡ true) [
+      | Null ↦ implies _ _ parts.0
+      | Held ↦ implies _ _ later.0
+      | Stale ↦ implies _ _ later.1
+    ]
 
 status_within_from : (a b : StatusSet) → ((x : Status) → has_status a x ≡ true → has_status b x ≡ true) → statuses_within a b ≡ true
 status_within_from a b h = and_from _ _ (implies_from _ _ (h Null)) (and_from _ _ (implies_from _ _ (h Held)) (implies_from _ _ (h Stale)))
@@ -56,7 +60,8 @@ first_status false false = Stale
 some_status : StatusSet → Status
 some_status s = first_status s.null s.held
 
-has_first : (null held stale : Bool) → (null || (held || stale)) ≡ true → has_status (record { null = null; held = held; stale = stale }) (first_status null held) ≡ true
+has_first : (null held stale : Bool) → (null || (held || stale)) ≡ true →
+    has_status (record { null = null; held = held; stale = stale }) (first_status null held) ≡ true
 unfolding first_status
 has_first true held stale h = refl
 has_first false true stale h = refl
@@ -68,7 +73,8 @@ has_some_status s = has_first s.null s.held s.stale
 
 have_some_statuses : (sets : List StatusSet) → list_all is_possible sets ≡ true → have_statuses sets (map some_status sets) ≡ true
 have_some_statuses [] h = refl
-have_some_statuses (s ∷ sets) h = let parts = and_parts (is_possible s) (list_all is_possible sets) h in and_from _ _ (has_some_status s parts.0) (have_some_statuses sets parts.1)
+have_some_statuses (s ∷ sets) h = let parts = and_parts (is_possible s) (list_all is_possible sets) h in
+    and_from _ _ (has_some_status s parts.0) (have_some_statuses sets parts.1)
 
 some_mode : (s : ModeSet) → is_mode_possible s ≡ true → (x : Mode) × (has_mode s x ≡ true)
 some_mode s h = either s.irp s.fast h (λ e. (Irp, e)) (λ e. (Fast, e))
@@ -96,15 +102,18 @@ all_hold (a ∷ xs) (b ∷ ys) (t ∷ ts) h e =
     let have = and_parts (has_status a t) (have_statuses xs ts) e in
     and_from _ _ (status_within a b t within.0 have.0) (all_hold xs ys ts within.1 have.1)
 
-all_within_from : (xs ys : List StatusSet) → list_all is_possible xs ≡ true → ((ts : List Status) → have_statuses xs ts ≡ true → have_statuses ys ts ≡ true) → all_within xs ys ≡ true
+all_within_from : (xs ys : List StatusSet) → list_all is_possible xs ≡ true →
+    ((ts : List Status) → have_statuses xs ts ≡ true → have_statuses ys ts ≡ true) → all_within xs ys ≡ true
 all_within_from [] [] p h = refl
 all_within_from [] (b ∷ ys) p h = let e = h [] refl in cc
 all_within_from (a ∷ xs) [] p h = let e = h (map some_status (a ∷ xs)) (have_some_statuses (a ∷ xs) p) in cc
 all_within_from (a ∷ xs) (b ∷ ys) p h =
     let possible = and_parts (is_possible a) (list_all is_possible xs) p in
     and_from _ _
-    (status_within_from a b (λ x e. (and_parts (has_status b x) _ (h (x ∷ map some_status xs) (and_from _ _ e (have_some_statuses xs possible.1)))).0))
-    (all_within_from xs ys possible.1 (λ ts e. (and_parts (has_status b (some_status a)) _ (h (some_status a ∷ ts) (and_from _ _ (has_some_status a possible.0) e))).1))
+    (status_within_from a b (λ x e. (and_parts (has_status b x) _
+    (h (x ∷ map some_status xs) (and_from _ _ e (have_some_statuses xs possible.1)))).0))
+    (all_within_from xs ys possible.1 (λ ts e.
+    (and_parts (has_status b (some_status a)) _ (h (some_status a ∷ ts) (and_from _ _ (has_some_status a possible.0) e))).1))
 
 -- a list is not within an empty one
 pub more_not_within : (xs ys : List StatusSet) → 1 ≤ length xs → length ys ≡ 0 → all_within xs ys ≡ false
@@ -150,7 +159,15 @@ proper_parts s h =
     let operations = and_parts _ _ contexts.1 in
     let modes = and_parts _ _ operations.1 in
     let draining = and_parts _ _ modes.1 in
-    record { nine = eqb-true _ _ nine.0; five = eqb-true _ _ five.0; contexts = contexts.0; operations = operations.0; modes = modes.0; draining = draining.0; locks = draining.1 }
+    record {
+      nine = eqb-true _ _ nine.0;
+      five = eqb-true _ _ five.0;
+      contexts = contexts.0;
+      operations = operations.0;
+      modes = modes.0;
+      draining = draining.0;
+      locks = draining.1;
+    }
 
 pub below_from : (a b : State) → is_proper a ≡ true → IsBelow a b → is_below a b ≡ true
 below_from a b p h =
@@ -159,7 +176,8 @@ below_from a b p h =
     let draining = some_draining a.draining parts.draining in
     let contexts = have_some_statuses a.contexts parts.contexts in
     let operations = have_some_statuses a.operations parts.operations in
-    let at : List Status → List Status → Mode → Bool → Situation = λ c o m d. record { contexts = c; operations = o; mode = m; draining = d; locks = a.locks } in
+    let at : List Status → List Status → Mode → Bool → Situation =
+    λ c o m d. record { contexts = c; operations = o; mode = m; draining = d; locks = a.locks } in
     and_from _ _ ((same_locks_decides a.locks b.locks).1 h.locks)
     (and_from _ _ (mode_within_from _ _ (λ x e. (h.situations (at (map some_status a.contexts) (map some_status a.operations) x draining.0)
     (record { contexts = contexts; operations = operations; mode = e; draining = draining.1; locks = refl })).mode))
@@ -193,14 +211,16 @@ all_within_left : (xs ys : List StatusSet) → length xs ≡ length ys → all_w
 all_within_left [] ys h = refl
 all_within_left (a ∷ xs) [] h = cc
 all_within_left (a ∷ xs) (b ∷ ys) h =
-    and_from _ _ (and_from _ _ (implies_or_left a.null b.null) (and_from _ _ (implies_or_left a.held b.held) (implies_or_left a.stale b.stale))) (all_within_left xs ys (omega arith))
+    and_from _ _ (and_from _ _ (implies_or_left a.null b.null)
+    (and_from _ _ (implies_or_left a.held b.held) (implies_or_left a.stale b.stale))) (all_within_left xs ys (omega arith))
 
 all_within_right : (xs ys : List StatusSet) → length xs ≡ length ys → all_within ys (either_all xs ys) ≡ true
 all_within_right [] [] h = refl
 all_within_right [] (b ∷ ys) h = cc
 all_within_right (a ∷ xs) [] h = cc
 all_within_right (a ∷ xs) (b ∷ ys) h =
-    and_from _ _ (and_from _ _ (implies_or_right a.null b.null) (and_from _ _ (implies_or_right a.held b.held) (implies_or_right a.stale b.stale))) (all_within_right xs ys (omega arith))
+    and_from _ _ (and_from _ _ (implies_or_right a.null b.null)
+    (and_from _ _ (implies_or_right a.held b.held) (implies_or_right a.stale b.stale))) (all_within_right xs ys (omega arith))
 
 union_within : (a b d : StatusSet) → statuses_within a d ≡ true → statuses_within b d ≡ true → statuses_within (either_status a b) d ≡ true
 union_within a b d h e =
@@ -209,7 +229,8 @@ union_within a b d h e =
     let right = and_parts (not b.null || d.null) _ e in
     let later_right = and_parts (not b.held || d.held) _ right.1 in
     and_from _ _ (or_implies a.null b.null d.null left.0 right.0)
-    (and_from _ _ (or_implies a.held b.held d.held later_left.0 later_right.0) (or_implies a.stale b.stale d.stale later_left.1 later_right.1))
+    (and_from _ _ (or_implies a.held b.held d.held later_left.0 later_right.0)
+    (or_implies a.stale b.stale d.stale later_left.1 later_right.1))
 
 all_union_within : (xs ys zs : List StatusSet) → all_within xs zs ≡ true → all_within ys zs ≡ true → all_within (either_all xs ys) zs ≡ true
 all_union_within [] ys zs h e = h
@@ -228,14 +249,16 @@ join_left a b p q =
     and_from _ _ (locks_same a.locks a.locks refl)
     (and_from _ _ (and_from _ _ (implies_or_left a.modes.irp b.modes.irp) (implies_or_left a.modes.fast b.modes.fast))
     (and_from _ _ (and_from _ _ (implies_or_left a.draining.no b.draining.no) (implies_or_left a.draining.yes b.draining.yes))
-    (and_from _ _ (all_within_left a.contexts b.contexts (p.nine ∙ sym q.nine)) (all_within_left a.operations b.operations (p.five ∙ sym q.five)))))
+    (and_from _ _ (all_within_left a.contexts b.contexts (p.nine ∙ sym q.nine))
+    (all_within_left a.operations b.operations (p.five ∙ sym q.five)))))
 
 join_right : (a b : State) → Proper a → Proper b → a.locks ≡ b.locks → is_below b (join_of a b) ≡ true
 join_right a b p q same =
     and_from _ _ (locks_same b.locks a.locks (sym same))
     (and_from _ _ (and_from _ _ (implies_or_right a.modes.irp b.modes.irp) (implies_or_right a.modes.fast b.modes.fast))
     (and_from _ _ (and_from _ _ (implies_or_right a.draining.no b.draining.no) (implies_or_right a.draining.yes b.draining.yes))
-    (and_from _ _ (all_within_right a.contexts b.contexts (p.nine ∙ sym q.nine)) (all_within_right a.operations b.operations (p.five ∙ sym q.five)))))
+    (and_from _ _ (all_within_right a.contexts b.contexts (p.nine ∙ sym q.nine))
+    (all_within_right a.operations b.operations (p.five ∙ sym q.five)))))
 
 pub join_within : (a b d : State) → is_below a d ≡ true → is_below b d ≡ true → is_below (join_of a b) d ≡ true
 join_within a b d h e =
@@ -252,9 +275,12 @@ join_within a b d h e =
     let irp-2 = and_parts (not b.modes.irp || d.modes.irp) _ modes-2.0 in
     let no-2 = and_parts (not b.draining.no || d.draining.no) _ draining-2.0 in
     and_from _ _ locks.0
-    (and_from _ _ (and_from _ _ (or_implies a.modes.irp b.modes.irp d.modes.irp irp.0 irp-2.0) (or_implies a.modes.fast b.modes.fast d.modes.fast irp.1 irp-2.1))
-    (and_from _ _ (and_from _ _ (or_implies a.draining.no b.draining.no d.draining.no no.0 no-2.0) (or_implies a.draining.yes b.draining.yes d.draining.yes no.1 no-2.1))
-    (and_from _ _ (all_union_within a.contexts b.contexts d.contexts lists.0 lists-2.0) (all_union_within a.operations b.operations d.operations lists.1 lists-2.1))))
+    (and_from _ _ (and_from _ _ (or_implies a.modes.irp b.modes.irp d.modes.irp irp.0 irp-2.0)
+    (or_implies a.modes.fast b.modes.fast d.modes.fast irp.1 irp-2.1))
+    (and_from _ _ (and_from _ _ (or_implies a.draining.no b.draining.no d.draining.no no.0 no-2.0)
+    (or_implies a.draining.yes b.draining.yes d.draining.yes no.1 no-2.1))
+    (and_from _ _ (all_union_within a.contexts b.contexts d.contexts lists.0 lists-2.0)
+    (all_union_within a.operations b.operations d.operations lists.1 lists-2.1))))
 
 pub join_means : (a b : State) → is_proper a ≡ true → is_proper b ≡ true → a.locks ≡ b.locks → IsJoin a b (join_of a b)
 join_means a b p q same =
@@ -267,7 +293,8 @@ join_means a b p q same =
 -- one more union, of those that stand at an index
 pub unite_step : (xs ys : List StatusSet) (i : ℕ) (d e : StatusSet) → i < length xs → i < length ys →
     take i xs ++ either_all (drop i xs) (drop i ys)
-    ≡ take (suc i) (set xs i (either_status (get_or xs i d) (get_or ys i e))) ++ either_all (drop (suc i) (set xs i (either_status (get_or xs i d) (get_or ys i e)))) (drop (suc i) ys)
+    ≡ take (suc i) (set xs i (either_status (get_or xs i d) (get_or ys i e)))
+    ++ either_all (drop (suc i) (set xs i (either_status (get_or xs i d) (get_or ys i e)))) (drop (suc i) ys)
 unite_step [] ys i d e h k = absurd (omega arith)
 unite_step (x ∷ xs) [] i d e h k = absurd (omega arith)
 unite_step (x ∷ xs) (y ∷ ys) zero d e h k = refl
@@ -291,7 +318,8 @@ all_possible : (xs ys : List StatusSet) → list_all is_possible xs ≡ true →
 all_possible [] ys h = refl
 all_possible (a ∷ xs) [] h = h
 all_possible (a ∷ xs) (b ∷ ys) h =
-    let parts = and_parts (is_possible a) (list_all is_possible xs) h in and_from _ _ (possible_union a b parts.0) (all_possible xs ys parts.1)
+    let parts = and_parts (is_possible a) (list_all is_possible xs) h in
+    and_from _ _ (possible_union a b parts.0) (all_possible xs ys parts.1)
 
 either_length : (xs ys : List StatusSet) → length (either_all xs ys) ≡ length xs
 either_length [] ys = refl
@@ -351,7 +379,13 @@ same_sets (a ∷ xs) (b ∷ ys) h e =
 
 abbrev state_with : List StatusSet → List StatusSet → Bool → Bool → Bool → Bool → List HeldLock → State
 state_with contexts operations irp fast unset set locks =
-    record { contexts = contexts; operations = operations; modes = record { irp = irp; fast = fast }; draining = record { no = unset; yes = set }; locks = locks }
+    record {
+      contexts = contexts;
+      operations = operations;
+      modes = record { irp = irp; fast = fast };
+      draining = record { no = unset; yes = set };
+      locks = locks;
+    }
 
 pub below_same : (a b : State) → is_below a b ≡ true → is_below b a ≡ true → a ≡ b
 below_same a b h e =
@@ -395,7 +429,8 @@ set_chain a b c h e =
     let y = and_parts (not a.held || b.held) _ x.1 in
     let z = and_parts (not b.null || c.null) _ e in
     let w = and_parts (not b.held || c.held) _ z.1 in
-    and_from _ _ (chain a.null b.null c.null x.0 z.0) (and_from _ _ (chain a.held b.held c.held y.0 w.0) (chain a.stale b.stale c.stale y.1 w.1))
+    and_from _ _ (chain a.null b.null c.null x.0 z.0)
+    (and_from _ _ (chain a.held b.held c.held y.0 w.0) (chain a.stale b.stale c.stale y.1 w.1))
 
 sets_chain : (xs ys zs : List StatusSet) → all_within xs ys ≡ true → all_within ys zs ≡ true → all_within xs zs ≡ true
 sets_chain [] [] zs h e = e
@@ -438,9 +473,12 @@ below_chain a b c h e =
     let first : a.locks ≡ b.locks = (same_locks_decides a.locks b.locks).0 locks.0 in
     let second : b.locks ≡ c.locks = (same_locks_decides b.locks c.locks).0 locks-2.0 in
     and_from _ _ (locks_same a.locks c.locks (first ∙ second))
-    (and_from _ _ (and_from _ _ (chain a.modes.irp b.modes.irp c.modes.irp irp.0 irp-2.0) (chain a.modes.fast b.modes.fast c.modes.fast irp.1 irp-2.1))
-    (and_from _ _ (and_from _ _ (chain a.draining.no b.draining.no c.draining.no no.0 no-2.0) (chain a.draining.yes b.draining.yes c.draining.yes no.1 no-2.1))
-    (and_from _ _ (sets_chain a.contexts b.contexts c.contexts lists.0 lists-2.0) (sets_chain a.operations b.operations c.operations lists.1 lists-2.1))))
+    (and_from _ _ (and_from _ _ (chain a.modes.irp b.modes.irp c.modes.irp irp.0 irp-2.0)
+    (chain a.modes.fast b.modes.fast c.modes.fast irp.1 irp-2.1))
+    (and_from _ _ (and_from _ _ (chain a.draining.no b.draining.no c.draining.no no.0 no-2.0)
+    (chain a.draining.yes b.draining.yes c.draining.yes no.1 no-2.1))
+    (and_from _ _ (sets_chain a.contexts b.contexts c.contexts lists.0 lists-2.0)
+    (sets_chain a.operations b.operations c.operations lists.1 lists-2.1))))
 
 pub joined_left : (a b : State) → is_proper a ≡ true → is_proper b ≡ true → is_below a (join_of a b) ≡ true
 joined_left a b p q = join_left a b (proper_parts a p) (proper_parts b q)

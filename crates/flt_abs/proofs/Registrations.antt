@@ -27,7 +27,8 @@ post_one kind (head.DeferredPost name) = refl
 post_one kind (head.Generic name) = refl
 
 -- the graphs have the post callbacks of the callbacks
-pub posts_agree : (all cs : List Callback) (gs : List CallbackGraph) (kind : Operation) → AreGraphsOf all cs gs → has_post gs kind ≡ registered.has_post cs kind
+pub posts_agree : (all cs : List Callback) (gs : List CallbackGraph) (kind : Operation) → AreGraphsOf all cs gs →
+    has_post gs kind ≡ registered.has_post cs kind
 posts_agree all [] [] kind h = refl
 posts_agree all [] (g ∷ gs) kind h = absurd h
 posts_agree all (c ∷ cs) [] kind h = absurd h
@@ -84,7 +85,8 @@ implied_from false b h = refl
 
 module _ (all : List Callback) (whole : List CallbackGraph) where
   -- a pre callback that is paired has a post callback
-  pair_has_post : (kind : Operation) (h : Head) → is_paired_at whole (head_place h) ≡ true → registered.is_pre_of kind h ≡ true → has_post whole kind ≡ true
+  pair_has_post : (kind : Operation) (h : Head) → is_paired_at whole (head_place h) ≡ true → registered.is_pre_of kind h ≡ true →
+      has_post whole kind ≡ true
   pair_has_post kind (head.Pre own) e h = subst (λ k. has_post whole k ≡ true) (one_operation own kind h) e
   pair_has_post kind (head.Post own) e h = cc
   pair_has_post kind head.Canceled e h = cc
@@ -93,7 +95,8 @@ module _ (all : List Callback) (whole : List CallbackGraph) where
   pair_has_post kind (head.Generic name) e h = cc
 
   -- where each graph is paired, an operation with a pre callback has a post callback
-  pre_has_post : (kind : Operation) (cs : List Callback) (gs : List CallbackGraph) → AreGraphsOf all cs gs → list_all (is_paired whole) gs ≡ true →
+  pre_has_post : (kind : Operation) (cs : List Callback) (gs : List CallbackGraph) → AreGraphsOf all cs gs →
+      list_all (is_paired whole) gs ≡ true →
       registered.has_pre cs kind ≡ true → has_post whole kind ≡ true
   pre_has_post kind [] gs h e there = cc
   pre_has_post kind (c ∷ cs) [] h e there = absurd h
@@ -102,12 +105,14 @@ module _ (all : List Callback) (whole : List CallbackGraph) where
       by_first (registered.is_pre_of kind c.head) (registered.has_pre cs kind) there
       (pair_has_post kind c.head (subst (λ at. is_paired_at whole at ≡ true) h.0.place parts.0)) (pre_has_post kind cs gs h.1 parts.1)
     where
-      by_first : (a b : Bool) → (a || b) ≡ true → (a ≡ true → has_post whole kind ≡ true) → (b ≡ true → has_post whole kind ≡ true) → has_post whole kind ≡ true
+      by_first : (a b : Bool) → (a || b) ≡ true → (a ≡ true → has_post whole kind ≡ true) →
+          (b ≡ true → has_post whole kind ≡ true) → has_post whole kind ≡ true
       by_first true b e f g = f refl
       by_first false b e f g = g e
 
   -- a callback is paired where an operation with its head as a pre callback has a post callback
-  head_paired : (h : Head) → ((kind : Operation) → registered.is_pre_of kind h ≡ true → has_post whole kind ≡ true) → is_paired_at whole (head_place h) ≡ true
+  head_paired : (h : Head) → ((kind : Operation) → registered.is_pre_of kind h ≡ true → has_post whole kind ≡ true) →
+      is_paired_at whole (head_place h) ≡ true
   head_paired (head.Pre own) f = f own (same_itself own)
   head_paired (head.Post own) f = refl
   head_paired head.Canceled f = refl
@@ -128,13 +133,15 @@ module _ (all : List Callback) (whole : List CallbackGraph) where
 
 all_four : (cs : List Callback) → registered.are_paired cs ≡ true → (kind : Operation) → registered.is_paired cs kind ≡ true
 all_four cs e kind =
-    let one = and_parts (registered.is_paired cs Create) (registered.is_paired cs Read && (registered.is_paired cs Write && (registered.is_paired cs Cleanup && true))) e in
+    let one = and_parts (registered.is_paired cs Create)
+    (registered.is_paired cs Read && (registered.is_paired cs Write && (registered.is_paired cs Cleanup && true))) e in
     let two = and_parts (registered.is_paired cs Read) (registered.is_paired cs Write && (registered.is_paired cs Cleanup && true)) one.1 in
     let three = and_parts (registered.is_paired cs Write) (registered.is_paired cs Cleanup && true) two.1 in
     let four = and_parts (registered.is_paired cs Cleanup) true three.1 in
     of_kind kind one.0 two.0 three.0 four.0
   where
-    of_kind : (kind : Operation) → registered.is_paired cs Create ≡ true → registered.is_paired cs Read ≡ true → registered.is_paired cs Write ≡ true →
+    of_kind : (kind : Operation) → registered.is_paired cs Create ≡ true → registered.is_paired cs Read ≡ true →
+        registered.is_paired cs Write ≡ true →
         registered.is_paired cs Cleanup ≡ true → registered.is_paired cs kind ≡ true
     of_kind Create a b c d = a
     of_kind Read a b c d = b
@@ -149,10 +156,12 @@ pairs_agree cs gs h = same_answer (are_paired gs) (registered.are_paired cs) dow
     post kind = posts_agree cs cs gs kind h
 
     one : are_paired gs ≡ true → (kind : Operation) → registered.is_paired cs kind ≡ true
-    one e kind = implied_from (registered.has_pre cs kind) (registered.has_post cs kind) (λ there. sym (post kind) ∙ pre_has_post cs gs kind cs gs h e there)
+    one e kind = implied_from (registered.has_pre cs kind) (registered.has_post cs kind)
+        (λ there. sym (post kind) ∙ pre_has_post cs gs kind cs gs h e there)
 
     down : are_paired gs ≡ true → registered.are_paired cs ≡ true
     down e = and_from _ _ (one e Create) (and_from _ _ (one e Read) (and_from _ _ (one e Write) (and_from _ _ (one e Cleanup) refl)))
 
     up : registered.are_paired cs ≡ true → are_paired gs ≡ true
-    up e = each_paired cs gs cs gs h (λ kind there. post kind ∙ implied (registered.has_pre cs kind) (registered.has_post cs kind) (all_four cs e kind) there)
+    up e = each_paired cs gs cs gs h (λ kind there. post kind
+        ∙ implied (registered.has_pre cs kind) (registered.has_post cs kind) (all_four cs e kind) there)

@@ -107,7 +107,13 @@ either_all (a ∷ xs) (b ∷ ys) = either_status a b ∷ either_all xs ys
 -- the union of each set, and the locks of the first
 abbrev pub join_of : State → State → State
 join_of a b =
-    record { contexts = either_all a.contexts b.contexts; operations = either_all a.operations b.operations; modes = either_mode a.modes b.modes; draining = either_draining a.draining b.draining; locks = a.locks }
+    record {
+      contexts = either_all a.contexts b.contexts;
+      operations = either_all a.operations b.operations;
+      modes = either_mode a.modes b.modes;
+      draining = either_draining a.draining b.draining;
+      locks = a.locks;
+    }
 
 -- the third is above the first two, and below whatever is
 pub record IsJoin (a b c : State) : Type 0 where

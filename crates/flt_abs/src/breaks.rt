@@ -1,4 +1,4 @@
-//! Which rules an instruction breaks in a state. Several can be broken at once; the least is told.
+//! Which rules an instruction breaks in a state. Several can be broken at once; the least is reported.
 
 ghost use Rattle.std.specs.Prelude.{◌≡◌};
 ghost use Rattle.flt_abs.specs.Breaks as spec;

@@ -12,5 +12,8 @@ ghost use Rattle.flt_graph.specs.declared.graph.Graph.{Graph};
 /// Where no rule is broken in a state, each outcome that an instruction may have in a situation of the state has its
 /// successor, whose state means what is left of the situation. It does nothing: its clause is the law.
 pub fn transfer_follows_situations()
-    ensures { (g : Graph) (k p : ℕ) (x : State) (t : Situation) (next : Successors) (outcome gives : Bool) → transfer g k p x ≡ Ok next → Means x t → spec.may_come_out (instruction_at g k p) t outcome ≡ true → spec.Reaches (spec.side next outcome) (successor (instruction_at g k p) outcome) (spec.leaves (instruction_at g k p) outcome gives t) }
+    ensures { (g : Graph) (k p : ℕ) (x : State) (t : Situation) (next : Successors) (outcome gives : Bool) →
+        transfer g k p x ≡ Ok next → Means x t → spec.may_come_out (instruction_at g k p) t outcome ≡ true →
+        spec.Reaches (spec.side next outcome) (successor (instruction_at g k p) outcome)
+        (spec.leaves (instruction_at g k p) outcome gives t) }
 {}

@@ -103,6 +103,7 @@ pub(crate) fn setting_of(graph: &Graph, callback: usize, state: &Abs) -> Setting
 /// A filter's graphs are registered as its callbacks are. It does nothing: its clauses are the law.
 #[tactic(auto, using(crate::proofs::Registrations::posts_agree, crate::proofs::Registrations::pairs_agree))]
 pub fn graphs_are_registered_alike()
-    ensures posts { (all cs : List Callback) (gs : List CallbackGraph) (kind : Operation) → AreGraphsOf all cs gs → spec.has_post gs kind ≡ registered.has_post cs kind }
+    ensures posts { (all cs : List Callback) (gs : List CallbackGraph) (kind : Operation) → AreGraphsOf all cs gs →
+        spec.has_post gs kind ≡ registered.has_post cs kind }
     ensures pairs { (cs : List Callback) (gs : List CallbackGraph) → AreGraphsOf cs cs gs → spec.are_paired gs ≡ registered.are_paired cs }
 {}

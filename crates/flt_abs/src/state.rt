@@ -199,8 +199,11 @@ pub fn is_partial_order()
 pub fn joins_are_least()
     ensures reflexive { (a : spec.State) → IsTrue (spec.is_below a a) }
     ensures transitive { (a b c : spec.State) → IsTrue (spec.is_below a b) → IsTrue (spec.is_below b c) → IsTrue (spec.is_below a c) }
-    ensures left { (a b : spec.State) → IsTrue (spec.is_proper a) → IsTrue (spec.is_proper b) → IsTrue (spec.is_below a (spec.join_of a b)) }
-    ensures right { (a b : spec.State) → IsTrue (spec.is_proper a) → IsTrue (spec.is_proper b) → a.locks ≡ b.locks → IsTrue (spec.is_below b (spec.join_of a b)) }
-    ensures least { (a b c : spec.State) → IsTrue (spec.is_below a c) → IsTrue (spec.is_below b c) → IsTrue (spec.is_below (spec.join_of a b) c) }
+    ensures left { (a b : spec.State) → IsTrue (spec.is_proper a) → IsTrue (spec.is_proper b) →
+        IsTrue (spec.is_below a (spec.join_of a b)) }
+    ensures right { (a b : spec.State) → IsTrue (spec.is_proper a) → IsTrue (spec.is_proper b) → a.locks ≡ b.locks →
+        IsTrue (spec.is_below b (spec.join_of a b)) }
+    ensures least { (a b c : spec.State) → IsTrue (spec.is_below a c) → IsTrue (spec.is_below b c) →
+        IsTrue (spec.is_below (spec.join_of a b) c) }
     ensures proper { (a b : spec.State) → IsTrue (spec.is_proper a) → IsTrue (spec.is_proper (spec.join_of a b)) }
 {}

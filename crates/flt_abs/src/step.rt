@@ -276,5 +276,6 @@ pub fn transfer(
 
 /// What a state leads to is below what each state above it leads to. It does nothing: its clause is the law.
 pub fn transfer_is_monotone()
-    ensures { (g : Graph) (callback point : ℕ) (x y : State) → IsTrue (is_proper x) → IsTrue (is_below x y) → spec.IsOutcomeBelow (spec.transfer g callback point x) (spec.transfer g callback point y) }
+    ensures { (g : Graph) (callback point : ℕ) (x y : State) → IsTrue (is_proper x) → IsTrue (is_below x y) →
+        spec.IsOutcomeBelow (spec.transfer g callback point x) (spec.transfer g callback point y) }
 {}

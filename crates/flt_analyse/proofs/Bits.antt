@@ -23,7 +23,8 @@ same_word v w k (suc n) h =
     cc
 
 -- words that agree but for one bit
-changed_word : (v w k n j : ℕ) (b : Bool) → j < n → (bit_at v (k + j) == 1) ≡ b → ((i : ℕ) → k ≤ i → i < k + n → i ≢ k + j → bit_at v i ≡ bit_at w i) →
+changed_word : (v w k n j : ℕ) (b : Bool) → j < n → (bit_at v (k + j) == 1) ≡ b →
+    ((i : ℕ) → k ≤ i → i < k + n → i ≢ k + j → bit_at v i ≡ bit_at w i) →
     word_flags v k n ≡ set (word_flags w k n) j b
 changed_word v w k zero j b l e h = absurd (omega arith)
 changed_word v w k (suc n) zero b l e h =
@@ -33,7 +34,8 @@ changed_word v w k (suc n) zero b l e h =
 changed_word v w k (suc n) (suc j) b l e h =
     let first : (bit_at v k == 1) ≡ (bit_at w k == 1) = ap (λ c. c == 1) (h k (omega arith) (omega arith) (λ s. absurd (omega arith))) in
     let moved : k + suc j ≡ suc k + j = omega arith in
-    let rest = changed_word v w (suc k) n j b (omega arith) (subst (λ i. (bit_at v i == 1) ≡ b) moved e) (λ i low high s. h i (omega arith) (omega arith) (λ t. s (omega arith))) in
+    let rest = changed_word v w (suc k) n j b (omega arith) (subst (λ i. (bit_at v i == 1) ≡ b) moved e)
+    (λ i low high s. h i (omega arith) (omega arith) (λ t. s (omega arith))) in
     cc
 
 set_first : (xs ys : List Bool) (i : ℕ) (b : Bool) → i < length xs → set (xs ++ ys) i b ≡ set xs i b ++ ys
@@ -49,19 +51,23 @@ set_later (x ∷ xs) ys (suc i) j b e = ap (λ zs. x ∷ zs) (set_later xs ys i 
 -- ---- words
 
 -- one bit of one word is changed
-pub changed : (words : List ℕ) (i j v : ℕ) (b : Bool) → i < length words → j < 64 → (bit_at v j == 1) ≡ b → ((k : ℕ) → k < 64 → k ≢ j → bit_at v k ≡ bit_at (get_or words i 0) k) →
+pub changed : (words : List ℕ) (i j v : ℕ) (b : Bool) → i < length words → j < 64 → (bit_at v j == 1) ≡ b →
+    ((k : ℕ) → k < 64 → k ≢ j → bit_at v k ≡ bit_at (get_or words i 0) k) →
     flags (set words i v) ≡ set (flags words) (64 * i + j) b
 changed [] i j v b l m e h = absurd (omega arith)
 changed (w ∷ words) zero j v b l m e h =
     let long = length-word w 0 64 in
     let moved : j ≡ 0 + j = omega arith in
-    let first : word_flags v 0 64 ≡ set (word_flags w 0 64) j b = changed_word v w 0 64 j b m (subst (λ i. (bit_at v i == 1) ≡ b) moved e) (λ k low high s. h k (omega arith) (λ t. s (omega arith))) in
+    let first : word_flags v 0 64 ≡ set (word_flags w 0 64) j b =
+    changed_word v w 0 64 j b m (subst (λ i. (bit_at v i == 1) ≡ b) moved e) (λ k low high s. h k (omega arith) (λ t. s (omega arith))) in
     let place : j ≡ 64 * 0 + j = omega arith in
-    ap (λ xs. xs ++ flags words) first ∙ (sym (set_first (word_flags w 0 64) (flags words) j b (omega arith)) ∙ ap (λ i. set (word_flags w 0 64 ++ flags words) i b) place)
+    ap (λ xs. xs ++ flags words) first ∙
+    (sym (set_first (word_flags w 0 64) (flags words) j b (omega arith)) ∙ ap (λ i. set (word_flags w 0 64 ++ flags words) i b) place)
 changed (w ∷ words) (suc i) j v b l m e h =
     let long = length-word w 0 64 in
     let rest = changed words i j v b (omega arith) m e h in
-    ap (λ xs. word_flags w 0 64 ++ xs) rest ∙ sym (set_later (word_flags w 0 64) (flags words) (64 * suc i + j) (64 * i + j) b (omega arith))
+    ap (λ xs. word_flags w 0 64 ++ xs) rest
+    ∙ sym (set_later (word_flags w 0 64) (flags words) (64 * suc i + j) (64 * i + j) b (omega arith))
 
 -- ---- the least flag
 
@@ -69,9 +75,11 @@ none_in_word : (w s k n : ℕ) (ys : List Bool) → ((i : ℕ) → bit_at w i �
 none_in_word w s k zero ys h = ap (λ i. least_from i ys) (let a : s ≡ s + 0 = omega arith in a)
 none_in_word w s k (suc n) ys h =
     let first : (bit_at w k == 1) ≡ false = ap (λ b. b == 1) (h k) in
-    ap (λ b. least_from s (b ∷ (word_flags w (suc k) n ++ ys))) first ∙ (none_in_word w (suc s) (suc k) n ys h ∙ ap (λ i. least_from i ys) (let a : suc s + n ≡ s + suc n = omega arith in a))
+    ap (λ b. least_from s (b ∷ (word_flags w (suc k) n ++ ys))) first
+    ∙ (none_in_word w (suc s) (suc k) n ys h ∙ ap (λ i. least_from i ys) (let a : suc s + n ≡ s + suc n = omega arith in a))
 
-some_in_word : (w s k n j : ℕ) (ys : List Bool) → j < n → bit_at w (k + j) ≡ 1 → ((i : ℕ) → i < j → bit_at w (k + i) ≡ 0) → least_from s (word_flags w k n ++ ys) ≡ Some (s + j)
+some_in_word : (w s k n j : ℕ) (ys : List Bool) → j < n → bit_at w (k + j) ≡ 1 → ((i : ℕ) → i < j → bit_at w (k + i) ≡ 0) →
+    least_from s (word_flags w k n ++ ys) ≡ Some (s + j)
 some_in_word w s k zero j ys l e h = absurd (omega arith)
 some_in_word w s k (suc n) zero ys l e h =
     let here : bit_at w k ≡ 1 = subst (λ i. bit_at w i ≡ 1) (let a : k + 0 ≡ k = omega arith in a) e in
@@ -83,39 +91,47 @@ some_in_word w s k (suc n) (suc j) ys l e h =
     let moved : k + suc j ≡ suc k + j = omega arith in
     let rest = some_in_word w (suc s) (suc k) n j ys (omega arith) (subst (λ i. bit_at w i ≡ 1) moved e)
     (λ i low. subst (λ m. bit_at w m ≡ 0) (let a : k + suc i ≡ suc k + i = omega arith in a) (h (suc i) (omega arith))) in
-    ap (λ b. least_from s (b ∷ (word_flags w (suc k) n ++ ys))) first ∙ (rest ∙ ap (λ i. Some i) (let a : suc s + j ≡ s + suc j = omega arith in a))
+    ap (λ b. least_from s (b ∷ (word_flags w (suc k) n ++ ys))) first
+    ∙ (rest ∙ ap (λ i. Some i) (let a : suc s + j ≡ s + suc j = omega arith in a))
 
 zero_bits : (w : ℕ) → w ≡ 0 → (i : ℕ) → bit_at w i ≡ 0
 zero_bits w e i = ap (λ k. bit_at k i) e ∙ bit_at-zero i
 
-least_in : (words : List ℕ) (s i j : ℕ) → i < length words → j < 64 → ((k : ℕ) → k < i → get_or words k 0 ≡ 0) → bit_at (get_or words i 0) j ≡ 1 →
+least_in : (words : List ℕ) (s i j : ℕ) → i < length words → j < 64 → ((k : ℕ) → k < i → get_or words k 0 ≡ 0) →
+    bit_at (get_or words i 0) j ≡ 1 →
     ((k : ℕ) → k < j → bit_at (get_or words i 0) k ≡ 0) → least_from s (flags words) ≡ Some (s + (64 * i + j))
 least_in [] s i j l m z e h = absurd (omega arith)
 least_in (w ∷ words) s zero j l m z e h =
     some_in_word w s 0 64 j (flags words) m (subst (λ i. bit_at w i ≡ 1) (let a : j ≡ 0 + j = omega arith in a) e)
-    (λ i low. subst (λ k. bit_at w k ≡ 0) (let a : i ≡ 0 + i = omega arith in a) (h i low)) ∙ ap (λ k. Some k) (let a : s + j ≡ s + (64 * 0 + j) = omega arith in a)
+    (λ i low. subst (λ k. bit_at w k ≡ 0) (let a : i ≡ 0 + i = omega arith in a) (h i low))
+    ∙ ap (λ k. Some k) (let a : s + j ≡ s + (64 * 0 + j) = omega arith in a)
 least_in (w ∷ words) s (suc i) j l m z e h =
     none_in_word w s 0 64 (flags words) (zero_bits w (z 0 (omega arith))) ∙
-    (least_in words (s + 64) i j (omega arith) m (λ k low. z (suc k) (omega arith)) e h ∙ ap (λ k. Some k) (let a : s + 64 + (64 * i + j) ≡ s + (64 * suc i + j) = omega arith in a))
+    (least_in words (s + 64) i j (omega arith) m (λ k low. z (suc k) (omega arith)) e h
+    ∙ ap (λ k. Some k) (let a : s + 64 + (64 * i + j) ≡ s + (64 * suc i + j) = omega arith in a))
 
-pub least_at : (words : List ℕ) (i j : ℕ) → i < length words → j < 64 → ((k : ℕ) → k < i → get_or words k 0 ≡ 0) → bit_at (get_or words i 0) j ≡ 1 →
+pub least_at : (words : List ℕ) (i j : ℕ) → i < length words → j < 64 → ((k : ℕ) → k < i → get_or words k 0 ≡ 0) →
+    bit_at (get_or words i 0) j ≡ 1 →
     ((k : ℕ) → k < j → bit_at (get_or words i 0) k ≡ 0) → least (flags words) ≡ Some (64 * i + j)
 least_at words i j l m z e h = least_in words 0 i j l m z e h ∙ ap (λ k. Some k) (let a : 0 + (64 * i + j) ≡ 64 * i + j = omega arith in a)
 
 none_in : (words : List ℕ) (s : ℕ) → ((k : ℕ) → k < length words → get_or words k 0 ≡ 0) → least_from s (flags words) ≡ None
 none_in [] s z = refl
-none_in (w ∷ words) s z = none_in_word w s 0 64 (flags words) (zero_bits w (z 0 (omega arith))) ∙ none_in words (s + 64) (λ k l. z (suc k) (omega arith))
+none_in (w ∷ words) s z = none_in_word w s 0 64 (flags words) (zero_bits w (z 0 (omega arith)))
+    ∙ none_in words (s + 64) (λ k l. z (suc k) (omega arith))
 
 pub least_none : (words : List ℕ) → ((k : ℕ) → k < length words → get_or words k 0 ≡ 0) → least (flags words) ≡ None
 least_none words z = none_in words 0 z
 
-pub first_is : (words : List ℕ) (i j : ℕ) → i < length words → j < 64 → ((k : ℕ) → k < i → get_or words k 0 ≡ 0) → bit_at (get_or words i 0) j ≡ 1 →
+pub first_is : (words : List ℕ) (i j : ℕ) → i < length words → j < 64 → ((k : ℕ) → k < i → get_or words k 0 ≡ 0) →
+    bit_at (get_or words i 0) j ≡ 1 →
     ((k : ℕ) → k < j → bit_at (get_or words i 0) k ≡ 0) → Some (i * 64 + j) ≡ least (flags words)
 first_is words i j l m z e h = ap (λ k. Some k) (let a : i * 64 + j ≡ 64 * i + j = omega arith in a) ∙ sym (least_at words i j l m z e h)
 
 -- ---- a point goes in or out
 
-pub inserted : (words : List ℕ) (p : ℕ) → length words ≡ 8 → p < 512 → flags (set words (p / 64) (bit_or (get_or words (p / 64) 0) (1 * 2 ^ (p % 64) % 18446744073709551616))) ≡ set (flags words) p true
+pub inserted : (words : List ℕ) (p : ℕ) → length words ≡ 8 → p < 512 →
+    flags (set words (p / 64) (bit_or (get_or words (p / 64) 0) (1 * 2 ^ (p % 64) % 18446744073709551616))) ≡ set (flags words) p true
 inserted words p long below =
     let low : p % 64 < 64 = omega arith in
     let high : p / 64 < length words = omega arith in
@@ -124,11 +140,14 @@ inserted words p long below =
     (ap (λ b. b == 1) (bit_at_set_same w64 (get_or words (p / 64) 0) (p % 64) low))
     (λ k within other. bit_at_set_other w64 (get_or words (p / 64) 0) (p % 64) low k other) ∙ ap (λ i. set (flags words) i true) place
 
-pub removed : (words : List ℕ) (p : ℕ) → length words ≡ 8 → p < 512 → flags (set words (p / 64) (bit_and (get_or words (p / 64) 0) (bit_not w64 (1 * 2 ^ (p % 64) % 18446744073709551616)))) ≡ set (flags words) p false
+pub removed : (words : List ℕ) (p : ℕ) → length words ≡ 8 → p < 512 →
+    flags (set words (p / 64) (bit_and (get_or words (p / 64) 0) (bit_not w64 (1 * 2 ^ (p % 64) % 18446744073709551616)))) ≡ set
+    (flags words) p false
 removed words p long below =
     let low : p % 64 < 64 = omega arith in
     let high : p / 64 < length words = omega arith in
     let place : 64 * (p / 64) + p % 64 ≡ p = omega arith in
     changed words (p / 64) (p % 64) _ false high low
     (ap (λ b. b == 1) (bit_at_clear_same w64 (get_or words (p / 64) 0) (p % 64) low))
-    (λ k within other. bit_at_clear_other w64 (get_or words (p / 64) 0) (p % 64) low k within other) ∙ ap (λ i. set (flags words) i false) place
+    (λ k within other. bit_at_clear_other w64 (get_or words (p / 64) 0) (p % 64) low k within other)
+    ∙ ap (λ i. set (flags words) i false) place

@@ -18,20 +18,24 @@ pub record Columns (g : Graph) (n : ℕ) (k : Certificate) : Type 0 where
   pub count : length k ≡ n
   pub each : (c : ℕ) → c < n → Column g c (get_or k c [])
 
-pub one_more : (g : Graph) (n : ℕ) (k : Certificate) (points : List Point) → Columns g n k → Column g n points → Columns g (n + 1) (k ++ points ∷ [])
+pub one_more : (g : Graph) (n : ℕ) (k : Certificate) (points : List Point) → Columns g n k → Column g n points →
+    Columns g (n + 1) (k ++ points ∷ [])
 one_more g n k points h one = record {
   count = (let a = length-append k (points ∷ []) in let b = h.count in omega arith);
   each = λ c below. by_place c below (cases_lt c n);
 }
   where
     by_place : (c : ℕ) → c < n + 1 → ((c < n) ⊎ (n ≤ c)) → Column g c (get_or (k ++ points ∷ []) c [])
-    by_place c below (inl l) = subst (λ xs. Column g c xs) (sym (get_or-append k (points ∷ []) [] c (let b = h.count in omega arith))) (h.each c l)
+    by_place c below (inl l) = subst (λ xs. Column g c xs)
+        (sym (get_or-append k (points ∷ []) [] c (let b = h.count in omega arith))) (h.each c l)
     by_place c below (inr l) =
         let same : n ≡ c = omega arith in
-        subst (λ i. Column g i (get_or (k ++ points ∷ []) i [])) same (subst (λ xs. Column g n xs) (sym (get_or_push k points [] n h.count)) one)
+        subst (λ i. Column g i (get_or (k ++ points ∷ []) i [])) same
+        (subst (λ xs. Column g n xs) (sym (get_or_push k points [] n h.count)) one)
 
 -- the points of a callback of what covers are covered
-pub column_of : (g : Graph) (k : Certificate) (callback : ℕ) → Covers g k → callback < length g.callbacks → IsCovered g callback (get_or k callback [])
+pub column_of : (g : Graph) (k : Certificate) (callback : ℕ) → Covers g k → callback < length g.callbacks →
+    IsCovered g callback (get_or k callback [])
 column_of g k callback c below = record {
   count = c.points callback below;
   entered = c.entries callback below;
@@ -53,19 +57,23 @@ least_of_all g k h other c callback point = by_place (cases_lt callback (length 
     none_below [] e = tt
     none_below (x ∷ xs) e = cc
 
-    by_place : ((callback < length g.callbacks) ⊎ (length g.callbacks ≤ callback)) → IsPointBelow (state_at k callback point) (state_at other callback point)
+    by_place : ((callback < length g.callbacks) ⊎ (length g.callbacks ≤ callback)) →
+        IsPointBelow (state_at k callback point) (state_at other callback point)
     by_place (inl l) = (h.each callback l).least (get_or other callback []) (column_of g other callback c l) point
     by_place (inr l) = none_below (get_or k callback []) (get_or-eq_default k [] (let b = h.count in omega arith))
 
-pub none_covers : (g : Graph) (callback : ℕ) → callback < length g.callbacks → ((ys : List Point) → IsCovered g callback ys → ⊥) → NoneCovers g
+pub none_covers : (g : Graph) (callback : ℕ) → callback < length g.callbacks → ((ys : List Point) → IsCovered g callback ys → ⊥) →
+    NoneCovers g
 none_covers g callback below h k good c = h (get_or k callback []) (column_of g k callback c below)
 
 -- ---- certificates have room
 
-callbacks_at : (k : Certificate) (callback : ℕ) → list_all is_callback k ≡ true → callback < length k → is_callback (get_or k callback []) ≡ true
+callbacks_at : (k : Certificate) (callback : ℕ) → list_all is_callback k ≡ true → callback < length k →
+    is_callback (get_or k callback []) ≡ true
 callbacks_at [] callback h below = absurd (omega arith)
 callbacks_at (points ∷ k) zero h below = (and_parts _ _ h).0
-callbacks_at (points ∷ k) (suc callback) h below = callbacks_at k callback (and_parts (is_callback points) (list_all is_callback k) h).1 (omega arith)
+callbacks_at (points ∷ k) (suc callback) h below =
+    callbacks_at k callback (and_parts (is_callback points) (list_all is_callback k) h).1 (omega arith)
 
 room_of : (g : Graph) (k : Certificate) → is_certificate k ≡ true → Covers g k → HasRoom g
 room_of g k good c =
@@ -90,7 +98,8 @@ room_of g k good c =
 pub none_without_room : (g : Graph) → (HasRoom g → ⊥) → NoneCovers g
 none_without_room g h k good c = h (room_of g k good c)
 
-all_callbacks : (g : Graph) (i : ℕ) (k : Certificate) → ((c : ℕ) → c < length k → is_callback (get_or k c []) ≡ true) → list_all is_callback k ≡ true
+all_callbacks : (g : Graph) (i : ℕ) (k : Certificate) → ((c : ℕ) → c < length k → is_callback (get_or k c []) ≡ true) →
+    list_all is_callback k ≡ true
 all_callbacks g i [] h = refl
 all_callbacks g i (points ∷ k) h = and_from _ _ (h 0 (omega arith)) (all_callbacks g (suc i) k (λ c below. h (suc c) (omega arith)))
 
@@ -109,15 +118,18 @@ is_made g k room h =
         let points = room.points c below in
         let low = points.0 in
         let high = points.1 in
-        and_from _ _ (lt-ltb 0 (length (get_or k c [])) (omega arith)) (and_from _ _ (lt-ltb (length (get_or k c [])) 513 (omega arith)) one.proper)
+        and_from _ _ (lt-ltb 0 (length (get_or k c [])) (omega arith))
+        (and_from _ _ (lt-ltb (length (get_or k c [])) 513 (omega arith)) one.proper)
 
 -- the same, of a certificate that was made of these columns
 made_same : (o : Option Certificate) (k made : Certificate) → IfSome o (λ i. i ≡ k) → o ≡ Some made → made ≡ k
 made_same (Some i) k made h e = let same : i ≡ made = cc in sym same ∙ h
 made_same None k made h e = cc
 
-pub made_covers : (g : Graph) (k made : Certificate) (o : Option Certificate) → IfSome o (λ i. i ≡ k) → o ≡ Some made → Columns g (length g.callbacks) k → Covers g made
+pub made_covers : (g : Graph) (k made : Certificate) (o : Option Certificate) → IfSome o (λ i. i ≡ k) → o ≡ Some made →
+    Columns g (length g.callbacks) k → Covers g made
 made_covers g k made o h e c = subst (λ i. Covers g i) (sym (made_same o k made h e)) (covers_all g k c)
 
-pub made_least : (g : Graph) (k made : Certificate) (o : Option Certificate) → IfSome o (λ i. i ≡ k) → o ≡ Some made → Columns g (length g.callbacks) k → IsLeast g made
+pub made_least : (g : Graph) (k made : Certificate) (o : Option Certificate) → IfSome o (λ i. i ≡ k) → o ≡ Some made →
+    Columns g (length g.callbacks) k → IsLeast g made
 made_least g k made o h e c = subst (λ i. IsLeast g i) (sym (made_same o k made h e)) (least_of_all g k c)

@@ -41,7 +41,8 @@ not_none p o e h = let s : Some p ≡ None = sym e ∙ h in cc
 point_same : (v w : Walk) (p q : ℕ) → v ≡ w → least v.pending ≡ Some p → least w.pending ≡ Some q → p ≡ q
 point_same v w p q e h k = same_Some p q (sym h ∙ (ap (λ (i : Walk). least i.pending) e ∙ k))
 
-moved : (g : Graph) (callback : ℕ) (v w : Walk) (p q : ℕ) (m : Result Walk Rule) → v ≡ w → p ≡ q → look g callback p (taken v p) ≡ m → look g callback q (taken w q) ≡ m
+moved : (g : Graph) (callback : ℕ) (v w : Walk) (p q : ℕ) (m : Result Walk Rule) → v ≡ w → p ≡ q →
+    look g callback p (taken v p) ≡ m → look g callback q (taken w q) ≡ m
 moved g callback v w p q m e h k = subst (λ i. look g callback i (taken w i) ≡ m) h (subst (λ i. look g callback p (taken i p) ≡ m) e k)
 
 same_stage : (g : Graph) (callback n : ℕ) (a b c : Walk) → Leads g callback n a b → Leads g callback n a c → b ≡ c
@@ -71,7 +72,8 @@ stage_before g callback (suc m) n a c l x = by_place (cases_lt n m) (λ k. stage
         record { stage = x.0; led = subst (λ i. Leads g callback i a x.0) same x.1; point = x.2; least_point = x.3; next = c; looked = x.4 }
 
 -- a walk that stops after so many looks has no later stage
-no_later : (g : Graph) (callback point m : ℕ) (rule : Rule) (c : Walk) (s : Stops g callback point rule) → s.looks < m → Leads g callback m (opening g callback) c → ⊥
+no_later : (g : Graph) (callback point m : ℕ) (rule : Rule) (c : Walk) (s : Stops g callback point rule) → s.looks < m →
+    Leads g callback m (opening g callback) c → ⊥
 no_later g callback point m rule c s l x =
     let b = stage_before g callback m s.looks (opening g callback) c l x in
     let e = same_stage g callback s.looks (opening g callback) b.stage s.last b.led s.led in
@@ -83,7 +85,8 @@ stops_once g callback p q r t a b = by_order (cases_order a.looks b.looks)
   where
     by_order : ((a.looks ≡ b.looks) ⊎ ((a.looks < b.looks) ⊎ (b.looks < a.looks))) → (p ≡ q) × (r ≡ t)
     by_order (inl s) =
-        let e = same_stage g callback b.looks (opening g callback) a.last b.last (subst (λ i. Leads g callback i (opening g callback) a.last) s a.led) b.led in
+        let e = same_stage g callback b.looks (opening g callback) a.last b.last
+        (subst (λ i. Leads g callback i (opening g callback) a.last) s a.led) b.led in
         let same = point_same a.last b.last p q e a.taken_next b.taken_next in
         (same, err_same r t _ (moved g callback a.last b.last p q (Err r) e same a.stopped) b.stopped)
     by_order (inr (inl l)) = absurd (no_later g callback p b.looks r b.last a l b.led)
@@ -94,7 +97,8 @@ not_both_ends g callback p r a b = by_order (cases_order a.looks b.looks)
   where
     by_order : ((a.looks ≡ b.looks) ⊎ ((a.looks < b.looks) ⊎ (b.looks < a.looks))) → ⊥
     by_order (inl s) =
-        let e = same_stage g callback b.looks (opening g callback) a.last b.last (subst (λ i. Leads g callback i (opening g callback) a.last) s a.led) b.led in
+        let e = same_stage g callback b.looks (opening g callback) a.last b.last
+        (subst (λ i. Leads g callback i (opening g callback) a.last) s a.led) b.led in
         not_none p (least a.last.pending) a.taken_next (ap (λ (i : Walk). least i.pending) e ∙ b.none)
     by_order (inr (inl l)) = no_later g callback p b.looks r b.last a l b.led
     by_order (inr (inr l)) =

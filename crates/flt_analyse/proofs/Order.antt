@@ -12,4 +12,5 @@ pub record Laws : Type 0 where
   pub right : (a b : State) → IsTrue (is_proper a) → IsTrue (is_proper b) → a.locks ≡ b.locks → IsTrue (is_below b (join_of a b))
   pub least : (a b c : State) → IsTrue (is_below a c) → IsTrue (is_below b c) → IsTrue (is_below (join_of a b) c)
   pub proper : (a b : State) → IsTrue (is_proper a) → IsTrue (is_proper (join_of a b))
-  pub monotone : (g : Graph) (callback point : ℕ) (x y : State) → IsTrue (is_proper x) → IsTrue (is_below x y) → IsOutcomeBelow (transfer g callback point x) (transfer g callback point y)
+  pub monotone : (g : Graph) (callback point : ℕ) (x y : State) → IsTrue (is_proper x) → IsTrue (is_below x y) →
+      IsOutcomeBelow (transfer g callback point x) (transfer g callback point y)

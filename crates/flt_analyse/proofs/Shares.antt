@@ -51,7 +51,8 @@ get_set_other (y ∷ xs) (suc i) (suc k) x other = get_set_other xs i k x (λ e.
 pub answers_none : (graphs : List Graph) (workers worker : ℕ) → AreAnswers graphs workers worker []
 answers_none graphs workers worker turn g a at there = absurd (omega (arith, slice_get_within [] turn a at))
 
-pub answers_more : (graphs : List Graph) (workers worker : ℕ) (answers : List Answer) (g : Graph) (a : Answer) → AreAnswers graphs workers worker answers
+pub answers_more : (graphs : List Graph) (workers worker : ℕ) (answers : List Answer) (g : Graph) (a : Answer) →
+    AreAnswers graphs workers worker answers
     → slice_get graphs (worker + workers * length answers) ≡ Some g → IsAnswer g a → AreAnswers graphs workers worker (answers ++ a ∷ [])
 answers_more graphs workers worker answers g a before here answer turn h b at there = dite
     (ℕ_discrete turn (length answers))
@@ -64,7 +65,8 @@ answers_more graphs workers worker answers g a before here answer turn h b at th
 -- ---- the last place goes
 
 -- the worker whose turn the last place is had it in its last turn
-last_turn : (workers place turns : ℕ) → 0 < workers → suc place ≤ place % workers + workers * suc turns → place % workers + workers * suc turns < suc place + workers → place % workers + workers * turns ≡ place
+last_turn : (workers place turns : ℕ) → 0 < workers → suc place ≤ place % workers + workers * suc turns →
+    place % workers + workers * suc turns < suc place + workers → place % workers + workers * turns ≡ place
 last_turn workers place turns some all own =
     let whole : place % workers + workers * (place / workers) ≡ place = mod-add-div place workers in
     let more : workers * suc turns ≡ workers * turns + workers = grind arith in
@@ -87,7 +89,8 @@ pub last_answer : (graphs : List Graph) (workers place : ℕ) (answers : List An
     → IsShare graphs workers (suc place) (place % workers) (answers ++ a ∷ []) → slice_get graphs place ≡ Some g → IsAnswer g a
 last_answer graphs workers place answers a g some own there =
     let long : length (answers ++ a ∷ []) ≡ suc (length answers) = omega (arith, length_push answers a) in
-    let at = last_turn workers place (length answers) some (subst (λ n. suc place ≤ place % workers + workers * n) long own.all) (subst (λ n. place % workers + workers * n < suc place + workers) long own.own) in
+    let at = last_turn workers place (length answers) some (subst (λ n. suc place ≤ place % workers + workers * n) long own.all)
+    (subst (λ n. place % workers + workers * n < suc place + workers) long own.own) in
     own.each (length answers) g a (get_last answers a) (ap (slice_get graphs) at ∙ there)
 
 -- the share of the worker whose turn it was, and those of the others
@@ -95,7 +98,8 @@ pub share_less : (graphs : List Graph) (workers place : ℕ) (answers : List Ans
     → IsShare graphs workers (suc place) (place % workers) (answers ++ a ∷ []) → IsShare graphs workers place (place % workers) answers
 share_less graphs workers place answers a some own =
     let long : length (answers ++ a ∷ []) ≡ suc (length answers) = omega (arith, length_push answers a) in
-    let at = last_turn workers place (length answers) some (subst (λ n. suc place ≤ place % workers + workers * n) long own.all) (subst (λ n. place % workers + workers * n < suc place + workers) long own.own) in
+    let at = last_turn workers place (length answers) some (subst (λ n. suc place ≤ place % workers + workers * n) long own.all)
+    (subst (λ n. place % workers + workers * n < suc place + workers) long own.own) in
     record {
       all = omega (arith, at);
       own = omega (arith, at, some);
@@ -110,8 +114,10 @@ share_kept graphs workers place worker answers few other own = record {
       (ℕ_discrete (worker + workers * length answers) (place + workers))
       (λ same.
       let one : workers * 1 ≡ workers = grind arith in
-      let here : (worker + workers * length answers) % workers ≡ worker = add-mul-mod_self_left worker workers (length answers) ∙ mod-eq_of_lt few in
-      let there : (place + workers) % workers ≡ place % workers = ap (λ n. (place + n) % workers) (sym one) ∙ add-mul-mod_self_left place workers 1 in
+      let here : (worker + workers * length answers) % workers ≡ worker = add-mul-mod_self_left worker workers (length answers)
+      ∙ mod-eq_of_lt few in
+      let there : (place + workers) % workers ≡ place % workers = ap (λ n. (place + n) % workers) (sym one)
+      ∙ add-mul-mod_self_left place workers 1 in
       absurd (other (sym here ∙ ap (λ n. n % workers) same ∙ there)))
       (λ differ. omega (arith, own.own, differ));
   each = own.each;
@@ -134,37 +140,52 @@ pub shares_less : (graphs : List Graph) (shares : List (List Answer)) (place : �
     → slice_get shares (place % length shares) ≡ Some old → old ≡ new ++ a ∷ [] → AreShares graphs (length shares) (suc place) shares
     → AreShares graphs (length (slice_set shares (place % length shares) new)) place (slice_set shares (place % length shares) new)
 shares_less graphs shares place old new a some here popped before =
-    subst (λ n. AreShares graphs n place (slice_set shares (place % length shares) new)) (sym (length-set shares (place % length shares) new)) each
+    subst (λ n. AreShares graphs n place (slice_set shares (place % length shares) new))
+    (sym (length-set shares (place % length shares) new)) each
   where
     own : IsShare graphs (length shares) (suc place) (place % length shares) (new ++ a ∷ [])
-    own = subst (λ xs. IsShare graphs (length shares) (suc place) (place % length shares) xs) popped (before (place % length shares) old here)
+    own = subst (λ xs. IsShare graphs (length shares) (suc place) (place % length shares) xs) popped
+        (before (place % length shares) old here)
 
     each : AreShares graphs (length shares) place (slice_set shares (place % length shares) new)
     each worker answers at = dite
         (ℕ_discrete worker (place % length shares))
         (λ same.
-        let there : slice_get (slice_set shares (place % length shares) new) (place % length shares) ≡ Some new = get_set_same shares (place % length shares) new (slice_get_within shares (place % length shares) old here) in
-        let is : new ≡ answers = same_Some new answers (sym there ∙ ap (slice_get (slice_set shares (place % length shares) new)) (sym same) ∙ at) in
-        subst (λ w. IsShare graphs (length shares) place w answers) (sym same) (subst (λ xs. IsShare graphs (length shares) place (place % length shares) xs) is (share_less graphs (length shares) place new a some own)))
+        let there : slice_get (slice_set shares (place % length shares) new) (place % length shares) ≡ Some new =
+        get_set_same shares (place % length shares) new (slice_get_within shares (place % length shares) old here) in
+        let is : new ≡ answers = same_Some new answers
+        (sym there ∙ ap (slice_get (slice_set shares (place % length shares) new)) (sym same) ∙ at) in
+        subst (λ w. IsShare graphs (length shares) place w answers) (sym same)
+        (subst (λ xs. IsShare graphs (length shares) place (place % length shares) xs) is
+        (share_less graphs (length shares) place new a some own)))
         (λ other.
         let kept : slice_get shares worker ≡ Some answers = sym (get_set_other shares worker (place % length shares) new other) ∙ at in
-        share_kept graphs (length shares) place worker answers (slice_get_within shares worker answers kept) other (before worker answers kept))
+        share_kept graphs (length shares) place worker answers (slice_get_within shares worker answers kept) other
+        (before worker answers kept))
 
 -- the worker whose turn the last place is has an answer left
-pub some_popped : (graphs : List Graph) (shares : List (List Answer)) (place : ℕ) (old new : List Answer) (last : Option Answer) → AreShares graphs (length shares) (suc place) shares
-    → slice_get shares (place % length shares) ≡ Some old → MatchOption last ((old ≡ []) × (new ≡ [])) (λ a. old ≡ new ++ a ∷ []) → IsSome last
+pub some_popped : (graphs : List Graph) (shares : List (List Answer)) (place : ℕ) (old new : List Answer) (last : Option Answer) →
+    AreShares graphs (length shares) (suc place) shares
+    → slice_get shares (place % length shares) ≡ Some old →
+    MatchOption last ((old ≡ []) × (new ≡ [])) (λ a. old ≡ new ++ a ∷ []) → IsSome last
 some_popped graphs shares place old new (Some a) before here popped = refl
 some_popped graphs shares place old new None before here popped =
-    absurd (some_turn graphs (length shares) place (subst (λ xs. IsShare graphs (length shares) (suc place) (place % length shares) xs) popped.0 (before (place % length shares) old here)))
+    absurd (some_turn graphs (length shares) place
+    (subst (λ xs. IsShare graphs (length shares) (suc place) (place % length shares) xs) popped.0
+    (before (place % length shares) old here)))
 
 -- what was taken is the answer for the last place
-pub popped_answer : (graphs : List Graph) (shares : List (List Answer)) (place : ℕ) (old new : List Answer) (a : Answer) (g : Graph) → 0 < length shares → AreShares graphs (length shares) (suc place) shares
+pub popped_answer : (graphs : List Graph) (shares : List (List Answer)) (place : ℕ) (old new : List Answer) (a : Answer)
+    (g : Graph) → 0 < length shares → AreShares graphs (length shares) (suc place) shares
     → slice_get shares (place % length shares) ≡ Some old → old ≡ new ++ a ∷ [] → slice_get graphs place ≡ Some g → IsAnswer g a
 popped_answer graphs shares place old new a g some before here popped there =
-    last_answer graphs (length shares) place new a g some (subst (λ xs. IsShare graphs (length shares) (suc place) (place % length shares) xs) popped (before (place % length shares) old here)) there
+    last_answer graphs (length shares) place new a g some
+    (subst (λ xs. IsShare graphs (length shares) (suc place) (place % length shares) xs) popped
+    (before (place % length shares) old here)) there
 
 -- one more answer in front
-pub answers_longer : (graphs : List Graph) (place : ℕ) (answers : List Answer) (a : Answer) → place < length graphs → ((g : Graph) → slice_get graphs place ≡ Some g → IsAnswer g a)
+pub answers_longer : (graphs : List Graph) (place : ℕ) (answers : List Answer) (a : Answer) → place < length graphs →
+    ((g : Graph) → slice_get graphs place ≡ Some g → IsAnswer g a)
     → AllZip IsAnswer (drop (suc place) graphs) answers → AllZip IsAnswer (drop place graphs) (a ∷ answers)
 answers_longer [] place answers a within answer rest = absurd (omega arith)
 answers_longer (g ∷ graphs) zero answers a within answer rest = (answer g refl, rest)

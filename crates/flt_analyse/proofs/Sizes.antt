@@ -75,7 +75,8 @@ set_grows_more a b h = by_null (and_cases (not b.null || a.null) _ h)
         let y = bit_or a.held b.held in
         let z = bit_more a.stale b.stale e in omega arith
 
-    by_null : (((not b.null || a.null) ≡ false) ⊎ (((not b.held || a.held) && (not b.stale || a.stale)) ≡ false)) → set_size a + 1 ≤ set_size (either_status a b)
+    by_null : (((not b.null || a.null) ≡ false) ⊎ (((not b.held || a.held) && (not b.stale || a.stale)) ≡ false)) →
+        set_size a + 1 ≤ set_size (either_status a b)
     by_null (inl e) =
         let x = bit_more a.null b.null e in
         let y = bit_or a.held b.held in
@@ -118,7 +119,8 @@ unfolding sizes
 sizes_grow_more [] [] e h = cc
 sizes_grow_more [] (b ∷ ys) e h = cc
 sizes_grow_more (a ∷ xs) [] e h = cc
-sizes_grow_more (a ∷ xs) (b ∷ ys) e h = by_first (and_cases (statuses_within b a) (all_within ys xs) h) (sizes_grow xs ys) (λ k. sizes_grow_more xs ys (omega arith) k)
+sizes_grow_more (a ∷ xs) (b ∷ ys) e h =
+    by_first (and_cases (statuses_within b a) (all_within ys xs) h) (sizes_grow xs ys) (λ k. sizes_grow_more xs ys (omega arith) k)
   where
     by_first : ((statuses_within b a ≡ false) ⊎ (all_within ys xs ≡ false)) → sizes xs ≤ sizes (either_all xs ys) →
         (all_within ys xs ≡ false → sizes xs + 1 ≤ sizes (either_all xs ys)) →
@@ -153,7 +155,14 @@ sized x h =
     let operations = and_parts (list_all is_possible x.operations) _ contexts.1 in
     let modes = and_parts (is_mode_possible x.modes) _ operations.1 in
     let draining = and_parts (is_draining_possible x.draining) _ modes.1 in
-    record { nine = eqb-true _ _ nine.0; five = eqb-true _ _ five.0; contexts = contexts.0; operations = operations.0; modes = modes.0; draining = draining.0 }
+    record {
+      nine = eqb-true _ _ nine.0;
+      five = eqb-true _ _ five.0;
+      contexts = contexts.0;
+      operations = operations.0;
+      modes = modes.0;
+      draining = draining.0;
+    }
 
 -- sixteen sets, none of them empty
 pub size_least : (x : State) → is_proper x ≡ true → 16 ≤ size x
@@ -193,7 +202,8 @@ two_more a b c d h = by_side (and_cases (not c || a) (not d || b) h)
 
 -- what isn't below in one of its parts adds something to a join
 grows_by : (x y : State) →
-    ((sizes x.contexts + 1 ≤ sizes (either_all x.contexts y.contexts)) ⊎ ((sizes x.operations + 1 ≤ sizes (either_all x.operations y.operations)) ⊎
+    ((sizes x.contexts + 1 ≤ sizes (either_all x.contexts y.contexts))
+    ⊎ ((sizes x.operations + 1 ≤ sizes (either_all x.operations y.operations)) ⊎
     ((mode_size x + 1 ≤ mode_size (join_of x y)) ⊎ (draining_size x + 1 ≤ draining_size (join_of x y))))) → size x + 1 ≤ size (join_of x y)
 unfolding size
 grows_by x y h = by_part h
@@ -207,38 +217,48 @@ grows_by x y h = by_part h
     by_part (inr (inr (inl z))) p q r s = omega arith
     by_part (inr (inr (inr z))) p q r s = omega arith
 
-grows_lists : (x y : State) → Sized x → Sized y → (all_within y.contexts x.contexts && all_within y.operations x.operations) ≡ false → size x + 1 ≤ size (join_of x y)
+grows_lists : (x y : State) → Sized x → Sized y →
+    (all_within y.contexts x.contexts && all_within y.operations x.operations) ≡ false → size x + 1 ≤ size (join_of x y)
 grows_lists x y p q h = by_side (and_cases (all_within y.contexts x.contexts) (all_within y.operations x.operations) h)
   where
-    by_side : ((all_within y.contexts x.contexts ≡ false) ⊎ (all_within y.operations x.operations ≡ false)) → size x + 1 ≤ size (join_of x y)
+    by_side : ((all_within y.contexts x.contexts ≡ false) ⊎ (all_within y.operations x.operations ≡ false)) →
+        size x + 1 ≤ size (join_of x y)
     by_side (inl e) = grows_by x y (inl (sizes_grow_more x.contexts y.contexts (p.nine ∙ sym q.nine) e))
     by_side (inr e) = grows_by x y (inr (inl (sizes_grow_more x.operations y.operations (p.five ∙ sym q.five) e)))
 
-grows_draining : (x y : State) → Sized x → Sized y → (drainings_within y.draining x.draining && (all_within y.contexts x.contexts && all_within y.operations x.operations)) ≡ false →
+grows_draining : (x y : State) → Sized x → Sized y →
+    (drainings_within y.draining x.draining && (all_within y.contexts x.contexts && all_within y.operations x.operations)) ≡ false →
     size x + 1 ≤ size (join_of x y)
 grows_draining x y p q h = by_side (and_cases (drainings_within y.draining x.draining) _ h)
   where
-    by_side : ((drainings_within y.draining x.draining ≡ false) ⊎ ((all_within y.contexts x.contexts && all_within y.operations x.operations) ≡ false)) → size x + 1 ≤ size (join_of x y)
+    by_side : ((drainings_within y.draining x.draining ≡ false)
+        ⊎ ((all_within y.contexts x.contexts && all_within y.operations x.operations) ≡ false)) → size x + 1 ≤ size (join_of x y)
     by_side (inl e) = grows_by x y (inr (inr (inr (two_more x.draining.no x.draining.yes y.draining.no y.draining.yes e))))
     by_side (inr e) = grows_lists x y p q e
 
 grows_modes : (x y : State) → Sized x → Sized y →
-    (modes_within y.modes x.modes && (drainings_within y.draining x.draining && (all_within y.contexts x.contexts && all_within y.operations x.operations))) ≡ false →
+    (modes_within y.modes x.modes && (drainings_within y.draining x.draining
+    && (all_within y.contexts x.contexts && all_within y.operations x.operations))) ≡ false →
     size x + 1 ≤ size (join_of x y)
 grows_modes x y p q h = by_side (and_cases (modes_within y.modes x.modes) _ h)
   where
-    by_side : ((modes_within y.modes x.modes ≡ false) ⊎ ((drainings_within y.draining x.draining && (all_within y.contexts x.contexts && all_within y.operations x.operations)) ≡ false)) →
+    by_side : ((modes_within y.modes x.modes ≡ false)
+        ⊎ ((drainings_within y.draining x.draining && (all_within y.contexts x.contexts && all_within y.operations x.operations))
+        ≡ false)) →
         size x + 1 ≤ size (join_of x y)
     by_side (inl e) = grows_by x y (inr (inr (inl (two_more x.modes.irp x.modes.fast y.modes.irp y.modes.fast e))))
     by_side (inr e) = grows_draining x y p q e
 
-pub join_grows : (x y : State) → is_proper x ≡ true → is_proper y ≡ true → same_locks x.locks y.locks ≡ true → is_below y x ≡ false → size x + 1 ≤ size (join_of x y)
+pub join_grows : (x y : State) → is_proper x ≡ true → is_proper y ≡ true → same_locks x.locks y.locks ≡ true →
+    is_below y x ≡ false → size x + 1 ≤ size (join_of x y)
 join_grows x y p q e h =
-    let same : same_locks y.locks x.locks ≡ true = (same_locks_decides y.locks x.locks).1 (sym ((same_locks_decides x.locks y.locks).0 e)) in
+    let same : same_locks y.locks x.locks ≡ true =
+    (same_locks_decides y.locks x.locks).1 (sym ((same_locks_decides x.locks y.locks).0 e)) in
     by_side same (and_cases (same_locks y.locks x.locks) _ h)
   where
     by_side : same_locks y.locks x.locks ≡ true → ((same_locks y.locks x.locks ≡ false) ⊎
-        ((modes_within y.modes x.modes && (drainings_within y.draining x.draining && (all_within y.contexts x.contexts && all_within y.operations x.operations))) ≡ false)) →
+        ((modes_within y.modes x.modes && (drainings_within y.draining x.draining
+        && (all_within y.contexts x.contexts && all_within y.operations x.operations))) ≡ false)) →
         size x + 1 ≤ size (join_of x y)
     by_side same (inl k) = absurd (true≢false (sym same ∙ k))
     by_side same (inr k) = grows_modes x y (sized x p) (sized y q) k

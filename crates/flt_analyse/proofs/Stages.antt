@@ -108,7 +108,8 @@ pub record Improves (old : Option State) (x : State) : Type 0 where
   pub proper : is_proper x ≡ true
   pub less : left (Some x) + 1 ≤ left old
 
-kept_arrived : Laws → (w : Walk) (p : ℕ) (x : State) → p < length w.points → p < length w.pending → (AllProper w → Improves (found w p) x) → ((y : State) → found w p ≡ Some y → is_below y x ≡ true) →
+kept_arrived : Laws → (w : Walk) (p : ℕ) (x : State) → p < length w.points → p < length w.pending →
+    (AllProper w → Improves (found w p) x) → ((y : State) → found w p ≡ Some y → is_below y x ≡ true) →
     (is_proper x ≡ true) → Kept w (arrived w p x)
 kept_arrived laws w p x h k better above good = record {
   grown = λ q y e. grown q y e (cases_eq q p);
@@ -120,19 +121,23 @@ kept_arrived laws w p x h k better above good = record {
   cheaper = λ all q. cheaper (better all) q (cases_eq q p);
 }
   where
-    grown : (q : ℕ) (y : State) → found w q ≡ Some y → ((q ≡ p) ⊎ (q ≡ p → ⊥)) → (z : State) × (found (arrived w p x) q ≡ Some z) × (is_below y z ≡ true)
+    grown : (q : ℕ) (y : State) → found w q ≡ Some y → ((q ≡ p) ⊎ (q ≡ p → ⊥)) → (z : State) × (found (arrived w p x) q ≡ Some z)
+        × (is_below y z ≡ true)
     grown q y e (inl s) = (x, ap (λ i. found (arrived w p x) i) s ∙ found_same w p x h, above y (sym (ap (λ i. found w i) s) ∙ e))
     grown q y e (inr s) = (y, found_other w p q x s ∙ e, laws.reflexive y)
 
-    quiet : (q : ℕ) → flagged (arrived w p x) q ≡ false → ((q ≡ p) ⊎ (q ≡ p → ⊥)) → (found (arrived w p x) q ≡ found w q) × (flagged w q ≡ false)
+    quiet : (q : ℕ) → flagged (arrived w p x) q ≡ false → ((q ≡ p) ⊎ (q ≡ p → ⊥)) → (found (arrived w p x) q ≡ found w q)
+        × (flagged w q ≡ false)
     quiet q e (inl s) = absurd (true≢false (sym (flagged_same w p x k) ∙ (sym (ap (λ i. flagged (arrived w p x) i) s) ∙ e)))
     quiet q e (inr s) = (found_other w p q x s, sym (flagged_other w p q x s) ∙ e)
 
     proper : AllProper w → (q : ℕ) (y : State) → found (arrived w p x) q ≡ Some y → ((q ≡ p) ⊎ (q ≡ p → ⊥)) → is_proper y ≡ true
-    proper all q y e (inl s) = sym (ap is_proper (same_Some x y (sym (found_same w p x h) ∙ (sym (ap (λ i. found (arrived w p x) i) s) ∙ e)))) ∙ good
+    proper all q y e (inl s) = sym (ap is_proper
+        (same_Some x y (sym (found_same w p x h) ∙ (sym (ap (λ i. found (arrived w p x) i) s) ∙ e)))) ∙ good
     proper all q y e (inr s) = all q y (sym (found_other w p q x s) ∙ e)
 
-    awake : IsAwake w → (q : ℕ) → flagged (arrived w p x) q ≡ true → ((q ≡ p) ⊎ (q ≡ p → ⊥)) → (y : State) × (found (arrived w p x) q ≡ Some y)
+    awake : IsAwake w → (q : ℕ) → flagged (arrived w p x) q ≡ true → ((q ≡ p) ⊎ (q ≡ p → ⊥)) → (y : State)
+        × (found (arrived w p x) q ≡ Some y)
     awake all q e (inl s) = (x, ap (λ i. found (arrived w p x) i) s ∙ found_same w p x h)
     awake all q e (inr s) = let one = all q (sym (flagged_other w p q x s) ∙ e) in (one.0, found_other w p q x s ∙ one.1)
 
@@ -158,11 +163,13 @@ abbrev pub Leading : Walk → Option Successor → Result Walk Rule → Type 0
 Leading w s (Ok v) = Reached w v s
 Leading w s (Err r) = (ys : List Point) → length ys ≡ length w.points → Below w ys → IsLedIn ys s → ⊥
 
-either_way : (P : Result Walk Rule → Type 0) (b : Bool) (m n : Result Walk Rule) → (b ≡ true → P m) → (b ≡ false → P n) → P (if b then m else n)
+either_way : (P : Result Walk Rule → Type 0) (b : Bool) (m n : Result Walk Rule) → (b ≡ true → P m) → (b ≡ false → P n) →
+    P (if b then m else n)
 either_way P true m n f h = f refl
 either_way P false m n f h = h refl
 
-below_arrived : Laws → (w : Walk) (p : ℕ) (x : State) (ys : List Point) → p < length w.points → Below w ys → ((y : State) × (get_or ys p None ≡ Some y) × (is_below x y ≡ true)) → Below (arrived w p x) ys
+below_arrived : Laws → (w : Walk) (p : ℕ) (x : State) (ys : List Point) → p < length w.points → Below w ys →
+    ((y : State) × (get_or ys p None ≡ Some y) × (is_below x y ≡ true)) → Below (arrived w p x) ys
 below_arrived laws w p x ys h all one q z e = by_point (cases_eq q p)
   where
     by_point : ((q ≡ p) ⊎ (q ≡ p → ⊥)) → (y : State) × (get_or ys q None ≡ Some y) × (is_below z y ≡ true)
@@ -183,15 +190,21 @@ pub left_some : (x : State) → is_proper x ≡ true → left (Some x) ≤ 30
 unfolding left
 left_some x p = let a = size_least x p in omega arith
 
-less_join : (x y : State) → is_proper x ≡ true → is_proper (join_of y x) ≡ true → is_proper y ≡ true → same_locks y.locks x.locks ≡ true → is_below x y ≡ false → left (Some (join_of y x)) + 1 ≤ left (Some y)
+less_join : (x y : State) → is_proper x ≡ true → is_proper (join_of y x) ≡ true → is_proper y ≡ true →
+    same_locks y.locks x.locks ≡ true → is_below x y ≡ false → left (Some (join_of y x)) + 1 ≤ left (Some y)
 unfolding left
 less_join x y p j q e h = let a = join_grows y x q p e h in let b = size_most (join_of y x) j in omega arith
 
-lead_at : Laws → (w : Walk) (next : Successor) (old : Option State) → found w next.point ≡ old → next.point < length w.points → length w.points ≤ length w.pending → AllProper w → is_proper next.state ≡ true →
+lead_at : Laws → (w : Walk) (next : Successor) (old : Option State) → found w next.point ≡ old → next.point < length w.points →
+    length w.points ≤ length w.pending → AllProper w → is_proper next.state ≡ true →
     Leading w (Some next) (reach_at w next old)
 lead_at laws w next None e h k all good = record {
   kept = kept_arrived laws w next.point next.state h (omega arith)
-      (λ p. record { above = λ y s. absurd (none-some y (sym e ∙ s)); proper = good; less = subst (λ o. left (Some next.state) + 1 ≤ left o) (sym e) (less_first next.state good) })
+      (λ p. record {
+        above = λ y s. absurd (none-some y (sym e ∙ s));
+        proper = good;
+        less = subst (λ o. left (Some next.state) + 1 ≤ left o) (sym e) (less_first next.state good);
+      })
       (λ y s. absurd (none-some y (sym e ∙ s))) good;
   led = (next.state, found_same w next.point next.state h, laws.reflexive next.state);
   below = λ ys b one. below_arrived laws w next.point next.state ys h b one;
@@ -200,10 +213,12 @@ lead_at laws w next (Some y) e h k all good =
     let proper : is_proper y ≡ true = all next.point y e in
     either_way (Leading w (Some next)) (is_below next.state y) (Ok w) _
     (λ s. record { kept = kept_same laws w; led = (y, e, s); below = λ ys b one. b })
-    (λ s. either_way (Leading w (Some next)) (same_locks y.locks next.state.locks) (Ok (arrived w next.point (join_of y next.state))) (Err R12)
+    (λ s. either_way (Leading w (Some next)) (same_locks y.locks next.state.locks)
+    (Ok (arrived w next.point (join_of y next.state))) (Err R12)
     (λ t. joined proper s t) (λ t. λ ys count b one. parted t ys b one))
   where
-    joined : is_proper y ≡ true → is_below next.state y ≡ false → same_locks y.locks next.state.locks ≡ true → Reached w (arrived w next.point (join_of y next.state)) (Some next)
+    joined : is_proper y ≡ true → is_below next.state y ≡ false → same_locks y.locks next.state.locks ≡ true →
+        Reached w (arrived w next.point (join_of y next.state)) (Some next)
     joined proper s t =
         let both = laws.proper y next.state proper in
         let same : y.locks ≡ next.state.locks = (same_locks_decides y.locks next.state.locks).0 t in
@@ -211,7 +226,11 @@ lead_at laws w next (Some y) e h k all good =
         let less = less_join next.state y good both proper t s in
         record {
           kept = kept_arrived laws w next.point (join_of y next.state) h (omega arith)
-              (λ p. record { above = λ z m. ap (λ i. is_below i (join_of y next.state)) (same_Some z y (sym m ∙ e)) ∙ above; proper = both; less = subst (λ o. left (Some (join_of y next.state)) + 1 ≤ left o) (sym e) less })
+              (λ p. record {
+                above = λ z m. ap (λ i. is_below i (join_of y next.state)) (same_Some z y (sym m ∙ e)) ∙ above;
+                proper = both;
+                less = subst (λ o. left (Some (join_of y next.state)) + 1 ≤ left o) (sym e) less;
+              })
               (λ z m. ap (λ i. is_below i (join_of y next.state)) (same_Some z y (sym m ∙ e)) ∙ above) both;
           led = (join_of y next.state, found_same w next.point (join_of y next.state) h, laws.right y next.state proper good same);
           below = λ ys b one.
@@ -225,12 +244,15 @@ lead_at laws w next (Some y) e h k all good =
     parted t ys b one =
         let mine = b next.point y e in
         let there : one.0 ≡ mine.0 = same_Some one.0 mine.0 (sym one.1 ∙ mine.1) in
-        let first : y.locks ≡ mine.0.locks = (same_locks_decides y.locks mine.0.locks).0 (and_parts (same_locks y.locks mine.0.locks) _ mine.2).0 in
-        let second : next.state.locks ≡ one.0.locks = (same_locks_decides next.state.locks one.0.locks).0 (and_parts (same_locks next.state.locks one.0.locks) _ one.2).0 in
+        let first : y.locks ≡ mine.0.locks =
+        (same_locks_decides y.locks mine.0.locks).0 (and_parts (same_locks y.locks mine.0.locks) _ mine.2).0 in
+        let second : next.state.locks ≡ one.0.locks =
+        (same_locks_decides next.state.locks one.0.locks).0 (and_parts (same_locks next.state.locks one.0.locks) _ one.2).0 in
         let same : y.locks ≡ next.state.locks = first ∙ (sym (ap (λ (i : State). i.locks) there) ∙ sym second) in
         true≢false (sym ((same_locks_decides y.locks next.state.locks).1 same) ∙ t)
 
-pub lead : Laws → (w : Walk) (s : Option Successor) → length w.points ≤ length w.pending → AllProper w → ProperNext s → Leading w s (reach w s)
+pub lead : Laws → (w : Walk) (s : Option Successor) → length w.points ≤ length w.pending → AllProper w → ProperNext s →
+    Leading w s (reach w s)
 lead laws w None k all good = record { kept = kept_same laws w; led = tt; below = λ ys b one. b }
 lead laws w (Some next) k all good =
     either_way (Leading w (Some next)) (nat_lt next.point (length w.points)) (reach_at w next (found w next.point)) (Err R14)
@@ -261,23 +283,31 @@ led_later laws w v (Some next) k h =
     let later = k.grown next.point h.0 h.1 in (later.0, later.1, laws.transitive next.state h.0 later.0 h.2 later.2)
 
 -- what a covering column says of the outcome at a state that is below its own
-outcome_led : Laws → (g : Graph) (callback point : ℕ) (x : State) (w : Walk) (ys : List Point) (r : Result Successors Rule) → transfer g callback point x ≡ r →
+outcome_led : Laws → (g : Graph) (callback point : ℕ) (x : State) (w : Walk) (ys : List Point) (r : Result Successors Rule) →
+    transfer g callback point x ≡ r →
     is_proper x ≡ true → found w point ≡ Some x → point < points_at g callback → IsCovered g callback ys → Below w ys →
     (b : Successors) × IsOutcomeBelow r (Ok b) × IsLedIn ys b.first × IsLedIn ys b.second
 outcome_led laws g callback point x w ys r e good at within c b =
     let mine = b point x at in
     let steps = c.steps point mine.0 within mine.1 in
-    let low = laws.monotone g callback point x mine.0 good mine.2 in
-    (steps.0, subst (λ o. IsOutcomeBelow r o) steps.1 (subst (λ o. IsOutcomeBelow o (transfer g callback point mine.0)) e low), steps.2, steps.3)
+    let low = laws.monotone g callback point x mine.0 good mine.2 in (
+      steps.0,
+      subst (λ o. IsOutcomeBelow r o) steps.1 (subst (λ o. IsOutcomeBelow o (transfer g callback point mine.0)) e low),
+      steps.2,
+      steps.3,
+    )
 
-second_look : Laws → (g : Graph) (callback point : ℕ) (x : State) (w : Walk) (next : Successors) (m : Result Walk Rule) → transfer g callback point x ≡ Ok next →
-    is_proper x ≡ true → found w point ≡ Some x → point < points_at g callback → length w.points ≡ points_at g callback → length w.points ≤ length w.pending → AllProper w → ProperNext next.second →
+second_look : Laws → (g : Graph) (callback point : ℕ) (x : State) (w : Walk) (next : Successors) (m : Result Walk Rule) →
+    transfer g callback point x ≡ Ok next →
+    is_proper x ≡ true → found w point ≡ Some x → point < points_at g callback → length w.points ≡ points_at g callback →
+    length w.points ≤ length w.pending → AllProper w → ProperNext next.second →
     Leading w next.first m → Looking g callback point x w (then_reach m next.second)
 second_look laws g callback point x w next (Err r) e good at within count k all p h = λ ys c b.
     let o = outcome_led laws g callback point x w ys (Ok next) e good at within c b in
     h ys (sym c.count ∙ sym count) b (led_below laws ys next.first o.0.first o.1.first o.2)
 second_look laws g callback point x w next (Ok v) e good at within count k all p h =
-    second_done (reach v next.second) (lead laws v next.second (let a = h.kept.count in let b = h.kept.flags in omega arith) (h.kept.proper all) p)
+    second_done (reach v next.second) (lead laws v next.second (let a = h.kept.count in let b = h.kept.flags in omega arith)
+    (h.kept.proper all) p)
   where
     second_done : (m : Result Walk Rule) → Leading v next.second m → Looking g callback point x w m
     second_done (Ok u) l = record {
@@ -285,14 +315,18 @@ second_look laws g callback point x w next (Ok v) e good at within count k all p
       steps = (next, e, led_later laws v u next.first l.kept h.led, l.led);
       below = λ ys c b.
           let o = outcome_led laws g callback point x w ys (Ok next) e good at within c b in
-          l.below ys (h.below ys b (led_below laws ys next.first o.0.first o.1.first o.2)) (led_below laws ys next.second o.0.second o.1.second o.3);
+          l.below ys (h.below ys b (led_below laws ys next.first o.0.first o.1.first o.2))
+          (led_below laws ys next.second o.0.second o.1.second o.3);
     }
     second_done (Err r) l = λ ys c b.
         let o = outcome_led laws g callback point x w ys (Ok next) e good at within c b in
-        l ys (sym c.count ∙ (sym count ∙ sym h.kept.count)) (h.below ys b (led_below laws ys next.first o.0.first o.1.first o.2)) (led_below laws ys next.second o.0.second o.1.second o.3)
+        l ys (sym c.count ∙ (sym count ∙ sym h.kept.count)) (h.below ys b (led_below laws ys next.first o.0.first o.1.first o.2))
+        (led_below laws ys next.second o.0.second o.1.second o.3)
 
-pub spread_looking : Laws → (g : Graph) (callback point : ℕ) (x : State) (w : Walk) (r : Result Successors Rule) → transfer g callback point x ≡ r →
-    is_proper x ≡ true → found w point ≡ Some x → point < points_at g callback → length w.points ≡ points_at g callback → length w.points ≤ length w.pending → AllProper w → ProperSteps r →
+pub spread_looking : Laws → (g : Graph) (callback point : ℕ) (x : State) (w : Walk) (r : Result Successors Rule) →
+    transfer g callback point x ≡ r →
+    is_proper x ≡ true → found w point ≡ Some x → point < points_at g callback → length w.points ≡ points_at g callback →
+    length w.points ≤ length w.pending → AllProper w → ProperSteps r →
     Looking g callback point x w (spread w r)
 spread_looking laws g callback point x w (Err r) e good at within count k all p = λ ys c b.
     (outcome_led laws g callback point x w ys (Err r) e good at within c b).1

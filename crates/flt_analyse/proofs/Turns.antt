@@ -19,13 +19,16 @@ use Rattle.flt_analyse.proofs.Certificates.{Columns, none_covers}
 use Rattle.flt_analyse.proofs.Stages.{found}
 use Rattle.flt_analyse.proofs.Walks.{Stage, covered, below_all, all_points, stops_all}
 
-pub proper_at : (g : Graph) (callback p : ℕ) (w t : Walk) → t ≡ taken w p → ProperSteps (outcome_at g callback p (found t p)) → ProperSteps (outcome_at g callback p (found w p))
+pub proper_at : (g : Graph) (callback p : ℕ) (w t : Walk) → t ≡ taken w p → ProperSteps (outcome_at g callback p (found t p)) →
+    ProperSteps (outcome_at g callback p (found w p))
 proper_at g callback p w t e h = subst (λ i. ProperSteps (outcome_at g callback p (found i p))) e h
 
-pub look_at : (g : Graph) (callback p : ℕ) (w t : Walk) (m : Result Walk Rule) → t ≡ taken w p → look g callback p t ≡ m → look g callback p (taken w p) ≡ m
+pub look_at : (g : Graph) (callback p : ℕ) (w t : Walk) (m : Result Walk Rule) → t ≡ taken w p → look g callback p t ≡ m →
+    look g callback p (taken w p) ≡ m
 look_at g callback p w t m e h = subst (λ i. look g callback p i ≡ m) e h
 
-pub stop_of : Laws → (g : Graph) (callback : ℕ) (w t : Walk) (p line : ℕ) (r : Rule) → Stage g callback w → ((n : ℕ) × Leads g callback n (opening g callback) w) → Some p ≡ least w.pending → t ≡ taken w p →
+pub stop_of : Laws → (g : Graph) (callback : ℕ) (w t : Walk) (p line : ℕ) (r : Rule) → Stage g callback w →
+    ((n : ℕ) × Leads g callback n (opening g callback) w) → Some p ≡ least w.pending → t ≡ taken w p →
     ProperSteps (outcome_at g callback p (found t p)) → look g callback p t ≡ Err r → line ≡ line_at g callback p →
     IsStop g callback (record { callback = callback; point = p; line = line; rule = r })
 stop_of laws g callback w t p line r s led e same ok h at = record {
@@ -35,7 +38,8 @@ stop_of laws g callback w t p line r s led e same ok h at = record {
   none = stops_all laws g callback w p r s (sym e) (proper_at g callback p w t same ok) (look_at g callback p w t (Err r) same h);
 }
 
-pub column_of_end : (g : Graph) (callback : ℕ) (w t : Walk) → Stage g callback w → ((n : ℕ) × Leads g callback n (opening g callback) w) → None ≡ least w.pending → t ≡ w → Column g callback t.points
+pub column_of_end : (g : Graph) (callback : ℕ) (w t : Walk) → Stage g callback w →
+    ((n : ℕ) × Leads g callback n (opening g callback) w) → None ≡ least w.pending → t ≡ w → Column g callback t.points
 column_of_end g callback w t s led e same = subst (λ (i : Walk). Column g callback i.points) (sym same) (record {
   covered = covered g callback w s (sym e);
   least = below_all g callback w s;
@@ -43,17 +47,20 @@ column_of_end g callback w t s led e same = subst (λ (i : Walk). Column g callb
   ends = record { looks = led.0; last = w; led = led.1; none = sym e };
 })
 
-pub led_on : (g : Graph) (callback : ℕ) (w t v : Walk) (p : ℕ) → ((n : ℕ) × Leads g callback n (opening g callback) w) → Some p ≡ least w.pending → t ≡ taken w p → look g callback p t ≡ Ok v →
+pub led_on : (g : Graph) (callback : ℕ) (w t v : Walk) (p : ℕ) → ((n : ℕ) × Leads g callback n (opening g callback) w) →
+    Some p ≡ least w.pending → t ≡ taken w p → look g callback p t ≡ Ok v →
     (n : ℕ) × Leads g callback n (opening g callback) v
 led_on g callback w t v p led e same h = (suc led.0, (w, led.1, p, sym e, look_at g callback p w t (Ok v) same h))
 
 -- ---- the callbacks one after the other
 
-pub refused_none : (g : Graph) (callback : ℕ) (f : AnalyseFault) → callback < length g.callbacks → IfRefused f (IsStop g callback) → IfRefused f (λ r. NoneCovers g)
+pub refused_none : (g : Graph) (callback : ℕ) (f : AnalyseFault) → callback < length g.callbacks →
+    IfRefused f (IsStop g callback) → IfRefused f (λ r. NoneCovers g)
 refused_none g callback (Refused r) below h = none_covers g callback below h.none
 refused_none g callback OutOfMemory below h = tt
 
-pub refused_named : (g : Graph) (callback : ℕ) (k : List (List Point)) (f : AnalyseFault) → callback < length g.callbacks → HasRoom g → Columns g callback k → IfRefused f (IsStop g callback) → IfRefused f (IsNamed g)
+pub refused_named : (g : Graph) (callback : ℕ) (k : List (List Point)) (f : AnalyseFault) → callback < length g.callbacks →
+    HasRoom g → Columns g callback k → IfRefused f (IsStop g callback) → IfRefused f (IsNamed g)
 refused_named g callback k (Refused r) below room c h = inr (
   room,
   record {
@@ -66,12 +73,14 @@ refused_named g callback k (Refused r) below room c h = inr (
 refused_named g callback k OutOfMemory below room c h = tt
 
 -- a point of another callback isn't counted, and of its own one at most 31 times
-pub before_more : (watched callback start before now : ℕ) → (callback ≤ watched → before ≤ start) → (watched ≢ callback → now ≤ before) → callback + 1 ≤ watched → now ≤ start
+pub before_more : (watched callback start before now : ℕ) → (callback ≤ watched → before ≤ start) →
+    (watched ≢ callback → now ≤ before) → callback + 1 ≤ watched → now ≤ start
 before_more watched callback start before now h other l =
     let a = h (omega arith) in
     let b = other (λ e. absurd (omega arith)) in omega arith
 
-pub after_more : (watched callback start before now : ℕ) → (callback ≤ watched → before ≤ start) → before ≤ start + 31 → now ≤ before + 31 → (watched ≢ callback → now ≤ before) → now ≤ start + 31
+pub after_more : (watched callback start before now : ℕ) → (callback ≤ watched → before ≤ start) → before ≤ start + 31 →
+    now ≤ before + 31 → (watched ≢ callback → now ≤ before) → now ≤ start + 31
 after_more watched callback start before now h k own other = by_place (cases_eq watched callback)
   where
     by_place : ((watched ≡ callback) ⊎ (watched ≡ callback → ⊥)) → now ≤ start + 31

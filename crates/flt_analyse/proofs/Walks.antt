@@ -28,7 +28,8 @@ use Rattle.flt_analyse.proofs.Stages.{found, flagged, left, due, AllProper, IsAw
 
 -- ---- the least flag
 
-least_from_is : (i : ℕ) (set : List Bool) (p : ℕ) → least_from i set ≡ Some p → (q : ℕ) × (p ≡ i + q) × (get_or set q false ≡ true) × (q < length set)
+least_from_is : (i : ℕ) (set : List Bool) (p : ℕ) → least_from i set ≡ Some p → (q : ℕ) × (p ≡ i + q)
+    × (get_or set q false ≡ true) × (q < length set)
 least_from_is i [] p e = cc
 least_from_is i (true ∷ set) p e = let s : i ≡ p = cc in (0, omega arith, refl, omega arith)
 least_from_is i (false ∷ set) p e =
@@ -98,10 +99,12 @@ entry_proper Generic = refl
 entry_proper place = refl
 
 opening_first : (g : Graph) (callback : ℕ) → 0 < points_at g callback → found (opening g callback) 0 ≡ Some (entry (place_at g callback))
-opening_first g callback h = get_or-set_same (nones (points_at g callback)) 0 (Some (entry (place_at g callback))) None (let a = length-nones (points_at g callback) in omega arith)
+opening_first g callback h = get_or-set_same (nones (points_at g callback)) 0 (Some (entry (place_at g callback))) None
+    (let a = length-nones (points_at g callback) in omega arith)
 
 opening_later : (g : Graph) (callback q : ℕ) → (q ≡ 0 → ⊥) → found (opening g callback) q ≡ None
-opening_later g callback q h = get_or-set_other (nones (points_at g callback)) 0 q (Some (entry (place_at g callback))) None h ∙ none_at (points_at g callback) q
+opening_later g callback q h = get_or-set_other (nones (points_at g callback)) 0 q (Some (entry (place_at g callback))) None h
+    ∙ none_at (points_at g callback) q
 
 opening_flag : (g : Graph) (callback : ℕ) → flagged (opening g callback) 0 ≡ true
 opening_flag g callback = get_or-set_same (no_flags 512) 0 true false (let a = length-no_flags 512 in omega arith)
@@ -109,7 +112,8 @@ opening_flag g callback = get_or-set_same (no_flags 512) 0 true false (let a = l
 opening_flags : (g : Graph) (callback q : ℕ) → (q ≡ 0 → ⊥) → flagged (opening g callback) q ≡ false
 opening_flags g callback q h = get_or-set_other (no_flags 512) 0 q true false h ∙ no_flag_at 512 q
 
-pub begins : Laws → (g : Graph) (callback : ℕ) → 0 < points_at g callback → points_at g callback ≤ 512 → Stage g callback (opening g callback)
+pub begins : Laws → (g : Graph) (callback : ℕ) → 0 < points_at g callback → points_at g callback ≤ 512 →
+    Stage g callback (opening g callback)
 begins laws g callback some few = record {
   count = length-set (nones (points_at g callback)) 0 (Some (entry (place_at g callback))) ∙ length-nones (points_at g callback);
   few = few;
@@ -128,15 +132,18 @@ begins laws g callback some few = record {
     proper q x e (inl s) = sym (ap is_proper (first_is q x e s)) ∙ entry_proper (place_at g callback)
     proper q x e (inr s) = absurd (none-some x (sym (opening_later g callback q s) ∙ e))
 
-    awake : (q : ℕ) → flagged (opening g callback) q ≡ true → ((q ≡ 0) ⊎ (q ≡ 0 → ⊥)) → (x : State) × (found (opening g callback) q ≡ Some x)
+    awake : (q : ℕ) → flagged (opening g callback) q ≡ true → ((q ≡ 0) ⊎ (q ≡ 0 → ⊥)) → (x : State)
+        × (found (opening g callback) q ≡ Some x)
     awake q e (inl s) = (entry (place_at g callback), ap (λ i. found (opening g callback) i) s ∙ opening_first g callback some)
     awake q e (inr s) = absurd (true≢false (sym e ∙ opening_flags g callback q s))
 
-    settled : (q : ℕ) (x : State) → found (opening g callback) q ≡ Some x → flagged (opening g callback) q ≡ false → ((q ≡ 0) ⊎ (q ≡ 0 → ⊥)) → StepsIn g callback q x (opening g callback).points
+    settled : (q : ℕ) (x : State) → found (opening g callback) q ≡ Some x → flagged (opening g callback) q ≡ false →
+        ((q ≡ 0) ⊎ (q ≡ 0 → ⊥)) → StepsIn g callback q x (opening g callback).points
     settled q x e f (inl s) = absurd (true≢false (sym (ap (λ i. flagged (opening g callback) i) s ∙ opening_flag g callback) ∙ f))
     settled q x e f (inr s) = absurd (none-some x (sym (opening_later g callback q s) ∙ e))
 
-    below : (ys : List Point) → IsCovered g callback ys → (q : ℕ) (x : State) → found (opening g callback) q ≡ Some x → ((q ≡ 0) ⊎ (q ≡ 0 → ⊥)) → (y : State) × (get_or ys q None ≡ Some y) × (is_below x y ≡ true)
+    below : (ys : List Point) → IsCovered g callback ys → (q : ℕ) (x : State) → found (opening g callback) q ≡ Some x →
+        ((q ≡ 0) ⊎ (q ≡ 0 → ⊥)) → (y : State) × (get_or ys q None ≡ Some y) × (is_below x y ≡ true)
     below ys c q x e (inl s) =
         let one = c.entered in
         (one.0, ap (λ i. get_or ys i None) s ∙ one.1, sym (ap (λ i. is_below i one.0) (first_is q x e s)) ∙ one.2)
@@ -151,7 +158,8 @@ taken_flags : (w : Walk) (p q : ℕ) → (q ≡ p → ⊥) → flagged (taken w 
 taken_flags w p q h = get_or-set_other w.pending p q false false h
 
 -- the point that is taken has a state
-pub taken_found : (g : Graph) (callback : ℕ) (w : Walk) (p : ℕ) → Stage g callback w → least w.pending ≡ Some p → (x : State) × (found w p ≡ Some x)
+pub taken_found : (g : Graph) (callback : ℕ) (w : Walk) (p : ℕ) → Stage g callback w → least w.pending ≡ Some p → (x : State)
+    × (found w p ≡ Some x)
 taken_found g callback w p s e = s.awake p (least_is w.pending p e).0
 
 pub taken_within : (g : Graph) (callback : ℕ) (w : Walk) (p : ℕ) → Stage g callback w → least w.pending ≡ Some p → p < points_at g callback
@@ -165,17 +173,20 @@ taken_within g callback w p s e = by_length (cases_lt p (length w.points))
     by_length (inr l) = absurd (none-some one.0 (sym (get_or-eq_default w.points None l) ∙ one.1))
 
 -- what a look makes of a stage
-pub looking : Laws → (g : Graph) (callback : ℕ) (w : Walk) (p : ℕ) → Stage g callback w → least w.pending ≡ Some p → ProperSteps (outcome_at g callback p (found w p)) →
+pub looking : Laws → (g : Graph) (callback : ℕ) (w : Walk) (p : ℕ) → Stage g callback w → least w.pending ≡ Some p →
+    ProperSteps (outcome_at g callback p (found w p)) →
     (x : State) × (found w p ≡ Some x) × Looking g callback p x (taken w p) (look g callback p (taken w p))
 looking laws g callback w p s e ok =
     let one = taken_found g callback w p s e in
     let steps : ProperSteps (transfer g callback p one.0) = subst (λ o. ProperSteps (outcome_at g callback p o)) one.1 ok in
     let done : Looking g callback p one.0 (taken w p) (spread (taken w p) (transfer g callback p one.0)) =
-    spread_looking laws g callback p one.0 (taken w p) (transfer g callback p one.0) refl (s.proper p one.0 one.1) one.1 (taken_within g callback w p s e) s.count
+    spread_looking laws g callback p one.0 (taken w p) (transfer g callback p one.0) refl (s.proper p one.0 one.1) one.1
+    (taken_within g callback w p s e) s.count
     (let a = s.count in let b = s.few in let c = s.flags in let d = length-set w.pending p false in omega arith) s.proper steps in
     (one.0, one.1, subst (λ o. Looking g callback p one.0 (taken w p) (spread (taken w p) (outcome_at g callback p o))) (sym one.1) done)
 
-kept_stage : Laws → (g : Graph) (callback : ℕ) (w v : Walk) (p : ℕ) (x : State) → Stage g callback w → least w.pending ≡ Some p → found w p ≡ Some x → Looked g callback p x (taken w p) v → Stage g callback v
+kept_stage : Laws → (g : Graph) (callback : ℕ) (w v : Walk) (p : ℕ) (x : State) → Stage g callback w → least w.pending ≡ Some p →
+    found w p ≡ Some x → Looked g callback p x (taken w p) v → Stage g callback v
 kept_stage laws g callback w v p x s e at l = record {
   count = l.kept.count ∙ s.count;
   few = s.few;
@@ -204,22 +215,29 @@ kept_stage laws g callback w v p x s e at l = record {
         (steps.0, ap (λ i. transfer g callback i y) k ∙ (sym (ap (λ i. transfer g callback p i) same) ∙ steps.1), steps.2, steps.3)
     settled q y f h (inr k) =
         let quiet = l.kept.quiet q h in
-        let steps = s.settled q y (sym quiet.0 ∙ f) (sym (taken_flags w p q k) ∙ quiet.1) in
-        (steps.0, steps.1, led_later laws (taken w p) v steps.0.first l.kept steps.2, led_later laws (taken w p) v steps.0.second l.kept steps.3)
+        let steps = s.settled q y (sym quiet.0 ∙ f) (sym (taken_flags w p q k) ∙ quiet.1) in (
+          steps.0,
+          steps.1,
+          led_later laws (taken w p) v steps.0.first l.kept steps.2,
+          led_later laws (taken w p) v steps.0.second l.kept steps.3,
+        )
 
 -- ---- from a stage to the next one
 
-looked : (g : Graph) (callback p : ℕ) (x : State) (w v : Walk) (m : Result Walk Rule) → m ≡ Ok v → Looking g callback p x w m → Looked g callback p x w v
+looked : (g : Graph) (callback p : ℕ) (x : State) (w v : Walk) (m : Result Walk Rule) → m ≡ Ok v → Looking g callback p x w m →
+    Looked g callback p x w v
 looked g callback p x w v m e l = subst (λ i. Looking g callback p x w i) e l
 
-pub goes_on : Laws → (g : Graph) (callback : ℕ) (w v : Walk) (p : ℕ) → Stage g callback w → least w.pending ≡ Some p → ProperSteps (outcome_at g callback p (found w p)) →
+pub goes_on : Laws → (g : Graph) (callback : ℕ) (w v : Walk) (p : ℕ) → Stage g callback w → least w.pending ≡ Some p →
+    ProperSteps (outcome_at g callback p (found w p)) →
     look g callback p (taken w p) ≡ Ok v → Stage g callback v
 goes_on laws g callback w v p s e ok h =
     let l = looking laws g callback w p s e ok in
     kept_stage laws g callback w v p l.0 s e l.1 (looked g callback p l.0 (taken w p) v _ h l.2)
 
 -- a point that is looked at can be looked at once less, and no other one more often
-pub falls_due : Laws → (g : Graph) (callback : ℕ) (w v : Walk) (p : ℕ) → Stage g callback w → least w.pending ≡ Some p → ProperSteps (outcome_at g callback p (found w p)) →
+pub falls_due : Laws → (g : Graph) (callback : ℕ) (w v : Walk) (p : ℕ) → Stage g callback w → least w.pending ≡ Some p →
+    ProperSteps (outcome_at g callback p (found w p)) →
     look g callback p (taken w p) ≡ Ok v → ((q : ℕ) → due v q ≤ due w q) × (due v p + 1 ≤ due w p)
 falls_due laws g callback w v p s e ok h = ((λ q. others q (cases_eq q p)), own)
   where
@@ -239,7 +257,8 @@ falls_due laws g callback w v p s e ok h = ((λ q. others q (cases_eq q p)), own
         let b : bit (flagged (taken w p) q) ≡ bit (flagged w q) = ap bit (taken_flags w p q k) in omega arith
 
 -- where a walk stops nothing covers
-pub stops_all : Laws → (g : Graph) (callback : ℕ) (w : Walk) (p : ℕ) (r : Rule) → Stage g callback w → least w.pending ≡ Some p → ProperSteps (outcome_at g callback p (found w p)) →
+pub stops_all : Laws → (g : Graph) (callback : ℕ) (w : Walk) (p : ℕ) (r : Rule) → Stage g callback w → least w.pending ≡ Some p →
+    ProperSteps (outcome_at g callback p (found w p)) →
     look g callback p (taken w p) ≡ Err r → (ys : List Point) → IsCovered g callback ys → ⊥
 stops_all laws g callback w p r s e ok h ys c =
     let l = looking laws g callback w p s e ok in
@@ -254,7 +273,8 @@ covered g callback w s e = record {
 }
 
 -- and are below all that cover
-pub below_all : (g : Graph) (callback : ℕ) (w : Walk) → Stage g callback w → (ys : List Point) → IsCovered g callback ys → ArePointsBelow w.points ys
+pub below_all : (g : Graph) (callback : ℕ) (w : Walk) → Stage g callback w → (ys : List Point) → IsCovered g callback ys →
+    ArePointsBelow w.points ys
 below_all g callback w s ys c q = by_state (found w q) refl
   where
     by_other : (x : State) (o : Option State) → ((y : State) × (o ≡ Some y) × (is_below x y ≡ true)) → IsPointBelow (Some x) o
@@ -297,7 +317,8 @@ total_less f h (suc n) p l k m = by_place (cases_lt p n) (λ d. total_less f h n
 pub room : Graph → ℕ → Walk → ℕ
 room g callback w = total (due w) (points_at g callback)
 
-pub room_falls : Laws → (g : Graph) (callback : ℕ) (w v : Walk) (p : ℕ) → Stage g callback w → least w.pending ≡ Some p → ProperSteps (outcome_at g callback p (found w p)) →
+pub room_falls : Laws → (g : Graph) (callback : ℕ) (w v : Walk) (p : ℕ) → Stage g callback w → least w.pending ≡ Some p →
+    ProperSteps (outcome_at g callback p (found w p)) →
     look g callback p (taken w p) ≡ Ok v → room g callback v < room g callback w
 unfolding room
 room_falls laws g callback w v p s e ok h =
@@ -313,7 +334,8 @@ opening_due g callback q h = by_place (cases_eq q 0)
       where
         first : due (opening g callback) 0 ≤ 31
         first =
-            let a : left (found (opening g callback) 0) ≡ left (Some (entry (place_at g callback))) = ap left (opening_first g callback h) in
+            let a : left (found (opening g callback) 0) ≡ left (Some (entry (place_at g callback))) =
+            ap left (opening_first g callback h) in
             let b : bit (flagged (opening g callback) 0) ≡ 1 = ap bit (opening_flag g callback) ∙ bit_one in
             let d = left_some (entry (place_at g callback)) (entry_proper (place_at g callback)) in omega arith
     by_place (inr s) =

@@ -11,10 +11,12 @@ abbrev pub IsAnswer : Graph → Result Certificate Refusal → Type 0
 IsAnswer g (Ok k) = Covers g k × IsLeast g k
 IsAnswer g (Err f) = NoneCovers g × IsNamed g f
 
--- each is the answer for the graph of its turn: the worker's own number is the place of turn 0, and the places of its turns lie as far apart as there are workers
+-- each is the answer for the graph of its turn: the worker's own number is the place of turn 0, and the places of its turns lie
+-- as far apart as there are workers
 abbrev pub AreAnswers : List Graph → ℕ → ℕ → List (Result Certificate Refusal) → Type 0
 AreAnswers graphs workers worker answers =
-    (turn : ℕ) (g : Graph) (a : Result Certificate Refusal) → slice_get answers turn ≡ Some a → slice_get graphs (worker + workers * turn) ≡ Some g → IsAnswer g a
+    (turn : ℕ) (g : Graph) (a : Result Certificate Refusal) → slice_get answers turn ≡ Some a →
+    slice_get graphs (worker + workers * turn) ≡ Some g → IsAnswer g a
 
 -- a worker's share of the answers for the graphs below a place: it has all of its turns, and no more
 pub record IsShare (graphs : List Graph) (workers place worker : ℕ) (answers : List (Result Certificate Refusal)) : Type 0 where
@@ -25,4 +27,5 @@ pub record IsShare (graphs : List Graph) (workers place worker : ℕ) (answers :
 -- each worker has its share
 abbrev pub AreShares : List Graph → ℕ → ℕ → List (List (Result Certificate Refusal)) → Type 0
 AreShares graphs workers place shares =
-    (worker : ℕ) (answers : List (Result Certificate Refusal)) → slice_get shares worker ≡ Some answers → IsShare graphs workers place worker answers
+    (worker : ℕ) (answers : List (Result Certificate Refusal)) → slice_get shares worker ≡ Some answers →
+    IsShare graphs workers place worker answers

@@ -50,7 +50,8 @@ StepsIn g callback point x points =
 pub record IsCovered (g : Graph) (callback : ℕ) (points : List Point) : Type 0 where
   pub count : points_at g callback ≡ length points
   pub entered : (y : State) × (slice_index_or points 0 None ≡ Some y) × (is_below (entry (place_at g callback)) y ≡ true)
-  pub steps : (point : ℕ) (x : State) → point < points_at g callback → slice_index_or points point None ≡ Some x → StepsIn g callback point x points
+  pub steps : (point : ℕ) (x : State) → point < points_at g callback → slice_index_or points point None ≡ Some x →
+      StepsIn g callback point x points
 
 -- each point is below the one at its place
 abbrev pub ArePointsBelow : List Point → List Point → Type 0
@@ -64,7 +65,7 @@ pub record HasRoom (g : Graph) : Type 0 where
   pub few : length g.callbacks < 17
   pub points : (callback : ℕ) → callback < length g.callbacks → (0 < points_at g callback) × (points_at g callback < 513)
 
--- a graph of no text, for which there is no room: told at the very beginning
+-- a graph of no text, for which there is no room: reported at the very beginning
 pub record LacksRoom (g : Graph) (f : Refusal) : Type 0 where
   pub room : HasRoom g → ⊥
   pub callback : f.callback ≡ 0

@@ -18,7 +18,7 @@ use Rattle.flt_analyse.specs.declared.walk.Walk.{Walk}
 
 -- ---- a state leads to a point
 
--- the point has this state from now on, and is to be looked at
+-- the point has this state from now on, and is pending
 abbrev pub arrived : Walk → ℕ → State → Walk
 arrived w point x = record { points = slice_set w.points point (Some x); pending = slice_set w.pending point true }
 
@@ -63,7 +63,7 @@ abbrev pub nones : ℕ → List Point
 nones zero = []
 nones (suc n) = None ∷ nones n
 
--- the callback is entered, and its first point is to be looked at
+-- the callback is entered, and its first point is pending
 abbrev pub opening : Graph → ℕ → Walk
 opening g callback = record {
   points = slice_set (nones (points_at g callback)) 0 (Some (entry (place_at g callback)));

@@ -22,7 +22,7 @@ use sqlite_items::Items;
 use std::alloc::{AllocError, Global};
 use std::sync::ledger::Ledger;
 
-/// What was found so far at the points of a callback, and which of them are to be looked at.
+/// What was found so far at the points of a callback, and which of them are pending.
 #[derive(Drop)]
 pub(crate) struct Walk {
     pub(crate) points: Items<Option<Abs>>,
@@ -64,7 +64,7 @@ impl Walk {
         self.pending.take_least()
     }
 
-    /// A point has this state from now on, and is to be looked at.
+    /// A point has this state from now on, and is pending.
     fn arrive(&mut self, point: usize, state: Abs)
         requires point { point < length self.old.points }
         requires few { length self.old.points ≤ 512 }

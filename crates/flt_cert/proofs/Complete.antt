@@ -50,8 +50,10 @@ lines_joined : (lines : List Text) → AllEnded lines → lines_of (joined lines
 unfolding Ended
 lines_joined [] no_lines = refl
 lines_joined (text ∷ lines) (begins_with e others) =
-    let grouped : text ++ joined lines ≡ e.0 ++ 10 ∷ joined lines = ap (λ z. z ++ joined lines) e.2 ∙ append_assoc e.0 (10 ∷ []) (joined lines) in
-    ap lines_of grouped ∙ ended e.0 (joined lines) e.1 ∙ ap (λ z. z ∷ lines_of (joined lines)) (sym e.2) ∙ ap (λ z. text ∷ z) (lines_joined lines others)
+    let grouped : text ++ joined lines ≡ e.0 ++ 10 ∷ joined lines = ap (λ z. z ++ joined lines) e.2
+    ∙ append_assoc e.0 (10 ∷ []) (joined lines) in
+    ap lines_of grouped ∙ ended e.0 (joined lines) e.1 ∙ ap (λ z. z ∷ lines_of (joined lines)) (sym e.2)
+    ∙ ap (λ z. text ∷ z) (lines_joined lines others)
 
 above : (n : ℕ) → not (48 + n == 10) ≡ true
 above n = not_from_false (48 + n == 10) (ne_eqb (48 + n) 10 (λ e. omega arith))
@@ -59,7 +61,8 @@ above n = not_from_false (48 + n == 10) (ne_eqb (48 + n) 10 (λ e. omega arith))
 plain_decimal : (n : ℕ) → plain (decimal n) ≡ true
 plain_decimal n = go (nat_lt n 10) (nat_lt n 100)
   where
-    go : (x y : Bool) → plain (if x then (48 + n) ∷ [] else (if y then (48 + n / 10) ∷ (48 + n % 10) ∷ [] else (48 + n / 100) ∷ (48 + n / 10 % 10) ∷ (48 + n % 10) ∷ [])) ≡ true
+    go : (x y : Bool) → plain (if x then (48 + n) ∷ []
+        else (if y then (48 + n / 10) ∷ (48 + n % 10) ∷ [] else (48 + n / 100) ∷ (48 + n / 10 % 10) ∷ (48 + n % 10) ∷ [])) ≡ true
     go true y = and_from _ _ (above n) refl
     go false true = and_from _ _ (above (n / 10)) (and_from _ _ (above (n % 10)) refl)
     go false false = and_from _ _ (above (n / 100)) (and_from _ _ (above (n / 10 % 10)) (and_from _ _ (above (n % 10)) refl))
@@ -88,8 +91,11 @@ plain_locks (h ∷ locks) = plain_both (lock_text h) (more_locks locks) (plain_l
 
 plain_state : (s : State) → plain (state_text s) ≡ true
 plain_state s =
-    plain_both (digits s.contexts) (32 ∷ (digits s.operations ++ 32 ∷ (48 + mode_bits s.modes) ∷ 32 ∷ (48 + draining_bits s.draining) ∷ 32 ∷ locks_text s.locks)) (plain_digits s.contexts)
-    (plain_both (digits s.operations) (32 ∷ (48 + mode_bits s.modes) ∷ 32 ∷ (48 + draining_bits s.draining) ∷ 32 ∷ locks_text s.locks) (plain_digits s.operations)
+    plain_both (digits s.contexts) (32 ∷
+    (digits s.operations ++ 32 ∷ (48 + mode_bits s.modes) ∷ 32 ∷ (48 + draining_bits s.draining) ∷ 32 ∷ locks_text s.locks))
+    (plain_digits s.contexts)
+    (plain_both (digits s.operations) (32 ∷ (48 + mode_bits s.modes) ∷ 32 ∷ (48 + draining_bits s.draining) ∷ 32
+    ∷ locks_text s.locks) (plain_digits s.operations)
     (and_from _ _ (above (mode_bits s.modes)) (and_from _ _ (above (draining_bits s.draining)) (plain_locks s.locks))))
 
 plain_point : (point : Point) → plain (point_text point) ≡ true
@@ -108,7 +114,8 @@ callback_ended : (k n : ℕ) → Ended (callback_line k n)
 unfolding Ended
 callback_ended k n = (
   codes "callback " ++ (decimal k ++ 32 ∷ decimal n),
-  plain_both (codes "callback ") (decimal k ++ 32 ∷ decimal n) refl (plain_both (decimal k) (32 ∷ decimal n) (plain_decimal k) (plain_decimal n)),
+  plain_both (codes "callback ") (decimal k ++ 32 ∷ decimal n) refl
+      (plain_both (decimal k) (32 ∷ decimal n) (plain_decimal k) (plain_decimal n)),
   ap (λ z. codes "callback " ++ z) (sym (append_assoc (decimal k) (32 ∷ decimal n) (10 ∷ []))),
 )
 
@@ -131,25 +138,31 @@ lines_spelled cs =
 
 -- ---- reading them
 
-point_read : (p : ℕ) (x : Point) (n : ℕ) (lines : List Text) → is_point x ≡ true → point p (record { number = n; lines = point_line p x ∷ lines }) ≡ Ok (x, record { number = n + 1; lines = lines })
+point_read : (p : ℕ) (x : Point) (n : ℕ) (lines : List Text) → is_point x ≡ true →
+    point p (record { number = n; lines = point_line p x ∷ lines }) ≡ Ok (x, record { number = n + 1; lines = lines })
 unfolding point line
 point_read p x n lines h = rw (point_again p x h) refl
 
 points_read : (more found : List Point) (n : ℕ) (lines : List Text) → list_all is_point more ≡ true →
-    (m : ℕ) × (points_from (length more) found (record { number = n; lines = point_lines (length found) more ++ lines }) ≡ Ok (found ++ more, record { number = m; lines = lines }))
+    (m : ℕ) × (points_from (length more) found (record { number = n; lines = point_lines (length found) more ++ lines }) ≡ Ok
+    (found ++ more, record { number = m; lines = lines }))
 points_read [] found n lines h = (n, ap (λ z. Ok (z, record { number = n; lines = lines })) (sym (append-nil found)))
 points_read (x ∷ more) found n lines h =
     let parts = and_parts (is_point x) (list_all is_point more) h in
     let rest = points_read more (found ++ x ∷ []) (n + 1) lines parts.1 in
-    let len : length (found ++ x ∷ []) ≡ suc (length found) = length-append found (x ∷ []) ∙ (let e : length found + 1 ≡ suc (length found) = omega arith in e) in
-    let shifted = ap (λ m. points_from (length more) (found ++ x ∷ []) (record { number = n + 1; lines = point_lines m more ++ lines })) (sym len) in (
+    let len : length (found ++ x ∷ []) ≡ suc (length found) = length-append found (x ∷ [])
+    ∙ (let e : length found + 1 ≡ suc (length found) = omega arith in e) in
+    let shifted = ap (λ m. points_from (length more) (found ++ x ∷ [])
+    (record { number = n + 1; lines = point_lines m more ++ lines })) (sym len) in (
       rest.0,
-      ap (λ o. and_then o (λ q. points_from (length more) (found ++ q.0 ∷ []) q.1)) (point_read (length found) x n (point_lines (suc (length found)) more ++ lines) parts.0)
+      ap (λ o. and_then o (λ q. points_from (length more) (found ++ q.0 ∷ []) q.1))
+          (point_read (length found) x n (point_lines (suc (length found)) more ++ lines) parts.0)
           ∙ shifted ∙ rest.1 ∙ ap (λ z. Ok (z, record { number = rest.0; lines = lines })) (append_assoc found (x ∷ []) more),
     )
 
 callback_read : (k : ℕ) (ps : List Point) (n : ℕ) (lines : List Text) → is_callback ps ≡ true →
-    (m : ℕ) × (callback k (callback_line k (length ps)) (record { number = n; lines = point_lines 0 ps ++ lines }) ≡ Ok (ps, record { number = m; lines = lines }))
+    (m : ℕ) × (callback k (callback_line k (length ps)) (record { number = n; lines = point_lines 0 ps ++ lines }) ≡ Ok
+    (ps, record { number = m; lines = lines }))
 unfolding callback points
 callback_read k ps n lines h =
     let some = and_parts (nat_lt 0 (length ps)) _ h in
@@ -160,31 +173,41 @@ callback_read k ps n lines h =
 not_last : (k n : ℕ) → bytes_eq (callback_line k n) last_line ≡ false
 not_last k n = refl
 
-callbacks_read : (more : Certificate) (left : ℕ) (found : Certificate) (n : ℕ) → length more ≤ left → 0 < length found + length more → list_all is_callback more ≡ true →
-    (m : ℕ) × (callbacks_from left found (record { number = n; lines = callback_lines (length found) more ++ last_line ∷ [] }) ≡ Ok (found ++ more, record { number = m; lines = [] }))
+callbacks_read : (more : Certificate) (left : ℕ) (found : Certificate) (n : ℕ) → length more ≤ left →
+    0 < length found + length more → list_all is_callback more ≡ true →
+    (m : ℕ) × (callbacks_from left found (record { number = n; lines = callback_lines (length found) more ++ last_line ∷ [] })
+    ≡ Ok (found ++ more, record { number = m; lines = [] }))
 unfolding callbacks_from line closed
-callbacks_read [] zero found n h some each = (n + 1, rw (lt-ltb 0 (length found) (omega arith)) (ap (λ z. Ok (z, record { number = n + 1; lines = [] })) (sym (append-nil found))))
-callbacks_read [] (suc left) found n h some each = (n + 1, rw (lt-ltb 0 (length found) (omega arith)) (ap (λ z. Ok (z, record { number = n + 1; lines = [] })) (sym (append-nil found))))
+callbacks_read [] zero found n h some each =
+    (n + 1, rw (lt-ltb 0 (length found) (omega arith)) (ap (λ z. Ok (z, record { number = n + 1; lines = [] })) (sym (append-nil found))))
+callbacks_read [] (suc left) found n h some each =
+    (n + 1, rw (lt-ltb 0 (length found) (omega arith)) (ap (λ z. Ok (z, record { number = n + 1; lines = [] })) (sym (append-nil found))))
 callbacks_read (ps ∷ more) zero found n h some each = absurd (omega arith)
 callbacks_read (ps ∷ more) (suc left) found n h some each =
     let parts = and_parts (is_callback ps) (list_all is_callback more) each in
-    let len : length (found ++ ps ∷ []) ≡ suc (length found) = length-append found (ps ∷ []) ∙ (let e : length found + 1 ≡ suc (length found) = omega arith in e) in
+    let len : length (found ++ ps ∷ []) ≡ suc (length found) = length-append found (ps ∷ [])
+    ∙ (let e : length found + 1 ≡ suc (length found) = omega arith in e) in
     let after : List Text = callback_lines (suc (length found)) more ++ last_line ∷ [] in
     let read = callback_read (length found) ps (n + 1) after parts.0 in
     let rest = callbacks_read more left (found ++ ps ∷ []) read.0 (omega arith) (omega (arith, len)) parts.1 in
-    let grouped : callback_lines (length found) (ps ∷ more) ++ last_line ∷ [] ≡ callback_line (length found) (length ps) ∷ (point_lines 0 ps ++ after) =
+    let grouped : callback_lines (length found) (ps ∷ more) ++ last_line ∷ [] ≡ callback_line (length found) (length ps)
+    ∷ (point_lines 0 ps ++ after) =
     append_assoc (one_callback (length found) ps) (callback_lines (suc (length found)) more) (last_line ∷ []) in
-    let no : is_last found (callback_line (length found) (length ps)) ≡ false = and_right (nat_lt 0 (length found)) _ (not_last (length found) (length ps)) in
-    let step : callbacks_from (suc left) found (record { number = n; lines = callback_line (length found) (length ps) ∷ (point_lines 0 ps ++ after) })
+    let no : is_last found (callback_line (length found) (length ps)) ≡ false =
+    and_right (nat_lt 0 (length found)) _ (not_last (length found) (length ps)) in
+    let step : callbacks_from (suc left) found
+    (record { number = n; lines = callback_line (length found) (length ps) ∷ (point_lines 0 ps ++ after) })
     ≡ callbacks_from left (found ++ ps ∷ []) (record { number = read.0; lines = after }) = rw (no, read.1) refl in (
       rest.0,
       ap (λ z. callbacks_from (suc left) found (record { number = n; lines = z })) grouped ∙ step
-          ∙ ap (λ m. callbacks_from left (found ++ ps ∷ []) (record { number = read.0; lines = callback_lines m more ++ last_line ∷ [] })) (sym len) ∙ rest.1
+          ∙ ap (λ m. callbacks_from left (found ++ ps ∷ [])
+          (record { number = read.0; lines = callback_lines m more ++ last_line ∷ [] })) (sym len) ∙ rest.1
           ∙ ap (λ z. Ok (z, record { number = rest.0; lines = [] })) (append_assoc found (ps ∷ []) more),
     )
 
 -- what is spelled so is read
-pub lines_read : (text : Text) (cs : Certificate) → is_certificate cs ≡ true → lines_of text ≡ lines_for cs → (o : Place) × (certificate (start text) ≡ Ok (cs, o))
+pub lines_read : (text : Text) (cs : Certificate) → is_certificate cs ≡ true → lines_of text ≡ lines_for cs → (o : Place)
+    × (certificate (start text) ≡ Ok (cs, o))
 unfolding certificate first line
 lines_read text cs h lines =
     let some = and_parts (nat_lt 0 (length cs)) _ h in

@@ -103,7 +103,8 @@ status_takes b s h =
     let bits : status_bits s ≡ b - 48 = rw (← both.1) (status_bits-statuses (b - 48) small) in
     omega arith
 
-set_again : (x y z : Bool) → (x || (y || z)) ≡ true → status_of (48 + status_bits (record { null = x; held = y; stale = z })) ≡ Some (record { null = x; held = y; stale = z })
+set_again : (x y z : Bool) → (x || (y || z)) ≡ true →
+    status_of (48 + status_bits (record { null = x; held = y; stale = z })) ≡ Some (record { null = x; held = y; stale = z })
 set_again true true true h = refl
 set_again true true false h = refl
 set_again true false true h = refl
@@ -116,7 +117,8 @@ set_again false false false h = cc
 status_again : (s : StatusSet) → is_possible s ≡ true → status_of (48 + status_bits s) ≡ Some s
 status_again s h = set_again s.null s.held s.stale h
 
-sets_take : (text : Text) (found sets : List StatusSet) → sets_from found text ≡ Some sets → (more : List StatusSet) × (sets ≡ found ++ more) × (text ≡ digits more)
+sets_take : (text : Text) (found sets : List StatusSet) → sets_from found text ≡ Some sets → (more : List StatusSet)
+    × (sets ≡ found ++ more) × (text ≡ digits more)
 sets_take [] found sets h = ([], (let same : found ≡ sets = cc in sym same ∙ sym (append-nil found)), refl)
 sets_take (b ∷ text) found sets h =
     let one = some_bind (status_of b) (λ s. sets_from (found ++ s ∷ []) text) h in
@@ -175,7 +177,8 @@ draining_again s h = go s.no s.yes h
 lock_takes : (found : List HeldLock) (b : ℕ) (l : LockNumber) → lock_of found b ≡ Some l → b ≡ 48 + place_of l
 lock_takes found b l h = by_low (nat_lt b 48) refl h
   where
-    by_low : (low : Bool) → nat_lt b 48 ≡ low → (if low then None else (lock_at (b - 48) >>= λ k. if holds_lock k found then None else Some k)) ≡ Some l → b ≡ 48 + place_of l
+    by_low : (low : Bool) → nat_lt b 48 ≡ low →
+        (if low then None else (lock_at (b - 48) >>= λ k. if holds_lock k found then None else Some k)) ≡ Some l → b ≡ 48 + place_of l
     by_low true e h = cc
     by_low false e h =
         let one = some_bind (lock_at (b - 48)) (λ k. if holds_lock k found then None else Some k) h in
@@ -218,7 +221,8 @@ with_takes found text more h =
     let first : text ≡ digit.0.0 ∷ digit.0.1 = byte_takes text digit.0.1 digit.0.0 digit.1 in
     let byte : digit.0.0 ≡ 48 + place_of one.0 = lock_takes found digit.0.0 one.0 one.1 in
     let behind : digit.0.1 ≡ access_text access.0 ++ access.1 = access_takes digit.0.1 in
-    let same : digit.0.0 ∷ digit.0.1 ≡ (48 + place_of one.0) ∷ (access_text access.0 ++ access.1) = ap (λ b. b ∷ digit.0.1) byte ∙ ap (λ t. (48 + place_of one.0) ∷ t) behind in
+    let same : digit.0.0 ∷ digit.0.1 ≡ (48 + place_of one.0) ∷ (access_text access.0 ++ access.1) = ap (λ b. b ∷ digit.0.1) byte
+    ∙ ap (λ t. (48 + place_of one.0) ∷ t) behind in
     (held one.0 access.0, list, first ∙ same ∙ ap (λ t. lock_text (held one.0 access.0) ++ t) rest)
 
 with_again : (found : List HeldLock) (h : HeldLock) (text : Text) → holds_lock h.lock found ≡ false → access_at text ≡ (Exclusive, text) →
@@ -230,7 +234,8 @@ with_again found h text new first =
     (ap (λ (x : Access × Text). Some (found ++ held h.lock x.0 ∷ [], x.1)) (access_again h.access text first))
 
 -- a lock that stands before others in a list isn't among those before it
-before : (found : List HeldLock) (h : HeldLock) (after : List HeldLock) → are_locks (found ++ h ∷ after) ≡ true → holds_lock h.lock found ≡ false
+before : (found : List HeldLock) (h : HeldLock) (after : List HeldLock) → are_locks (found ++ h ∷ after) ≡ true →
+    holds_lock h.lock found ≡ false
 before [] h after e = refl
 before (k ∷ found) h after e =
     let parts = and_parts (not (holds_lock k.lock (found ++ h ∷ after))) (are_locks (found ++ h ∷ after)) e in
@@ -241,13 +246,15 @@ before (k ∷ found) h after e =
     apart q (r ∷ found) e = apart q found (or_parts (same_lock q r.lock) (holds_lock q (found ++ h ∷ after)) e).1
 
 Listed : List HeldLock → Text → List HeldLock → Type 0
-Listed found text locks = (h : HeldLock) × (more : List HeldLock) × (locks ≡ found ++ h ∷ more) × (text ≡ lock_text h ++ (more_locks more ++ 10 ∷ []))
+Listed found text locks = (h : HeldLock) × (more : List HeldLock) × (locks ≡ found ++ h ∷ more)
+    × (text ≡ lock_text h ++ (more_locks more ++ 10 ∷ []))
 
 no_more : (text : Text) → (length text == 0) ≡ true → text ≡ []
 no_more [] h = refl
 no_more (b ∷ text) h = absurd (omega (arith, eqb-true _ _ h))
 
-from_takes : (left : ℕ) (found : List HeldLock) (text : Text) (locks : List HeldLock) → locks_from left found text ≡ Some locks → Listed found text locks
+from_takes : (left : ℕ) (found : List HeldLock) (text : Text) (locks : List HeldLock) → locks_from left found text ≡ Some locks →
+    Listed found text locks
 unfolding Listed
 from_takes zero found text locks h = cc
 from_takes (suc left) found text locks h =
@@ -268,8 +275,14 @@ from_takes (suc left) found text locks h =
         let tail : rest ≡ lock_text later.0 ++ (more_locks later.1 ++ 10 ∷ []) = later.3 in
         let grouped : (lock_text later.0 ++ more_locks later.1) ++ 10 ∷ [] ≡ lock_text later.0 ++ (more_locks later.1 ++ 10 ∷ []) =
         append_assoc (lock_text later.0) (more_locks later.1) (10 ∷ []) in
-        let end : after ≡ 44 ∷ ((lock_text later.0 ++ more_locks later.1) ++ 10 ∷ []) = behind ∙ ap (λ c. c ∷ rest) comma ∙ ap (λ t. 44 ∷ t) (tail ∙ sym grouped) in
-        (first.0, later.0 ∷ later.1, list ∙ append_assoc found (first.0 ∷ []) (later.0 ∷ later.1), first.2 ∙ ap (λ t. lock_text first.0 ++ t) end)
+        let end : after ≡ 44 ∷ ((lock_text later.0 ++ more_locks later.1) ++ 10 ∷ []) = behind ∙ ap (λ c. c ∷ rest) comma
+        ∙ ap (λ t. 44 ∷ t) (tail ∙ sym grouped) in (
+          first.0,
+          later.0 ∷ later.1,
+          list ∙ append_assoc found (first.0 ∷ []) (later.0 ∷ later.1),
+          first.2
+              ∙ ap (λ t. lock_text first.0 ++ t) end,
+        )
     by_comma more after first b rest behind false e h others =
         let both = chosen (b == 10 && length rest == 0) h in
         let parts = and_parts (b == 10) (length rest == 0) both.0 in
@@ -278,20 +291,26 @@ from_takes (suc left) found text locks h =
         let end : after ≡ 10 ∷ [] = behind ∙ ap (λ c. c ∷ rest) ten ∙ ap (λ t. 10 ∷ t) nothing in
         (first.0, [], sym both.1 ∙ first.1, first.2 ∙ ap (λ t. lock_text first.0 ++ t) end)
 
-from_again : (left : ℕ) (found : List HeldLock) (h : HeldLock) (more : List HeldLock) → length more < left → are_locks (found ++ h ∷ more) ≡ true →
+from_again : (left : ℕ) (found : List HeldLock) (h : HeldLock) (more : List HeldLock) → length more < left →
+    are_locks (found ++ h ∷ more) ≡ true →
     locks_from left found (lock_text h ++ (more_locks more ++ 10 ∷ [])) ≡ Some (found ++ h ∷ more)
 from_again zero found h more few e = absurd (omega arith)
 from_again (suc left) found h [] few e =
-    bind_again (with_lock found (lock_text h ++ 10 ∷ [])) _ (found ++ h ∷ [], 10 ∷ []) (with_again found h (10 ∷ []) (before found h [] e) refl) refl
+    bind_again (with_lock found (lock_text h ++ 10 ∷ [])) _ (found ++ h ∷ [], 10 ∷ [])
+    (with_again found h (10 ∷ []) (before found h [] e) refl) refl
 from_again (suc left) found h (k ∷ more) few e =
     let listed : (found ++ h ∷ []) ++ k ∷ more ≡ found ++ h ∷ k ∷ more = append_assoc found (h ∷ []) (k ∷ more) in
-    let grouped : (lock_text k ++ more_locks more) ++ 10 ∷ [] ≡ lock_text k ++ (more_locks more ++ 10 ∷ []) = append_assoc (lock_text k) (more_locks more) (10 ∷ []) in
+    let grouped : (lock_text k ++ more_locks more) ++ 10 ∷ [] ≡ lock_text k ++ (more_locks more ++ 10 ∷ []) =
+    append_assoc (lock_text k) (more_locks more) (10 ∷ []) in
     let rest : Text = (lock_text k ++ more_locks more) ++ 10 ∷ [] in
     let others : locks_from left (found ++ h ∷ []) rest ≡ Some (found ++ h ∷ k ∷ more) =
-    ap (λ t. locks_from left (found ++ h ∷ []) t) grouped ∙ from_again left (found ++ h ∷ []) k more (omega arith) (rw listed e) ∙ ap (λ z. Some z) listed in
-    bind_again (with_lock found (lock_text h ++ 44 ∷ rest)) _ (found ++ h ∷ [], 44 ∷ rest) (with_again found h (44 ∷ rest) (before found h (k ∷ more) e) refl) others
+    ap (λ t. locks_from left (found ++ h ∷ []) t) grouped ∙ from_again left (found ++ h ∷ []) k more (omega arith) (rw listed e)
+    ∙ ap (λ z. Some z) listed in
+    bind_again (with_lock found (lock_text h ++ 44 ∷ rest)) _ (found ++ h ∷ [], 44 ∷ rest)
+    (with_again found h (44 ∷ rest) (before found h (k ∷ more) e) refl) others
 
-listed_parts : (text : Text) (locks : List HeldLock) → Listed [] text locks → (h : HeldLock) × (more : List HeldLock) × (locks ≡ h ∷ more) × (text ≡ lock_text h ++ (more_locks more ++ 10 ∷ []))
+listed_parts : (text : Text) (locks : List HeldLock) → Listed [] text locks → (h : HeldLock) × (more : List HeldLock)
+    × (locks ≡ h ∷ more) × (text ≡ lock_text h ++ (more_locks more ++ 10 ∷ []))
 unfolding Listed
 listed_parts text locks h = h
 
@@ -299,7 +318,8 @@ locks_take : (text : Text) (locks : List HeldLock) → locks_of text ≡ Some lo
 unfolding locks_of
 locks_take text locks h = go (bytes_eq text (45 ∷ 10 ∷ [])) refl h
   where
-    go : (x : Bool) → bytes_eq text (45 ∷ 10 ∷ []) ≡ x → (if x then Some [] else locks_from 8 [] text) ≡ Some locks → text ≡ locks_text locks ++ 10 ∷ []
+    go : (x : Bool) → bytes_eq text (45 ∷ 10 ∷ []) ≡ x → (if x then Some [] else locks_from 8 [] text) ≡ Some locks →
+        text ≡ locks_text locks ++ 10 ∷ []
     go true e h =
         let same : text ≡ 45 ∷ 10 ∷ [] = (bytes_eq-Decides text (45 ∷ 10 ∷ [])).0 e in
         let none : [] ≡ locks = cc in
@@ -313,7 +333,8 @@ unfolding locks_of
 locks_again [] h = refl
 locks_again (k ∷ locks) h =
     let other : (48 + place_of k.lock == 45) ≡ false = ne_eqb (48 + place_of k.lock) 45 (λ e. omega arith) in
-    let grouped : (lock_text k ++ more_locks locks) ++ 10 ∷ [] ≡ lock_text k ++ (more_locks locks ++ 10 ∷ []) = append_assoc (lock_text k) (more_locks locks) (10 ∷ []) in
+    let grouped : (lock_text k ++ more_locks locks) ++ 10 ∷ [] ≡ lock_text k ++ (more_locks locks ++ 10 ∷ []) =
+    append_assoc (lock_text k) (more_locks locks) (10 ∷ []) in
     let few : suc (length locks) ≤ 8 = eight_at_most (k ∷ locks) h in
     rw other (ap (λ t. locks_from 8 [] t) grouped ∙ from_again 8 [] k locks (omega arith) h)
 
@@ -357,12 +378,17 @@ state_takes text s h =
     let y2 : k.0.0 ≡ 48 + draining_bits l.0 = draining_takes k.0.0 l.0 l.1 in
     let y3 : k.0.1 ≡ 32 ∷ m.0 = blank_takes k.0.1 m.0 m.1 in
     let y4 : m.0 ≡ locks_text n.0 ++ 10 ∷ [] = locks_take m.0 n.0 n.1 in
-    spelled text s b.0 e.0 i.0 l.0 n.0 a.0.0 a.0.1 c.0 d.0.0 d.0.1 f.0 g.0.1 j.0 k.0.1 m.0 g.0.0 k.0.0 o.0 o.1 x1 x2 x3 x4 x5 x6 x7 x8 x9 y1 y2 y3 y4
+    spelled text s b.0 e.0 i.0 l.0 n.0 a.0.0 a.0.1 c.0 d.0.0 d.0.1 f.0 g.0.1 j.0 k.0.1 m.0 g.0.0 k.0.0 o.0 o.1 x1 x2 x3 x4 x5 x6
+    x7 x8 x9 y1 y2 y3 y4
   where
-    spelled : (text : Text) (s : State) (contexts operations : List StatusSet) (some : ModeSet) (answers : DrainingSet) (locks : List HeldLock)
-        (t1 t2 t3 t4 t5 t6 t7 t8 t9 t10 : Text) (u v : ℕ) → is_proper (state_of contexts operations some answers locks) ≡ true → state_of contexts operations some answers locks ≡ s →
-        text ≡ t1 ++ t2 → t1 ≡ digits contexts → t2 ≡ 32 ∷ t3 → t3 ≡ t4 ++ t5 → t4 ≡ digits operations → t5 ≡ 32 ∷ t6 → t6 ≡ u ∷ t7 → u ≡ 48 + mode_bits some →
-        t7 ≡ 32 ∷ t8 → t8 ≡ v ∷ t9 → v ≡ 48 + draining_bits answers → t9 ≡ 32 ∷ t10 → t10 ≡ locks_text locks ++ 10 ∷ [] → (text ≡ state_text s ++ 10 ∷ []) × (is_proper s ≡ true)
+    spelled : (text : Text) (s : State) (contexts operations : List StatusSet) (some : ModeSet) (answers : DrainingSet)
+        (locks : List HeldLock)
+        (t1 t2 t3 t4 t5 t6 t7 t8 t9 t10 : Text) (u v : ℕ) → is_proper (state_of contexts operations some answers locks) ≡ true →
+        state_of contexts operations some answers locks ≡ s →
+        text ≡ t1 ++ t2 → t1 ≡ digits contexts → t2 ≡ 32 ∷ t3 → t3 ≡ t4 ++ t5 → t4 ≡ digits operations → t5 ≡ 32 ∷ t6 →
+        t6 ≡ u ∷ t7 → u ≡ 48 + mode_bits some →
+        t7 ≡ 32 ∷ t8 → t8 ≡ v ∷ t9 → v ≡ 48 + draining_bits answers → t9 ≡ 32 ∷ t10 → t10 ≡ locks_text locks ++ 10 ∷ [] →
+        (text ≡ state_text s ++ 10 ∷ []) × (is_proper s ≡ true)
     spelled text s contexts operations some answers locks t1 t2 t3 t4 t5 t6 t7 t8 t9 t10 u v q o x1 x2 x3 x4 x5 x6 x7 x8 x9 y1 y2 y3 y4 =
         (rw (x1, x2, x3, x4, x5, x6, x7, x8, x9, y1, y2, y3, y4, ← o) (simp append_assoc), rw (← o) q)
 
@@ -427,8 +453,11 @@ count_takes (a ∷ b ∷ z ∷ []) n h =
     let one = lead_takes a x.0 x.1 in
     let two = digit_takes b y.0 y.1 in
     let sum : 10 * x.0 + y.0 ≡ n = cc (y.2) in
-    let text = two_digits x.0 y.0 one.1 one.2 two.1 in
-    (same_bytes a b z (48 + x.0) (48 + y.0) 10 one.0 two.0 ten ∙ ap (λ t. t ++ 10 ∷ []) (sym text ∙ ap decimal sum), omega arith, omega arith)
+    let text = two_digits x.0 y.0 one.1 one.2 two.1 in (
+      same_bytes a b z (48 + x.0) (48 + y.0) 10 one.0 two.0 ten ∙ ap (λ t. t ++ 10 ∷ []) (sym text ∙ ap decimal sum),
+      omega arith,
+      omega arith,
+    )
 count_takes (a ∷ b ∷ c ∷ z ∷ []) n h =
     let end = taken (z == 10) h in
     let ten : z ≡ 10 = eqb-true z 10 end.0 in
@@ -441,8 +470,12 @@ count_takes (a ∷ b ∷ c ∷ z ∷ []) n h =
     let three = digit_takes c w.0 w.1 in
     let sum : 100 * x.0 + 10 * y.0 + w.0 ≡ n = few.1 in
     let most : 100 * x.0 + 10 * y.0 + w.0 < 513 = ltb-true _ _ few.0 in
-    let text = three_digits x.0 y.0 w.0 one.1 two.1 three.1 in
-    (ap (λ t. a ∷ t) (same_bytes b c z (48 + y.0) (48 + w.0) 10 two.0 three.0 ten) ∙ ap (λ h. h ∷ (48 + y.0) ∷ (48 + w.0) ∷ 10 ∷ []) one.0 ∙ ap (λ t. t ++ 10 ∷ []) (sym text ∙ ap decimal sum), omega arith, omega arith)
+    let text = three_digits x.0 y.0 w.0 one.1 two.1 three.1 in (
+      ap (λ t. a ∷ t) (same_bytes b c z (48 + y.0) (48 + w.0) 10 two.0 three.0 ten)
+          ∙ ap (λ h. h ∷ (48 + y.0) ∷ (48 + w.0) ∷ 10 ∷ []) one.0 ∙ ap (λ t. t ++ 10 ∷ []) (sym text ∙ ap decimal sum),
+      omega arith,
+      omega arith,
+    )
 count_takes (a ∷ b ∷ c ∷ d ∷ e ∷ text) n h = cc
 
 matches : Option ℕ → ℕ → Bool
@@ -482,13 +515,15 @@ head_takes k text n h =
 pub head_again : (k n : ℕ) → 0 < n → n < 513 → head_of k (callback_line k n) ≡ Some n
 unfolding head_of
 head_again k n h l =
-    bind_again (after (codes "callback ") (callback_line k n)) (λ text. after (decimal k) text >>= λ text. blank text >>= λ text. count_of text)
+    bind_again (after (codes "callback ") (callback_line k n))
+    (λ text. after (decimal k) text >>= λ text. blank text >>= λ text. count_of text)
     (decimal k ++ 32 ∷ (decimal n ++ 10 ∷ [])) (after_again (codes "callback ") (decimal k ++ 32 ∷ (decimal n ++ 10 ∷ [])))
     (bind_again (after (decimal k) (decimal k ++ 32 ∷ (decimal n ++ 10 ∷ []))) (λ text. blank text >>= λ text. count_of text)
     (32 ∷ (decimal n ++ 10 ∷ [])) (after_again (decimal k) (32 ∷ (decimal n ++ 10 ∷ [])))
     (count_again n h l))
 
-pub point_takes : (p : ℕ) (text : Text) (point : Point) → point_of p text ≡ Some point → (text ≡ point_line p point) × (is_point point ≡ true)
+pub point_takes : (p : ℕ) (text : Text) (point : Point) → point_of p text ≡ Some point → (text ≡ point_line p point)
+    × (is_point point ≡ true)
 unfolding point_of
 point_takes p text point h =
     let a = some_bind (after (decimal p) text) _ h in
@@ -499,7 +534,8 @@ point_takes p text point h =
     (x ∙ ap (λ t. decimal p ++ t) (y ∙ ap (λ t. 32 ∷ t) rest.0), rest.1)
   where
     go : (text : Text) (point : Point) (x : Bool) → bytes_eq text (33 ∷ 10 ∷ []) ≡ x →
-        (if x then Some None else (state_at text >>= λ s. Some (Some s))) ≡ Some point → (text ≡ point_text point ++ 10 ∷ []) × (is_point point ≡ true)
+        (if x then Some None else (state_at text >>= λ s. Some (Some s))) ≡ Some point → (text ≡ point_text point ++ 10 ∷ [])
+        × (is_point point ≡ true)
     go text None true e h = ((bytes_eq-Decides text (33 ∷ 10 ∷ [])).0 e, refl)
     go text (Some s) true e h = cc
     go text None false e h = let one = some_bind (state_at text) _ h in let wrong = one.2 in cc
@@ -527,7 +563,8 @@ state_again s h =
     let nine_digits : 9 ≡ length (digits s.contexts) = sym (length_digits s.contexts ∙ eqb-true _ _ nine.0) in
     let five_digits : 5 ≡ length (digits s.operations) = sym (length_digits s.operations ∙ eqb-true _ _ five.0) in
     rw regrouped
-    (bind_again (front_of 9 (digits s.contexts ++ 32 ∷ second)) _ (digits s.contexts, 32 ∷ second) (front_again 9 (digits s.contexts) (32 ∷ second) nine_digits)
+    (bind_again (front_of 9 (digits s.contexts ++ 32 ∷ second)) _ (digits s.contexts, 32 ∷ second)
+    (front_again 9 (digits s.contexts) (32 ∷ second) nine_digits)
     (bind_again (sets_from [] (digits s.contexts)) _ s.contexts (sets_again [] s.contexts contexts.0)
     (bind_again (front_of 5 second) _ (digits s.operations, 32 ∷ third) (front_again 5 (digits s.operations) (32 ∷ third) five_digits)
     (bind_again (sets_from [] (digits s.operations)) _ s.operations (sets_again [] s.operations operations.0)
@@ -546,14 +583,18 @@ point_again p point h =
   where
     begins : (sets : List StatusSet) (rest : Text) → (length sets == 9) ≡ true → bytes_eq (digits sets ++ rest) (33 ∷ 10 ∷ []) ≡ false
     begins [] rest e = cc
-    begins (t ∷ sets) rest e = let other : (48 + status_bits t == 33) ≡ false = ne_eqb (48 + status_bits t) 33 (λ e. omega arith) in rw other refl
+    begins (t ∷ sets) rest e = let other : (48 + status_bits t == 33) ≡ false =
+        ne_eqb (48 + status_bits t) 33 (λ e. omega arith) in rw other refl
 
     go : (point : Point) → is_point point ≡ true →
-        (if bytes_eq (point_text point ++ 10 ∷ []) (33 ∷ 10 ∷ []) then Some None else (state_at (point_text point ++ 10 ∷ []) >>= λ s. Some (Some s))) ≡ Some point
+        (if bytes_eq (point_text point ++ 10 ∷ []) (33 ∷ 10 ∷ []) then Some None
+        else (state_at (point_text point ++ 10 ∷ []) >>= λ s. Some (Some s))) ≡ Some point
     go None h = refl
     go (Some s) h =
-        let others : Text = 32 ∷ (digits s.operations ++ 32 ∷ (48 + mode_bits s.modes) ∷ 32 ∷ (48 + draining_bits s.draining) ∷ 32 ∷ locks_text s.locks) in
-        let grouped : state_text s ++ 10 ∷ [] ≡ digits s.contexts ++ (others ++ 10 ∷ []) = append_assoc (digits s.contexts) others (10 ∷ []) in
+        let others : Text = 32 ∷ (digits s.operations ++ 32 ∷ (48 + mode_bits s.modes) ∷ 32 ∷ (48 + draining_bits s.draining) ∷ 32
+        ∷ locks_text s.locks) in
+        let grouped : state_text s ++ 10 ∷ [] ≡ digits s.contexts ++ (others ++ 10 ∷ []) =
+        append_assoc (digits s.contexts) others (10 ∷ []) in
         let other : bytes_eq (state_text s ++ 10 ∷ []) (33 ∷ 10 ∷ []) ≡ false =
         ap (λ t. bytes_eq t (33 ∷ 10 ∷ [])) grouped ∙ begins s.contexts (others ++ 10 ∷ []) (and_parts (length s.contexts == 9) _ h).0 in
         rw other (bind_again (state_at (state_text s ++ 10 ∷ [])) (λ t. Some (Some t)) s (state_again s h) refl)

@@ -19,7 +19,8 @@ abbrev Late : {A : Type 0} → ℕ → Outcome A → Type 0
 Late m (Ok x) = m < x.1.number
 Late m (Err n) = m < n
 
-then_late : {A B : Type 0} (m : ℕ) (o : Outcome A) (f : A × Place → Outcome B) → Late m o → ((a : A) (i : Place) → m < i.number → Late m (f (a, i))) → Late m (and_then o f)
+then_late : {A B : Type 0} (m : ℕ) (o : Outcome A) (f : A × Place → Outcome B) → Late m o →
+    ((a : A) (i : Place) → m < i.number → Late m (f (a, i))) → Late m (and_then o f)
 then_late m (Ok x) f h g = g x.0 x.1 h
 then_late m (Err n) f h g = h
 
@@ -37,16 +38,19 @@ asked_late m (Some x) i h = h
 
 point_late : (m p : ℕ) (i : Place) → m < i.number → Late m (point p i)
 unfolding point
-point_late m p i h = then_late m (line i) (λ q. asked (point_of p q.0) q.1) (line_late m i (omega arith)) (λ text j k. asked_late m (point_of p text) j k)
+point_late m p i h = then_late m (line i) (λ q. asked (point_of p q.0) q.1) (line_late m i (omega arith))
+    (λ text j k. asked_late m (point_of p text) j k)
 
 points_late : (m left : ℕ) (found : List Point) (i : Place) → m < i.number → Late m (points_from left found i)
 points_late m zero found i h = h
 points_late m (suc left) found i h =
-    then_late m (point (length found) i) (λ q. points_from left (found ++ q.0 ∷ []) q.1) (point_late m (length found) i h) (λ x j k. points_late m left (found ++ x ∷ []) j k)
+    then_late m (point (length found) i) (λ q. points_from left (found ++ q.0 ∷ []) q.1) (point_late m (length found) i h)
+    (λ x j k. points_late m left (found ++ x ∷ []) j k)
 
 callback_late : (m k : ℕ) (text : Text) (i : Place) → m < i.number → Late m (callback k text i)
 unfolding callback points
-callback_late m k text i h = then_late m (asked (head_of k text) i) (λ n. points n.0 n.1) (asked_late m (head_of k text) i h) (λ n j l. points_late m n [] j l)
+callback_late m k text i h = then_late m (asked (head_of k text) i) (λ n. points n.0 n.1) (asked_late m (head_of k text) i h)
+    (λ n j l. points_late m n [] j l)
 
 finished_late : (m : ℕ) (found : Certificate) (i : Place) → m < i.number → Late m (finished found i)
 unfolding closed
@@ -56,7 +60,8 @@ finished_late m found i h = go i.lines
     go [] = h
     go (text ∷ lines) = omega arith
 
-turn_late : (m : ℕ) (found : Certificate) (text : Text) (i : Place) (rest : Outcome Certificate) → m < i.number → Late m rest → (x : Bool) → Late m (if x then finished found i else rest)
+turn_late : (m : ℕ) (found : Certificate) (text : Text) (i : Place) (rest : Outcome Certificate) → m < i.number → Late m rest →
+    (x : Bool) → Late m (if x then finished found i else rest)
 turn_late m found text i rest h l true = finished_late m found i h
 turn_late m found text i rest h l false = l
 
@@ -66,10 +71,12 @@ callbacks_late m zero found i h =
     then_late m (line i) (λ q. if is_last found q.0 then finished found q.1 else Err q.1.number) (line_late m i (omega arith)) (λ text j k.
     turn_late m found text j (Err j.number) k k (is_last found text))
 callbacks_late m (suc left) found i h =
-    then_late m (line i) (λ q. if is_last found q.0 then finished found q.1 else and_then (callback (length found) q.0 q.1) (λ ps. callbacks_from left (found ++ ps.0 ∷ []) ps.1))
+    then_late m (line i) (λ q. if is_last found q.0 then finished found q.1
+    else and_then (callback (length found) q.0 q.1) (λ ps. callbacks_from left (found ++ ps.0 ∷ []) ps.1))
     (line_late m i (omega arith)) (λ text j k.
     turn_late m found text j (and_then (callback (length found) text j) (λ ps. callbacks_from left (found ++ ps.0 ∷ []) ps.1)) k
-    (then_late m (callback (length found) text j) (λ ps. callbacks_from left (found ++ ps.0 ∷ []) ps.1) (callback_late m (length found) text j k) (λ ps l w.
+    (then_late m (callback (length found) text j) (λ ps. callbacks_from left (found ++ ps.0 ∷ []) ps.1)
+    (callback_late m (length found) text j k) (λ ps l w.
     callbacks_late m left (found ++ ps ∷ []) l w)) (is_last found text))
 
 -- ---- two texts that are the same up to a line
@@ -110,25 +117,29 @@ asked_same m (Some x) n k xs ys e h = both x n k xs ys e h
 point_same : (m p : ℕ) → Alike m (point p)
 unfolding Alike point
 point_same m p n k xs ys e h =
-    then_same m (line (place n xs)) (line (place n ys)) (λ q. asked (point_of p q.0) q.1) (line_same m n k xs ys e h) (λ text. asked_same m (point_of p text)) (λ text i l. asked_late m (point_of p text) i l)
+    then_same m (line (place n xs)) (line (place n ys)) (λ q. asked (point_of p q.0) q.1) (line_same m n k xs ys e h)
+    (λ text. asked_same m (point_of p text)) (λ text i l. asked_late m (point_of p text) i l)
 
 points_same : (m left : ℕ) (found : List Point) → Alike m (points_from left found)
 unfolding Alike
 points_same m zero found n k xs ys e h = both found n k xs ys e h
 points_same m (suc left) found n k xs ys e h =
-    then_same m (point (length found) (place n xs)) (point (length found) (place n ys)) (λ q. points_from left (found ++ q.0 ∷ []) q.1) (point_same m (length found) n k xs ys e h)
+    then_same m (point (length found) (place n xs)) (point (length found) (place n ys))
+    (λ q. points_from left (found ++ q.0 ∷ []) q.1) (point_same m (length found) n k xs ys e h)
     (λ x. points_same m left (found ++ x ∷ [])) (λ x i l. points_late m left (found ++ x ∷ []) i l)
 
 callback_same : (m p : ℕ) (text : Text) → Alike m (callback p text)
 unfolding Alike callback points
 callback_same m p text n k xs ys e h =
-    then_same m (asked (head_of p text) (place n xs)) (asked (head_of p text) (place n ys)) (λ c. points c.0 c.1) (asked_same m (head_of p text) n k xs ys e h)
+    then_same m (asked (head_of p text) (place n xs)) (asked (head_of p text) (place n ys)) (λ c. points c.0 c.1)
+    (asked_same m (head_of p text) n k xs ys e h)
     (λ c. points_same m c []) (λ c i l. points_late m c [] i l)
 
 first_same : (m : ℕ) → Alike m first
 unfolding Alike first
 first_same m n k xs ys e h =
-    then_same m (line (place n xs)) (line (place n ys)) (λ q. asked (is_first q.0) q.1) (line_same m n k xs ys e h) (λ text. asked_same m (is_first text)) (λ text i l. asked_late m (is_first text) i l)
+    then_same m (line (place n xs)) (line (place n ys)) (λ q. asked (is_first q.0) q.1) (line_same m n k xs ys e h)
+    (λ text. asked_same m (is_first text)) (λ text i l. asked_late m (is_first text) i l)
 
 -- ---- a fault up to the line is a fault of both
 
@@ -148,38 +159,52 @@ then_told m _ _ f (both a n k xs ys e h) g l = g a n k xs ys e h
 then_told m _ _ f (fault n) g l = λ j k e. e
 then_told m r s f (late h) g l = told_late m (and_then r f) (and_then s f) (then_late m r f h l)
 
-finished_told : (m : ℕ) (found : Certificate) (n k : ℕ) (xs ys : List Text) → n + k ≡ m → take k xs ≡ take k ys → Told m (finished found (place n xs)) (finished found (place n ys))
+finished_told : (m : ℕ) (found : Certificate) (n k : ℕ) (xs ys : List Text) → n + k ≡ m → take k xs ≡ take k ys →
+    Told m (finished found (place n xs)) (finished found (place n ys))
 unfolding Told closed
 finished_told m found n k [] ys e h j l w = cc
 finished_told m found n zero (x ∷ xs) ys e h j l w = let same : n + 1 ≡ j = cc in absurd (omega arith)
 finished_told m found n (suc k) (x ∷ xs) [] e h j l w = cc
 finished_told m found n (suc k) (x ∷ xs) (y ∷ ys) e h j l w = w
 
-callbacks_told : (m left : ℕ) (found : Certificate) (n k : ℕ) (xs ys : List Text) → n + k ≡ m → take k xs ≡ take k ys → Told m (callbacks_from left found (place n xs)) (callbacks_from left found (place n ys))
+callbacks_told : (m left : ℕ) (found : Certificate) (n k : ℕ) (xs ys : List Text) → n + k ≡ m → take k xs ≡ take k ys →
+    Told m (callbacks_from left found (place n xs)) (callbacks_from left found (place n ys))
 unfolding callbacks_from Told Alike
 callbacks_told m zero found n k xs ys e h =
-    then_told m (line (place n xs)) (line (place n ys)) (λ q. if is_last found q.0 then finished found q.1 else Err q.1.number) (line_same m n k xs ys e h)
-    (λ text o c us vs f g. turn_told text o c us vs f g (is_last found text)) (λ text i l. turn_late m found text i (Err i.number) l l (is_last found text))
+    then_told m (line (place n xs)) (line (place n ys)) (λ q. if is_last found q.0 then finished found q.1 else Err q.1.number)
+    (line_same m n k xs ys e h)
+    (λ text o c us vs f g. turn_told text o c us vs f g (is_last found text))
+    (λ text i l. turn_late m found text i (Err i.number) l l (is_last found text))
   where
     turn_told : (text : Text) (o c : ℕ) (us vs : List Text) → o + c ≡ m → take c us ≡ take c vs → (x : Bool) →
         Told m (if x then finished found (place o us) else Err o) (if x then finished found (place o vs) else Err o)
     turn_told text o c us vs f g true = finished_told m found o c us vs f g
     turn_told text o c us vs f g false = λ j l w. w
 callbacks_told m (suc left) found n k xs ys e h =
-    then_told m (line (place n xs)) (line (place n ys)) (λ q. if is_last found q.0 then finished found q.1 else and_then (callback (length found) q.0 q.1) (λ ps. callbacks_from left (found ++ ps.0 ∷ []) ps.1))
+    then_told m (line (place n xs)) (line (place n ys))
+    (λ q. if is_last found q.0 then finished found q.1
+    else and_then (callback (length found) q.0 q.1) (λ ps. callbacks_from left (found ++ ps.0 ∷ []) ps.1))
     (line_same m n k xs ys e h)
-    (λ text o c us vs f g. turn_told text o c us vs f g (is_last found text) (λ ps a b us2 bs v w. callbacks_told m left (found ++ ps ∷ []) a b us2 bs v w))
-    (λ text i l. turn_late m found text i (and_then (callback (length found) text i) (λ ps. callbacks_from left (found ++ ps.0 ∷ []) ps.1)) l
-    (then_late m (callback (length found) text i) (λ ps. callbacks_from left (found ++ ps.0 ∷ []) ps.1) (callback_late m (length found) text i l) (λ ps j w. callbacks_late m left (found ++ ps ∷ []) j w)) (is_last found text))
+    (λ text o c us vs f g. turn_told text o c us vs f g (is_last found text)
+    (λ ps a b us2 bs v w. callbacks_told m left (found ++ ps ∷ []) a b us2 bs v w))
+    (λ text i l. turn_late m found text i
+    (and_then (callback (length found) text i) (λ ps. callbacks_from left (found ++ ps.0 ∷ []) ps.1)) l
+    (then_late m (callback (length found) text i) (λ ps. callbacks_from left (found ++ ps.0 ∷ []) ps.1)
+    (callback_late m (length found) text i l) (λ ps j w. callbacks_late m left (found ++ ps ∷ []) j w)) (is_last found text))
   where
     turn_told : (text : Text) (o c : ℕ) (us vs : List Text) → o + c ≡ m → take c us ≡ take c vs → (x : Bool) →
-        ((ps : List Point) (a b : ℕ) (us2 bs : List Text) → a + b ≡ m → take b us2 ≡ take b bs → Told m (callbacks_from left (found ++ ps ∷ []) (place a us2)) (callbacks_from left (found ++ ps ∷ []) (place a bs))) →
-        Told m (if x then finished found (place o us) else and_then (callback (length found) text (place o us)) (λ ps. callbacks_from left (found ++ ps.0 ∷ []) ps.1))
-        (if x then finished found (place o vs) else and_then (callback (length found) text (place o vs)) (λ ps. callbacks_from left (found ++ ps.0 ∷ []) ps.1))
+        ((ps : List Point) (a b : ℕ) (us2 bs : List Text) → a + b ≡ m → take b us2 ≡ take b bs →
+        Told m (callbacks_from left (found ++ ps ∷ []) (place a us2)) (callbacks_from left (found ++ ps ∷ []) (place a bs))) →
+        Told m (if x then finished found (place o us)
+        else and_then (callback (length found) text (place o us)) (λ ps. callbacks_from left (found ++ ps.0 ∷ []) ps.1))
+        (if x then finished found (place o vs)
+        else and_then (callback (length found) text (place o vs)) (λ ps. callbacks_from left (found ++ ps.0 ∷ []) ps.1))
     turn_told text o c us vs f g true rest = finished_told m found o c us vs f g
     turn_told text o c us vs f g false rest =
-        then_told m (callback (length found) text (place o us)) (callback (length found) text (place o vs)) (λ ps. callbacks_from left (found ++ ps.0 ∷ []) ps.1)
-        (callback_same m (length found) text o c us vs f g) (λ ps a b us2 bs v w. rest ps a b us2 bs v w) (λ ps i l. callbacks_late m left (found ++ ps ∷ []) i l)
+        then_told m (callback (length found) text (place o us)) (callback (length found) text (place o vs))
+        (λ ps. callbacks_from left (found ++ ps.0 ∷ []) ps.1)
+        (callback_same m (length found) text o c us vs f g) (λ ps a b us2 bs v w. rest ps a b us2 bs v w)
+        (λ ps i l. callbacks_late m left (found ++ ps ∷ []) i l)
 
 certificate_told : (m : ℕ) (xs ys : List Text) → take m xs ≡ take m ys → Told m (certificate (place 0 xs)) (certificate (place 0 ys))
 unfolding certificate Alike
@@ -187,7 +212,7 @@ certificate_told m xs ys h =
     then_told m (first (place 0 xs)) (first (place 0 ys)) (λ q. callbacks q.1) (first_same m 0 m xs ys (omega arith) h)
     (λ x n k us vs e g. callbacks_told m 16 [] n k us vs e g) (λ x i l. callbacks_late m 16 [] i l)
 
--- the fault of a text is at the first line that isn't as asked
+-- the fault of a text is at its first malformed line
 pub first_fault : (text : Text) (n : ℕ) → certificate (start text) ≡ Err n → IsFirstFault text n
 unfolding Told
 first_fault text n h =
@@ -199,7 +224,9 @@ first_fault text n h =
       certificate = begun.certificate;
       begun = begun.begun;
       stopped = λ cs good agree. (let read = lines_read (spelling cs) cs good (lines_spelled cs) in
-          let told : certificate (start (spelling cs)) ≡ Err n = certificate_told n (lines_of text) (lines_of (spelling cs)) (agree ∙ sym (ap (λ z. take n z) (lines_spelled cs))) n (omega arith) h in
+          let told : certificate (start (spelling cs)) ≡ Err n =
+          certificate_told n (lines_of text) (lines_of (spelling cs)) (agree ∙ sym (ap (λ z. take n z) (lines_spelled cs))) n
+          (omega arith) h in
           not_both (certificate (start (spelling cs))) cs read.0 n read.1 told);
     }
   where
@@ -214,11 +241,14 @@ is_spelled text cs o h = sym (joined_lines text) ∙ ap joined (read_lines text 
 pub is_certified : (text : Text) (cs : Certificate) (o : Place) → certificate (start text) ≡ Ok (cs, o) → is_certificate cs ≡ true
 is_certified text cs o h = (read_lines text cs o h).1
 
-spelled_read : (text : Text) (cs : Certificate) → is_certificate cs ≡ true → text ≡ spelling cs → (o : Place) × (certificate (start text) ≡ Ok (cs, o))
+spelled_read : (text : Text) (cs : Certificate) → is_certificate cs ≡ true → text ≡ spelling cs → (o : Place)
+    × (certificate (start text) ≡ Ok (cs, o))
 spelled_read text cs good spelled = lines_read text cs good (ap lines_of spelled ∙ lines_spelled cs)
 
-pub is_read : (text : Text) (found : Certificate) (o : Place) → certificate (start text) ≡ Ok (found, o) → (cs : Certificate) → is_certificate cs ≡ true → text ≡ spelling cs → found ≡ cs
-is_read text found o h cs good spelled = let read = spelled_read text cs good spelled in same_value (certificate (start text)) found cs o read.0 h read.1
+pub is_read : (text : Text) (found : Certificate) (o : Place) → certificate (start text) ≡ Ok (found, o) → (cs : Certificate) →
+    is_certificate cs ≡ true → text ≡ spelling cs → found ≡ cs
+is_read text found o h cs good spelled = let read = spelled_read text cs good spelled in
+    same_value (certificate (start text)) found cs o read.0 h read.1
   where
     same_value : (r : Outcome Certificate) (found cs : Certificate) (o p : Place) → r ≡ Ok (found, o) → r ≡ Ok (cs, p) → found ≡ cs
     same_value r found cs o p h k = let pair : (found, o) ≡ (cs, p) = cc in ap (λ (q : Certificate × Place). q.0) pair
@@ -227,9 +257,11 @@ pub is_fault : (text : Text) (e : CertFault) → Fails (certificate (start text)
 is_fault text OutOfMemory h = tt
 is_fault text (Line n) h = first_fault text n h
 
-pub only_memory : (text : Text) (e : CertFault) → Fails (certificate (start text)) e → (cs : Certificate) → is_certificate cs ≡ true → text ≡ spelling cs → e ≡ OutOfMemory
+pub only_memory : (text : Text) (e : CertFault) → Fails (certificate (start text)) e → (cs : Certificate) →
+    is_certificate cs ≡ true → text ≡ spelling cs → e ≡ OutOfMemory
 only_memory text OutOfMemory h cs good spelled = refl
-only_memory text (Line n) h cs good spelled = let read = spelled_read text cs good spelled in wrong (certificate (start text)) read.0 read.1 h
+only_memory text (Line n) h cs good spelled = let read = spelled_read text cs good spelled in
+    wrong (certificate (start text)) read.0 read.1 h
   where
     wrong : (r : Outcome Certificate) (o : Place) → r ≡ Ok (cs, o) → r ≡ Err n → Line n ≡ OutOfMemory
     wrong r o h k = cc

@@ -12,7 +12,8 @@ length_before = position_or_len (λ b. b == 10)
 Whole : Text → Type 0
 Whole text = lines_of text ≡ take (length_before text + 1) text ∷ lines_of (drop (length_before text + 1) text)
 
-first_byte : (b : ℕ) (text : Text) (x : Bool) → (b == 10) ≡ x → length_before (b ∷ text) < length (b ∷ text) → (length_before text < length text → Whole text) → Whole (b ∷ text)
+first_byte : (b : ℕ) (text : Text) (x : Bool) → (b == 10) ≡ x → length_before (b ∷ text) < length (b ∷ text) →
+    (length_before text < length text → Whole text) → Whole (b ∷ text)
 unfolding Whole
 first_byte b text true e h whole = let ten : b ≡ 10 = eqb-true b 10 e in rw (e, ten) refl
 first_byte b text false e h whole =
@@ -24,7 +25,8 @@ whole [] h = absurd (omega arith)
 whole (b ∷ text) h = first_byte b text (b == 10) refl h (whole text)
 
 -- a line that ends with LF
-pub whole_line : (text : Text) (place : ℕ) → position (λ b. b == 10) text ≡ Some place → lines_of text ≡ take (place + 1) text ∷ lines_of (drop (place + 1) text)
+pub whole_line : (text : Text) (place : ℕ) → position (λ b. b == 10) text ≡ Some place →
+    lines_of text ≡ take (place + 1) text ∷ lines_of (drop (place + 1) text)
 unfolding Whole
 whole_line text place h = at_place (nat_lt (length_before text) (length text)) refl h
   where
@@ -52,10 +54,12 @@ nothing_after [] = refl
 nothing_after (b ∷ text) = nothing_after text
 
 -- the last line, without LF
-pub unended_line : (text : Text) → 0 < length text → position (λ b. b == 10) text ≡ None → lines_of text ≡ take (length text) text ∷ lines_of (drop (length text) text)
+pub unended_line : (text : Text) → 0 < length text → position (λ b. b == 10) text ≡ None →
+    lines_of text ≡ take (length text) text ∷ lines_of (drop (length text) text)
 unended_line text k h = rw (whole_front text, nothing_after text) (at_place (nat_lt (length_before text) (length text)) refl h)
   where
-    at_place : (x : Bool) → nat_lt (length_before text) (length text) ≡ x → (if x then Some (length_before text) else None) ≡ None → lines_of text ≡ text ∷ []
+    at_place : (x : Bool) → nat_lt (length_before text) (length text) ≡ x →
+        (if x then Some (length_before text) else None) ≡ None → lines_of text ≡ text ∷ []
     at_place true e h = cc
     at_place false e h = unended text (ltb-false _ _ e) k
 
@@ -64,7 +68,8 @@ pub some_line : (text : Text) → 0 < length text → (line : Text) × (lines : 
 some_line [] h = absurd (omega arith)
 some_line (b ∷ text) h = by_byte (b == 10) (lines_of text)
   where
-    by_byte : (x : Bool) (lines : List Text) → (line : Text) × (after : List Text) × ((if x then (10 ∷ []) ∷ lines else begun_by b lines) ≡ line ∷ after)
+    by_byte : (x : Bool) (lines : List Text) → (line : Text) × (after : List Text)
+        × ((if x then (10 ∷ []) ∷ lines else begun_by b lines) ≡ line ∷ after)
     by_byte true lines = (_, _, refl)
     by_byte false [] = (_, _, refl)
     by_byte false (line ∷ lines) = (_, _, refl)

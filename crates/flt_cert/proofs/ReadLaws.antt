@@ -8,7 +8,8 @@ use Rattle.flt_cert.specs.Reading.{Place, line, point, points_from, callback, ca
 one_left : (n number : ℕ) → number < n → n - number ≡ suc (n - (number + 1))
 one_left n number h = omega arith
 
-pub points_step : (n number : ℕ) (found : List Point) (p : Point) (i j : Place) → number < n → length found ≡ number → point number i ≡ Ok (p, j) →
+pub points_step : (n number : ℕ) (found : List Point) (p : Point) (i j : Place) → number < n → length found ≡ number →
+    point number i ≡ Ok (p, j) →
     points_from (n - number) found i ≡ points_from (n - (number + 1)) (found ++ p ∷ []) j
 points_step n number found p i j h count read = rw (one_left n number h, count, read) refl
 
@@ -23,11 +24,13 @@ unfolding callbacks_from
 last_callback zero found text i j h last = rw (h, last) refl
 last_callback (suc left) found text i j h last = rw (h, last) refl
 
-pub no_last : (found : Certificate) (text : Text) (i j : Place) → line i ≡ Ok (text, j) → is_last found text ≡ false → callbacks_from 0 found i ≡ Err j.number
+pub no_last : (found : Certificate) (text : Text) (i j : Place) → line i ≡ Ok (text, j) → is_last found text ≡ false →
+    callbacks_from 0 found i ≡ Err j.number
 unfolding callbacks_from
 no_last found text i j h last = rw (h, last) refl
 
-pub next_callback : (n number : ℕ) (found : Certificate) (text : Text) (ps : List Point) (i j k : Place) → number < n → length found ≡ number →
+pub next_callback : (n number : ℕ) (found : Certificate) (text : Text) (ps : List Point) (i j k : Place) → number < n →
+    length found ≡ number →
     line i ≡ Ok (text, j) → is_last found text ≡ false → callback number text j ≡ Ok (ps, k) →
     callbacks_from (n - number) found i ≡ callbacks_from (n - (number + 1)) (found ++ ps ∷ []) k
 unfolding callbacks_from

@@ -50,14 +50,16 @@ point_lines_more p (x ∷ ps) qs =
     let shifted : suc p + length ps ≡ p + length (x ∷ ps) = omega arith in
     ap (λ z. point_line p x ∷ z) (point_lines_more (suc p) ps qs ∙ ap (λ n. point_lines (suc p) ps ++ point_lines n qs) shifted)
 
-callback_lines_more : (k : ℕ) (found : Certificate) (ps : List Point) → callback_lines k (found ++ ps ∷ []) ≡ callback_lines k found ++ one_callback (k + length found) ps
+callback_lines_more : (k : ℕ) (found : Certificate) (ps : List Point) →
+    callback_lines k (found ++ ps ∷ []) ≡ callback_lines k found ++ one_callback (k + length found) ps
 callback_lines_more k [] ps =
     let same : k ≡ k + length {A = List Point} [] = omega arith in
     append-nil (one_callback k ps) ∙ ap (λ n. one_callback n ps) same
 callback_lines_more k (qs ∷ found) ps =
     let shifted : suc k + length found ≡ k + length (qs ∷ found) = omega arith in
     let rest = callback_lines_more (suc k) found ps ∙ ap (λ n. callback_lines (suc k) found ++ one_callback n ps) shifted in
-    ap (λ z. one_callback k qs ++ z) rest ∙ sym (append_assoc (one_callback k qs) (callback_lines (suc k) found) (one_callback (k + length (qs ∷ found)) ps))
+    ap (λ z. one_callback k qs ++ z) rest
+    ∙ sym (append_assoc (one_callback k qs) (callback_lines (suc k) found) (one_callback (k + length (qs ∷ found)) ps))
 
 -- ---- the lines before a fault
 
@@ -69,14 +71,16 @@ done found = first_line ∷ callback_lines 0 found
 abbrev opened : Certificate → ℕ → List Point → List Text
 opened cs n found = done cs ++ callback_line (length cs) n ∷ point_lines 0 found
 
-begun_by : (all front more : List Text) (i : Place) (cs : Certificate) → At all front i → is_certificate cs ≡ true → lines_for cs ≡ front ++ more → Begun all (suc i.number)
+begun_by : (all front more : List Text) (i : Place) (cs : Certificate) → At all front i → is_certificate cs ≡ true →
+    lines_for cs ≡ front ++ more → Begun all (suc i.number)
 begun_by all front more i cs here good lines =
     record {
       before = length front;
       next = ap (λ n. suc n) (sym here.number);
       whose = cs;
       certificate = good;
-      begun = ap (λ z. take (length front) z) here.lines ∙ take-append_seam front i.lines ∙ sym (ap (λ z. take (length front) z) lines ∙ take-append_seam front more);
+      begun = ap (λ z. take (length front) z) here.lines ∙ take-append_seam front i.lines
+          ∙ sym (ap (λ z. take (length front) z) lines ∙ take-append_seam front more);
     }
 
 one_point : is_certificate ((None ∷ []) ∷ []) ≡ true
@@ -88,9 +92,12 @@ begun_first all i here = begun_by all [] (lines_for ((None ∷ []) ∷ [])) i ((
 certified : (cs : Certificate) → 0 < length cs → length cs < 17 → list_all is_callback cs ≡ true → is_certificate cs ≡ true
 certified cs some few each = and_from _ _ (lt-ltb 0 (length cs) some) (and_from _ _ (lt-ltb (length cs) 17 few) each)
 
-begun_done : (all : List Text) (cs : Certificate) (i : Place) → At all (done cs) i → length cs < 17 → list_all is_callback cs ≡ true → Begun all (suc i.number)
-begun_done all [] i here few each = begun_by all (done []) (callback_lines 0 ((None ∷ []) ∷ []) ++ last_line ∷ []) i ((None ∷ []) ∷ []) here one_point refl
-begun_done all (ps ∷ cs) i here few each = begun_by all (done (ps ∷ cs)) (last_line ∷ []) i (ps ∷ cs) here (certified (ps ∷ cs) (omega arith) few each) refl
+begun_done : (all : List Text) (cs : Certificate) (i : Place) → At all (done cs) i → length cs < 17 →
+    list_all is_callback cs ≡ true → Begun all (suc i.number)
+begun_done all [] i here few each =
+    begun_by all (done []) (callback_lines 0 ((None ∷ []) ∷ []) ++ last_line ∷ []) i ((None ∷ []) ∷ []) here one_point refl
+begun_done all (ps ∷ cs) i here few each =
+    begun_by all (done (ps ∷ cs)) (last_line ∷ []) i (ps ∷ cs) here (certified (ps ∷ cs) (omega arith) few each) refl
 
 unreached : ℕ → List Point
 unreached zero = []
@@ -115,21 +122,27 @@ record Open (cs : Certificate) (n left : ℕ) (found : List Point) : Type 0 wher
   count : length found + left ≡ n
   points : list_all is_point found ≡ true
 
-begun_opened : (all : List Text) (cs : Certificate) (n left : ℕ) (found : List Point) (i : Place) → Open cs n left found → At all (opened cs n found) i → Begun all (suc i.number)
+begun_opened : (all : List Text) (cs : Certificate) (n left : ℕ) (found : List Point) (i : Place) → Open cs n left found →
+    At all (opened cs n found) i → Begun all (suc i.number)
 begun_opened all cs n left found i opening here =
     let rest = unreached left in
     let ps : List Point = found ++ rest in
     let len : length ps ≡ n = length-append found rest ∙ ap (λ m. length found + m) (length_unreached left) ∙ opening.count in
-    let good_points : list_all is_point ps ≡ true = list_all-append is_point found rest ∙ and_from _ _ opening.points (all_unreached left) in
-    let good : is_callback ps ≡ true = rw len (and_from _ _ (lt-ltb 0 n opening.some) (and_from _ _ (lt-ltb n 513 opening.most) good_points)) in
-    let each : list_all is_callback (cs ++ ps ∷ []) ≡ true = list_all-append is_callback cs (ps ∷ []) ∙ and_from _ _ opening.each (and_from _ _ good refl) in
+    let good_points : list_all is_point ps ≡ true = list_all-append is_point found rest
+    ∙ and_from _ _ opening.points (all_unreached left) in
+    let good : is_callback ps ≡ true = rw len
+    (and_from _ _ (lt-ltb 0 n opening.some) (and_from _ _ (lt-ltb n 513 opening.most) good_points)) in
+    let each : list_all is_callback (cs ++ ps ∷ []) ≡ true = list_all-append is_callback cs (ps ∷ [])
+    ∙ and_from _ _ opening.each (and_from _ _ good refl) in
     let size : length (cs ++ ps ∷ []) ≡ length cs + 1 = length-append cs (ps ∷ []) in
     let few = opening.few in
     let whole : is_certificate (cs ++ ps ∷ []) ≡ true = certified (cs ++ ps ∷ []) (omega arith) (omega arith) each in
     let one : one_callback (length cs) ps ≡ callback_line (length cs) n ∷ (point_lines 0 found ++ point_lines (0 + length found) rest) =
     rw (len, point_lines_more 0 found rest) refl in
     let lines : lines_for (cs ++ ps ∷ []) ≡ opened cs n found ++ (point_lines (0 + length found) rest ++ last_line ∷ []) =
-    ap (λ z. first_line ∷ (z ++ last_line ∷ [])) (callback_lines_more 0 cs ps ∙ ap (λ m. callback_lines 0 cs ++ one_callback m ps) (let e : 0 + length cs ≡ length cs = omega arith in e) ∙ ap (λ z. callback_lines 0 cs ++ z) one)
+    ap (λ z. first_line ∷ (z ++ last_line ∷ []))
+    (callback_lines_more 0 cs ps ∙ ap (λ m. callback_lines 0 cs ++ one_callback m ps)
+    (let e : 0 + length cs ≡ length cs = omega arith in e) ∙ ap (λ z. callback_lines 0 cs ++ z) one)
     ∙ simp append_assoc in
     begun_by all (opened cs n found) (point_lines (0 + length found) rest ++ last_line ∷ []) i (cs ++ ps ∷ []) here whole lines
 
@@ -148,11 +161,14 @@ line_gives : (all front : List Text) (i : Place) → At all front i → Begun al
 unfolding line
 line_gives all front i here begun = go i.lines refl
   where
-    go : (lines : List Text) → i.lines ≡ lines → Gives (Begun all) (λ text o. At all (front ++ text ∷ []) o × (o.number ≡ suc i.number)) (line_at i.number lines)
-    go [] h = let P : ℕ → Type 0 = Begun all in let same : suc i.number ≡ i.number + 1 = omega arith in fails (i.number + 1) (subst P same begun)
+    go : (lines : List Text) → i.lines ≡ lines →
+        Gives (Begun all) (λ text o. At all (front ++ text ∷ []) o × (o.number ≡ suc i.number)) (line_at i.number lines)
+    go [] h = let P : ℕ → Type 0 = Begun all in let same : suc i.number ≡ i.number + 1 = omega arith in
+        fails (i.number + 1) (subst P same begun)
     go (text ∷ lines) h = gives text (record { number = i.number + 1; lines = lines }) (at_next text lines here h, omega arith)
 
-asked_gives : {A : Type 0} (all front : List Text) (what : Option A) (i : Place) (R : A → Place → Type 0) → Begun all i.number → ((x : A) → what ≡ Some x → R x i) → Gives (Begun all) R (asked what i)
+asked_gives : {A : Type 0} (all front : List Text) (what : Option A) (i : Place) (R : A → Place → Type 0) → Begun all i.number →
+    ((x : A) → what ≡ Some x → R x i) → Gives (Begun all) R (asked what i)
 asked_gives all front None i R begun h = fails i.number begun
 asked_gives all front (Some x) i R begun h = gives x i (h x refl)
 
@@ -167,10 +183,12 @@ point_gives : (all front : List Text) (p : ℕ) (i : Place) → At all front i �
 unfolding point
 point_gives all front p i here begun =
     then_gives (line i) (λ q. asked (point_of p q.0) q.1) (line_gives all front i here begun) (λ text o r.
-    asked_gives all front (point_of p text) o (λ x o. At all (front ++ point_line p x ∷ []) o × (is_point x ≡ true)) (number_begun all o.number (suc i.number) r.1 begun) (λ x h.
+    asked_gives all front (point_of p text) o (λ x o. At all (front ++ point_line p x ∷ []) o × (is_point x ≡ true))
+    (number_begun all o.number (suc i.number) r.1 begun) (λ x h.
     (let good = point_takes p text x h in (same_front (ap (λ z. front ++ z ∷ []) good.0) r.0, good.1))))
 
-points_gives : (all : List Text) (cs : Certificate) (n left : ℕ) (found : List Point) (i : Place) → Open cs n left found → At all (opened cs n found) i →
+points_gives : (all : List Text) (cs : Certificate) (n left : ℕ) (found : List Point) (i : Place) → Open cs n left found →
+    At all (opened cs n found) i →
     Gives (Begun all) (λ ps o. At all (opened cs n ps) o × (length ps ≡ n) × (list_all is_point ps ≡ true)) (points_from left found i)
 points_gives all cs n zero found i opening here = gives found i (here, (let count = opening.count in omega arith), opening.points)
 points_gives all cs n (suc left) found i opening here =
@@ -194,7 +212,8 @@ points_gives all cs n (suc left) found i opening here =
     more_lines x =
         append_assoc (done cs) (callback_line (length cs) n ∷ point_lines 0 found) (point_line (length found) x ∷ [])
         ∙ ap (λ z. done cs ++ callback_line (length cs) n ∷ z)
-        (ap (λ m. point_lines 0 found ++ point_line m x ∷ []) (let e : length found ≡ 0 + length found = omega arith in e) ∙ sym (point_lines_more 0 found (x ∷ [])))
+        (ap (λ m. point_lines 0 found ++ point_line m x ∷ []) (let e : length found ≡ 0 + length found = omega arith in e)
+        ∙ sym (point_lines_more 0 found (x ∷ [])))
 
 -- what is known of callbacks that were read
 record Found (all : List Text) (left : ℕ) (found : Certificate) (i : Place) : Type 0 where
@@ -202,29 +221,38 @@ record Found (all : List Text) (left : ℕ) (found : Certificate) (i : Place) : 
   each : list_all is_callback found ≡ true
   few : length found + left ≡ 16
 
-callback_gives : (all : List Text) (found : Certificate) (text : Text) (i : Place) → At all (done found ++ text ∷ []) i → Begun all i.number → length found < 16 → list_all is_callback found ≡ true →
+callback_gives : (all : List Text) (found : Certificate) (text : Text) (i : Place) → At all (done found ++ text ∷ []) i →
+    Begun all i.number → length found < 16 → list_all is_callback found ≡ true →
     Gives (Begun all) (λ ps o. At all (done (found ++ ps ∷ [])) o × (is_callback ps ≡ true)) (callback (length found) text i)
 unfolding callback points
 callback_gives all found text i here begun few each =
     then_gives (asked (head_of (length found) text) i) (λ n. points n.0 n.1)
     (asked_gives all (done found) (head_of (length found) text) i (λ n o. At all (opened found n []) o × (0 < n) × (n < 513)) begun (λ n h.
     (let head = head_takes (length found) text n h in (same_front (ap (λ z. done found ++ z ∷ []) head.0) here, head.1, head.2)))) (λ n o r.
-    then_same n (points_from n [] o) (points_gives all found n n [] o (record { few = few; each = each; some = r.1; most = r.2; count = omega arith; points = refl }) r.0) r.1 r.2)
+    then_same n (points_from n [] o) (points_gives all found n n [] o
+    (record { few = few; each = each; some = r.1; most = r.2; count = omega arith; points = refl }) r.0) r.1 r.2)
   where
     closed_lines : (n : ℕ) (ps : List Point) → length ps ≡ n → opened found n ps ≡ done (found ++ ps ∷ [])
-    closed_lines n ps h = rw (← h) (ap (λ z. first_line ∷ z) (sym (callback_lines_more 0 found ps ∙ ap (λ m. callback_lines 0 found ++ one_callback m ps) (let e : 0 + length found ≡ length found = omega arith in e))))
+    closed_lines n ps h = rw (← h) (ap (λ z. first_line ∷ z)
+        (sym (callback_lines_more 0 found ps
+        ∙ ap (λ m. callback_lines 0 found ++ one_callback m ps) (let e : 0 + length found ≡ length found = omega arith in e))))
 
-    then_same : (n : ℕ) (o : Outcome (List Point)) → Gives (Begun all) (λ ps o. At all (opened found n ps) o × (length ps ≡ n) × (list_all is_point ps ≡ true)) o → 0 < n → n < 513 →
+    then_same : (n : ℕ) (o : Outcome (List Point)) →
+        Gives (Begun all) (λ ps o. At all (opened found n ps) o × (length ps ≡ n) × (list_all is_point ps ≡ true)) o → 0 < n → n < 513 →
         Gives (Begun all) (λ ps o. At all (done (found ++ ps ∷ [])) o × (is_callback ps ≡ true)) o
     then_same n _ (gives ps o r) some most =
-        gives ps o (same_front (closed_lines n ps r.1) r.0, (let len : length ps ≡ n = r.1 in rw len (and_from _ _ (lt-ltb 0 n some) (and_from _ _ (lt-ltb n 513 most) r.2))))
+        gives ps o (
+          same_front (closed_lines n ps r.1) r.0,
+          (let len : length ps ≡ n = r.1 in rw len (and_from _ _ (lt-ltb 0 n some) (and_from _ _ (lt-ltb n 513 most) r.2))),
+        )
     then_same n _ (fails m r) some most = fails m r
 
 -- all lines are read
 Whole : List Text → Certificate → Place → Type 0
 Whole all cs o = (all ≡ lines_for cs) × (is_certificate cs ≡ true)
 
-finished_gives : (all : List Text) (found : Certificate) (text : Text) (i : Place) → At all (done found ++ text ∷ []) i → is_last found text ≡ true → length found < 17 → list_all is_callback found ≡ true →
+finished_gives : (all : List Text) (found : Certificate) (text : Text) (i : Place) → At all (done found ++ text ∷ []) i →
+    is_last found text ≡ true → length found < 17 → list_all is_callback found ≡ true →
     Gives (Begun all) (Whole all) (finished found i)
 unfolding closed Whole
 finished_gives all found text i here last few each = go i.lines refl
@@ -243,7 +271,8 @@ finished_gives all found text i here last few each = go i.lines refl
     go (other ∷ lines) h = fails (i.number + 1) (number_begun all (i.number + 1) (suc i.number) (omega arith)
         (begun_by all (done found ++ text ∷ []) [] i found here good (sym (append-nil (done found ++ text ∷ []) ∙ end))))
 
-callbacks_gives : (all : List Text) (left : ℕ) (found : Certificate) (i : Place) → Found all left found i → Gives (Begun all) (Whole all) (callbacks_from left found i)
+callbacks_gives : (all : List Text) (left : ℕ) (found : Certificate) (i : Place) → Found all left found i →
+    Gives (Begun all) (Whole all) (callbacks_from left found i)
 unfolding callbacks_from
 callbacks_gives all zero found i known =
     then_gives (line i) (λ q. if is_last found q.0 then finished found q.1 else Err q.1.number)
@@ -255,12 +284,15 @@ callbacks_gives all zero found i known =
     begun : Begun all (suc i.number)
     begun = begun_done all found i known.here few known.each
 
-    go : (text : Text) (o : Place) → At all (done found ++ text ∷ []) o × (o.number ≡ suc i.number) → (x : Bool) → is_last found text ≡ x → Gives (Begun all) (Whole all) (if x then finished found o else Err o.number)
+    go : (text : Text) (o : Place) → At all (done found ++ text ∷ []) o × (o.number ≡ suc i.number) → (x : Bool) →
+        is_last found text ≡ x → Gives (Begun all) (Whole all) (if x then finished found o else Err o.number)
     go text o r true h = finished_gives all found text o r.0 h few known.each
     go text o r false h = fails o.number (number_begun all o.number (suc i.number) r.1 begun)
 callbacks_gives all (suc left) found i known =
-    then_gives (line i) (λ q. if is_last found q.0 then finished found q.1 else and_then (callback (length found) q.0 q.1) (λ ps. callbacks_from left (found ++ ps.0 ∷ []) ps.1))
-    (line_gives all (done found) i known.here begun) (λ text o r. go text o r (is_last found text) refl (λ ps j k. callbacks_gives all left (found ++ ps ∷ []) j k))
+    then_gives (line i) (λ q. if is_last found q.0 then finished found q.1
+    else and_then (callback (length found) q.0 q.1) (λ ps. callbacks_from left (found ++ ps.0 ∷ []) ps.1))
+    (line_gives all (done found) i known.here begun)
+    (λ text o r. go text o r (is_last found text) refl (λ ps j k. callbacks_gives all left (found ++ ps ∷ []) j k))
   where
     few : length found < 16
     few = let count = known.few in omega arith
@@ -269,8 +301,10 @@ callbacks_gives all (suc left) found i known =
     begun = begun_done all found i known.here (omega (arith, few)) known.each
 
     go : (text : Text) (o : Place) → At all (done found ++ text ∷ []) o × (o.number ≡ suc i.number) → (x : Bool) → is_last found text ≡ x →
-        ((ps : List Point) (j : Place) → Found all left (found ++ ps ∷ []) j → Gives (Begun all) (Whole all) (callbacks_from left (found ++ ps ∷ []) j)) →
-        Gives (Begun all) (Whole all) (if x then finished found o else and_then (callback (length found) text o) (λ ps. callbacks_from left (found ++ ps.0 ∷ []) ps.1))
+        ((ps : List Point) (j : Place) → Found all left (found ++ ps ∷ []) j →
+        Gives (Begun all) (Whole all) (callbacks_from left (found ++ ps ∷ []) j)) →
+        Gives (Begun all) (Whole all) (if x then finished found o
+        else and_then (callback (length found) text o) (λ ps. callbacks_from left (found ++ ps.0 ∷ []) ps.1))
     go text o r true h rest = finished_gives all found text o r.0 h (omega (arith, few)) known.each
     go text o r false h rest =
         then_gives (callback (length found) text o) (λ ps. callbacks_from left (found ++ ps.0 ∷ []) ps.1)
@@ -278,7 +312,8 @@ callbacks_gives all (suc left) found i known =
         rest ps j (record {
           here = k.0;
           each = list_all-append is_callback found (ps ∷ []) ∙ and_from _ _ known.each (and_from _ _ k.1 refl);
-          few = ap (λ m. m + left) (length-append found (ps ∷ [])) ∙ (let count = known.few in let e : length found + 1 + left ≡ 16 = omega arith in e);
+          few = ap (λ m. m + left) (length-append found (ps ∷ []))
+              ∙ (let count = known.few in let e : length found + 1 + left ≡ 16 = omega arith in e);
         }))
 
 certificate_gives : (text : Text) → Gives (Begun (lines_of text)) (Whole (lines_of text)) (certificate (start text))
@@ -287,8 +322,10 @@ certificate_gives text =
     let all = lines_of text in
     let begun = begun_first all (start text) (record { lines = refl; number = refl }) in
     then_gives (first (start text)) (λ q. callbacks q.1)
-    (then_gives (line (start text)) (λ q. asked (is_first q.0) q.1) (line_gives all [] (start text) (record { lines = refl; number = refl }) begun) (λ first_text o r.
-    asked_gives all [] (is_first first_text) o (λ x o. At all (done []) o) (number_begun all o.number 1 r.1 begun) (λ x h. same_front (ap (λ z. z ∷ []) (header first_text x h)) r.0))) (λ x o r.
+    (then_gives (line (start text)) (λ q. asked (is_first q.0) q.1)
+    (line_gives all [] (start text) (record { lines = refl; number = refl }) begun) (λ first_text o r.
+    asked_gives all [] (is_first first_text) o (λ x o. At all (done []) o) (number_begun all o.number 1 r.1 begun)
+    (λ x h. same_front (ap (λ z. z ∷ []) (header first_text x h)) r.0))) (λ x o r.
     callbacks_gives all 16 [] o (record { here = r; each = refl; few = refl }))
   where
     header : (text : Text) (x : Unit {0}) → is_first text ≡ Some x → text ≡ first_line
@@ -299,12 +336,15 @@ certificate_gives text =
         go false e h = cc
 
 -- what is read is spelled so
-pub read_lines : (text : Text) (cs : Certificate) (o : Place) → certificate (start text) ≡ Ok (cs, o) → (lines_of text ≡ lines_for cs) × (is_certificate cs ≡ true)
+pub read_lines : (text : Text) (cs : Certificate) (o : Place) → certificate (start text) ≡ Ok (cs, o) →
+    (lines_of text ≡ lines_for cs) × (is_certificate cs ≡ true)
 unfolding Whole
 read_lines text cs o h = go (certificate (start text)) (certificate_gives text) h
   where
-    go : (r : Outcome Certificate) → Gives (Begun (lines_of text)) (Whole (lines_of text)) r → r ≡ Ok (cs, o) → (lines_of text ≡ lines_for cs) × (is_certificate cs ≡ true)
-    go _ (gives found p w) h = let same : (found, p) ≡ (cs, o) = cc in let P : Certificate → Type 0 = λ c. (lines_of text ≡ lines_for c) × (is_certificate c ≡ true) in
+    go : (r : Outcome Certificate) → Gives (Begun (lines_of text)) (Whole (lines_of text)) r → r ≡ Ok (cs, o) →
+        (lines_of text ≡ lines_for cs) × (is_certificate cs ≡ true)
+    go _ (gives found p w) h = let same : (found, p) ≡ (cs, o) = cc in let P : Certificate → Type 0 =
+        λ c. (lines_of text ≡ lines_for c) × (is_certificate c ≡ true) in
         subst P (ap (λ (q : Certificate × Place). q.0) same) w
     go _ (fails n w) h = cc
 
@@ -321,7 +361,8 @@ pub joined_lines : (text : Text) → joined (lines_of text) ≡ text
 joined_lines [] = refl
 joined_lines (b ∷ text) = go (b == 10) refl (lines_of text) (joined_lines text)
   where
-    go : (x : Bool) → (b == 10) ≡ x → (lines : List Text) → joined lines ≡ text → joined (if x then (10 ∷ []) ∷ lines else text_spec.begun_by b lines) ≡ b ∷ text
+    go : (x : Bool) → (b == 10) ≡ x → (lines : List Text) → joined lines ≡ text →
+        joined (if x then (10 ∷ []) ∷ lines else text_spec.begun_by b lines) ≡ b ∷ text
     go true e lines h = rw (eqb-true b 10 e) (ap (λ z. 10 ∷ z) h)
     go false e [] h = ap (λ z. b ∷ z) h
     go false e (line ∷ lines) h = ap (λ z. b ∷ z) h

@@ -61,7 +61,8 @@ locks_text (h ∷ locks) = lock_text h ++ more_locks locks
 -- the five fields of a state
 abbrev pub state_text : State → Text
 state_text s =
-    digits s.contexts ++ 32 ∷ (digits s.operations ++ 32 ∷ (48 + mode_bits s.modes) ∷ 32 ∷ (48 + draining_bits s.draining) ∷ 32 ∷ locks_text s.locks)
+    digits s.contexts ++ 32 ∷ (digits s.operations ++ 32 ∷ (48 + mode_bits s.modes) ∷ 32 ∷ (48 + draining_bits s.draining) ∷ 32
+    ∷ locks_text s.locks)
 
 -- the same, or "!" where the point isn't reached
 abbrev pub point_text : Point → Text
@@ -114,7 +115,7 @@ spelling callbacks = joined (lines_for callbacks)
 abbrev pub Agree : ℕ → Text → Certificate → Type 0
 Agree n text callbacks = take n (lines_of text) ≡ take n (lines_for callbacks)
 
--- the first line that isn't as asked, counted from 1: the lines before it are the first of some certificate, and
+-- the first malformed line, counted from 1: the lines before it are the first of some certificate, and
 -- with it they are those of none; a missing line counts
 pub record IsFirstFault (text : Text) (n : ℕ) : Type 0 where
   pub before : ℕ

@@ -1,4 +1,4 @@
--- Reading a certificate line by line, with the first line that isn't as asked.
+-- Reading a certificate line by line, with the first malformed line.
 use Rattle.std.specs.Prelude.{◌≡◌, ℕ, zero, suc, ◌+◌, ◌-◌, Bool, ◌&&◌, ◌==◌, nat_lt, if◌then◌else◌, List, [], ◌∷◌, ◌++◌, length, take, drop, codes, Option, Some, None, Result, Ok, Err}
 use Rattle.std.specs.Str.{bytes_eq}
 use Rattle.flt_rules.specs.Call.{lock_at}
@@ -117,7 +117,7 @@ pub record Place : Type 0 where
 abbrev pub start : Text → Place
 start text = record { number = 0; lines = lines_of text }
 
--- what was read and the place after it, or the number of the first line that isn't as asked
+-- what was read and the place after it, or the number of the first malformed line
 abbrev pub Outcome : Type 0 → Type 0
 Outcome A = Result (A × Place) ℕ
 
@@ -205,7 +205,7 @@ ReadsBy view outcome (Err e) new = Fails outcome e
 abbrev pub Reads : {A : Type 0} → Outcome A → Result A CertFault → Place → Type 0
 Reads = ReadsBy (λ x. x)
 
--- a fault names the first line that isn't as asked
+-- a fault names the first malformed line
 abbrev pub IsFaultOf : Text → CertFault → Type 0
 IsFaultOf text OutOfMemory = Unit {0}
 IsFaultOf text (Line n) = IsFirstFault text n

@@ -46,6 +46,7 @@ count_of (a ∷ []) = None
 count_of (a ∷ z ∷ []) = if z == 10 then leading a else None
 count_of (a ∷ b ∷ z ∷ []) = if z == 10 then (leading a >>= λ m. digit_of b >>= λ n. Some (10 * m + n)) else None
 count_of (a ∷ b ∷ c ∷ z ∷ []) =
-    if z == 10 then (leading a >>= λ l. digit_of b >>= λ m. digit_of c >>= λ n. (if nat_lt (100 * l + 10 * m + n) 513 then Some (100 * l + 10 * m + n) else None))
+    if z == 10 then (leading a >>= λ l. digit_of b >>= λ m. digit_of c
+    >>= λ n. (if nat_lt (100 * l + 10 * m + n) 513 then Some (100 * l + 10 * m + n) else None))
     else None
 count_of (a ∷ b ∷ c ∷ d ∷ e ∷ text) = None

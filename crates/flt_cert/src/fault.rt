@@ -8,7 +8,7 @@ use thiserror::Error;
 
 #[derive(Debug, Drop, Error)]
 pub enum CertFault {
-    /// The first line that isn't as asked, counted from 1. A missing line counts.
+    /// The first malformed line, counted from 1. A missing line counts.
     #[error("certificate line {0}")]
     Line(usize),
     #[error("out of memory")]

@@ -52,7 +52,7 @@ impl<'a> Lines<'a> {
         Ok(line)
     }
 
-    /// What the latest line says, or that it isn't as asked.
+    /// What the latest line says, or that it is malformed.
     pub(crate) fn asked<T: Drop>(&self, what: Option<T>) -> Result<T, CertFault>
         ensures value { spec.Reads (spec.asked what self.now) result self.now }
         ensures said { IfOk result (λ x. what ≡ Some x) }
@@ -60,7 +60,7 @@ impl<'a> Lines<'a> {
         what.ok_or(self.refused())
     }
 
-    /// That the latest line isn't as asked.
+    /// That the latest line is malformed.
     pub(crate) fn refused(&self) -> CertFault
         ensures { result ≡ CertFault.Line self.now.number }
     {

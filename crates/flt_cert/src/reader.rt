@@ -110,8 +110,9 @@ pub fn read(alloc: Global, bytes: &[u8]) -> Result<Cert, CertFault>
     ensures spelled { IfOk result (λ cert. bytes.now ≡ format.spelling cert) }
     ensures certificate { IfOk result (λ cert. IsTrue (format.is_certificate cert)) }
     // What is spelled so is read, unless memory runs out.
-    ensures read { (callbacks : format.Certificate) → IsTrue (format.is_certificate callbacks) → bytes.now ≡ format.spelling callbacks → MatchResult result (λ cert. cert ≡ callbacks) (λ e. e ≡ CertFault.OutOfMemory) }
-    // A fault names the first line that isn't as asked.
+    ensures read { (callbacks : format.Certificate) → IsTrue (format.is_certificate callbacks) →
+        bytes.now ≡ format.spelling callbacks → MatchResult result (λ cert. cert ≡ callbacks) (λ e. e ≡ CertFault.OutOfMemory) }
+    // A fault names the first malformed line.
     ensures fault { MatchResult result (λ _. Unit {0}) (λ e. spec.IsFaultOf bytes.now e) }
 {
     let mut lines = Lines::new(bytes);

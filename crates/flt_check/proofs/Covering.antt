@@ -74,16 +74,19 @@ steps_by k callback (Ok next) e =
     (next, refl, is_led k callback next.first both.0, is_led k callback next.second both.1)
 steps_by k callback (Err r) e = absurd (none-some r (sym e))
 
-by_steps : (k : Certificate) (callback : ℕ) (r : Result Successors Rule) (next : Successors) → r ≡ Ok next → IsLed k callback next.first → IsLed k callback next.second →
+by_steps : (k : Certificate) (callback : ℕ) (r : Result Successors Rule) (next : Successors) → r ≡ Ok next →
+    IsLed k callback next.first → IsLed k callback next.second →
     result_fault k callback r ≡ None
 by_steps k callback r next e a b = rw e (none_lesser _ _ (from_led k callback next.first a) (from_led k callback next.second b))
 
-own_steps : (g : Graph) (k : Certificate) (callback point : ℕ) (x : State) (o : Option State) → own_fault g k callback point o ≡ None → o ≡ Some x → Steps g k callback point x
+own_steps : (g : Graph) (k : Certificate) (callback point : ℕ) (x : State) (o : Option State) →
+    own_fault g k callback point o ≡ None → o ≡ Some x → Steps g k callback point x
 own_steps g k callback point x o e h =
     let at_x : own_fault g k callback point (Some x) ≡ None = rw h at e in
     steps_by k callback (transfer g callback point x) at_x
 
-steps_own : (g : Graph) (k : Certificate) (callback point : ℕ) (o : Option State) → ((x : State) → o ≡ Some x → Steps g k callback point x) → own_fault g k callback point o ≡ None
+steps_own : (g : Graph) (k : Certificate) (callback point : ℕ) (o : Option State) →
+    ((x : State) → o ≡ Some x → Steps g k callback point x) → own_fault g k callback point o ≡ None
 steps_own g k callback point (Some x) h = let s = h x refl in by_steps k callback (transfer g callback point x) s.0 s.1 s.2 s.3
 steps_own g k callback point None h = refl
 
@@ -97,11 +100,13 @@ if_entered : (b : Bool) → b ≡ true → (if b then None else Some R14) ≡ No
 if_entered true e = refl
 if_entered false e = cc
 
-entered : (g : Graph) (callback : ℕ) (o : Option State) → entry_by (place_at g callback) o ≡ None → (y : State) × (o ≡ Some y) × (is_below (entry (place_at g callback)) y ≡ true)
+entered : (g : Graph) (callback : ℕ) (o : Option State) → entry_by (place_at g callback) o ≡ None → (y : State) × (o ≡ Some y)
+    × (is_below (entry (place_at g callback)) y ≡ true)
 entered g callback (Some y) e = (y, refl, entered_if (is_below (entry (place_at g callback)) y) e)
 entered g callback None e = absurd (none-some R14 (sym e))
 
-from_entered : (g : Graph) (callback : ℕ) (y : State) (o : Option State) → o ≡ Some y → is_below (entry (place_at g callback)) y ≡ true → entry_by (place_at g callback) o ≡ None
+from_entered : (g : Graph) (callback : ℕ) (y : State) (o : Option State) → o ≡ Some y →
+    is_below (entry (place_at g callback)) y ≡ true → entry_by (place_at g callback) o ≡ None
 from_entered g callback y (Some z) e h =
     let same : is_below (entry (place_at g callback)) z ≡ true = cc in
     if_entered (is_below (entry (place_at g callback)) z) same
@@ -117,10 +122,12 @@ by_own : (b : Bool) (own e : Option Rule) → own ≡ None → e ≡ None → (i
 by_own true own e h k = none_lesser own e h k
 by_own false own e h k = h
 
-own_of : (g : Graph) (k : Certificate) (callback point : ℕ) → point_fault g k callback point ≡ None → own_fault g k callback point (state_at k callback point) ≡ None
+own_of : (g : Graph) (k : Certificate) (callback point : ℕ) → point_fault g k callback point ≡ None →
+    own_fault g k callback point (state_at k callback point) ≡ None
 own_of g k callback point e = own_by (point == 0) _ _ e
 
-point_of : (g : Graph) (k : Certificate) (callback point : ℕ) → own_fault g k callback point (state_at k callback point) ≡ None → entry_fault g k callback ≡ None → point_fault g k callback point ≡ None
+point_of : (g : Graph) (k : Certificate) (callback point : ℕ) → own_fault g k callback point (state_at k callback point) ≡ None →
+    entry_fault g k callback ≡ None → point_fault g k callback point ≡ None
 point_of g k callback point e h = by_own (point == 0) _ _ e h
 
 entry_of : (g : Graph) (k : Certificate) (callback : ℕ) → point_fault g k callback 0 ≡ None → entry_fault g k callback ≡ None
@@ -132,10 +139,12 @@ last_below : (n m : ℕ) → ((c : ℕ) → c < n → c < m) → n ≤ m
 last_below zero m h = omega arith
 last_below (suc n) m h = let e = h n (omega arith) in omega arith
 
-same_length : (g : Graph) (k : Certificate) → length k ≤ length g.callbacks → ((c : ℕ) → c < length g.callbacks → c < length k) → length k ≡ length g.callbacks
+same_length : (g : Graph) (k : Certificate) → length k ≤ length g.callbacks → ((c : ℕ) → c < length g.callbacks → c < length k) →
+    length k ≡ length g.callbacks
 same_length g k h each = let e = last_below (length g.callbacks) (length k) each in omega arith
 
-counted : (g : Graph) (k : Certificate) (callback : ℕ) → differs g k callback ≡ false → (callback < length k) × (points_at g callback ≡ count_at k callback)
+counted : (g : Graph) (k : Certificate) (callback : ℕ) → differs g k callback ≡ false → (callback < length k)
+    × (points_at g callback ≡ count_at k callback)
 counted g k callback e =
     let parts = or_parts _ _ e in
     (leb-false _ _ parts.0, eqb-true _ _ (not-false _ parts.1))
@@ -143,7 +152,8 @@ counted g k callback e =
 same_count : (n m : ℕ) → n ≡ m → not (n == m) ≡ false
 same_count n m e = ap not (eq-eqb n m e)
 
-agreed : (g : Graph) (k : Certificate) (callback : ℕ) → callback < length k → points_at g callback ≡ count_at k callback → differs g k callback ≡ false
+agreed : (g : Graph) (k : Certificate) (callback : ℕ) → callback < length k → points_at g callback ≡ count_at k callback →
+    differs g k callback ≡ false
 agreed g k callback below e = rw (lt-leb _ _ below) (same_count _ _ e)
 
 some_point : (k : Certificate) (callback : ℕ) → list_all is_callback k ≡ true → callback < length k → 0 < count_at k callback
@@ -187,6 +197,7 @@ least_not : (g : Graph) (k : Certificate) (f : Refusal) → IsLeastFault g k f �
 least_not g k f (inl count) h = count_fault_not g k f.callback count.callback h.counts
 least_not g k f (inr point) h = none-some f.rule (sym (h.points f.callback point.callback f.point point.point.within) ∙ point.point.broken)
 
-pub accepted_iff : (g : Graph) (k : Certificate) (r : Result (Unit {0}) Refusal) → is_certificate k ≡ true → OnOk r (IsFaultless g k) → IfErr r (IsLeastFault g k) → IsOk r ↔ Covers g k
+pub accepted_iff : (g : Graph) (k : Certificate) (r : Result (Unit {0}) Refusal) → is_certificate k ≡ true →
+    OnOk r (IsFaultless g k) → IfErr r (IsLeastFault g k) → IsOk r ↔ Covers g k
 accepted_iff g k (Ok u) good h e = (λ _. covers_of g k good h, λ _. refl)
 accepted_iff g k (Err f) good h e = (λ no. absurd (false≢true no), λ c. absurd (least_not g k f e (faultless_of g k c)))

@@ -38,7 +38,8 @@ counts_once g k f h a b =
 
 -- ---- points
 
-same_point : (g : Graph) (k : Certificate) (callback p q : ℕ) (r s : Rule) → IsFirstPoint g k callback p r → IsFirstPoint g k callback q s → p ≡ q
+same_point : (g : Graph) (k : Certificate) (callback p q : ℕ) (r s : Rule) → IsFirstPoint g k callback p r →
+    IsFirstPoint g k callback q s → p ≡ q
 same_point g k callback p q r s a b = by_order (cases_order p q)
   where
     by_order : ((p ≡ q) ⊎ ((p < q) ⊎ (q < p))) → p ≡ q

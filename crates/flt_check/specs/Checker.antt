@@ -79,7 +79,7 @@ pub record IsFirstToDiffer (g : Graph) (k : Certificate) (callback : ℕ) : Type
   pub here : differs g k callback ≡ true
   pub earlier : (c : ℕ) → c < callback → differs g k c ≡ false
 
--- none differs, but the certificate has more: told of the text's last one
+-- none differs, but the certificate has more: reported of the text's last one
 pub record HasMore (g : Graph) (k : Certificate) (callback : ℕ) : Type 0 where
   pub last : callback ≡ length g.callbacks - 1
   pub more : length g.callbacks < length k

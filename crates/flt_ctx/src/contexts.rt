@@ -215,7 +215,7 @@ impl Contexts {
         })
     }
 
-    /// Whether a context is linked for the filter, which the filter's list tells at once.
+    /// Whether a context is linked for the filter, which the filter's list shows at once.
     fn has_links(&self, filter: usize) -> bool
         ensures some { result ≡ true → (x : ℕ) × (key : Key) × (((context_at self.now x).link ≡ Some key) × (key.filter ≡ filter)) }
         ensures none { result ≡ false → (x : ℕ) (key : Key) → (context_at self.now x).link ≡ Some key → key.filter ≢ filter }

@@ -35,12 +35,14 @@ acted None rest = tt
 acted (Some a) rest = omega arith
 
 chosen : (o : Option Bool) (act : Activation) (granted refused rest : List Statement) →
-    IsCheaper (1 + max (cost granted) (cost refused) + cost rest) (option_map (λ (b : Bool). goes_on_to ((cond b granted refused) ++ rest) act) o)
+    IsCheaper (1 + max (cost granted) (cost refused) + cost rest)
+    (option_map (λ (b : Bool). goes_on_to ((cond b granted refused) ++ rest) act) o)
 chosen None act granted refused rest = tt
 chosen (Some true) act granted refused rest = omega (arith, cost_append granted rest)
 chosen (Some false) act granted refused rest = omega (arith, cost_append refused rest)
 
-turned : (line turns : ℕ) (block rest : List Statement) → cost (turns_left line turns block rest) + 1 ≤ 1 + turns * (1 + cost block) + cost rest
+turned : (line turns : ℕ) (block rest : List Statement) →
+    cost (turns_left line turns block rest) + 1 ≤ 1 + turns * (1 + cost block) + cost rest
 turned line zero block rest = omega arith
 turned line (suc turns) block rest =
     let whole = cost_append block (tree.Repeat line turns block ∷ rest) in
@@ -53,7 +55,8 @@ layer_cheaper : (draining : Bool) (act : Activation) (rest : List Statement) (la
 layer_cheaper draining act rest (Statement-F.Act line a) = acted (after_action act a) rest
 layer_cheaper draining act rest (Statement-F.Call line c) = tt
 layer_cheaper draining act rest (Statement-F.Return line st) = tt
-layer_cheaper draining act rest (Statement-F.If line asked granted refused) = chosen (holds_condition draining act asked) act granted refused rest
+layer_cheaper draining act rest (Statement-F.If line asked granted refused) =
+    chosen (holds_condition draining act asked) act granted refused rest
 layer_cheaper draining act rest (Statement-F.Repeat line turns block) = turned line turns block rest
 
 -- what remains after a local step

@@ -12,7 +12,8 @@ pub locally_more : (draining : Bool) (n : ℕ) (act last further : Activation) �
     local_step draining last last.rest ≡ Some further → locally draining (suc n) act ≡ Some further
 locally_more draining zero act last further e more =
     let same : act ≡ last = cc in
-    let step : local_step draining act act.rest ≡ Some further = subst (λ (x : Activation). local_step draining x x.rest ≡ Some further) (sym same) more in
+    let step : local_step draining act act.rest ≡ Some further =
+    subst (λ (x : Activation). local_step draining x x.rest ≡ Some further) (sym same) more in
     ap (λ (o : Option Activation). option_and_then (locally draining zero) o) step
 locally_more draining (suc n) act last further e more =
     by (local_step draining act act.rest) e (λ b h. locally_more draining n b last further h more)

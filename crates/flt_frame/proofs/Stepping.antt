@@ -50,12 +50,14 @@ pub record Laws : Type 0 where
   -- what remains after an outcome stands at the point's successor, with the turns after it
   pub next : (all : List Callback) (c : Callback) (g : CallbackGraph) (p : ℕ) (turns : List Turn) (list : List Statement) (outcome : Bool) →
       IsGraphOf all c g → StandsWith c.body p turns list →
-      StandsAtWith c.body (successor (point_in g p).instruction outcome) (turns_after (point_in g p).instruction p outcome turns) (remaining list outcome)
+      StandsAtWith c.body (successor (point_in g p).instruction outcome) (turns_after (point_in g p).instruction p outcome turns)
+      (remaining list outcome)
   -- a `repeat` has as many turns left as its point
   pub left : (all : List Callback) (c : Callback) (g : CallbackGraph) (p : ℕ) (turns : List Turn) (s : Statement) (rest : List Statement) →
       IsGraphOf all c g → StandsWith c.body p turns (s ∷ rest) → HasLeft p turns (point_in g p).instruction (out-Statement s)
   -- no list that stands costs more than the body
-  pub cost : (body : List Statement) (p : ℕ) (turns : List Turn) (list : List Statement) → StandsWith body p turns list → cost list ≤ cost body
+  pub cost : (body : List Statement) (p : ℕ) (turns : List Turn) (list : List Statement) → StandsWith body p turns list →
+      cost list ≤ cost body
   -- few turns stand round a list
   pub nested : (f : Filter) (k p : ℕ) (c : Callback) (turns : List Turn) (list : List Statement) → IsWellFormed f →
       slice_get f.callbacks k ≡ Some c → StandsWith c.body p turns list → length turns ≤ max_repeats
@@ -94,7 +96,8 @@ LeadsOn all body s rest after layer text =
     (turns_after (instruction_of all text s.point after) s.point outcome s.turns) (remaining_of layer rest outcome)
 
 -- the step of a layer, and that of the instruction of a text
-abbrev FollowsAt : List Callback → List Statement → Bool → Standing → List Statement → List Statement → ℕ → Statement-F Statement → Statement-F Statement → Type 0
+abbrev FollowsAt : List Callback → List Statement → Bool → Standing → List Statement → List Statement → ℕ →
+    Statement-F Statement → Statement-F Statement → Type 0
 FollowsAt all body draining s list rest after layer text =
     Follows body (after_statement draining (activation_with s list) rest layer) (stepped draining (instruction_of all text s.point after) s)
 
@@ -117,8 +120,10 @@ module _ (all : List Callback) (body : List Statement) (draining : Bool) (s : St
   chosen_follows granted refused yes_at no_at (Some b) on = ((if b then granted else refused) ++ rest, (refl, on b))
 
   test_follows : (line : ℕ) (t : Test) (granted refused : List Statement) →
-      LeadsOn all body s rest after (Statement-F.If line (condition.Test t) granted refused) (Statement-F.If line (condition.Test t) granted refused) →
-      FollowsAt all body draining s list rest after (Statement-F.If line (condition.Test t) granted refused) (Statement-F.If line (condition.Test t) granted refused)
+      LeadsOn all body s rest after (Statement-F.If line (condition.Test t) granted refused)
+      (Statement-F.If line (condition.Test t) granted refused) →
+      FollowsAt all body draining s list rest after (Statement-F.If line (condition.Test t) granted refused)
+      (Statement-F.If line (condition.Test t) granted refused)
   test_follows line t granted refused on =
       subst (λ (o : Option Bool). Follows body
       (option_map (λ (b : Bool). goes_on_to ((if b then granted else refused) ++ rest) (activation_with s list)) o)
@@ -132,14 +137,18 @@ module _ (all : List Callback) (body : List Statement) (draining : Bool) (s : St
       ((outcome : Bool) → StandsAtWith body (Some (if outcome then body_at else after))
       (turns_after (instruction.Repeat text body_at after) s.point outcome s.turns)
       (remaining_of (Statement-F.Repeat line left block) rest outcome)) →
-      Follows body (after_statement draining (activation_with s list) rest (Statement-F.Repeat line left block)) (turned_with left body_at after s)
+      Follows body (after_statement draining (activation_with s list) rest (Statement-F.Repeat line left block))
+      (turned_with left body_at after s)
   turn_follows line zero text body_at block few is on = (rest, (refl, on false))
   turn_follows line (suc left) text body_at block few is on =
       let less : left_at s.point text s.turns - 1 ≡ left = omega arith in
-      let stands : StandsWith body body_at (record { point = s.point; left = left } ∷ turns_round s.point s.turns) (block ++ tree.Repeat line left block ∷ rest) =
-      subst (λ (n : ℕ). StandsWith body body_at (record { point = s.point; left = n } ∷ turns_round s.point s.turns) (block ++ tree.Repeat line left block ∷ rest)) less (on true) in
+      let stands : StandsWith body body_at (record { point = s.point; left = left } ∷ turns_round s.point s.turns)
+      (block ++ tree.Repeat line left block ∷ rest) =
+      subst (λ (n : ℕ). StandsWith body body_at (record { point = s.point; left = n } ∷ turns_round s.point s.turns)
+      (block ++ tree.Repeat line left block ∷ rest)) less (on true) in
       let most : length (record { point = s.point; left = left } ∷ turns_round s.point s.turns) ≤ max_repeats = few _ _ stands in
-      let room : nat_lt (length (turns_round s.point s.turns)) max_repeats ≡ true = lt-ltb (length (turns_round s.point s.turns)) max_repeats (omega arith) in
+      let room : nat_lt (length (turns_round s.point s.turns)) max_repeats ≡ true =
+      lt-ltb (length (turns_round s.point s.turns)) max_repeats (omega arith) in
       rw room (block ++ tree.Repeat line left block ∷ rest, (refl, stands))
 
   -- a statement that the text has so
@@ -177,7 +186,8 @@ module _ (all : List Callback) (body : List Statement) (draining : Bool) (s : St
   layer_follows (Statement-F.Act line a) text few is on counted =
       text_follows (Statement-F.Act line a) text is (λ leads. act_follows line a (leads true)) on
   layer_follows (Statement-F.Call line call) text few is on counted = text_follows (Statement-F.Call line call) text is (λ leads. refl) on
-  layer_follows (Statement-F.Return line status) text few is on counted = text_follows (Statement-F.Return line status) text is (λ leads. refl) on
+  layer_follows (Statement-F.Return line status) text few is on counted =
+      text_follows (Statement-F.Return line status) text is (λ leads. refl) on
   layer_follows (Statement-F.If line (condition.Test t) granted refused) text few is on counted =
       text_follows (Statement-F.If line (condition.Test t) granted refused) text is (λ leads. test_follows line t granted refused leads) on
   layer_follows (Statement-F.If line (condition.Succeeds call) granted refused) text few is on counted =
@@ -185,19 +195,23 @@ module _ (all : List Callback) (body : List Statement) (draining : Bool) (s : St
   layer_follows (Statement-F.Repeat line left block) text few is on counted = repeat_follows line left is.0 block text few is.1.1 on counted
 
 -- the step of an activation that a standing stands for
-pub step_follows : Laws → (f : Filter) (g : Graph) → IsLoaded f g → (c : Callback) (s : Standing) → slice_get f.callbacks s.callback ≡ Some c →
+pub step_follows : Laws → (f : Filter) (g : Graph) → IsLoaded f g → (c : Callback) (s : Standing) →
+    slice_get f.callbacks s.callback ≡ Some c →
     (draining : Bool) (list : List Statement) → StandsWith c.body s.point s.turns list →
     Follows c.body (local_step draining (activation_with s list) list) (stepped draining (instruction_at g s.callback s.point) s)
 step_follows laws f g loaded c s there draining [] h =
     let made = laws.each f g s.callback c loaded.lowered there in
-    let last : instruction_at g s.callback s.point ≡ instruction.End = ap (λ (p : Point). p.instruction) (laws.first f.callbacks c (callback_at g s.callback) s.point [] made h.stands) in
+    let last : instruction_at g s.callback s.point ≡ instruction.End =
+    ap (λ (p : Point). p.instruction) (laws.first f.callbacks c (callback_at g s.callback) s.point [] made h.stands) in
     subst (λ (i : Instruction). Follows c.body None (stepped draining i s)) (sym last) refl
 step_follows laws f g loaded c s there draining (first ∷ rest) h =
     let made = laws.each f g s.callback c loaded.lowered there in
     let is = laws.first f.callbacks c (callback_at g s.callback) s.point (first ∷ rest) made h.stands in
-    let at : instruction_at g s.callback s.point ≡ instruction_of f.callbacks is.0 s.point is.1.0 = ap (λ (p : Point). p.instruction) is.1.1.1 in
+    let at : instruction_at g s.callback s.point ≡ instruction_of f.callbacks is.0 s.point is.1.0 =
+    ap (λ (p : Point). p.instruction) is.1.1.1 in
     subst (λ (i : Instruction).
-    ((outcome : Bool) → StandsAtWith c.body (successor i outcome) (turns_after i s.point outcome s.turns) (remaining_of (out-Statement first) rest outcome)) →
+    ((outcome : Bool) → StandsAtWith c.body (successor i outcome) (turns_after i s.point outcome s.turns)
+    (remaining_of (out-Statement first) rest outcome)) →
     HasLeft s.point s.turns i (out-Statement first) →
     Follows c.body (after_statement draining (activation_with s (first ∷ rest)) rest (out-Statement first)) (stepped draining i s)) (sym at)
     (layer_follows f.callbacks c.body draining s (first ∷ rest) rest is.1.0 (out-Statement first) is.0

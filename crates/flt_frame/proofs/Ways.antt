@@ -53,13 +53,15 @@ test_keeps : (s : Standing) (granted refused : ℕ) (o : Option Bool) →
 test_keeps s granted refused None = tt
 test_keeps s granted refused (Some b) = record { callback = refl; gained = refl; lost = refl }
 
-within_keeps : (s : Standing) (body : ℕ) (o : Option (List Turn)) → KeepsIn s (option_map (λ (turns : List Turn). record s { point = body; turns = turns }) o)
+within_keeps : (s : Standing) (body : ℕ) (o : Option (List Turn)) →
+    KeepsIn s (option_map (λ (turns : List Turn). record s { point = body; turns = turns }) o)
 within_keeps s body None = tt
 within_keeps s body (Some turns) = record { callback = refl; gained = refl; lost = refl }
 
 turn_keeps : (left body behind : ℕ) (s : Standing) → KeepsIn s (turned_with left body behind s)
 turn_keeps zero body behind s = record { callback = refl; gained = refl; lost = refl }
-turn_keeps (suc left) body behind s = within_keeps s body (with_turn (record { point = s.point; left = left }) (turns_round s.point s.turns))
+turn_keeps (suc left) body behind s =
+    within_keeps s body (with_turn (record { point = s.point; left = left }) (turns_round s.point s.turns))
 
 stepped_keeps : (draining : Bool) (i : Instruction) (s : Standing) → KeepsIn s (stepped draining i s)
 stepped_keeps draining (instruction.Act a next) s = act_keeps draining s a next
@@ -96,16 +98,19 @@ module _ (laws : Laws) (f : Filter) (g : Graph) (loaded : IsLoaded f g) (frame :
       kept : Keeps after further
       kept = subst (KeepsIn after) is (stepped_keeps frame.draining (instruction_at g after.callback after.point) after)
 
-      on : (act : Activation) → ((last : Activation) × ((locally frame.draining steps act ≡ Some last) × StandsFor f.callbacks after last)) →
+      on : (act : Activation) → ((last : Activation)
+          × ((locally frame.draining steps act ≡ Some last) × StandsFor f.callbacks after last)) →
           ((last : Activation) × ((locally frame.draining (steps + 1) act ≡ Some last) × StandsFor f.callbacks further last))
       on act led =
           let last : Activation = led.0 in
           let stands : StandsFor f.callbacks after last = led.1.1 in
-          let follows : Follows stands.callback.body (local_step frame.draining (activation_with after last.rest) last.rest) (Some further) =
+          let follows : Follows stands.callback.body (local_step frame.draining (activation_with after last.rest) last.rest)
+          (Some further) =
           subst (Follows stands.callback.body (local_step frame.draining (activation_with after last.rest) last.rest)) is
           (step_follows laws f g loaded stands.callback after stands.is frame.draining last.rest stands.stands) in
           let step : local_step frame.draining last last.rest ≡ Some (activation_with further follows.0) =
-          subst (λ (x : Activation). local_step frame.draining x last.rest ≡ Some (activation_with further follows.0)) (sym stands.same) follows.1.0 in
+          subst (λ (x : Activation). local_step frame.draining x last.rest ≡ Some (activation_with further follows.0))
+          (sym stands.same) follows.1.0 in
           let more : locally frame.draining (suc steps) act ≡ Some (activation_with further follows.0) =
           locally_more frame.draining steps act last (activation_with further follows.0) led.1.0 step in (
             activation_with further follows.0,
@@ -129,7 +134,8 @@ module _ (laws : Laws) (f : Filter) (g : Graph) (loaded : IsLoaded f g) (frame :
     leads = λ act h. at act (way.led act h);
   }
     where
-      at : (act : Activation) → ((last : Activation) × ((locally frame.draining steps act ≡ Some last) × StandsFor f.callbacks after last)) →
+      at : (act : Activation) → ((last : Activation)
+          × ((locally frame.draining steps act ≡ Some last) × StandsFor f.callbacks after last)) →
           IsFrom f.callbacks (record { frame = frame; after = after; steps = steps }) act
       at act led =
           let last : Activation = led.0 in
@@ -164,7 +170,8 @@ module _ (laws : Laws) (f : Filter) (g : Graph) (loaded : IsLoaded f g) (frame :
           ((last : Activation) × ((locally frame.draining steps act ≡ Some last) × StandsFor f.callbacks after last)) → ⊥
       never act h led =
           let fall : cost led.0.rest + steps ≤ cost act.rest = costs_fall frame.draining steps act led.0 led.1.0 in
-          let whole : cost act.rest ≤ cost h.callback.body = laws.cost h.callback.body frame.standing.point frame.standing.turns act.rest h.stands in
+          let whole : cost act.rest ≤ cost h.callback.body =
+          laws.cost h.callback.body frame.standing.point frame.standing.turns act.rest h.stands in
           let small : is_small h.callback ≡ true = small_at f.callbacks frame.standing.callback h.callback loaded.well_formed.small h.is in
           let few : cost h.callback.body + 1 ≤ max_cost =
           leb-true _ _ (and_parts (nat_le (points h.callback.body + 1) max_points) (nat_le (cost h.callback.body + 1) max_cost) small).1 in
@@ -173,7 +180,8 @@ module _ (laws : Laws) (f : Filter) (g : Graph) (loaded : IsLoaded f g) (frame :
 -- ---- filters by number
 
 -- a graph is that of the filter of its number
-pub loaded_at : (p : List Filter) (gs : List Graph) (n : ℕ) (g : Graph) → AreLoaded p gs → slice_get gs n ≡ Some g → IsLoaded (filter_at p n) g
+pub loaded_at : (p : List Filter) (gs : List Graph) (n : ℕ) (g : Graph) → AreLoaded p gs → slice_get gs n ≡ Some g →
+    IsLoaded (filter_at p n) g
 loaded_at [] [] n g made is = absurd (none-some g is)
 loaded_at (f ∷ p) (h ∷ gs) zero g made is = subst (IsLoaded f) (same_Some h g is) made.0
 loaded_at (f ∷ p) (h ∷ gs) (suc n) g made is = loaded_at p gs n g made.1 is
@@ -195,7 +203,8 @@ none_at (f ∷ p) [] n k c made is there = absurd made
 pub put_together : (cs : List Callback) (a : Advanced) (frame : Frame) (steps : ℕ) → a.frame ≡ frame → a.steps ≡ steps →
     IsAdvanceOn cs (record { frame = frame; after = a.after; steps = steps }) → IsAdvanceOn cs a
 put_together cs a frame steps frame_is steps_is advance =
-    let same : record { frame = frame; after = a.after; steps = steps } ≡ a = (λ i. record { frame = sym frame_is i; after = a.after; steps = sym steps_is i }) in
+    let same : record { frame = frame; after = a.after; steps = steps } ≡ a =
+    (λ i. record { frame = sym frame_is i; after = a.after; steps = sym steps_is i }) in
     subst (λ (x : Advanced). IsAdvanceOn cs x) same advance
 
 -- where the frame's filter isn't there, the frame stands for nothing

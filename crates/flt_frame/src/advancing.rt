@@ -17,7 +17,8 @@ const MAX_COST: u32 = 1_000_000;
 
 /// One local step more; none where others see the next step.
 fn further(graph: &Graph, advanced: &Advanced) -> Option<Standing>
-    ensures { result ≡ stepped advanced.now.frame.draining (instruction_at graph.now advanced.now.after.callback advanced.now.after.point) advanced.now.after }
+    ensures { result ≡ stepped advanced.now.frame.draining
+        (instruction_at graph.now advanced.now.after.callback advanced.now.after.point) advanced.now.after }
 {
     let after = advanced.after;
     let instruction = graph.instruction(after.callback, after.point);

@@ -44,7 +44,8 @@ fn are_same_names(left: &[Option<usize>], right: &[Option<usize>]) -> bool
 impl Standing {
     /// At entry all is 0 or NULL but the given operation and the given context. Nothing is gained or lost yet.
     pub fn starting(callback: usize, given: Option<usize>, arg: Option<usize>) -> Standing
-        ensures stands { (cs : List Callback) (c : Callback) → slice_get cs callback ≡ Some c → spec.StandsFor cs result (model.starting c.body given arg) }
+        ensures stands { (cs : List Callback) (c : Callback) → slice_get cs callback ≡ Some c →
+            spec.StandsFor cs result (model.starting c.body given arg) }
         ensures gained { result.gained ≡ 0 }
         ensures lost { result.lost ≡ 0 }
     {

@@ -16,29 +16,41 @@ use Rattle.flt_graph.specs.declared.graph.Point.{Point}
 use Rattle.flt_graph.specs.declared.instruction.Instruction.{Instruction}
 
 -- a statement's own point and then those of its blocks
-added_layer : (all : List Callback) (s : Statement) (layer : Statement-F Statement) (f0 f1 f3 : List Point) (at after line : ℕ) (i : Instruction) →
+added_layer : (all : List Callback) (s : Statement) (layer : Statement-F Statement) (f0 f1 f3 : List Point) (at after line : ℕ)
+    (i : Instruction) →
     at ≡ length f0 → out-Statement s ≡ layer → line ≡ line_of (out-Statement s) → i ≡ instruction_of all (out-Statement s) at after →
     f1 ≡ f0 ++ record { line = line; instruction = i } ∷ [] → f3 ≡ f1 ++ inner_code all layer (length f0) after →
     f3 ≡ f0 ++ statement_code all s (length f0) after
 added_layer all s layer f0 f1 f3 at after line i hat o hline hi h1 h3 =
-    let first : f1 ≡ f0 ++ point_of all (out-Statement s) (length f0) after ∷ [] = h1 ∙ (ap (λ (x : Point). f0 ++ x ∷ []) (ap (λ (n : ℕ). record { line = n; instruction = i }) hline ∙ ap (λ (x : Instruction). record { line = line_of (out-Statement s); instruction = x }) (hi ∙ ap (λ (n : ℕ). instruction_of all (out-Statement s) n after) hat))) in
+    let first : f1 ≡ f0 ++ point_of all (out-Statement s) (length f0) after ∷ [] = h1
+    ∙ (ap (λ (x : Point). f0 ++ x ∷ [])
+    (ap (λ (n : ℕ). record { line = n; instruction = i }) hline
+    ∙ ap (λ (x : Instruction). record { line = line_of (out-Statement s); instruction = x })
+    (hi ∙ ap (λ (n : ℕ). instruction_of all (out-Statement s) n after) hat))) in
     h3 ∙ (ap (λ (l : List Point). l ++ inner_code all layer (length f0) after) first ∙
-    (append_assoc f0 (point_of all (out-Statement s) (length f0) after ∷ []) (inner_code all layer (length f0) after) ∙ (ap (λ (l : Statement-F Statement). f0 ++ (point_of all (out-Statement s) (length f0) after ∷ inner_code all l (length f0) after)) (sym o) ∙
+    (append_assoc f0 (point_of all (out-Statement s) (length f0) after ∷ []) (inner_code all layer (length f0) after)
+    ∙ (ap (λ (l : Statement-F Statement). f0
+    ++ (point_of all (out-Statement s) (length f0) after ∷ inner_code all l (length f0) after)) (sym o) ∙
     ap (λ (l : List Point). f0 ++ l) (sym (out_code all s (length f0) after)))))
 
-pub added_if : (all : List Callback) (s : Statement) (l : ℕ) (a : Condition) (g r : List Statement) (f0 f1 f2 f3 : List Point) (at after line : ℕ) (i : Instruction) →
+pub added_if : (all : List Callback) (s : Statement) (l : ℕ) (a : Condition) (g r : List Statement) (f0 f1 f2 f3 : List Point)
+    (at after line : ℕ) (i : Instruction) →
     at ≡ length f0 → s ≡ tree.If l a g r → line ≡ line_of (out-Statement s) → i ≡ instruction_of all (out-Statement s) at after →
-    f1 ≡ f0 ++ record { line = line; instruction = i } ∷ [] → f2 ≡ f1 ++ block_code all g (length f1) after → f3 ≡ f2 ++ block_code all r (length f2) after →
+    f1 ≡ f0 ++ record { line = line; instruction = i } ∷ [] → f2 ≡ f1 ++ block_code all g (length f1) after →
+    f3 ≡ f2 ++ block_code all r (length f2) after →
     f3 ≡ f0 ++ statement_code all s (length f0) after
 added_if all s l a g r f0 f1 f2 f3 at after line i hat is hline hi h1 h2 h3 =
     let e1 : length f1 ≡ length f0 + 1 = omega (arith, ap length h1, length-append f0 (record { line = line; instruction = i } ∷ [])) in
-    let e2 : length f2 ≡ length f0 + 1 + points g = omega (arith, ap length h2, length-append f1 (block_code all g (length f1) after), block_length all g (length f1) after) in
+    let e2 : length f2 ≡ length f0 + 1 + points g =
+    omega (arith, ap length h2, length-append f1 (block_code all g (length f1) after), block_length all g (length f1) after) in
     let k2 = rw e1 at h2 in
     let k3 = rw e2 at h3 in
     added_layer all s (Statement-F.If l a g r) f0 f1 f3 at after line i hat (ap out-Statement is ∙ outs-If l a g r) hline hi h1
-    (k3 ∙ (ap (λ (x : List Point). x ++ block_code all r (length f0 + 1 + points g) after) k2 ∙ append_assoc f1 (block_code all g (length f0 + 1) after) (block_code all r (length f0 + 1 + points g) after)))
+    (k3 ∙ (ap (λ (x : List Point). x ++ block_code all r (length f0 + 1 + points g) after) k2
+    ∙ append_assoc f1 (block_code all g (length f0 + 1) after) (block_code all r (length f0 + 1 + points g) after)))
 
-pub added_repeat : (all : List Callback) (s : Statement) (l k : ℕ) (b : List Statement) (f0 f1 f3 : List Point) (at after line : ℕ) (i : Instruction) →
+pub added_repeat : (all : List Callback) (s : Statement) (l k : ℕ) (b : List Statement) (f0 f1 f3 : List Point)
+    (at after line : ℕ) (i : Instruction) →
     at ≡ length f0 → s ≡ tree.Repeat l k b → line ≡ line_of (out-Statement s) → i ≡ instruction_of all (out-Statement s) at after →
     f1 ≡ f0 ++ record { line = line; instruction = i } ∷ [] → f3 ≡ f1 ++ block_code all b (length f1) at →
     f3 ≡ f0 ++ statement_code all s (length f0) after
@@ -53,18 +65,23 @@ pub added_more : (all : List Callback) (block : List Statement) (i : ℕ) (s : S
     f1 ≡ f0 ++ statement_code all s (length f0) next →
     f1 ++ block_code all (drop (i + 1) block) (length f1) after ≡ f0 ++ block_code all (drop i block) (length f0) after
 added_more all block i s f0 f1 next after below is hnext h1 =
-    let e1 : length f1 ≡ length f0 + points_of s = omega (arith, ap length h1, length-append f0 (statement_code all s (length f0) next), code_length all s (length f0) next) in
+    let e1 : length f1 ≡ length f0 + points_of s =
+    omega (arith, ap length h1, length-append f0 (statement_code all s (length f0) next), code_length all s (length f0) next) in
     let k1 = rw hnext at h1 in
     ap (λ (n : ℕ). f1 ++ block_code all (drop (i + 1) block) n after) e1 ∙
     (ap (λ (l : List Point). l ++ block_code all (drop (i + 1) block) (length f0 + points_of s) after) k1 ∙
-    (append_assoc f0 (statement_code all s (length f0) (entry (drop (i + 1) block) (length f0 + points_of s) after)) (block_code all (drop (i + 1) block) (length f0 + points_of s) after) ∙
+    (append_assoc f0 (statement_code all s (length f0) (entry (drop (i + 1) block) (length f0 + points_of s) after))
+    (block_code all (drop (i + 1) block) (length f0 + points_of s) after) ∙
     (ap (λ (l : List Point). f0 ++ l) (sym (block_cons all s (drop (i + 1) block) (length f0) after)) ∙
-    ap (λ (l : List Statement). f0 ++ block_code all l (length f0) after) (sym (drop_more block i s below ∙ ap (λ (x : Statement). x ∷ drop (i + 1) block) (sym is))))))
+    ap (λ (l : List Statement). f0 ++ block_code all l (length f0) after)
+    (sym (drop_more block i s below ∙ ap (λ (x : Statement). x ∷ drop (i + 1) block) (sym is))))))
 
 pub added_all : (all : List Callback) (block : List Statement) (i : ℕ) (f0 f1 : List Point) (at after : ℕ) → length block ≤ i →
     f1 ++ block_code all (drop i block) (length f1) after ≡ f0 ++ block_code all block at after → f1 ≡ f0 ++ block_code all block at after
 added_all all block i f0 f1 at after past h =
-    sym (ap (λ (l : List Point). f1 ++ l) (ap (λ (l : List Statement). block_code all l (length f1) after) (drop_all i block past) ∙ block_nil all (length f1) after) ∙ append-nil f1) ∙ h
+    sym (ap (λ (l : List Point). f1 ++ l)
+    (ap (λ (l : List Statement). block_code all l (length f1) after) (drop_all i block past) ∙ block_nil all (length f1) after)
+    ∙ append-nil f1) ∙ h
 
 -- where the next statement stands
 entry_none : (l : List Statement) (at after : ℕ) → length l ≡ 0 → entry l at after ≡ after
@@ -85,10 +102,12 @@ entry_next block i at after h = entry_some (drop (i + 1) block) at after (omega 
 
 pub points_more : (block : List Statement) (i : ℕ) (s : Statement) → i < length block → s ≡ get_or block i s →
     points (drop i block) ≡ points_of s + points (drop (i + 1) block)
-points_more block i s below is = ap points (drop_more block i s below ∙ ap (λ (x : Statement). x ∷ drop (i + 1) block) (sym is)) ∙ points_cons s (drop (i + 1) block)
+points_more block i s below is = ap points (drop_more block i s below ∙ ap (λ (x : Statement). x ∷ drop (i + 1) block) (sym is))
+    ∙ points_cons s (drop (i + 1) block)
 
 pub points_repeat : (s : Statement) (l k : ℕ) (b : List Statement) → s ≡ tree.Repeat l k b → points_of s ≡ 1 + points b
-points_repeat s l k b is = out_points s ∙ ap (λ (x : Statement-F Statement). points_step (map-Statement Statement ℕ points_of x)) (ap out-Statement is ∙ outs-Repeat l k b)
+points_repeat s l k b is = out_points s
+    ∙ ap (λ (x : Statement-F Statement). points_step (map-Statement Statement ℕ points_of x)) (ap out-Statement is ∙ outs-Repeat l k b)
 
 -- ---- a statement without blocks
 

@@ -26,7 +26,8 @@ pub block_cons : (all : List Callback) (s : Statement) (rest : List Statement) (
     block_code all (s ∷ rest) at after ≡
     statement_code all s at (entry rest (at + points_of s) after) ++ block_code all rest (at + points_of s) after
 unfolding block_code
-block_cons all s rest at after = rw (entry_map {B = Statement × Code} (λ (x : Statement). (x, statement_code all x)) rest (at + points_of s) after) refl
+block_cons all s rest at after = rw
+    (entry_map {B = Statement × Code} (λ (x : Statement). (x, statement_code all x)) rest (at + points_of s) after) refl
 
 -- ---- statements
 
@@ -39,7 +40,8 @@ inner_code all (Statement-F.If line asked granted refused) at after =
     block_code all granted (at + 1) after ++ block_code all refused (at + 1 + points granted) after
 inner_code all (Statement-F.Repeat line turns block) at after = block_code all block (at + 1) at
 
-first_back : (f : Statement → Code) (block : List Statement) → map (λ (x : Statement × Code). x.0) (map (λ (s : Statement). (s, f s)) block) ≡ block
+first_back : (f : Statement → Code) (block : List Statement) →
+    map (λ (x : Statement × Code). x.0) (map (λ (s : Statement). (s, f s)) block) ≡ block
 first_back f [] = refl
 first_back f (s ∷ block) = ap (λ (l : List Statement). s ∷ l) (first_back f block)
 
@@ -49,7 +51,8 @@ layer_back f (Statement-F.Act line action) = refl
 layer_back f (Statement-F.Call line call) = refl
 layer_back f (Statement-F.Return line status) = refl
 layer_back f (Statement-F.If line asked granted refused) =
-    ap (λ (l : List Statement). Statement-F.If line asked l (map (λ (x : Statement × Code). x.0) (map (λ (y : Statement). (y, f y)) refused))) (first_back f granted) ∙
+    ap (λ (l : List Statement). Statement-F.If line asked l
+    (map (λ (x : Statement × Code). x.0) (map (λ (y : Statement). (y, f y)) refused))) (first_back f granted) ∙
     ap (λ (l : List Statement). Statement-F.If line asked granted l) (first_back f refused)
 layer_back f (Statement-F.Repeat line turns block) = ap (λ (l : List Statement). Statement-F.Repeat line turns l) (first_back f block)
 
@@ -60,7 +63,9 @@ inner_is all (Statement-F.Act line action) at after = refl
 inner_is all (Statement-F.Call line call) at after = refl
 inner_is all (Statement-F.Return line status) at after = refl
 inner_is all (Statement-F.If line asked granted refused) at after =
-    ap (λ (l : List Statement). codes (map (λ (y : Statement). (y, statement_code all y)) granted) (at + 1) after ++ codes (map (λ (y : Statement). (y, statement_code all y)) refused) (at + 1 + points l) after) (first_back (statement_code all) granted)
+    ap (λ (l : List Statement). codes (map (λ (y : Statement). (y, statement_code all y)) granted) (at + 1) after
+    ++ codes (map (λ (y : Statement). (y, statement_code all y)) refused) (at + 1 + points l) after)
+    (first_back (statement_code all) granted)
 inner_is all (Statement-F.Repeat line turns block) at after = refl
 
 roll_code : (all : List Callback) (s : Statement-F Statement) (at after : ℕ) →
@@ -68,7 +73,9 @@ roll_code : (all : List Callback) (s : Statement-F Statement) (at after : ℕ) �
 unfolding statement_code
 roll_code all s at after =
     ap (λ (f : Code). f at after) (para-roll-Statement Code (code_step all) s) ∙
-    (ap (λ (l : Statement-F Statement). point_of all l at after ∷ codes_in (map-Statement Statement (Statement × Code) (λ y. (y, para-Statement Code (code_step all) y)) s) at after) (layer_back (para-Statement Code (code_step all)) s) ∙
+    (ap (λ (l : Statement-F Statement). point_of all l at after
+    ∷ codes_in (map-Statement Statement (Statement × Code) (λ y. (y, para-Statement Code (code_step all) y)) s) at after)
+    (layer_back (para-Statement Code (code_step all)) s) ∙
     ap (λ (l : List Point). point_of all s at after ∷ l) (inner_is all s at after))
 
 -- a statement's own point stands before those of its blocks
@@ -80,20 +87,29 @@ out_code all s at after =
 -- ---- lengths
 
 pub points_cons : (s : Statement) (rest : List Statement) → points (s ∷ rest) ≡ points_of s + points rest
-points_cons s rest = sum-map points_of (s ∷ rest) ∙ (sum_by-cons points_of s rest ∙ ap (λ n. points_of s + n) (sym (sum-map points_of rest)))
+points_cons s rest = sum-map points_of (s ∷ rest)
+    ∙ (sum_by-cons points_of s rest ∙ ap (λ n. points_of s + n) (sym (sum-map points_of rest)))
 
 abbrev HasLength : List Callback → Statement → Type 0
 HasLength all s = (at after : ℕ) → length (statement_code all s at after) ≡ points_of s
 
 blocks_length : (all : List Callback) (block : List ((s : Statement) × HasLength all s)) (at after : ℕ) →
-    length (block_code all (map (λ (x : (s : Statement) × HasLength all s). x.0) block) at after) ≡ points (map (λ (x : (s : Statement) × HasLength all s). x.0) block)
+    length (block_code all (map (λ (x : (s : Statement) × HasLength all s). x.0) block) at after) ≡ points
+    (map (λ (x : (s : Statement) × HasLength all s). x.0) block)
 blocks_length all [] at after = ap length (block_nil all at after)
 blocks_length all (x ∷ rest) at after =
     let others = map (λ (x : (s : Statement) × HasLength all s). x.0) rest in
-    rw (block_cons all x.0 others at after, length-append (statement_code all x.0 at (entry others (at + points_of x.0) after)) (block_code all others (at + points_of x.0) after), x.1 at (entry others (at + points_of x.0) after), blocks_length all rest (at + points_of x.0) after) (sym (points_cons x.0 others))
+    rw (
+      block_cons all x.0 others at after,
+      length-append (statement_code all x.0 at (entry others (at + points_of x.0) after))
+          (block_code all others (at + points_of x.0) after),
+      x.1 at (entry others (at + points_of x.0) after),
+      blocks_length all rest (at + points_of x.0) after,
+    ) (sym (points_cons x.0 others))
 
 layer_length : (all : List Callback) (y : Statement-F ((s : Statement) × HasLength all s)) (at after : ℕ) →
-    length (point_of all (map-Statement ((s : Statement) × HasLength all s) Statement (λ x. x.0) y) at after ∷ inner_code all (map-Statement ((s : Statement) × HasLength all s) Statement (λ x. x.0) y) at after) ≡
+    length (point_of all (map-Statement ((s : Statement) × HasLength all s) Statement (λ x. x.0) y) at after
+    ∷ inner_code all (map-Statement ((s : Statement) × HasLength all s) Statement (λ x. x.0) y) at after) ≡
     points_step (map-Statement Statement ℕ points_of (map-Statement ((s : Statement) × HasLength all s) Statement (λ x. x.0) y))
 layer_length all (Statement-F.Act line action) at after = refl
 layer_length all (Statement-F.Call line call) at after = refl
@@ -101,23 +117,36 @@ layer_length all (Statement-F.Return line status) at after = refl
 layer_length all (Statement-F.If line asked granted refused) at after =
     let g = map (λ (x : (s : Statement) × HasLength all s). x.0) granted in
     let r = map (λ (x : (s : Statement) × HasLength all s). x.0) refused in
-    omega (arith, length-append (block_code all g (at + 1) after) (block_code all r (at + 1 + points g) after), blocks_length all granted (at + 1) after, blocks_length all refused (at + 1 + points g) after)
+    omega (
+      arith,
+      length-append (block_code all g (at + 1) after) (block_code all r (at + 1 + points g) after),
+      blocks_length all granted (at + 1) after,
+      blocks_length all refused (at + 1 + points g) after,
+    )
 layer_length all (Statement-F.Repeat line turns block) at after = omega (arith, blocks_length all block (at + 1) at)
 
-made_length : (all : List Callback) (s : Statement-F Statement) → ((at after : ℕ) → length (point_of all s at after ∷ inner_code all s at after) ≡ points_step (map-Statement Statement ℕ points_of s)) → HasLength all (roll-Statement s)
+made_length : (all : List Callback) (s : Statement-F Statement) →
+    ((at after : ℕ) → length (point_of all s at after ∷ inner_code all s at after) ≡ points_step
+    (map-Statement Statement ℕ points_of s)) → HasLength all (roll-Statement s)
 made_length all s h at after = ap length (roll_code all s at after) ∙ (h at after ∙ sym (fold-roll-Statement ℕ points_step s))
 
 -- a statement has as many points as are counted for it
 pub code_length : (all : List Callback) (s : Statement) (at after : ℕ) → length (statement_code all s at after) ≡ points_of s
 code_length all s =
     ind-Statement (HasLength all)
-    (λ x y e. subst (λ (l : Statement-F Statement). HasLength all (roll-Statement l)) e (made_length all (map-Statement ((s : Statement) × HasLength all s) Statement (λ z. z.0) y) (layer_length all y)))
+    (λ x y e. subst (λ (l : Statement-F Statement). HasLength all (roll-Statement l)) e
+    (made_length all (map-Statement ((s : Statement) × HasLength all s) Statement (λ z. z.0) y) (layer_length all y)))
     s
 
 pub block_length : (all : List Callback) (block : List Statement) (at after : ℕ) → length (block_code all block at after) ≡ points block
 block_length all [] at after = ap length (block_nil all at after)
 block_length all (s ∷ rest) at after =
-    rw (block_cons all s rest at after, length-append (statement_code all s at (entry rest (at + points_of s) after)) (block_code all rest (at + points_of s) after), code_length all s at (entry rest (at + points_of s) after), block_length all rest (at + points_of s) after) (sym (points_cons s rest))
+    rw (
+      block_cons all s rest at after,
+      length-append (statement_code all s at (entry rest (at + points_of s) after)) (block_code all rest (at + points_of s) after),
+      code_length all s at (entry rest (at + points_of s) after),
+      block_length all rest (at + points_of s) after,
+    ) (sym (points_cons s rest))
 
 pub out_points : (s : Statement) → points_of s ≡ points_step (map-Statement Statement ℕ points_of (out-Statement s))
 out_points s = fold_out-Statement ℕ points_step s

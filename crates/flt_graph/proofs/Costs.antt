@@ -25,7 +25,8 @@ cost_append xs ys = ap (λ (ns : List ℕ). sum ns) (map-append cost_of xs ys) �
 -- a statement costs what its outermost layer says
 layer_cost : (s : Statement) (layer : Statement-F Statement) → out-Statement s ≡ layer →
     cost_of s ≡ cost_step (map-Statement Statement ℕ cost_of layer)
-layer_cost s layer o = fold_out-Statement ℕ cost_step s ∙ ap (λ (l : Statement-F Statement). cost_step (map-Statement Statement ℕ cost_of l)) o
+layer_cost s layer o = fold_out-Statement ℕ cost_step s
+    ∙ ap (λ (l : Statement-F Statement). cost_step (map-Statement Statement ℕ cost_of l)) o
 
 if_cost : (line : ℕ) (asked : Condition) (granted refused : List Statement) (s : Statement) →
     out-Statement s ≡ Statement-F.If line asked granted refused → cost_of s ≡ 1 + max (cost granted) (cost refused)
@@ -47,17 +48,20 @@ one_turn_less left text c less =
 
 -- ---- the cost of what remains
 
-block_cost : {body block follows : List Statement} {n q : ℕ} (i : In body block n q follows) → AreBegun i → cost (block ++ follows) ≤ cost body
+block_cost : {body block follows : List Statement} {n q : ℕ} (i : In body block n q follows) → AreBegun i →
+    cost (block ++ follows) ≤ cost body
 block_cost {body} top b = let e = ap (λ (l : List Statement). cost l) (append-nil body) in omega arith
 block_cost (later {s = s} {rest = rest} {follows = follows} i) b = let h = block_cost i b in omega (arith, cost_cons s (rest ++ follows))
-block_cost (granted_block {s = s} {rest = rest} {yes_block = yes_block} {no_block = no_block} {asked = asked} {line = line} {follows = follows} i o) b =
+block_cost (granted_block {s = s} {rest = rest} {yes_block = yes_block} {no_block = no_block} {asked = asked} {line = line}
+    {follows = follows} i o) b =
     let h = block_cost i b in omega (
       arith,
       cost_cons s (rest ++ follows),
       if_cost line asked yes_block no_block s o,
       cost_append yes_block (rest ++ follows),
     )
-block_cost (refused_block {s = s} {rest = rest} {yes_block = yes_block} {no_block = no_block} {asked = asked} {line = line} {follows = follows} i o) b =
+block_cost (refused_block {s = s} {rest = rest} {yes_block = yes_block} {no_block = no_block} {asked = asked} {line = line}
+    {follows = follows} i o) b =
     let h = block_cost i b in omega (
       arith,
       cost_cons s (rest ++ follows),
@@ -91,5 +95,6 @@ list_cost (again {s = s} {rest = rest} {block = block} {line = line} {turns = te
     )
 
 -- a list that stands with its turns costs no more than the body
-pub stands_cost : (body : List Statement) (n : ℕ) (turns : List Turn) (list : List Statement) → StandsWith body n turns list → cost list ≤ cost body
+pub stands_cost : (body : List Statement) (n : ℕ) (turns : List Turn) (list : List Statement) → StandsWith body n turns list →
+    cost list ≤ cost body
 stands_cost body n turns list h = list_cost h.stands h.begun

@@ -88,4 +88,5 @@ list_fits {locks = locks} {queue = queue} (again {s = s} i o most) h =
 pub turns_nested : (f : Filter) (k p : ℕ) (c : Callback) (turns : List Turn) (list : List Statement) → IsWellFormed f →
     slice_get f.callbacks k ≡ Some c → StandsWith c.body p turns list → length turns ≤ max_repeats
 turns_nested f k p c turns list w e h =
-    subst (λ (ts : List Turn). length ts ≤ max_repeats) h.turns_are (list_fits h.stands (body_at f.locks (is_some f.queue) f.callbacks k c w.bodies e))
+    subst (λ (ts : List Turn). length ts ≤ max_repeats) h.turns_are
+    (list_fits h.stands (body_at f.locks (is_some f.queue) f.callbacks k c w.bodies e))

@@ -19,7 +19,8 @@ use Rattle.flt_graph.specs.declared.instruction.Instruction.TheVariants as instr
 -- ---- where remaining lists stand
 
 -- a block stands at its first statement, or where what follows it stands
-stands_of : {body follows : List Statement} {n q : ℕ} (block : List Statement) → In body block n q follows → Stands body q follows → Stands body (entry block n q) (block ++ follows)
+stands_of : {body follows : List Statement} {n q : ℕ} (block : List Statement) → In body block n q follows →
+    Stands body q follows → Stands body (entry block n q) (block ++ follows)
 stands_of [] i u = u
 stands_of (s ∷ rest) i u = before i
 
@@ -31,7 +32,8 @@ unwind (granted_block {rest = rest} i o) = stands_of rest (later i) (unwind i)
 unwind (refused_block {rest = rest} i o) = stands_of rest (later i) (unwind i)
 unwind (turn i o h) = again i o h
 
-stands : {body follows : List Statement} {n q : ℕ} (block : List Statement) → In body block n q follows → Stands body (entry block n q) (block ++ follows)
+stands : {body follows : List Statement} {n q : ℕ} (block : List Statement) → In body block n q follows →
+    Stands body (entry block n q) (block ++ follows)
 stands block i = stands_of block i (unwind i)
 
 -- ---- what is there
@@ -47,50 +49,69 @@ left_of_self (Statement-F.Return line status) = refl
 left_of_self (Statement-F.If line asked granted refused) = refl
 left_of_self (Statement-F.Repeat line turns block) = (turns, (omega arith, refl))
 
-pub first_there : (all : List Callback) (c : Callback) (g : CallbackGraph) (p : ℕ) (list : List Statement) → IsGraphOf all c g → Stands c.body p list → IsFirst all (end_of c) p list (point_in g p)
+pub first_there : (all : List Callback) (c : Callback) (g : CallbackGraph) (p : ℕ) (list : List Statement) → IsGraphOf all c g →
+    Stands c.body p list → IsFirst all (end_of c) p list (point_in g p)
 first_there all c g p list made end = made.end
 first_there all c g p list made (before {s = s} {rest = rest} {n = n} {q = q} {follows = follows} i) =
     (out-Statement s, (entry rest (n + points_of s) q, (left_of_self (out-Statement s), made.statements s rest follows n q i)))
-first_there all c g p list made (again {s = s} {rest = rest} {block = block} {line = line} {turns = turns} {left = left} {n = n} {q = q} {follows = follows} i o h) =
-    (out-Statement s, (entry rest (n + points_of s) q, (subst (λ (x : Statement-F Statement). IsLeftOf x (out-Statement s)) (sym (outs-Repeat line left block)) (turns, (h, o)), made.statements s rest follows n q i)))
+first_there all c g p list made (again {s = s} {rest = rest} {block = block} {line = line} {turns = turns} {left = left} {n = n}
+    {q = q} {follows = follows} i o h) = (
+      out-Statement s,
+      (
+        entry rest (n + points_of s) q,
+        (
+          subst (λ (x : Statement-F Statement). IsLeftOf x (out-Statement s)) (sym (outs-Repeat line left block)) (turns, (h, o)),
+          made.statements s rest follows n q i,
+        ),
+      ),
+    )
 
 -- ---- where it leads
 
-choice_leads : {body : List Statement} {yes_at no_at : ℕ} (granted refused follows : List Statement) (all : List Callback) (asked : Condition) (outcome : Bool) →
+choice_leads : {body : List Statement} {yes_at no_at : ℕ} (granted refused follows : List Statement) (all : List Callback)
+    (asked : Condition) (outcome : Bool) →
     Stands body yes_at (granted ++ follows) → Stands body no_at (refused ++ follows) →
-    StandsAt body (successor (choice all asked yes_at no_at) outcome) (remaining_of (Statement-F.If 0 asked granted refused) follows outcome)
+    StandsAt body (successor (choice all asked yes_at no_at) outcome)
+    (remaining_of (Statement-F.If 0 asked granted refused) follows outcome)
 choice_leads granted refused follows all (condition.Test t) true u v = u
 choice_leads granted refused follows all (condition.Test t) false u v = v
 choice_leads granted refused follows all (condition.Succeeds c) true u v = u
 choice_leads granted refused follows all (condition.Succeeds c) false u v = v
 
-turns_lead : {body rest follows block : List Statement} {s : Statement} {line turns n q : ℕ} (left : ℕ) (outcome : Bool) → In body (s ∷ rest) n q follows → out-Statement s ≡ Statement-F.Repeat line turns block → left ≤ turns →
-    StandsAt body (successor (instruction.Repeat turns (entry block (n + 1) n) (entry rest (n + points_of s) q)) outcome) (remaining_turns line left block (rest ++ follows) outcome)
+turns_lead : {body rest follows block : List Statement} {s : Statement} {line turns n q : ℕ} (left : ℕ) (outcome : Bool) →
+    In body (s ∷ rest) n q follows → out-Statement s ≡ Statement-F.Repeat line turns block → left ≤ turns →
+    StandsAt body (successor (instruction.Repeat turns (entry block (n + 1) n) (entry rest (n + points_of s) q)) outcome)
+    (remaining_turns line left block (rest ++ follows) outcome)
 turns_lead zero true i o h = tt
 turns_lead {rest = rest} zero false i o h = stands rest (later i)
 turns_lead {block = block} (suc left) true i o h = stands block (turn i o (omega arith))
 turns_lead (suc left) false i o h = tt
 
-layer_leads : {body rest follows : List Statement} {s : Statement} {n q : ℕ} (all : List Callback) (layer : Statement-F Statement) (outcome : Bool) → In body (s ∷ rest) n q follows → out-Statement s ≡ layer →
-    StandsAt body (successor (instruction_of all layer n (entry rest (n + points_of s) q)) outcome) (remaining_of layer (rest ++ follows) outcome)
+layer_leads : {body rest follows : List Statement} {s : Statement} {n q : ℕ} (all : List Callback) (layer : Statement-F Statement)
+    (outcome : Bool) → In body (s ∷ rest) n q follows → out-Statement s ≡ layer →
+    StandsAt body (successor (instruction_of all layer n (entry rest (n + points_of s) q)) outcome)
+    (remaining_of layer (rest ++ follows) outcome)
 layer_leads {rest = rest} all (Statement-F.Act line action) outcome i o = stands rest (later i)
 layer_leads {rest = rest} all (Statement-F.Call line call) true i o = stands rest (later i)
 layer_leads {rest = rest} all (Statement-F.Call line call) false i o = stands rest (later i)
 layer_leads all (Statement-F.Return line status) outcome i o = tt
 layer_leads {rest = rest} {follows = follows} all (Statement-F.If line asked granted refused) outcome i o =
-    choice_leads granted refused (rest ++ follows) all asked outcome (stands granted (granted_block i o)) (stands refused (refused_block i o))
+    choice_leads granted refused (rest ++ follows) all asked outcome (stands granted (granted_block i o))
+    (stands refused (refused_block i o))
 layer_leads all (Statement-F.Repeat line turns block) outcome i o = turns_lead turns outcome i o (omega arith)
 
 at_end : (body : List Statement) (p : Option ℕ) → StandsAt body p None
 at_end body None = tt
 at_end body (Some p) = tt
 
-pub next_there : (all : List Callback) (c : Callback) (g : CallbackGraph) (p : ℕ) (list : List Statement) (outcome : Bool) → IsGraphOf all c g → Stands c.body p list →
+pub next_there : (all : List Callback) (c : Callback) (g : CallbackGraph) (p : ℕ) (list : List Statement) (outcome : Bool) →
+    IsGraphOf all c g → Stands c.body p list →
     StandsAt c.body (successor (point_in g p).instruction outcome) (remaining list outcome)
 next_there all c g p list outcome made end = at_end c.body (successor (point_in g p).instruction outcome)
 next_there all c g p list outcome made (before {s = s} {rest = rest} {n = n} {q = q} {follows = follows} i) =
     rw (made.statements s rest follows n q i) (layer_leads all (out-Statement s) outcome i refl)
-next_there all c g p list outcome made (again {s = s} {rest = rest} {block = block} {line = line} {turns = turns} {left = left} {n = n} {q = q} {follows = follows} i o h) =
+next_there all c g p list outcome made
+    (again {s = s} {rest = rest} {block = block} {line = line} {turns = turns} {left = left} {n = n} {q = q} {follows = follows} i o h) =
     rw (made.statements s rest follows n q i, o, outs-Repeat line left block) (turns_lead left outcome i o h)
 
 -- ---- the callbacks of a filter
@@ -101,7 +122,8 @@ graphs_count all (c ∷ cs) (g ∷ gs) made = ap suc (graphs_count all cs gs mad
 graphs_count all [] (g ∷ gs) made = absurd made
 graphs_count all (c ∷ cs) [] made = absurd made
 
-pub graph_at : (all cs : List Callback) (gs : List CallbackGraph) (k : ℕ) (c : Callback) → AreGraphsOf all cs gs → slice_get cs k ≡ Some c → IsGraphOf all c (slice_index_or gs k no_callback)
+pub graph_at : (all cs : List Callback) (gs : List CallbackGraph) (k : ℕ) (c : Callback) → AreGraphsOf all cs gs →
+    slice_get cs k ≡ Some c → IsGraphOf all c (slice_index_or gs k no_callback)
 graph_at all [] [] k c made e = absurd (cc)
 graph_at all (x ∷ cs) (g ∷ gs) zero c made e = subst (λ (y : Callback). IsGraphOf all y g) (cc) made.0
 graph_at all (x ∷ cs) (g ∷ gs) (suc k) c made e = graph_at all cs gs k c made.1 e
@@ -111,5 +133,6 @@ graph_at all (x ∷ cs) [] k c made e = absurd made
 pub callbacks_counted : (f : Filter) (g : Graph) → IsLowered f g → length g.callbacks ≡ length f.callbacks
 callbacks_counted f g made = graphs_count f.callbacks f.callbacks g.callbacks made.callbacks
 
-pub callbacks_there : (f : Filter) (g : Graph) (k : ℕ) (c : Callback) → IsLowered f g → slice_get f.callbacks k ≡ Some c → IsGraphOf f.callbacks c (callback_at g k)
+pub callbacks_there : (f : Filter) (g : Graph) (k : ℕ) (c : Callback) → IsLowered f g → slice_get f.callbacks k ≡ Some c →
+    IsGraphOf f.callbacks c (callback_at g k)
 callbacks_there f g k c made e = graph_at f.callbacks f.callbacks g.callbacks k c made.callbacks e

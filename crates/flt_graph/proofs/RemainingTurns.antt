@@ -64,7 +64,8 @@ block_with [] i b u = u
 block_with (s ∷ rest) i b u = record { stands = before i; turns_are = refl; begun = b }
 
 -- what follows a block stands at its point, with the turns round the block
-follows_with : {body block follows : List Statement} {n q : ℕ} (i : In body block n q follows) → AreBegun i → StandsWith body q (turns_in i) follows
+follows_with : {body block follows : List Statement} {n q : ℕ} (i : In body block n q follows) → AreBegun i →
+    StandsWith body q (turns_in i) follows
 follows_with top b = record { stands = end; turns_are = refl; begun = tt }
 follows_with (later i) b = follows_with i b
 follows_with (granted_block {rest = rest} i o) b = block_with rest (later i) b (follows_with i b)
@@ -79,7 +80,8 @@ stands_with block i b = block_with block i b (follows_with i b)
 pub whole_with : (body : List Statement) → StandsWith body 0 [] body
 whole_with [] = record { stands = end; turns_are = refl; begun = tt }
 whole_with (s ∷ rest) =
-    subst (λ (l : List Statement). StandsWith (s ∷ rest) 0 [] (s ∷ l)) (append-nil rest) (record { stands = before top; turns_are = refl; begun = tt })
+    subst (λ (l : List Statement). StandsWith (s ∷ rest) 0 [] (s ∷ l)) (append-nil rest)
+    (record { stands = before top; turns_are = refl; begun = tt })
 
 -- ---- where they lead
 
@@ -131,19 +133,24 @@ at_end body (Some p) turns = tt
 
 leads_with : (all : List Callback) (c : Callback) (g : CallbackGraph) (p : ℕ) (list : List Statement) (outcome : Bool) → IsGraphOf all c g →
     (st : Stands c.body p list) → AreBegunRound st →
-    StandsAtWith c.body (successor (point_in g p).instruction outcome) (turns_after (point_in g p).instruction p outcome (turns_at st)) (remaining list outcome)
+    StandsAtWith c.body (successor (point_in g p).instruction outcome)
+    (turns_after (point_in g p).instruction p outcome (turns_at st)) (remaining list outcome)
 leads_with all c g p list outcome made end b =
     at_end c.body (successor (point_in g p).instruction outcome) (turns_after (point_in g p).instruction p outcome [])
 leads_with all c g p list outcome made (before {s = s} {rest = rest} {n = n} {q = q} {follows = follows} i) b =
     rw (made.statements s rest follows n q i) (layer_with all (out-Statement s) outcome i b refl)
-leads_with all c g p list outcome made (again {s = s} {rest = rest} {block = block} {line = line} {turns = text} {left = left} {n = n} {q = q} {follows = follows} i o h) b =
+leads_with all c g p list outcome made
+    (again {s = s} {rest = rest} {block = block} {line = line} {turns = text} {left = left} {n = n} {q = q} {follows = follows} i o h) b =
     rw (made.statements s rest follows n q i, o, outs-Repeat line left block)
-    (turns_with left outcome (record { point = n; left = left } ∷ turns_in i) i b o h (begun_left (turns_in i) n left text) (begun_round (turns_in i) n left))
+    (turns_with left outcome (record { point = n; left = left } ∷ turns_in i) i b o h (begun_left (turns_in i) n left text)
+    (begun_round (turns_in i) n left))
 
 -- what remains after an outcome stands at its successor, with the turns after it
-pub next_with : (all : List Callback) (c : Callback) (g : CallbackGraph) (p : ℕ) (turns : List Turn) (list : List Statement) (outcome : Bool) →
+pub next_with : (all : List Callback) (c : Callback) (g : CallbackGraph) (p : ℕ) (turns : List Turn) (list : List Statement)
+    (outcome : Bool) →
     IsGraphOf all c g → StandsWith c.body p turns list →
-    StandsAtWith c.body (successor (point_in g p).instruction outcome) (turns_after (point_in g p).instruction p outcome turns) (remaining list outcome)
+    StandsAtWith c.body (successor (point_in g p).instruction outcome) (turns_after (point_in g p).instruction p outcome turns)
+    (remaining list outcome)
 next_with all c g p turns list outcome made h =
     subst (λ (ts : List Turn). StandsAtWith c.body (successor (point_in g p).instruction outcome)
     (turns_after (point_in g p).instruction p outcome ts) (remaining list outcome)) h.turns_are
@@ -164,11 +171,14 @@ first_left : (all : List Callback) (c : Callback) (g : CallbackGraph) (p : ℕ) 
     (st : Stands c.body p (s ∷ rest)) → HasLeft p (turns_at st) (point_in g p).instruction (out-Statement s)
 first_left all c g p _ rest made (before {s = s} {rest = more} {n = n} {q = q} {follows = follows} i) =
     rw (made.statements s more follows n q i) (layer_left all (out-Statement s) n _ (turns_in i) (turns_before i))
-first_left all c g p _ rest made (again {s = t} {rest = more} {block = block} {line = line} {turns = text} {left = left} {n = n} {q = q} {follows = follows} i o h) =
+first_left all c g p _ rest made (again {s = t} {rest = more} {block = block} {line = line} {turns = text} {left = left} {n = n}
+    {q = q} {follows = follows} i o h) =
     rw (made.statements t more follows n q i, o, outs-Repeat line left block) (sym (begun_left (turns_in i) n left text))
 
 -- where a list begins with a `repeat`, its turns are those that are left at the point
-pub left_with : (all : List Callback) (c : Callback) (g : CallbackGraph) (p : ℕ) (turns : List Turn) (s : Statement) (rest : List Statement) →
+pub left_with : (all : List Callback) (c : Callback) (g : CallbackGraph) (p : ℕ) (turns : List Turn) (s : Statement)
+    (rest : List Statement) →
     IsGraphOf all c g → StandsWith c.body p turns (s ∷ rest) → HasLeft p turns (point_in g p).instruction (out-Statement s)
 left_with all c g p turns s rest made h =
-    subst (λ (ts : List Turn). HasLeft p ts (point_in g p).instruction (out-Statement s)) h.turns_are (first_left all c g p s rest made h.stands)
+    subst (λ (ts : List Turn). HasLeft p ts (point_in g p).instruction (out-Statement s)) h.turns_are
+    (first_left all c g p s rest made h.stands)

@@ -27,7 +27,8 @@ differ : false ≡ true → ⊥
 differ e = cc
 
 -- a head of a name is declared where a routine of that name is
-declared : (name : Text) (h : Head) (before : List Callback) → is_named name h ≡ true → has_routine name before ≡ true → is_declared h before ≡ true
+declared : (name : Text) (h : Head) (before : List Callback) → is_named name h ≡ true → has_routine name before ≡ true →
+    is_declared h before ≡ true
 declared name (DeferredPre routine) before h e = rw (same_bytes routine name h) e
 declared name (DeferredPost routine) before h e = rw (same_bytes routine name h) e
 declared name (Generic routine) before h e = rw (same_bytes routine name h) e
@@ -48,8 +49,10 @@ or_second true b e h = absurd (differ (sym h))
 or_second false b e h = e
 
 -- what is among some callbacks is among them and one more
-has_more : (name : Text) (before : List Callback) (c : Callback) → has_routine name before ≡ true → has_routine name (before ++ c ∷ []) ≡ true
-has_more name before c e = list_any-append (λ (d : Callback). is_named name d.head) before (c ∷ []) ∙ or_left (has_routine name before) (is_named name c.head || false) e
+has_more : (name : Text) (before : List Callback) (c : Callback) → has_routine name before ≡ true →
+    has_routine name (before ++ c ∷ []) ≡ true
+has_more name before c e = list_any-append (λ (d : Callback). is_named name d.head) before (c ∷ [])
+    ∙ or_left (has_routine name before) (is_named name c.head || false) e
 
 has_last : (name : Text) (before : List Callback) (c : Callback) → is_named name c.head ≡ true → has_routine name (before ++ c ∷ []) ≡ true
 has_last name before c e =
@@ -57,7 +60,8 @@ has_last name before c e =
     or_right (has_routine name before) (is_named name c.head || false) (or_left (is_named name c.head) false e)
 
 -- behind a routine of a name no other has it
-none_again : (name : Text) (before cs : List Callback) → AreNewCallbacks before cs → has_routine name before ≡ true → has_routine name cs ≡ false
+none_again : (name : Text) (before cs : List Callback) → AreNewCallbacks before cs → has_routine name before ≡ true →
+    has_routine name cs ≡ false
 none_again name before [] new e = refl
 none_again name before (c ∷ cs) new e =
     by (is_named name c.head) refl (none_again name (before ++ c ∷ []) cs new.1 (has_more name before c e))
@@ -81,22 +85,27 @@ abbrev OfName : Text → (Head → Bool) → Type 0
 OfName name test = (h : Head) → test h ≡ true → is_named name h ≡ true
 
 -- where a callback passes the test, one has the name
-named_among : (name : Text) (test : Head → Bool) → OfName name test → (cs : List Callback) → list_any (λ (c : Callback). test c.head) cs ≡ true → has_routine name cs ≡ true
+named_among : (name : Text) (test : Head → Bool) → OfName name test → (cs : List Callback) →
+    list_any (λ (c : Callback). test c.head) cs ≡ true → has_routine name cs ≡ true
 named_among name test named [] e = absurd (differ e)
 named_among name test named (c ∷ cs) e =
     by (test c.head) refl (named_among name test named cs)
   where
-    by : (b : Bool) → test c.head ≡ b → (list_any (λ (d : Callback). test d.head) cs ≡ true → has_routine name cs ≡ true) → (is_named name c.head || has_routine name cs) ≡ true
+    by : (b : Bool) → test c.head ≡ b → (list_any (λ (d : Callback). test d.head) cs ≡ true → has_routine name cs ≡ true) →
+        (is_named name c.head || has_routine name cs) ≡ true
     by true h rest = or_left (is_named name c.head) (has_routine name cs) (named c.head h)
-    by false h rest = or_right (is_named name c.head) (has_routine name cs) (rest (or_second (test c.head) (list_any (λ (d : Callback). test d.head) cs) e h))
+    by false h rest = or_right (is_named name c.head) (has_routine name cs)
+        (rest (or_second (test c.head) (list_any (λ (d : Callback). test d.head) cs) e h))
 
 -- where a callback passes the test among callbacks that are declared once, it is the first of the name
-finds : (name : Text) (test : Head → Bool) → OfName name test → (before cs : List Callback) → AreNewCallbacks before cs → list_any (λ (c : Callback). test c.head) cs ≡ true → Finds name test cs
+finds : (name : Text) (test : Head → Bool) → OfName name test → (before cs : List Callback) → AreNewCallbacks before cs →
+    list_any (λ (c : Callback). test c.head) cs ≡ true → Finds name test cs
 finds name test named before [] new e = absurd (differ e)
 finds name test named before (c ∷ cs) new e =
     by (is_named name c.head) refl (test c.head) refl (finds name test named (before ++ c ∷ []) cs new.1)
   where
-    by : (b : Bool) → is_named name c.head ≡ b → (d : Bool) → test c.head ≡ d → (list_any (λ (d : Callback). test d.head) cs ≡ true → Finds name test cs) → Finds name test (c ∷ cs)
+    by : (b : Bool) → is_named name c.head ≡ b → (d : Bool) → test c.head ≡ d →
+        (list_any (λ (d : Callback). test d.head) cs ≡ true → Finds name test cs) → Finds name test (c ∷ cs)
     by true h true k rest = record { number = 0; callback = c; first = rw h refl; there = refl; passes = k }
     by true h false k rest =
         let later = named_among name test named cs (or_second (test c.head) (list_any (λ (d : Callback). test d.head) cs) e k) in
@@ -104,10 +113,17 @@ finds name test named before (c ∷ cs) new e =
     by false h true k rest = absurd (differ (sym h ∙ named c.head k))
     by false h false k rest =
         let found = rest (or_second (test c.head) (list_any (λ (d : Callback). test d.head) cs) e k) in
-        record { number = suc found.number; callback = found.callback; first = rw (h, found.first) (omega arith); there = found.there; passes = found.passes }
+        record {
+          number = suc found.number;
+          callback = found.callback;
+          first = rw (h, found.first) (omega arith);
+          there = found.there;
+          passes = found.passes;
+        }
 
 -- the number that `routine_at` gives
-number_found : (p : Callback → Bool) (cs : List Callback) (n : ℕ) (c : Callback) → position_or_len p cs ≡ n → slice_get cs n ≡ Some c → position p cs ≡ Some n
+number_found : (p : Callback → Bool) (cs : List Callback) (n : ℕ) (c : Callback) → position_or_len p cs ≡ n →
+    slice_get cs n ≡ Some c → position p cs ≡ Some n
 number_found p cs n c e there =
     let below : n < length cs = slice_get_within cs n c there in
     rw e (within n (length cs) below)
@@ -158,12 +174,14 @@ generic_place name (Pre operation) e = absurd (differ e)
 generic_place name (Post operation) e = absurd (differ e)
 generic_place name Canceled e = absurd (differ e)
 
-routine_there : (cs : List Callback) (r : Routine) (at : _) (test : Head → Bool) → (f : Finds r.name test cs) → head_place f.callback.head ≡ at → IsRoutine cs at (routine_at cs r)
+routine_there : (cs : List Callback) (r : Routine) (at : _) (test : Head → Bool) → (f : Finds r.name test cs) →
+    head_place f.callback.head ≡ at → IsRoutine cs at (routine_at cs r)
 routine_there cs r at test f e =
     rw (number_found (λ (c : Callback). is_named r.name c.head) cs f.number f.callback f.first f.there) (f.callback, (f.there, e))
 
 -- a deferred work item's routine is there, of the kind that goes on with the operation
-pub deferred_there : (cs : List Callback) (from : Head) (r : Routine) → AreNewCallbacks [] cs → has_deferred from r.name cs ≡ true → IsDeferred cs (head_place from) (routine_at cs r)
+pub deferred_there : (cs : List Callback) (from : Head) (r : Routine) → AreNewCallbacks [] cs →
+    has_deferred from r.name cs ≡ true → IsDeferred cs (head_place from) (routine_at cs r)
 deferred_there cs (Pre operation) r new e =
     let f = finds r.name (runs_deferred (Pre operation) r.name) (runs_named (Pre operation) r.name) [] cs new e in
     routine_there cs r place.DeferredPre (runs_deferred (Pre operation) r.name) f (from_pre r.name operation f.callback.head f.passes)
@@ -176,7 +194,8 @@ deferred_there cs (DeferredPost routine) r new e = tt
 deferred_there cs (Generic routine) r new e = tt
 
 -- a generic work item's routine is there
-pub generic_there : (cs : List Callback) (r : Routine) → AreNewCallbacks [] cs → has_generic r.name cs ≡ true → IsRoutine cs place.Generic (routine_at cs r)
+pub generic_there : (cs : List Callback) (r : Routine) → AreNewCallbacks [] cs → has_generic r.name cs ≡ true →
+    IsRoutine cs place.Generic (routine_at cs r)
 generic_there cs r new e =
     let f = finds r.name (runs_generic r.name) (generic_named r.name) [] cs new e in
     routine_there cs r place.Generic (runs_generic r.name) f (generic_place r.name f.callback.head f.passes)

@@ -16,14 +16,18 @@ ghost use Rattle.flt_tree.specs.declared.filter.Statement.{Statement};
 /// of that statement stands at that outcome's successor. It does nothing: its clauses are the law.
 pub fn lists_have_points()
     ensures whole { (body : List Statement) → spec.Stands body 0 body }
-    ensures first { (all : List Callback) (c : Callback) (g : CallbackGraph) (p : ℕ) (list : List Statement) → IsGraphOf all c g → spec.Stands c.body p list → spec.IsFirst all (end_of c) p list (point_in g p) }
-    ensures next { (all : List Callback) (c : Callback) (g : CallbackGraph) (p : ℕ) (list : List Statement) (outcome : Bool) → IsGraphOf all c g → spec.Stands c.body p list → spec.StandsAt c.body (spec.successor (point_in g p).instruction outcome) (spec.remaining list outcome) }
+    ensures first { (all : List Callback) (c : Callback) (g : CallbackGraph) (p : ℕ) (list : List Statement) → IsGraphOf all c g →
+        spec.Stands c.body p list → spec.IsFirst all (end_of c) p list (point_in g p) }
+    ensures next { (all : List Callback) (c : Callback) (g : CallbackGraph) (p : ℕ) (list : List Statement) (outcome : Bool) →
+        IsGraphOf all c g → spec.Stands c.body p list →
+        spec.StandsAt c.body (spec.successor (point_in g p).instruction outcome) (spec.remaining list outcome) }
 {}
 
 /// Each callback of a filter has its own graph, at its number from 0. It does nothing: its clauses are the law.
 pub fn callbacks_have_graphs()
     ensures count { (f : Filter) (g : Graph) → IsLowered f g → length g.callbacks ≡ length f.callbacks }
-    ensures each { (f : Filter) (g : Graph) (k : ℕ) (c : Callback) → IsLowered f g → slice_get f.callbacks k ≡ Some c → IsGraphOf f.callbacks c (callback_at g k) }
+    ensures each { (f : Filter) (g : Graph) (k : ℕ) (c : Callback) → IsLowered f g → slice_get f.callbacks k ≡ Some c →
+        IsGraphOf f.callbacks c (callback_at g k) }
 {}
 
 /// Each filter has a graph, which can be computed. It does nothing: its clause is the law.
@@ -39,5 +43,6 @@ pub fn one_graph_at_most()
 /// What each instruction of a well-formed filter names is there: a call of the queue has its `canceled` callback, a work item its
 /// routine, of the kind that its place asks. It does nothing: its clause is the law.
 pub fn instructions_are_served()
-    ensures { (f : Filter) (g : Graph) (k n : ℕ) → IsWellFormed f → IsLowered f g → IsInstructionServed f.callbacks (place_at g k) (instruction_at g k n) }
+    ensures { (f : Filter) (g : Graph) (k n : ℕ) → IsWellFormed f → IsLowered f g →
+        IsInstructionServed f.callbacks (place_at g k) (instruction_at g k n) }
 {}

@@ -26,8 +26,15 @@ pub struct Turn {
 /// its clauses are the law.
 pub fn lists_have_turns()
     ensures whole { (body : List Statement) → spec.StandsWith body 0 [] body }
-    ensures next { (all : List Callback) (c : Callback) (g : CallbackGraph) (p : ℕ) (turns : List Turn) (list : List Statement) (outcome : Bool) → IsGraphOf all c g → spec.StandsWith c.body p turns list → spec.StandsAtWith c.body (successor (point_in g p).instruction outcome) (spec.turns_after (point_in g p).instruction p outcome turns) (remaining list outcome) }
-    ensures left { (all : List Callback) (c : Callback) (g : CallbackGraph) (p : ℕ) (turns : List Turn) (s : Statement) (rest : List Statement) → IsGraphOf all c g → spec.StandsWith c.body p turns (s ∷ rest) → spec.HasLeft p turns (point_in g p).instruction (out-Statement s) }
-    ensures cost { (body : List Statement) (p : ℕ) (turns : List Turn) (list : List Statement) → spec.StandsWith body p turns list → cost list ≤ cost body }
-    ensures nested { (f : Filter) (k p : ℕ) (c : Callback) (turns : List Turn) (list : List Statement) → IsWellFormed f → slice_get f.callbacks k ≡ Some c → spec.StandsWith c.body p turns list → length turns ≤ max_repeats }
+    ensures next { (all : List Callback) (c : Callback) (g : CallbackGraph) (p : ℕ) (turns : List Turn) (list : List Statement)
+        (outcome : Bool) → IsGraphOf all c g → spec.StandsWith c.body p turns list →
+        spec.StandsAtWith c.body (successor (point_in g p).instruction outcome)
+        (spec.turns_after (point_in g p).instruction p outcome turns) (remaining list outcome) }
+    ensures left { (all : List Callback) (c : Callback) (g : CallbackGraph) (p : ℕ) (turns : List Turn) (s : Statement)
+        (rest : List Statement) → IsGraphOf all c g → spec.StandsWith c.body p turns (s ∷ rest) →
+        spec.HasLeft p turns (point_in g p).instruction (out-Statement s) }
+    ensures cost { (body : List Statement) (p : ℕ) (turns : List Turn) (list : List Statement) →
+        spec.StandsWith body p turns list → cost list ≤ cost body }
+    ensures nested { (f : Filter) (k p : ℕ) (c : Callback) (turns : List Turn) (list : List Statement) → IsWellFormed f →
+        slice_get f.callbacks k ≡ Some c → spec.StandsWith c.body p turns list → length turns ≤ max_repeats }
 {}

@@ -16,7 +16,8 @@ module _ {X Y : Type 0} (f : X → Y) (xs : List X) (i : ℕ) (x d : X) (h : i <
   pub parted : map f xs ≡ map f (take i xs) ++ f x ∷ map f (drop (i + 1) xs)
   parted =
       let rest : map f (drop i xs) ≡ f (get_or xs i d) ∷ map f (drop (i + 1) xs) = ap (map f) (drop_more xs i d h) in
-      let whole : map f xs ≡ map f (take i xs) ++ map f (drop i xs) = sym (ap (map f) (take-append-drop i xs)) ∙ map-append f (take i xs) (drop i xs) in
+      let whole : map f xs ≡ map f (take i xs) ++ map f (drop i xs) = sym (ap (map f) (take-append-drop i xs))
+      ∙ map-append f (take i xs) (drop i xs) in
       rw at (rw rest at whole)
 
   pub places_before : i ≡ length (map f (take i xs))
@@ -54,14 +55,17 @@ apart (t ∷ trees) altitude h = one (t.filter.altitude == altitude) refl h (apa
     one false differs h more (suc k) d inside = more h k d (omega arith)
 
 module _ (trees : List Tree) (i : ℕ) (tree d : Tree) (h : i < length trees) (at : tree ≡ get_or trees i d) where
-  pub distinct_more : HasDistinctAltitudes (filters_of (take i trees)) → list_any (λ t. t.filter.altitude == tree.filter.altitude) (take i trees) ≡ false →
+  pub distinct_more : HasDistinctAltitudes (filters_of (take i trees)) →
+      list_any (λ t. t.filter.altitude == tree.filter.altitude) (take i trees) ≡ false →
       HasDistinctAltitudes (filters_of (take (i + 1) trees))
   distinct_more distinct none =
-      let more : filters_of (take (i + 1) trees) ≡ filters_of (take i trees) ++ tree.filter ∷ [] = one_more (λ t. t.filter) trees i tree d h at in
+      let more : filters_of (take (i + 1) trees) ≡ filters_of (take i trees) ++ tree.filter ∷ [] =
+      one_more (λ t. t.filter) trees i tree d h at in
       rw more (all_pairs_push (λ (f g : Filter). f.altitude ≢ g.altitude) (filters_of (take i trees)) tree.filter distinct
       (apart (take i trees) tree.filter.altitude none))
 
-  pub repeated : HasDistinctAltitudes (filters_of (take i trees)) → list_any (λ t. t.filter.altitude == tree.filter.altitude) (take i trees) ≡ true →
+  pub repeated : HasDistinctAltitudes (filters_of (take i trees)) →
+      list_any (λ t. t.filter.altitude == tree.filter.altitude) (take i trees) ≡ true →
       IsRepeated (filters_of trees) i
   repeated distinct some = record {
     before = filters_of (take i trees);
@@ -73,14 +77,16 @@ module _ (trees : List Tree) (i : ℕ) (tree d : Tree) (h : i < length trees) (a
     earlier = earlier (take i trees) tree.filter.altitude some;
   }
 
-pub all_distinct : (trees : List Tree) (i : ℕ) → length trees ≤ i → HasDistinctAltitudes (filters_of (take i trees)) → HasDistinctAltitudes (filters_of trees)
+pub all_distinct : (trees : List Tree) (i : ℕ) → length trees ≤ i → HasDistinctAltitudes (filters_of (take i trees)) →
+    HasDistinctAltitudes (filters_of trees)
 all_distinct trees i h distinct =
     let whole : take i trees ≡ trees = take_all i trees h in
     rw whole at distinct
 
 -- ---- where a filter goes
 
-put_first : (b : Bool) (f g : Filter) (filters others : List Filter) (n : ℕ) → others ≡ insert filters n f → (if b then f ∷ g ∷ filters else g ∷ others) ≡ insert (g ∷ filters) (if not b then 1 + n else 0) f
+put_first : (b : Bool) (f g : Filter) (filters others : List Filter) (n : ℕ) → others ≡ insert filters n f →
+    (if b then f ∷ g ∷ filters else g ∷ others) ≡ insert (g ∷ filters) (if not b then 1 + n else 0) f
 put_first true f g filters others n e = refl
 put_first false f g filters others n e = rw one-add (ap (λ (l : List Filter). g ∷ l) e)
 

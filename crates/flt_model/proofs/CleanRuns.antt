@@ -56,7 +56,8 @@ module _ (p : List Filter) (m last : Moment) (xs : List Transition) (k : ℕ) wh
   broken_back s (Some v) ih c = absurd (cc)
 
   course_back : (o : Option Step) →
-      ((s : Step) → run_from p (after m s) xs ≡ Some last → breaks_from p (after m s) k xs ≡ None → course p (after m s) xs ≡ Reaches last) →
+      ((s : Step) → run_from p (after m s) xs ≡ Some last → breaks_from p (after m s) k xs ≡ None →
+      course p (after m s) xs ≡ Reaches last) →
       option_and_then (λ s. run_from p (after m s) xs) o ≡ Some last →
       on_step o (λ s. first_or (broken p m s) k (breaks_from p (after m s) k xs)) ≡ None →
       course_by o (λ s. unless_broken (broken p m s) (course p (after m s) xs)) ≡ Reaches last
@@ -128,7 +129,8 @@ module _ (p : List Filter) (m : Moment) (n : ℕ) (es : List JournalEntry) where
   arrives_entry : (o : Option (List Transition)) →
       ((mid : Moment) → verdict_from p mid (n + 1) es ≡ Legal → Arrives p mid es) →
       judged (entry_course p m o) n (λ r. verdict_from p r (n + 1) es) ≡ Legal →
-      (ys : List Transition) × ((last : Moment) × ((option_and_then (λ xs. option_map (λ zs. xs ++ zs) (expand es)) o ≡ Some ys) × (course p m ys ≡ Reaches last)))
+      (ys : List Transition) × ((last : Moment)
+      × ((option_and_then (λ xs. option_map (λ zs. xs ++ zs) (expand es)) o ≡ Some ys) × (course p m ys ≡ Reaches last)))
   arrives_entry None ih e = absurd (cc)
   arrives_entry (Some xs) ih e = arrives_by xs (course p m xs) refl ih e
 
@@ -159,7 +161,8 @@ module _ (p : List Filter) (m last : Moment) (n : ℕ) (es : List JournalEntry) 
       (sym (course_append p m xs ys) ∙ (ap (λ q. course p m q) same ∙ h))
 
   legal_entry : (zs : List Transition) (o : Option (List Transition)) →
-      ((ys : List Transition) (mid : Moment) → expand es ≡ Some ys → course p mid ys ≡ Reaches last → verdict_from p mid (n + 1) es ≡ Legal) →
+      ((ys : List Transition) (mid : Moment) → expand es ≡ Some ys → course p mid ys ≡ Reaches last →
+      verdict_from p mid (n + 1) es ≡ Legal) →
       option_and_then (λ xs. option_map (λ ys. xs ++ ys) (expand es)) o ≡ Some zs → course p m zs ≡ Reaches last →
       judged (entry_course p m o) n (λ r. verdict_from p r (n + 1) es) ≡ Legal
   legal_entry zs None ih e h = absurd (cc)
@@ -193,7 +196,8 @@ legal_is_clean filters entries = (legal_clean filters entries, clean_legal filte
 
 module _ (p : List Filter) (m : Moment) (xs : List Transition) where
   stops_step : (o : Option Step) → ((s : Step) → course p (after m s) xs ≡ Stops → run_from p (after m s) xs ≡ None) →
-      course_by o (λ s. unless_broken (broken p m s) (course p (after m s) xs)) ≡ Stops → option_and_then (λ s. run_from p (after m s) xs) o ≡ None
+      course_by o (λ s. unless_broken (broken p m s) (course p (after m s) xs)) ≡ Stops →
+      option_and_then (λ s. run_from p (after m s) xs) o ≡ None
   stops_step None ih e = refl
   stops_step (Some s) ih e = unbroken (broken p m s) e
     where
@@ -216,7 +220,8 @@ module _ (p : List Filter) (m : Moment) (xs : List Transition) (v : Violation) (
   fails_broken s None ih e = ih e
   fails_broken s (Some w) ih e = cc
 
-  fails_step : (o : Option Step) → ((s : Step) → course p (after m s) xs ≡ Fails v → violation_of (breaks_from p (after m s) k xs) ≡ Some v) →
+  fails_step : (o : Option Step) → ((s : Step) → course p (after m s) xs ≡ Fails v →
+      violation_of (breaks_from p (after m s) k xs) ≡ Some v) →
       course_by o (λ s. unless_broken (broken p m s) (course p (after m s) xs)) ≡ Fails v →
       violation_of (on_step o (λ s. first_or (broken p m s) k (breaks_from p (after m s) k xs))) ≡ Some v
   fails_step None ih e = absurd (cc)
@@ -229,7 +234,8 @@ module _ (p : List Filter) (m : Moment) (xs : List Transition) (v : Violation) (
   broken_fails s (Some w) ih e = cc
 
   step_fails : (last : Moment) (o : Option Step) →
-      ((s : Step) → run_from p (after m s) xs ≡ Some last → violation_of (breaks_from p (after m s) k xs) ≡ Some v → course p (after m s) xs ≡ Fails v) →
+      ((s : Step) → run_from p (after m s) xs ≡ Some last → violation_of (breaks_from p (after m s) k xs) ≡ Some v →
+      course p (after m s) xs ≡ Fails v) →
       option_and_then (λ s. run_from p (after m s) xs) o ≡ Some last →
       violation_of (on_step o (λ s. first_or (broken p m s) k (breaks_from p (after m s) k xs))) ≡ Some v →
       course_by o (λ s. unless_broken (broken p m s) (course p (after m s) xs)) ≡ Fails v
@@ -391,10 +397,12 @@ module _ (p : List Filter) (m last : Moment) (n i : ℕ) (es : List JournalEntry
       (r.0, r.1 ∙ ap (λ l. option_map (λ zs. l ++ zs) (expand (take 1 (drop i es)))) same)
 
   parted_entry : (front : List Transition) (o : Option (List Transition)) →
-      ((ys : List Transition) (mid : Moment) → expand (take i es) ≡ Some ys → course p mid ys ≡ Reaches last → Parted p mid last (n + 1) i es ys) →
+      ((ys : List Transition) (mid : Moment) → expand (take i es) ≡ Some ys → course p mid ys ≡ Reaches last →
+      Parted p mid last (n + 1) i es ys) →
       option_and_then (λ xs. option_map (λ ys. xs ++ ys) (expand (take i es))) o ≡ Some front → course p m front ≡ Reaches last →
       (judged (entry_course p m o) n (λ r. verdict_from p r (n + 1) es) ≡ verdict_from p last (n + suc i) (drop i es))
-      × (option_and_then (λ xs. option_map (λ zs. xs ++ zs) (expand (take (suc i) es))) o ≡ option_map (λ zs. front ++ zs) (expand (take 1 (drop i es))))
+      × (option_and_then (λ xs. option_map (λ zs. xs ++ zs) (expand (take (suc i) es))) o ≡ option_map (λ zs. front ++ zs)
+      (expand (take 1 (drop i es))))
   parted_entry front None ih e h = absurd (cc)
   parted_entry front (Some xs) ih e h = parted_rest xs front (expand (take i es)) ih e h
 
@@ -414,7 +422,7 @@ parted p m last n (suc i) (x ∷ es) front e h =
     let r = parted_entry p m last n i es front (expansion x) (λ ys mid. parted p mid last (n + 1) i es ys) e h in
     record { told = r.0; more = r.1 }
 
--- ---- where the fault is that a verdict tells
+-- ---- where the fault is that a verdict names
 
 record Located (p : List Filter) (m : Moment) (n : ℕ) (es : List JournalEntry) (w : Verdict) : Type 0 where
   i : ℕ
@@ -535,7 +543,8 @@ module _ (p : List Filter) (m last : Moment) (front : List Transition) (reaches 
       let r = runs xs refl e in
       (front ++ xs, (r.0, (refl, (run_behind xs ∙ r.1, course_fails p m (front ++ xs) v 0 (course_behind xs ∙ e)))))
 
-  broken_behind : (v : Violation) (ys : List Transition) (end : Moment) (o : Option (List Transition)) → option_map (λ zs. front ++ zs) o ≡ Some ys →
+  broken_behind : (v : Violation) (ys : List Transition) (end : Moment) (o : Option (List Transition)) →
+      option_map (λ zs. front ++ zs) o ≡ Some ys →
       run_from p m ys ≡ Some end → violation_of (breaks_from p m 0 ys) ≡ Some v → entry_course p last o ≡ Fails v
   broken_behind v ys end None e r b = absurd (cc)
   broken_behind v ys end (Some xs) e r b =
@@ -544,7 +553,8 @@ module _ (p : List Filter) (m last : Moment) (front : List Transition) (reaches 
 
   -- of the entries that follow, the first decides
   next_stops : (n : ℕ) (es : List JournalEntry) → Orderly last →
-      option_and_then (λ xs. run_from p m xs) (option_map (λ ys. front ++ ys) (expand (take 1 es))) ≡ None → verdict_from p last n es ≡ NotARun n
+      option_and_then (λ xs. run_from p m xs) (option_map (λ ys. front ++ ys) (expand (take 1 es))) ≡ None →
+      verdict_from p last n es ≡ NotARun n
   next_stops n [] at e = absurd (not_both (run_from p m (front ++ [])) last (run_behind []) e)
   next_stops n (x ∷ es) at e =
       let none = ap (λ o. option_and_then (λ xs. run_from p m xs) o) (sym (with_next front x (x ∷ es) es refl)) ∙ e in
@@ -578,7 +588,7 @@ one_more n es = let count : n + 1 ≡ suc n = omega arith in ap (λ k. expand (t
 none_before : (n : ℕ) → 0 + n ≡ n
 none_before n = omega arith
 
--- the fault that a verdict tells stands at its number
+-- the fault that a verdict names stands at its number
 record Fault (filters : List Filter) (entries : List JournalEntry) (n : ℕ) (c : Course) : Type 0 where
   front : List Transition
   last : Moment
@@ -621,10 +631,12 @@ broken_by : (filters : List Filter) (entries : List JournalEntry) (v : Violation
     IsBrokenAt filters entries v n
 broken_by filters entries v n f =
     let p = by_altitude filters in
-    let b = fails_behind p (start p) f.last f.front f.reaches v (expansion f.entry) (λ xs h. entry_runs p f.last v f.entry xs h f.orderly) f.ends in
+    let b = fails_behind p (start p) f.last f.front f.reaches v (expansion f.entry)
+    (λ xs h. entry_runs p f.last v f.entry xs h f.orderly) f.ends in
     record { before = f.before; transitions = b.0; last = b.1.0; expanded = f.more ∙ b.1.1.0; runs = b.1.1.1.0; broken = b.1.1.1.1 }
 
-told_stopped : (filters : List Filter) (entries : List JournalEntry) (n : ℕ) → verdict filters entries ≡ NotARun n → IsStoppedAt filters entries n
+told_stopped : (filters : List Filter) (entries : List JournalEntry) (n : ℕ) → verdict filters entries ≡ NotARun n →
+    IsStoppedAt filters entries n
 told_stopped filters entries n e =
     let p = by_altitude filters in
     let r = located p (start p) 0 entries (NotARun n) (λ q. absurd (cc)) e in
@@ -639,7 +651,8 @@ told_broken filters entries v n e =
     let c = told_fails (entry_course p r.last (expansion r.entry)) v (0 + r.i) n r.told in
     broken_by filters entries v n (fault_at filters entries n (Fails v) (Breaks v n) r (sym (none_before r.i) ∙ c.1) c.0)
 
-stopped_told : (filters : List Filter) (entries : List JournalEntry) (n : ℕ) → IsStoppedAt filters entries n → verdict filters entries ≡ NotARun n
+stopped_told : (filters : List Filter) (entries : List JournalEntry) (n : ℕ) → IsStoppedAt filters entries n →
+    verdict filters entries ≡ NotARun n
 stopped_told filters entries n r =
     let p = by_altitude filters in
     let b = r.before in
@@ -647,7 +660,8 @@ stopped_told filters entries n r =
     let q = parted p (start p) b.last 0 n entries b.transitions b.expanded reaches in
     q.told
     ∙ ap (λ k. verdict_from p b.last k (drop n entries)) (none_before n)
-    ∙ next_stops p (start p) b.last b.transitions reaches n (drop n entries) (course_orderly p (start p) b.last b.transitions (orderly_start p) reaches)
+    ∙ next_stops p (start p) b.last b.transitions reaches n (drop n entries)
+    (course_orderly p (start p) b.last b.transitions (orderly_start p) reaches)
     (sym (ap (λ o. option_and_then (λ xs. run_from p (start p) xs) o) (one_more n entries ∙ q.more)) ∙ r.stopped)
 
 broken_told : (filters : List Filter) (entries : List JournalEntry) (v : Violation) (n : ℕ) → IsBrokenAt filters entries v n →
@@ -659,9 +673,11 @@ broken_told filters entries v n r =
     let q = parted p (start p) b.last 0 n entries b.transitions b.expanded reaches in
     q.told
     ∙ ap (λ k. verdict_from p b.last k (drop n entries)) (none_before n)
-    ∙ next_fails p (start p) b.last b.transitions reaches v n (drop n entries) r.transitions r.last (sym (one_more n entries ∙ q.more) ∙ r.expanded) r.runs r.broken
+    ∙ next_fails p (start p) b.last b.transitions reaches v n (drop n entries) r.transitions r.last
+    (sym (one_more n entries ∙ q.more) ∙ r.expanded) r.runs r.broken
 
-pub stopped_is_told : (filters : List Filter) (entries : List JournalEntry) (n : ℕ) → (verdict filters entries ≡ NotARun n) ↔ IsStoppedAt filters entries n
+pub stopped_is_told : (filters : List Filter) (entries : List JournalEntry) (n : ℕ) → (verdict filters entries ≡ NotARun n) ↔
+    IsStoppedAt filters entries n
 stopped_is_told filters entries n = (told_stopped filters entries n, stopped_told filters entries n)
 
 pub broken_is_told : (filters : List Filter) (entries : List JournalEntry) (v : Violation) (n : ℕ) →

@@ -20,14 +20,16 @@ record Goes (text given left : Text) : Type 0 where
 goes : (text : Text) (line : ℕ) (left : Text) → (f : IsFirstFault text line left) → Goes text f.given left
 goes text line left f = by f.stopped
   where
-    by : ((b : ℕ) × (text ≡ f.given ++ b ∷ left) × ((entries : Entries) → IsJournal entries → (others : Text) → spelling entries ≢ f.given ++ b ∷ others))
+    by : ((b : ℕ) × (text ≡ f.given ++ b ∷ left)
+        × ((entries : Entries) → IsJournal entries → (others : Text) → spelling entries ≢ f.given ++ b ∷ others))
         ⊎ ((text ≡ f.given) × (left ≡ []) × ((entries : Entries) → IsJournal entries → spelling entries ≢ f.given)) → Goes text f.given left
     by (inl x) =
         record {
           more = x.0 ∷ left;
           parts = x.1;
           behind = refl;
-          wrong = λ b rest others entries good e h. x.2 entries good others (let same : b ≡ x.0 = cc in h ∙ ap (λ c. f.given ++ c ∷ others) same);
+          wrong = λ b rest others entries good e h. x.2 entries good others
+              (let same : b ≡ x.0 = cc in h ∙ ap (λ c. f.given ++ c ∷ others) same);
         }
     by (inr x) =
         record { more = []; parts = x.0 ∙ sym (append-nil f.given); behind = x.1; wrong = λ b rest others entries good e h. absurd (cc) }
@@ -70,7 +72,8 @@ same_given text line left other_line other_left f g =
         sym (p ∙ ap (λ z. f.given ++ z) none ∙ append-nil f.given)
     by (second w p q) =
         let none : w ≡ [] =
-        not_past text g.given other_left w f.rest f.whose (goes text other_line other_left g) f.journal (f.begun ∙ ap (λ z. z ++ f.rest) p) _ q in
+        not_past text g.given other_left w f.rest f.whose (goes text other_line other_left g) f.journal
+        (f.begun ∙ ap (λ z. z ++ f.rest) p) _ q in
         p ∙ ap (λ z. g.given ++ z) none ∙ append-nil g.given
 
 -- two first faults of a text are one
@@ -88,7 +91,8 @@ same_fault text line left other_line other_left f g =
 pub no_fault : (entries : Entries) (line : ℕ) (left : Text) → IsJournal entries → IsFirstFault (spelling entries) line left → ⊥
 no_fault entries line left good f = by f.stopped
   where
-    by : ((b : ℕ) × (spelling entries ≡ f.given ++ b ∷ left) × ((more : Entries) → IsJournal more → (others : Text) → spelling more ≢ f.given ++ b ∷ others))
+    by : ((b : ℕ) × (spelling entries ≡ f.given ++ b ∷ left)
+        × ((more : Entries) → IsJournal more → (others : Text) → spelling more ≢ f.given ++ b ∷ others))
         ⊎ ((spelling entries ≡ f.given) × (left ≡ []) × ((more : Entries) → IsJournal more → spelling more ≢ f.given)) → ⊥
     by (inl x) = x.2 entries good left x.1
     by (inr x) = x.2 entries good x.0

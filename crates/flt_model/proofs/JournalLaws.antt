@@ -1,4 +1,4 @@
--- Journals: what is read is spelled so, and a fault stands at the first byte that isn't as asked.
+-- Journals: what is read is spelled so, and a fault stands at the first malformed byte.
 use Rattle.std.proofs.Common.{◌≡◌, ◌≤◌, ◌+◌, ℕ, zero, suc, [], ◌∷◌, ◌++◌, length, refl, sym, ap, subst, arith, ◌∙◌, append_assoc, append-nil, length-append, inl, inr}
 use Rattle.std.specs.Prelude.{◌⊎◌, Option, Some, None, Result, Ok, Err, IfOk, OnOk, MatchResult, codes}
 use Rattle.std.specs.List.{flat_map, AllByRecursion}
@@ -27,12 +27,14 @@ Few left more = AllByRecursion IsEntry more × (length more ≤ left)
 -- reading stops at a byte behind those given, whatever follows it; or where the text ends
 abbrev Halts : (Text → Reading) → Text → Text → ℕ → Text → Type 0
 Halts f given text n rest =
-    ((b : ℕ) × (text ≡ given ++ b ∷ rest) × ((s : Text) → f (given ++ b ∷ s) ≡ Err (record { line = n; left = s }))) ⊎ ((text ≡ given) × (rest ≡ []))
+    ((b : ℕ) × (text ≡ given ++ b ∷ rest) × ((s : Text) → f (given ++ b ∷ s) ≡ Err (record { line = n; left = s })))
+    ⊎ ((text ≡ given) × (rest ≡ []))
 
 -- what is read of entries that are left
 data Goes (left : ℕ) (found : Entries) (text : Text) : Reading → Type 0 where
   all : (more : Entries) → text ≡ rest_of more → Few left more → Goes left found text (Ok (found ++ more))
-  fault : (given w : Text) (more : Entries) (n : ℕ) (rest : Text) → Few left more → rest_of more ≡ given ++ w → n ≡ length found + 2 + line_ends given →
+  fault : (given w : Text) (more : Entries) (n : ℕ) (rest : Text) → Few left more → rest_of more ≡ given ++ w →
+      n ≡ length found + 2 + line_ends given →
       Halts (entries_from left found) given text n rest → Goes left found text (Err (record { line = n; left = rest }))
 
 -- ---- a front of what is read
@@ -42,7 +44,8 @@ exactly_again [] text = refl
 exactly_again (b ∷ front) text = rw (eq-eqb b b refl) (exactly_again front text)
 
 -- a byte goes on no line, so a line isn't whole before it
-not_whole : (x : Option JournalEntry) (c w : Text) (b : ℕ) → IsLine x → c ++ w ≡ line_text x → ((s : Text) → line (c ++ b ∷ s) ≡ Err s) → w ≡ [] → ⊥
+not_whole : (x : Option JournalEntry) (c w : Text) (b : ℕ) → IsLine x → c ++ w ≡ line_text x →
+    ((s : Text) → line (c ++ b ∷ s) ≡ Err s) → w ≡ [] → ⊥
 not_whole x c w b h e l none =
     let same : c ≡ line_text x = sym (append-nil c) ∙ ap (λ z. c ++ z) (sym none) ∙ e in
     let read : line (c ++ b ∷ []) ≡ Ok (x, b ∷ []) = ap (λ z. line (z ++ b ∷ [])) same ∙ any_line_again x (b ∷ []) h in
@@ -74,20 +77,27 @@ no_entry : (left : ℕ) → Few left []
 no_entry left = (tt, omega arith)
 
 -- behind the last line
-closing : (left : ℕ) (found : Entries) (text left_text : Text) → text ≡ last_line ++ left_text → ((s : Text) → entries_from left found (last_line ++ s) ≡ closed found s) →
+closing : (left : ℕ) (found : Entries) (text left_text : Text) → text ≡ last_line ++ left_text →
+    ((s : Text) → entries_from left found (last_line ++ s) ≡ closed found s) →
     Goes left found text (closed found left_text)
 closing left found text [] e l = subst (λ z. Goes left found text (Ok z)) (append-nil found) (all [] e (no_entry left))
-closing left found text (b ∷ rest) e l = fault last_line [] [] (length found + 3) rest (no_entry left) refl (let one : line_ends last_line ≡ 1 = refl in omega arith) (inl (b, e, λ s. l (b ∷ s)))
+closing left found text (b ∷ rest) e l =
+    fault last_line [] [] (length found + 3) rest (no_entry left) refl (let one : line_ends last_line ≡ 1 = refl in omega arith)
+    (inl (b, e, λ s. l (b ∷ s)))
 
 -- one entry more
-one_more : (left : ℕ) (found : Entries) (entry : JournalEntry) (c text rest : Text) (out : Reading) → c ≡ entry_line entry → IsEntry entry → text ≡ c ++ rest →
-    ((s : Text) → entries_from (suc left) found (c ++ s) ≡ entries_from left (found ++ entry ∷ []) s) → Goes left (found ++ entry ∷ []) rest out → Goes (suc left) found text out
+one_more : (left : ℕ) (found : Entries) (entry : JournalEntry) (c text rest : Text) (out : Reading) → c ≡ entry_line entry →
+    IsEntry entry → text ≡ c ++ rest →
+    ((s : Text) → entries_from (suc left) found (c ++ s) ≡ entries_from left (found ++ entry ∷ []) s) →
+    Goes left (found ++ entry ∷ []) rest out → Goes (suc left) found text out
 one_more left found entry c text rest _ e h t l (all more r few) =
     subst (λ z. Goes (suc left) found text (Ok z)) (sym (append_assoc found (entry ∷ []) more))
-    (all (entry ∷ more) (t ∙ ap (λ z. c ++ z) r ∙ ap (λ z. z ++ rest_of more) e ∙ sym (append_assoc (entry_line entry) (flat_map entry_line more) last_line)) ((h, few.0), (let most = few.1 in omega arith)))
+    (all (entry ∷ more) (t ∙ ap (λ z. c ++ z) r ∙ ap (λ z. z ++ rest_of more) e
+    ∙ sym (append_assoc (entry_line entry) (flat_map entry_line more) last_line)) ((h, few.0), (let most = few.1 in omega arith)))
 one_more left found entry c text rest _ e h t l (fault given w more n r few begun number halts) =
     fault (c ++ given) w (entry ∷ more) n r ((h, few.0), (let most = few.1 in omega arith))
-    (append_assoc (entry_line entry) (flat_map entry_line more) last_line ∙ ap (λ z. z ++ rest_of more) (sym e) ∙ ap (λ z. c ++ z) begun ∙ sym (append_assoc c given w))
+    (append_assoc (entry_line entry) (flat_map entry_line more) last_line ∙ ap (λ z. z ++ rest_of more) (sym e)
+    ∙ ap (λ z. c ++ z) begun ∙ sym (append_assoc c given w))
     (number ∙ ends) (moved halts)
   where
     ends : length (found ++ entry ∷ []) + 2 + line_ends given ≡ length found + 2 + line_ends (c ++ given)
@@ -98,15 +108,24 @@ one_more left found entry c text rest _ e h t l (fault given w more n r few begu
         omega arith
 
     moved : Halts (entries_from left (found ++ entry ∷ [])) given rest n r → Halts (entries_from (suc left) found) (c ++ given) text n r
-    moved (inl x) = inl (x.0, t ∙ ap (λ z. c ++ z) x.1 ∙ sym (append_assoc c given (x.0 ∷ r)), λ s. ap (entries_from (suc left) found) (append_assoc c given (x.0 ∷ s)) ∙ l (given ++ x.0 ∷ s) ∙ x.2 s)
+    moved (inl x) = inl (
+      x.0,
+      t ∙ ap (λ z. c ++ z) x.1 ∙ sym (append_assoc c given (x.0 ∷ r)),
+      λ s. ap (entries_from (suc left) found) (append_assoc c given (x.0 ∷ s)) ∙ l (given ++ x.0 ∷ s) ∙ x.2 s,
+    )
     moved (inr x) = inr (t ∙ ap (λ z. c ++ z) x.0, x.1)
 
 -- the front of a line, behind entries that were read
 begun_line : (left : ℕ) (x : Option JournalEntry) (c w : Text) → IsLine x → c ++ w ≡ line_text x → 1 ≤ left →
     (more : Entries) × (v : Text) × Few left more × (rest_of more ≡ c ++ v)
 begun_line left None c w h e some = ([], w, no_entry left, sym e)
-begun_line left (Some entry) c w h e some =
-    (entry ∷ [], w ++ last_line, ((h, tt), some), ap (λ z. z ++ last_line) (append-nil (entry_line entry) ∙ sym e) ∙ append_assoc c w last_line)
+begun_line left (Some entry) c w h e some = (
+  entry ∷ [],
+  w ++ last_line,
+  ((h, tt), some),
+  ap (λ z. z ++ last_line) (append-nil (entry_line entry) ∙ sym e)
+      ∙ append_assoc c w last_line,
+)
 
 goes_by : (left : ℕ) (found : Entries) (text : Text) (o : Outcome (Option JournalEntry)) → line text ≡ o → Seen Line line text o →
     ((entry : JournalEntry) (rest : Text) → Goes left (found ++ entry ∷ []) rest (entries_from left (found ++ entry ∷ []) rest)) →
@@ -126,7 +145,8 @@ goes_by left found text _ is (missing c w x e h) more =
     let plain = within_line c w (line_text x) h.0 (not_all x text c w h.1 h.0 e is) (line_ended x h.1) in
     fault c begun.1 begun.0 (length found + 2) [] begun.2 begun.3 (omega arith) (inr (e, refl))
 
-last_by : (found : Entries) (text : Text) (o : Outcome (Unit {0})) → exactly last_line text ≡ o → Seen (λ c x. c ≡ last_line) (exactly last_line) text o →
+last_by : (found : Entries) (text : Text) (o : Outcome (Unit {0})) → exactly last_line text ≡ o →
+    Seen (λ c x. c ≡ last_line) (exactly last_line) text o →
     Goes 0 found text (at_line (length found + 2) o (λ q. closed found q.1))
 unfolding entries_from
 last_by found text _ is (took c x rest e h l) = closing 0 found text rest (e ∙ ap (λ z. z ++ rest) h) (λ s. refl)
@@ -140,21 +160,25 @@ last_by found text _ is (missing c w x e h) =
 goes : (left : ℕ) (found : Entries) (text : Text) → Goes left found text (entries_from left found text)
 unfolding entries_from
 goes zero found text = last_by found text (exactly last_line text) refl ((exactly_online last_line).seen text)
-goes (suc left) found text = goes_by left found text (line text) refl (line_online.seen text) (λ entry rest. goes left (found ++ entry ∷ []) rest)
+goes (suc left) found text = goes_by left found text (line text) refl (line_online.seen text)
+    (λ entry rest. goes left (found ++ entry ∷ []) rest)
 
 -- ---- the whole of a journal
 
 -- how a text is read
 data ReadAs (text : Text) : Reading → Type 0 where
   spelled : (entries : Entries) → text ≡ spelling entries → IsJournal entries → ReadAs text (Ok entries)
-  refused : (given w : Text) (whose : Entries) (n : ℕ) (rest : Text) → IsJournal whose → spelling whose ≡ given ++ w → n ≡ suc (line_ends given) →
+  refused : (given w : Text) (whose : Entries) (n : ℕ) (rest : Text) → IsJournal whose → spelling whose ≡ given ++ w →
+      n ≡ suc (line_ends given) →
       Halts journal given text n rest → ReadAs text (Err (record { line = n; left = rest }))
 
-behind_first : (c text rest : Text) (out : Reading) → c ≡ first_line → text ≡ c ++ rest → ((s : Text) → journal (c ++ s) ≡ entries_from most_entries [] s) →
+behind_first : (c text rest : Text) (out : Reading) → c ≡ first_line → text ≡ c ++ rest →
+    ((s : Text) → journal (c ++ s) ≡ entries_from most_entries [] s) →
     Goes most_entries [] rest out → ReadAs text out
 behind_first c text rest _ e t l (all more r few) = spelled more (t ∙ ap (λ z. c ++ z) r ∙ ap (λ z. z ++ rest_of more) e) few
 behind_first c text rest _ e t l (fault given w more n r few begun number halts) =
-    refused (c ++ given) w more n r few (ap (λ z. z ++ rest_of more) (sym e) ∙ ap (λ z. c ++ z) begun ∙ sym (append_assoc c given w)) counted (moved halts)
+    refused (c ++ given) w more n r few
+    (ap (λ z. z ++ rest_of more) (sym e) ∙ ap (λ z. c ++ z) begun ∙ sym (append_assoc c given w)) counted (moved halts)
   where
     counted : n ≡ suc (line_ends (c ++ given))
     counted =
@@ -163,7 +187,11 @@ behind_first c text rest _ e t l (fault given w more n r few begun number halts)
         two ∙ ap (λ z. suc (line_ends (z ++ given))) (sym e)
 
     moved : Halts (entries_from most_entries []) given rest n r → Halts journal (c ++ given) text n r
-    moved (inl x) = inl (x.0, t ∙ ap (λ z. c ++ z) x.1 ∙ sym (append_assoc c given (x.0 ∷ r)), λ s. ap journal (append_assoc c given (x.0 ∷ s)) ∙ l (given ++ x.0 ∷ s) ∙ x.2 s)
+    moved (inl x) = inl (
+      x.0,
+      t ∙ ap (λ z. c ++ z) x.1 ∙ sym (append_assoc c given (x.0 ∷ r)),
+      λ s. ap journal (append_assoc c given (x.0 ∷ s)) ∙ l (given ++ x.0 ∷ s) ∙ x.2 s,
+    )
     moved (inr x) = inr (t ∙ ap (λ z. c ++ z) x.0, x.1)
 
 begun_first : (c w : Text) → c ++ w ≡ first_line → spelling [] ≡ c ++ (w ++ last_line)
@@ -172,7 +200,8 @@ begun_first c w e = ap (λ z. z ++ last_line) (sym e) ∙ append_assoc c w last_
 first_by : (text : Text) (o : Outcome (Unit {0})) → exactly first_line text ≡ o → Seen (λ c x. c ≡ first_line) (exactly first_line) text o →
     ReadAs text (at_line 1 o (λ q. entries_from most_entries [] q.1))
 unfolding journal
-first_by text _ is (took c x rest e h l) = behind_first c text rest (entries_from most_entries [] rest) h e (λ s. rw (l s) refl) (goes most_entries [] rest)
+first_by text _ is (took c x rest e h l) =
+    behind_first c text rest (entries_from most_entries [] rest) h e (λ s. rw (l s) refl) (goes most_entries [] rest)
 first_by text _ is (stopped c b rest w x e l h) =
     let plain = within_line c w first_line h (not_whole_words first_line c w b h l) (bare (codes "fltjournal 1") refl) in
     refused c (w ++ last_line) [] 1 rest (no_entry most_entries) (begun_first c w h) (omega arith) (inl (b, e, λ s. rw (l s) refl))
@@ -193,10 +222,12 @@ is_spelled text found h = go (journal text) h (read_as text)
     go _ h (spelled entries e good) = let same : entries ≡ found = cc in subst (λ z. (text ≡ spelling z) × IsJournal z) same (e, good)
     go _ h (refused given w whose n rest good begun number halts) = cc
 
-pub is_read : (text : Text) (found entries : Entries) → journal text ≡ Ok found → IsJournal entries → text ≡ spelling entries → found ≡ entries
+pub is_read : (text : Text) (found entries : Entries) → journal text ≡ Ok found → IsJournal entries → text ≡ spelling entries →
+    found ≡ entries
 is_read text found entries h good e = let read : journal text ≡ Ok entries = ap journal e ∙ spelled_read entries good in cc
 
-pub is_no_journal : (text : Text) (n : ℕ) (left : Text) (entries : Entries) → journal text ≡ Err (record { line = n; left = left }) → IsJournal entries → text ≡ spelling entries → ⊥
+pub is_no_journal : (text : Text) (n : ℕ) (left : Text) (entries : Entries) →
+    journal text ≡ Err (record { line = n; left = left }) → IsJournal entries → text ≡ spelling entries → ⊥
 is_no_journal text n left entries h good e = let read : journal text ≡ Ok entries = ap journal e ∙ spelled_read entries good in cc
 
 same_fault : (e f : Fault) (o : Reading) → o ≡ Err e → o ≡ Err f → e ≡ f
@@ -206,7 +237,8 @@ pub first_fault : (text : Text) (n : ℕ) (left : Text) → journal text ≡ Err
 first_fault text n left h = go (journal text) h (read_as text)
   where
     stops : (given : Text) (m : ℕ) (rest : Text) → m ≡ n → rest ≡ left → Halts journal given text m rest →
-        ((b : ℕ) × (text ≡ given ++ b ∷ left) × ((entries : Entries) → IsJournal entries → (others : Text) → spelling entries ≡ given ++ b ∷ others → ⊥))
+        ((b : ℕ) × (text ≡ given ++ b ∷ left)
+        × ((entries : Entries) → IsJournal entries → (others : Text) → spelling entries ≡ given ++ b ∷ others → ⊥))
         ⊎ ((text ≡ given) × (left ≡ []) × ((entries : Entries) → IsJournal entries → spelling entries ≡ given → ⊥))
     stops given m rest e f (inl x) = inl (
       x.0,
@@ -219,16 +251,27 @@ first_fault text n left h = go (journal text) h (read_as text)
     go : (o : Reading) → o ≡ Err (record { line = n; left = left }) → ReadAs text o → IsFirstFault text n left
     go _ h (spelled entries e good) = cc
     go _ h (refused given w whose m rest good begun number halts) =
-        let fault = same_fault (record { line = m; left = rest }) (record { line = n; left = left }) (Err (record { line = m; left = rest })) refl h in
+        let fault = same_fault (record { line = m; left = rest }) (record { line = n; left = left })
+        (Err (record { line = m; left = rest })) refl h in
         let line : m ≡ n = ap (λ (f : Fault). f.line) fault in
         let same : rest ≡ left = ap (λ (f : Fault). f.left) fault in
-        record { given = given; number = sym line ∙ number; whose = whose; journal = good; rest = w; begun = begun; stopped = stops given m rest line same halts }
+        record {
+          given = given;
+          number = sym line ∙ number;
+          whose = whose;
+          journal = good;
+          rest = w;
+          begun = begun;
+          stopped = stops given m rest line same halts;
+        }
 
-pub reads_spelled : (text : Text) (r : Result Entries JournalFault) (left : Text) → ReadsAll (journal text) r left → IfOk r (λ found. text ≡ spelling found)
+pub reads_spelled : (text : Text) (r : Result Entries JournalFault) (left : Text) → ReadsAll (journal text) r left →
+    IfOk r (λ found. text ≡ spelling found)
 reads_spelled text (Ok found) left h = (is_spelled text found h.0).0
 reads_spelled text (Err e) left h = tt
 
-pub reads_journal : (text : Text) (r : Result Entries JournalFault) (left : Text) → ReadsAll (journal text) r left → IfOk r (λ found. IsJournal found)
+pub reads_journal : (text : Text) (r : Result Entries JournalFault) (left : Text) → ReadsAll (journal text) r left →
+    IfOk r (λ found. IsJournal found)
 reads_journal text (Ok found) left h = (is_spelled text found h.0).1
 reads_journal text (Err e) left h = tt
 
@@ -236,14 +279,16 @@ pub reads_all : (text : Text) (r : Result Entries JournalFault) (left : Text) �
 reads_all text (Ok found) left h = h.1
 reads_all text (Err e) left h = tt
 
-pub reads_again : (text : Text) (r : Result Entries JournalFault) (left : Text) → ReadsAll (journal text) r left → (entries : Entries) → IsJournal entries → text ≡ spelling entries →
+pub reads_again : (text : Text) (r : Result Entries JournalFault) (left : Text) → ReadsAll (journal text) r left →
+    (entries : Entries) → IsJournal entries → text ≡ spelling entries →
     MatchResult r (λ found. found ≡ entries) IsHindrance
 reads_again text (Ok found) left h entries good e = is_read text found entries h.0 good e
 reads_again text (Err (faults.Line n)) left h entries good e = is_no_journal text n left entries h good e
 reads_again text (Err faults.Read) left h entries good e = tt
 reads_again text (Err faults.OutOfMemory) left h entries good e = tt
 
-pub reads_fault : (text : Text) (r : Result Entries JournalFault) (left : Text) → ReadsAll (journal text) r left → MatchResult r (λ found. Unit {0}) (λ e. IsFaultOf text e left)
+pub reads_fault : (text : Text) (r : Result Entries JournalFault) (left : Text) → ReadsAll (journal text) r left →
+    MatchResult r (λ found. Unit {0}) (λ e. IsFaultOf text e left)
 reads_fault text (Ok found) left h = tt
 reads_fault text (Err (faults.Line n)) left h = first_fault text n left h
 reads_fault text (Err faults.Read) left h = tt

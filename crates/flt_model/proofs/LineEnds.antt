@@ -66,7 +66,8 @@ mode_plain Fast = refl
 
 pub entry_ended : (entry : JournalEntry) → IsEntry entry → Ended (entry_line entry)
 entry_ended (entries.Move (moves.Arrive o m file)) h =
-    behind (codes "arrive ") (operation_text o ++ (mode_text m ++ number_text file 10)) refl (behind (operation_text o) (mode_text m ++ number_text file 10) (operation_plain o)
+    behind (codes "arrive ") (operation_text o ++ (mode_text m ++ number_text file 10)) refl
+    (behind (operation_text o) (mode_text m ++ number_text file 10) (operation_plain o)
     (behind (mode_text m) (number_text file 10) (mode_plain m) (number_ended file h)))
 entry_ended (entries.Move (moves.Pre serial)) h = behind (codes "pre ") (number_text serial 10) refl (number_ended serial h)
 entry_ended (entries.Move (moves.Skip serial)) h = behind (codes "skip ") (number_text serial 10) refl (number_ended serial h)
@@ -74,14 +75,17 @@ entry_ended (entries.Move (moves.Lower serial)) h = behind (codes "lower ") (num
 entry_ended (entries.Move (moves.Post serial)) h = behind (codes "post ") (number_text serial 10) refl (number_ended serial h)
 entry_ended (entries.Move (moves.Cancel serial)) h = behind (codes "cancel ") (number_text serial 10) refl (number_ended serial h)
 entry_ended (entries.Move (moves.Canceled altitude serial)) h =
-    behind (codes "canceled ") (number_text altitude 32 ++ number_text serial 10) refl (behind (number_text altitude 32) (number_text serial 10) (number_plain altitude h.0) (number_ended serial h.1))
+    behind (codes "canceled ") (number_text altitude 32 ++ number_text serial 10) refl
+    (behind (number_text altitude 32) (number_text serial 10) (number_plain altitude h.0) (number_ended serial h.1))
 entry_ended (entries.Move (moves.Work item)) h = behind (codes "work ") (number_text item 10) refl (number_ended item h)
 entry_ended (entries.Move (moves.Detach altitude)) h = behind (codes "detach ") (number_text altitude 10) refl (number_ended altitude h)
 entry_ended (entries.Move (moves.Drain altitude serial)) h =
-    behind (codes "drain ") (number_text altitude 32 ++ number_text serial 10) refl (behind (number_text altitude 32) (number_text serial 10) (number_plain altitude h.0) (number_ended serial h.1))
+    behind (codes "drain ") (number_text altitude 32 ++ number_text serial 10) refl
+    (behind (number_text altitude 32) (number_text serial 10) (number_plain altitude h.0) (number_ended serial h.1))
 entry_ended (entries.Move (moves.Unlink altitude (Stream file))) h =
     behind (codes "unlink ") (number_text altitude 32 ++ (codes "stream " ++ number_text file 10)) refl
-    (behind (number_text altitude 32) (codes "stream " ++ number_text file 10) (number_plain altitude h.0) (behind (codes "stream ") (number_text file 10) refl (number_ended file h.1)))
+    (behind (number_text altitude 32) (codes "stream " ++ number_text file 10) (number_plain altitude h.0)
+    (behind (codes "stream ") (number_text file 10) refl (number_ended file h.1)))
 entry_ended (entries.Move (moves.Unlink altitude Instance)) h =
     behind (codes "unlink ") (number_text altitude 32 ++ (codes "instance" ++ 10 ∷ [])) refl
     (behind (number_text altitude 32) (codes "instance" ++ 10 ∷ []) (number_plain altitude h.0) (bare (codes "instance") refl))
@@ -114,7 +118,8 @@ front_plain (x ∷ c) w (y ∷ body) e some plain =
     let rest : c ++ w ≡ body ++ 10 ∷ [] = cc in
     go (y == 10) refl same plain (front_plain c w body rest some)
   where
-    go : (z : Bool) → (y == 10) ≡ z → x ≡ y → (if z then suc (line_ends body) else line_ends body) ≡ 0 → (line_ends body ≡ 0 → line_ends c ≡ 0) → line_ends (x ∷ c) ≡ 0
+    go : (z : Bool) → (y == 10) ≡ z → x ≡ y → (if z then suc (line_ends body) else line_ends body) ≡ 0 →
+        (line_ends body ≡ 0 → line_ends c ≡ 0) → line_ends (x ∷ c) ≡ 0
     go true e same p others = absurd (omega arith)
     go false e same p others = rw (same, e) (others p)
 

@@ -18,7 +18,8 @@ use Rattle.flt_model.proofs.Online.{Online, Choice, dead, said, pure_online, the
 use Rattle.flt_model.proofs.Numbers.{Whole, number_online, with_number}
 
 -- a line that a number ends
-ends : {A : Type 0} (Js : Text → A → Type 0) (make : ℕ → A) → ((n : ℕ) → n < 2 ^ 32 → Js (number_text n 10) (make n)) → Online Js (number 10 >>= λ n. pure (make n))
+ends : {A : Type 0} (Js : Text → A → Type 0) (make : ℕ → A) → ((n : ℕ) → n < 2 ^ 32 → Js (number_text n 10) (make n)) →
+    Online Js (number 10 >>= λ n. pure (make n))
 ends Js make h = with_number Js 10 (λ n. pure (make n)) (λ n small. pure_online (λ w b. Js (number_text n 10 ++ w) b) (make n)
     (subst (λ z. Js z (make n)) (sym (append-nil (number_text n 10))) (h n small)))
 
@@ -29,7 +30,8 @@ word Js front a h = after Js front (pure a) (pure_online (λ w b. Js (front ++ w
 -- one of the words of an operation, a mode or an answer, then what follows it
 named : {A B : Type 0} (text_of : A → Text) (Js : Text → B → Type 0) (p : Parser A) (k : A → Parser B) → Online (λ c a. c ≡ text_of a) p →
     ((a : A) → Online (λ w b. Js (text_of a ++ w) b) (k a)) → Online Js (p >>= k)
-named text_of Js p k o f = then_online (λ c a. c ≡ text_of a) Js p k o (λ c a e. subst (λ z. Online (λ w b. Js (z ++ w) b) (k a)) (sym e) (f a))
+named text_of Js p k o f = then_online (λ c a. c ≡ text_of a) Js p k o
+    (λ c a e. subst (λ z. Online (λ w b. Js (z ++ w) b) (k a)) (sym e) (f a))
 
 -- ---- operations, modes, keys and answers
 
@@ -48,15 +50,21 @@ create_online = word (λ w a. Op (99 ∷ 114 ∷ w) a) (codes "eate ") Create re
 cleanup_online : Online (λ w a. Op (99 ∷ 108 ∷ w) a) (exactly (codes "eanup ") >> pure Cleanup)
 cleanup_online = word (λ w a. Op (99 ∷ 108 ∷ w) a) (codes "eanup ") Cleanup refl
 
-by_c_online : Online (λ w a. Op (99 ∷ w) a) (byte >>= λ b. if b == 114 then exactly (codes "eate ") >> pure Create else (if b == 108 then exactly (codes "eanup ") >> pure Cleanup else wrong))
+by_c_online : Online (λ w a. Op (99 ∷ w) a)
+    (byte >>= λ b. if b == 114 then exactly (codes "eate ") >> pure Create
+    else (if b == 108 then exactly (codes "eanup ") >> pure Cleanup else wrong))
 by_c_online =
-    node (λ w a. Op (99 ∷ w) a) (λ b. if b == 114 then exactly (codes "eate ") >> pure Create else (if b == 108 then exactly (codes "eanup ") >> pure Cleanup else wrong)) 114 create_online
-    (λ b. pick (λ w a. Op (99 ∷ w) a) b 114 (exactly (codes "eate ") >> pure Create) (if b == 108 then exactly (codes "eanup ") >> pure Cleanup else wrong) create_online
+    node (λ w a. Op (99 ∷ w) a) (λ b. if b == 114 then exactly (codes "eate ") >> pure Create
+    else (if b == 108 then exactly (codes "eanup ") >> pure Cleanup else wrong)) 114 create_online
+    (λ b. pick (λ w a. Op (99 ∷ w) a) b 114 (exactly (codes "eate ") >> pure Create)
+    (if b == 108 then exactly (codes "eanup ") >> pure Cleanup else wrong) create_online
     (λ e. pick (λ w a. Op (99 ∷ w) a) b 108 (exactly (codes "eanup ") >> pure Cleanup) wrong cleanup_online (λ e. dead (λ text. refl))))
 
 operation_online : Online Op operation
 unfolding operation
-operation_online = node Op _ 114 read_online (λ b. pick Op b 114 _ _ read_online (λ e. pick Op b 119 _ _ write_online (λ e. pick Op b 99 _ _ by_c_online (λ e. dead (λ text. refl)))))
+operation_online = node Op _ 114 read_online
+    (λ b. pick Op b 114 _ _ read_online
+    (λ e. pick Op b 119 _ _ write_online (λ e. pick Op b 99 _ _ by_c_online (λ e. dead (λ text. refl)))))
 
 abbrev Mo : Text → Mode → Type 0
 Mo c m = c ≡ mode_text m
@@ -75,14 +83,16 @@ abbrev Ke : Text → Key → Type 0
 Ke c k = (c ≡ key_text k) × IsKey k
 
 stream_online : Online (λ w a. Ke (115 ∷ w) a) (exactly (codes "tream ") >> (number 10 >>= λ file. pure (Stream file)))
-stream_online = after (λ w a. Ke (115 ∷ w) a) (codes "tream ") (number 10 >>= λ file. pure (Stream file)) (ends (λ w a. Ke (codes "stream " ++ w) a) Stream (λ n small. (refl, small)))
+stream_online = after (λ w a. Ke (115 ∷ w) a) (codes "tream ") (number 10 >>= λ file. pure (Stream file))
+    (ends (λ w a. Ke (codes "stream " ++ w) a) Stream (λ n small. (refl, small)))
 
 instance_online : Online (λ w a. Ke (105 ∷ w) a) (exactly (codes "nstance" ++ 10 ∷ []) >> pure Instance)
 instance_online = word (λ w a. Ke (105 ∷ w) a) (codes "nstance" ++ 10 ∷ []) Instance (refl, tt)
 
 key_online : Online Ke key
 unfolding key
-key_online = node Ke _ 115 stream_online (λ b. pick Ke b 115 _ _ stream_online (λ e. pick Ke b 105 _ _ instance_online (λ e. dead (λ text. refl))))
+key_online = node Ke _ 115 stream_online
+    (λ b. pick Ke b 115 _ _ stream_online (λ e. pick Ke b 105 _ _ instance_online (λ e. dead (λ text. refl))))
 
 abbrev Gr : Text → Bool → Type 0
 Gr c g = c ≡ grant_text g
@@ -105,7 +115,8 @@ Behind front c m = (front ++ c ≡ move_line m) × IsMove m
 
 arrive_online : Online (Behind (codes "a")) arrive
 unfolding arrive
-arrive_online = after (Behind (codes "a")) (codes "rrive ") _ (named operation_text (Behind (codes "arrive ")) operation _ operation_online (λ o.
+arrive_online = after (Behind (codes "a")) (codes "rrive ") _
+    (named operation_text (Behind (codes "arrive ")) operation _ operation_online (λ o.
     named mode_text (λ w m. Behind (codes "arrive ") (operation_text o ++ w) m) mode _ mode_online (λ x.
     ends (λ w m. Behind (codes "arrive ") (operation_text o ++ (mode_text x ++ w)) m) (moves.Arrive o x) (λ n small. (refl, small)))))
 
@@ -137,7 +148,8 @@ by_number start front make h = then_online (Numbered front) (Behind start) (numb
 by_two_numbers : (start front : Text) (make : ℕ → ℕ → Move) →
     ((a n : ℕ) → a < 2 ^ 32 → n < 2 ^ 32 → Behind start (front ++ (number_text a 32 ++ number_text n 10)) (make a n)) →
     Online (Behind start) (twice_numbered front >>= λ q. pure (make q.0 q.1))
-by_two_numbers start front make h = then_online (TwiceNumbered front) (Behind start) (twice_numbered front) _ (twice_numbered_online front) (λ c q e.
+by_two_numbers start front make h =
+    then_online (TwiceNumbered front) (Behind start) (twice_numbered front) _ (twice_numbered_online front) (λ c q e.
     pure_online (λ w m. Behind start (c ++ w) m) (make q.0 q.1)
     (subst (λ z. Behind start z (make q.0 q.1)) (sym (append-nil c ∙ e.0)) (h q.0 q.1 e.1.0 e.1.1)))
 
@@ -149,7 +161,8 @@ post_online = by_number (codes "po") (codes "st ") moves.Post (λ n small. (refl
 
 pre_or_post_online : Online (Behind (codes "p")) pre_or_post
 unfolding pre_or_post
-pre_or_post_online = node (Behind (codes "p")) _ 114 pre_online (λ b. pick (Behind (codes "p")) b 114 _ _ pre_online (λ e. pick (Behind (codes "p")) b 111 _ _ post_online (λ e. dead (λ text. refl))))
+pre_or_post_online = node (Behind (codes "p")) _ 114 pre_online
+    (λ b. pick (Behind (codes "p")) b 114 _ _ pre_online (λ e. pick (Behind (codes "p")) b 111 _ _ post_online (λ e. dead (λ text. refl))))
 
 skip_online : Online (Behind (codes "s")) (numbered (codes "kip ") >>= λ serial. pure (moves.Skip serial))
 skip_online = by_number (codes "s") (codes "kip ") moves.Skip (λ n small. (refl, small))
@@ -169,7 +182,8 @@ canceled_end = by_two_numbers (codes "cancele") (codes "d ") moves.Canceled (λ 
 cancel_or_canceled_online : Online (Behind (codes "c")) cancel_or_canceled
 unfolding cancel_or_canceled
 cancel_or_canceled_online = after (Behind (codes "c")) (codes "ancel") _ (node (Behind (codes "cancel")) _ 32 cancel_end (λ b.
-    pick (Behind (codes "cancel")) b 32 _ _ cancel_end (λ e. pick (Behind (codes "cancel")) b 101 _ _ canceled_end (λ e. dead (λ text. refl)))))
+    pick (Behind (codes "cancel")) b 32 _ _ cancel_end
+    (λ e. pick (Behind (codes "cancel")) b 101 _ _ canceled_end (λ e. dead (λ text. refl)))))
 
 detach_end : Online (Behind (codes "detach ")) (number 10 >>= λ altitude. pure (moves.Detach altitude))
 detach_end = ends (Behind (codes "detach ")) moves.Detach (λ n small. (refl, small))
@@ -180,7 +194,8 @@ detached_end = by_number (codes "detache") (codes "d ") moves.Detached (λ n sma
 detach_or_detached_online : Online (Behind (codes "de")) detach_or_detached
 unfolding detach_or_detached
 detach_or_detached_online = after (Behind (codes "de")) (codes "tach") _ (node (Behind (codes "detach")) _ 32 detach_end (λ b.
-    pick (Behind (codes "detach")) b 32 _ _ detach_end (λ e. pick (Behind (codes "detach")) b 101 _ _ detached_end (λ e. dead (λ text. refl)))))
+    pick (Behind (codes "detach")) b 32 _ _ detach_end
+    (λ e. pick (Behind (codes "detach")) b 101 _ _ detached_end (λ e. dead (λ text. refl)))))
 
 drain_online : Online (Behind (codes "dr")) (twice_numbered (codes "ain ") >>= λ q. pure (moves.Drain q.0 q.1))
 drain_online = by_two_numbers (codes "dr") (codes "ain ") moves.Drain (λ a n low small. (refl, (low, small)))
@@ -188,7 +203,8 @@ drain_online = by_two_numbers (codes "dr") (codes "ain ") moves.Drain (λ a n lo
 detach_or_drain_online : Online (Behind (codes "d")) detach_or_drain
 unfolding detach_or_drain
 detach_or_drain_online = node (Behind (codes "d")) _ 101 detach_or_detached_online (λ b.
-    pick (Behind (codes "d")) b 101 _ _ detach_or_detached_online (λ e. pick (Behind (codes "d")) b 114 _ _ drain_online (λ e. dead (λ text. refl))))
+    pick (Behind (codes "d")) b 101 _ _ detach_or_detached_online
+    (λ e. pick (Behind (codes "d")) b 114 _ _ drain_online (λ e. dead (λ text. refl))))
 
 unlink_online : Online (Behind (codes "u")) unlink
 unfolding unlink
@@ -232,8 +248,10 @@ go_line_online = then_online BehindGo (λ w x. Line (103 ∷ w) x) go _ go_onlin
 pub move_choice : (b : ℕ) → Choice (λ w m. Behind [] (b ∷ w) m) (move_by b)
 unfolding move_by
 move_choice b =
-    pick (Behind []) b 97 _ _ arrive_online (λ e. pick (Behind []) b 112 _ _ pre_or_post_online (λ e. pick (Behind []) b 115 _ _ skip_online (λ e.
-    pick (Behind []) b 108 _ _ lower_online (λ e. pick (Behind []) b 99 _ _ cancel_or_canceled_online (λ e. pick (Behind []) b 119 _ _ work_online (λ e.
+    pick (Behind []) b 97 _ _ arrive_online
+    (λ e. pick (Behind []) b 112 _ _ pre_or_post_online (λ e. pick (Behind []) b 115 _ _ skip_online (λ e.
+    pick (Behind []) b 108 _ _ lower_online
+    (λ e. pick (Behind []) b 99 _ _ cancel_or_canceled_online (λ e. pick (Behind []) b 119 _ _ work_online (λ e.
     pick (Behind []) b 100 _ _ detach_or_drain_online (λ e. pick (Behind []) b 117 _ _ unlink_online (λ e. dead (λ text. refl)))))))))
 
 move_line_choice : (b : ℕ) → Choice (λ w x. Line (b ∷ w) x) (move_by b >>= λ move. pure (Some (entries.Move move)))
@@ -242,4 +260,5 @@ move_line_choice b = choice_then (λ w m. Behind [] (b ∷ w) m) (λ w x. Line (
 
 pub line_online : Online Line line
 unfolding line
-line_online = node Line _ 101 end_online (λ b. pick Line b 101 _ _ end_online (λ e. pick Line b 103 _ _ go_line_online (λ e. move_line_choice b)))
+line_online = node Line _ 101 end_online
+    (λ b. pick Line b 101 _ _ end_online (λ e. pick Line b 103 _ _ go_line_online (λ e. move_line_choice b)))

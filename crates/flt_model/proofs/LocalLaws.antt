@@ -115,7 +115,8 @@ module _ (p : List Filter) (m : Moment) (a : ℕ) where
             ∙ searched (one_owner m.world m.trace) exclusive;
       }
 
-  quiet_by : (b : Bool) (o : Option Activation) (s : Step) → ((act : Activation) → o ≡ Some act → act.ended ≡ (activation_at m.world a).ended) →
+  quiet_by : (b : Bool) (o : Option Activation) (s : Step) →
+      ((act : Activation) → o ≡ Some act → act.ended ≡ (activation_at m.world a).ended) →
       (if b then None else option_map (moved_on p m.trace m.world a) o) ≡ Some s → Quiet p m s
   quiet_by true o s kept e = absurd (cc)
   quiet_by false None s kept e = absurd (cc)

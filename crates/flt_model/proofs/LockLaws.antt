@@ -110,7 +110,8 @@ or_from b c h = ap (λ x. x || c) h
 join_back : (h k : Holder) → may_join h.activation h.access k ≡ true → may_join k.activation k.access h ≡ true
 join_back h k j = by (k.activation == h.activation) refl j
   where
-    by : (b : Bool) → (k.activation == h.activation) ≡ b → (b || are_compatible h.access k.access) ≡ true → may_join k.activation k.access h ≡ true
+    by : (b : Bool) → (k.activation == h.activation) ≡ b → (b || are_compatible h.access k.access) ≡ true →
+        may_join k.activation k.access h ≡ true
     by true e j = or_from (h.activation == k.activation) (are_compatible k.access h.access) (equal_back k.activation h.activation e)
     by false e j = by_access (h.activation == k.activation) (compatible_back h.access k.access j)
       where
@@ -143,7 +144,8 @@ joined_exclude holders h e free =
 left_exclude : (keep : Holder → Bool) (holders : List Holder) → exclude holders ≡ true → exclude (filter keep holders) ≡ true
 left_exclude keep holders e =
     all_filter (λ (k : Holder). is_free_for k.activation k.access (filter keep holders)) keep holders
-    (all_from (λ (k : Holder). is_free_for k.activation k.access holders) (λ (k : Holder). is_free_for k.activation k.access (filter keep holders))
+    (all_from (λ (k : Holder). is_free_for k.activation k.access holders)
+    (λ (k : Holder). is_free_for k.activation k.access (filter keep holders))
     (λ k j. all_filter (may_join k.activation k.access) keep holders j) holders e)
 
 -- ---- the holders of all locks
@@ -228,7 +230,8 @@ module _ (w : World) (a : ℕ) where
   set_leaves existing old granted refused (Some x) (Some l) =
       if_leaves (cannot_set w a x) _ _ refl (there_leaves existing old granted refused x l (linked_at w.store l))
 
-  unlinked_leaves : (old : Option ContextVariable) (granted refused : List Statement) (y : Option ℕ) → Leaves (unlinked w a old granted refused y)
+  unlinked_leaves : (old : Option ContextVariable) (granted refused : List Statement) (y : Option ℕ) →
+      Leaves (unlinked w a old granted refused y)
   unlinked_leaves old granted refused None = refl
   unlinked_leaves old granted refused (Some y) = unlink_leaves y old
 
@@ -306,7 +309,8 @@ module _ (w : World) (a : ℕ) where
       returns_leaves : (st : Option Status) → Leaves (returns p t w a st)
       returns_leaves st = returned_leaves st (answers (actor_at w a).place) (operation_in here Data)
 
-      fallible_leaves : (grant : Bool) (granted refused : List Statement) (c : FallibleCall) → Leaves (fallible_step p t w a grant granted refused c)
+      fallible_leaves : (grant : Bool) (granted refused : List Statement) (c : FallibleCall) →
+          Leaves (fallible_step p t w a grant granted refused c)
       fallible_leaves grant granted refused (fallible.AllocateContext d) = allocate_leaves d grant granted refused
       fallible_leaves grant granted refused (fallible.GetContext on d) =
           get_by_leaves d granted refused (link_of w.store own_filter on (operation_in here Data))
@@ -357,7 +361,8 @@ module _ (w : World) where
   some_excludes : (r s : Step) → Excludes r → Some r ≡ Some s → Excludes s
   some_excludes r s k e = let same : r ≡ s = cc in subst Excludes same k
 
-  when_excludes : (b : Bool) (o : Option Step) (s : Step) → (if b then o else None) ≡ Some s → (b ≡ true → o ≡ Some s → Excludes s) → Excludes s
+  when_excludes : (b : Bool) (o : Option Step) (s : Step) → (if b then o else None) ≡ Some s →
+      (b ≡ true → o ≡ Some s → Excludes s) → Excludes s
   when_excludes true o s e k = k refl e
   when_excludes false o s e k = absurd (cc)
 
@@ -381,14 +386,16 @@ module _ (p : List Filter) (t : List Event) (w : World) (a : ℕ) where
       let holders = holders_of w.store of_filter_here l in
       let h : Holder = record { activation = a; access = access } in
       if_excludes w (holds_lock l now.locks) _ _ (λ e. e)
-      (λ e. set_excludes w.store of_filter_here l (holders ++ h ∷ []) (joined_exclude holders h (of_lock w.store of_filter_here l e) free) e)
+      (λ e. set_excludes w.store of_filter_here l (holders ++ h ∷ [])
+      (joined_exclude holders h (of_lock w.store of_filter_here l e) free) e)
 
   given_up_excludes : (l : LockNumber) (rest : List Statement) → Excludes w (given_up w a l rest)
   given_up_excludes l rest =
       let holders = holders_of w.store of_filter_here l in
       let others : Holder → Bool = λ (h : Holder). not (h.activation == a) in
       if_excludes w (holds_lock l now.locks) _ _
-      (λ e. set_excludes w.store of_filter_here l (filter others holders) (left_exclude others holders (of_lock w.store of_filter_here l e)) e)
+      (λ e. set_excludes w.store of_filter_here l (filter others holders)
+      (left_exclude others holders (of_lock w.store of_filter_here l e)) e)
       (λ e. e)
 
   granted_of : (grant free : Bool) → (grant && free) ≡ true → free ≡ true
@@ -396,12 +403,16 @@ module _ (p : List Filter) (t : List Event) (w : World) (a : ℕ) where
 
   plain_excludes : (line : ℕ) (rest : List Statement) (grant : Bool) (c : PlainCall) → may_go w a grant (Statement-F.Call line c) ≡ true →
       Excludes w (plain_step p t w a rest c)
-  plain_excludes line rest grant (plain.DeleteContext c) go = left_excludes w (delete w a c rest) (deleted_leaves w a rest (context_in now c))
+  plain_excludes line rest grant (plain.DeleteContext c) go =
+      left_excludes w (delete w a c rest) (deleted_leaves w a rest (context_in now c))
   plain_excludes line rest grant (plain.ReferenceContext c d) go =
       left_excludes w (reference w a c d rest) (referenced_leaves w a d rest (context_in now c))
-  plain_excludes line rest grant (plain.ReleaseContext c) go = left_excludes w (release w a c rest) (released_leaves w a rest (context_in now c))
-  plain_excludes line rest grant (plain.AcquireLock k l) go = taken_excludes l Exclusive rest (granted_of grant (may_take w a l Exclusive) go)
-  plain_excludes line rest grant (plain.AcquirePushLockShared l) go = taken_excludes l Shared rest (granted_of grant (may_take w a l Shared) go)
+  plain_excludes line rest grant (plain.ReleaseContext c) go =
+      left_excludes w (release w a c rest) (released_leaves w a rest (context_in now c))
+  plain_excludes line rest grant (plain.AcquireLock k l) go =
+      taken_excludes l Exclusive rest (granted_of grant (may_take w a l Exclusive) go)
+  plain_excludes line rest grant (plain.AcquirePushLockShared l) go =
+      taken_excludes l Shared rest (granted_of grant (may_take w a l Shared) go)
   plain_excludes line rest grant (plain.ReleaseLock k l) go = given_up_excludes l rest
   plain_excludes line rest grant (plain.CompletePendedPreOperation d st) go =
       left_excludes w (complete_pre w a p d st rest) (complete_leaves w a p d st rest (operation_in now d) (named_in now (context_of st)))
@@ -409,15 +420,21 @@ module _ (p : List Filter) (t : List Event) (w : World) (a : ℕ) where
       left_excludes w (complete_post w a p rest) (complete_post_leaves w a p rest (operation_in now Data))
 
   act_excludes : (rest : List Statement) (x : Action) (s : Step) → act_step p t w a rest x ≡ Some s → Excludes w s
-  act_excludes rest (action.ReadValue n c) s e = some_excludes w (read_value w a n c rest) s (left_excludes w (read_value w a n c rest) (value_read w a n rest (context_in now c))) e
-  act_excludes rest (action.ReadFile n d) s e = some_excludes w (read_file w a n d rest) s (left_excludes w (read_file w a n d rest) (file_read w a n rest (operation_in now d))) e
-  act_excludes rest (action.WriteValue c x) s e = some_excludes w (write_value w a c x rest) s (left_excludes w (write_value w a c x rest) (value_written w a x rest (context_in now c))) e
+  act_excludes rest (action.ReadValue n c) s e =
+      some_excludes w (read_value w a n c rest) s (left_excludes w (read_value w a n c rest) (value_read w a n rest (context_in now c))) e
+  act_excludes rest (action.ReadFile n d) s e =
+      some_excludes w (read_file w a n d rest) s (left_excludes w (read_file w a n d rest) (file_read w a n rest (operation_in now d))) e
+  act_excludes rest (action.WriteValue c x) s e =
+      some_excludes w (write_value w a c x rest) s
+      (left_excludes w (write_value w a c x rest) (value_written w a x rest (context_in now c))) e
   act_excludes rest (action.SetNumber n x) s e = absurd (cc)
   act_excludes rest (action.ClearContext c) s e = absurd (cc)
   act_excludes rest (action.ClearOperation o) s e = absurd (cc)
 
   test_excludes : (holds fails : List Statement) (x : Test) (s : Step) → test_step p t w a holds fails x ≡ Some s → Excludes w s
-  test_excludes holds fails test.IsIrp s e = some_excludes w (test_irp w a holds fails) s (left_excludes w (test_irp w a holds fails) (irp_tested w a holds fails (operation_in now Data))) e
+  test_excludes holds fails test.IsIrp s e =
+      some_excludes w (test_irp w a holds fails) s
+      (left_excludes w (test_irp w a holds fails) (irp_tested w a holds fails (operation_in now Data))) e
   test_excludes holds fails (test.ContextIsSome c) s e = absurd (cc)
   test_excludes holds fails (test.OperationIsSome o) s e = absurd (cc)
   test_excludes holds fails (test.Equal n x) s e = absurd (cc)
@@ -440,7 +457,8 @@ module _ (p : List Filter) (t : List Event) (w : World) (a : ℕ) where
   statement_excludes rest grant (Statement-F.Call line c) s go e =
       some_excludes w (plain_step p t w a rest c) s (plain_excludes line rest grant c go) e
   statement_excludes rest grant (Statement-F.Return line st) s go e = return_excludes st s e
-  statement_excludes rest grant (Statement-F.If line asked granted refused) s go e = branch_excludes grant (granted ++ rest) (refused ++ rest) asked s e
+  statement_excludes rest grant (Statement-F.If line asked granted refused) s go e =
+      branch_excludes grant (granted ++ rest) (refused ++ rest) asked s e
   statement_excludes rest grant (Statement-F.Repeat line turns block) s go e = absurd (cc)
 
   list_excludes : (list : List Statement) (grant : Bool) (s : Step) → list_step p t w a list grant ≡ Some s → Excludes w s
@@ -474,7 +492,8 @@ module _ (p : List Filter) (w : World) where
   pre_excludes o kind Up s e = absurd (cc)
 
   skip_excludes : (o : ℕ) (kind : Operation) (at : Position) (s : Step) → skip_at p w o kind at ≡ Some s → Excludes w s
-  skip_excludes o kind (Down f) s e = when_excludes w (nat_lt f (length p) && not (calls_pre p w.store f kind)) _ s e (λ go k. moves _ s k refl)
+  skip_excludes o kind (Down f) s e =
+      when_excludes w (nat_lt f (length p) && not (calls_pre p w.store f kind)) _ s e (λ go k. moves _ s k refl)
   skip_excludes o kind Visiting s e = absurd (cc)
   skip_excludes o kind Up s e = absurd (cc)
 
@@ -521,7 +540,8 @@ module _ (p : List Filter) (w : World) where
       when_excludes w ((route_at w.store o).cancelled || is_detaching (presence_at w.store f)) (canceled_by p w f o entry) s e
       (λ go k. entry_excludes f o entry s k)
   make_excludes (Work i) s e = item_excludes i (item_at w.store i) s e
-  make_excludes (Detach altitude) s e = when_excludes w (is_attached (presence_at w.store (filter_of p altitude))) _ s e (λ go k. moves _ s k refl)
+  make_excludes (Detach altitude) s e =
+      when_excludes w (is_attached (presence_at w.store (filter_of p altitude))) _ s e (λ go k. moves _ s k refl)
   make_excludes (Drain altitude o) s e =
       let f = filter_of p altitude in
       let frame = find (is_frame_of f) (route_at w.store o).frames in

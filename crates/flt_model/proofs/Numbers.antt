@@ -46,7 +46,8 @@ unfolding digits
 ended zero end n text = rw (eq-eqb end end refl) refl
 ended (suc left) end n text = rw (eq-eqb end end refl) refl
 
-one_more : (left end m d : ℕ) (text : Text) → end < 48 → d < 10 → 10 * m + d < 2 ^ 32 → digits (suc left) end m ((48 + d) ∷ text) ≡ digits left end (10 * m + d) text
+one_more : (left end m d : ℕ) (text : Text) → end < 48 → d < 10 → 10 * m + d < 2 ^ 32 →
+    digits (suc left) end m ((48 + d) ∷ text) ≡ digits left end (10 * m + d) text
 unfolding digits
 one_more left end m d text e low small = rw (ne_eqb (48 + d) end (λ h. omega arith), with_digit_some m d low small) refl
 
@@ -59,7 +60,8 @@ first_digit end n text some low =
 
 -- the digits of a number, as they are read
 ReadsOn : ℕ → ℕ → List ℕ → Type 0
-ReadsOn end n ds = 0 < n → n < 2 ^ 32 → length ds ≤ 10 → (0 < length ds) × ((text : Text) → number end (ds ++ text) ≡ digits (10 - length ds) end n text)
+ReadsOn end n ds = 0 < n → n < 2 ^ 32 → length ds ≤ 10 → (0 < length ds)
+    × ((text : Text) → number end (ds ++ text) ≡ digits (10 - length ds) end n text)
 
 reads_on : (end n : ℕ) → end < 48 → n < 2 ^ 64 → ReadsOn end n (decimal n)
 unfolding ReadsOn
@@ -86,7 +88,8 @@ unfolding number ReadsOn
 number_again end zero text e small = rw (decimal_digit 0 (omega arith)) (rw (eq-eqb end end refl) refl)
 number_again end (suc n) text e small =
     let few : length (decimal (suc n)) ≤ 10 = length-decimal-le 10 (suc n) (omega arith) (omega arith) (omega arith) in
-    ap (number end) (append_assoc (decimal (suc n)) (end ∷ []) text) ∙ (reads_on end (suc n) e (omega arith) (omega arith) small few).1 (end ∷ text)
+    ap (number end) (append_assoc (decimal (suc n)) (end ∷ []) text)
+    ∙ (reads_on end (suc n) e (omega arith) (omega arith) small few).1 (end ∷ text)
     ∙ ended (10 - length (decimal (suc n))) end (suc n) text
 
 -- ---- what is read is written, and a wrong byte goes on no number
@@ -115,14 +118,16 @@ digit_behind m b k some more =
     let last : k % 10 ≡ more.digit = omega arith in
     decimal_step k big (omega arith) ∙ rw (over, last, more.byte) refl
 
-further : (end m b : ℕ) (p : ℕ → Parser ℕ) (found : Option ℕ) → 0 < m → with_digit m b ≡ found → ((k : ℕ) → 0 < k → k < 2 ^ 32 → Online (Tail end k) (p k)) →
+further : (end m b : ℕ) (p : ℕ → Parser ℕ) (found : Option ℕ) → 0 < m → with_digit m b ≡ found →
+    ((k : ℕ) → 0 < k → k < 2 ^ 32 → Online (Tail end k) (p k)) →
     Choice (λ w n. Tail end m (b ∷ w) n) (found_or found p)
 further end m b p None some e f = dead (λ text. refl)
 further end m b p (Some k) some e f =
     let more = with_digit_is m b k e in
     let value = more.value in
     let text = digit_behind m b k some more in
-    live (said (Tail end k) (λ w n. Tail end m (b ∷ w) n) (p k) (λ c n h. (sym (append_assoc (decimal m) (b ∷ []) c) ∙ ap (λ z. z ++ c) (sym text) ∙ h.0, h.1))
+    live (said (Tail end k) (λ w n. Tail end m (b ∷ w) n) (p k)
+    (λ c n h. (sym (append_assoc (decimal m) (b ∷ []) c) ∙ ap (λ z. z ++ c) (sym text) ∙ h.0, h.1))
     (f k (omega arith) more.small))
 
 digits_online : (left end m : ℕ) → 0 < m → m < 2 ^ 32 → Online (Tail end m) (digits left end m)
@@ -131,7 +136,8 @@ digits_online zero end m some small =
     node (Tail end m) (λ b. if b == end then pure m else wrong) end (at_end end m wrong small)
     (λ b. pick (Tail end m) b end (pure m) wrong (done end m small) (λ e. dead (λ text. refl)))
 digits_online (suc left) end m some small =
-    node (Tail end m) (λ b. if b == end then pure m else found_or (with_digit m b) (digits left end)) end (at_end end m (found_or (with_digit m end) (digits left end)) small)
+    node (Tail end m) (λ b. if b == end then pure m else found_or (with_digit m b) (digits left end)) end
+    (at_end end m (found_or (with_digit m end) (digits left end)) small)
     (λ b. pick (Tail end m) b end (pure m) (found_or (with_digit m b) (digits left end)) (done end m small) (λ e.
     further end m b (digits left end) (with_digit m b) some refl (λ k. digits_online left end k)))
 
@@ -140,13 +146,15 @@ abbrev pub Whole : ℕ → Text → ℕ → Type 0
 Whole end c n = (c ≡ number_text n end) × (n < 2 ^ 32)
 
 zero_online : (end : ℕ) → Online (λ w n. Whole end (48 ∷ w) n) (exactly (end ∷ []) >> pure 0)
-zero_online end = after (λ w n. Whole end (48 ∷ w) n) (end ∷ []) (pure 0) (pure_online (λ w n. Whole end (48 ∷ end ∷ w) n) 0 (rw (decimal_digit 0 (omega arith)) refl, omega arith))
+zero_online end = after (λ w n. Whole end (48 ∷ w) n) (end ∷ []) (pure 0)
+    (pure_online (λ w n. Whole end (48 ∷ end ∷ w) n) 0 (rw (decimal_digit 0 (omega arith)) refl, omega arith))
 
 positive : (k : ℕ) → (k ≡ 0 → ⊥) → 0 < k
 positive zero h = absurd (h refl)
 positive (suc k) h = omega arith
 
-begins : (end b : ℕ) (found : Option ℕ) → with_digit 0 b ≡ found → (b == 48) ≡ false → Choice (λ w n. Whole end (b ∷ w) n) (found_or found (digits 9 end))
+begins : (end b : ℕ) (found : Option ℕ) → with_digit 0 b ≡ found → (b == 48) ≡ false →
+    Choice (λ w n. Whole end (b ∷ w) n) (found_or found (digits 9 end))
 begins end b None e differs = dead (λ text. refl)
 begins end b (Some k) e differs =
     let more = with_digit_is 0 b k e in
@@ -157,11 +165,13 @@ begins end b (Some k) e differs =
     let some : 0 < k = positive k (λ z. other (omega arith)) in
     let same : 48 + k ≡ b = omega arith in
     let text : decimal k ≡ b ∷ [] = decimal_digit k (omega arith) ∙ ap (λ z. z ∷ []) same in
-    live (said (Tail end k) (λ w n. Whole end (b ∷ w) n) (digits 9 end k) (λ c n h. (ap (λ z. z ++ c) (sym text) ∙ h.0, h.1)) (digits_online 9 end k some more.small))
+    live (said (Tail end k) (λ w n. Whole end (b ∷ w) n) (digits 9 end k) (λ c n h. (ap (λ z. z ++ c) (sym text) ∙ h.0, h.1))
+    (digits_online 9 end k some more.small))
 
 pub number_online : (end : ℕ) → Online (Whole end) (number end)
 unfolding number
-number_online end = node (Whole end) _ 48 (zero_online end) (λ b. pick (Whole end) b 48 _ _ (zero_online end) (λ e. begins end b (with_digit 0 b) refl e))
+number_online end = node (Whole end) _ 48 (zero_online end)
+    (λ b. pick (Whole end) b 48 _ _ (zero_online end) (λ e. begins end b (with_digit 0 b) refl e))
 
 -- a number and the byte behind it, then what follows them
 pub with_number : {B : Type 0} (Js : Text → B → Type 0) (end : ℕ) (k : ℕ → Parser B) →

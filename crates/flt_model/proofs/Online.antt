@@ -8,8 +8,10 @@ use Rattle.flt_model.specs.JournalTextReading.{Outcome, Parser, and_then, ◌>>=
 -- how a text begins, as a parser sees it: with a spelling; with the front of one and a byte that goes on none; or it
 -- ends within one
 pub data Seen {A : Type 0} (Is : Text → A → Type 0) (p : Parser A) (text : Text) : Outcome A → Type 0 where
-  took : (c : Text) (a : A) (left : Text) → text ≡ c ++ left → Is c a → ((s : Text) → p (c ++ s) ≡ Ok (a, s)) → Seen Is p text (Ok (a, left))
-  stopped : (c : Text) (b : ℕ) (left w : Text) (a : A) → text ≡ c ++ b ∷ left → ((s : Text) → p (c ++ b ∷ s) ≡ Err s) → Is (c ++ w) a → Seen Is p text (Err left)
+  took : (c : Text) (a : A) (left : Text) → text ≡ c ++ left → Is c a → ((s : Text) → p (c ++ s) ≡ Ok (a, s)) →
+      Seen Is p text (Ok (a, left))
+  stopped : (c : Text) (b : ℕ) (left w : Text) (a : A) → text ≡ c ++ b ∷ left → ((s : Text) → p (c ++ b ∷ s) ≡ Err s) →
+      Is (c ++ w) a → Seen Is p text (Err left)
   missing : (c w : Text) (a : A) → text ≡ c → Is (c ++ w) a → Seen Is p text (Err [])
 
 -- a parser of what has a spelling
@@ -21,7 +23,12 @@ pub record Online {A : Type 0} (Is : Text → A → Type 0) (p : Parser A) : Typ
 
 -- the same parser of what is said in other words
 pub said : {A : Type 0} (Is Js : Text → A → Type 0) (p : Parser A) → ((c : Text) (a : A) → Is c a → Js c a) → Online Is p → Online Js p
-said {A = A} Is Js p f o = record { spelled = o.spelled; value = o.value; some = f o.spelled o.value o.some; seen = λ text. go text (p text) (o.seen text) }
+said {A = A} Is Js p f o = record {
+  spelled = o.spelled;
+  value = o.value;
+  some = f o.spelled o.value o.some;
+  seen = λ text. go text (p text) (o.seen text);
+}
   where
     go : (text : Text) (out : Outcome A) → Seen Is p text out → Seen Js p text out
     go text _ (took c a left e h l) = took c a left e (f c a h) l
@@ -46,14 +53,16 @@ then_online {A = A} {B = B} Is Js p k o g =
     second text c a left _ e l (took d b r e2 h l2) =
         took (c ++ d) b r (e ∙ ap (λ z. c ++ z) e2 ∙ sym (append_assoc c d r)) h (λ s. rw (append_assoc c d s, l (d ++ s)) (l2 s))
     second text c a left _ e l (stopped d b r w x e2 l2 h) =
-        stopped (c ++ d) b r w x (e ∙ ap (λ z. c ++ z) e2 ∙ sym (append_assoc c d (b ∷ r))) (λ s. rw (append_assoc c d (b ∷ s), l (d ++ b ∷ s)) (l2 s)) (back c d w x h)
+        stopped (c ++ d) b r w x (e ∙ ap (λ z. c ++ z) e2 ∙ sym (append_assoc c d (b ∷ r)))
+        (λ s. rw (append_assoc c d (b ∷ s), l (d ++ b ∷ s)) (l2 s)) (back c d w x h)
     second text c a left _ e l (missing d w x e2 h) = missing (c ++ d) w x (e ∙ ap (λ z. c ++ z) e2) (back c d w x h)
 
     first : (text : Text) (out : Outcome A) → Seen Is p text out → Seen Js (p >>= k) text (and_then out (λ q. k q.0 q.1))
     first text _ (took c a left e h l) = second text c a left (k a left) e l ((g c a h).seen left)
     first text _ (stopped c b left w a e l h) =
         let more = g (c ++ w) a h in
-        stopped c b left (w ++ more.spelled) more.value e (λ s. rw (l s) refl) (subst (λ z. Js z more.value) (append_assoc c w more.spelled) more.some)
+        stopped c b left (w ++ more.spelled) more.value e (λ s. rw (l s) refl)
+        (subst (λ z. Js z more.value) (append_assoc c w more.spelled) more.some)
     first text _ (missing c w a e h) =
         let more = g (c ++ w) a h in
         missing c (w ++ more.spelled) more.value e (subst (λ z. Js z more.value) (append_assoc c w more.spelled) more.some)
@@ -75,7 +84,8 @@ node {A = A} Is sel d o f = record { spelled = d ∷ o.spelled; value = o.value;
 
     choice : (b : ℕ) (text : Text) → Choice (λ w a. Is (b ∷ w) a) (sel b) → Seen Is (byte >>= sel) (b ∷ text) (sel b text)
     choice b text (live l) = go b text (sel b text) (l.seen text)
-    choice b text (dead h) = subst (λ z. Seen Is (byte >>= sel) (b ∷ text) z) (sym (h text)) (stopped [] b text (d ∷ o.spelled) o.value refl h o.some)
+    choice b text (dead h) = subst (λ z. Seen Is (byte >>= sel) (b ∷ text) z) (sym (h text))
+        (stopped [] b text (d ∷ o.spelled) o.value refl h o.some)
 
     at : (text : Text) → Seen Is (byte >>= sel) text ((byte >>= sel) text)
     at [] = missing [] (d ∷ o.spelled) o.value refl o.some
@@ -99,11 +109,13 @@ choice_then Is Js p k (dead h) g = dead (λ text. rw (h text) refl)
 pub exactly_online : (front : Text) → Online (λ c x. c ≡ front) (exactly front)
 exactly_online [] = pure_online (λ c x. c ≡ []) tt refl
 exactly_online (d ∷ front) =
-    let shifted : Online (λ w x. (d ∷ w) ≡ d ∷ front) (exactly front) = said (λ c x. c ≡ front) (λ w x. (d ∷ w) ≡ d ∷ front) (exactly front) (λ c x e. ap (λ z. d ∷ z) e) (exactly_online front) in
+    let shifted : Online (λ w x. (d ∷ w) ≡ d ∷ front) (exactly front) =
+    said (λ c x. c ≡ front) (λ w x. (d ∷ w) ≡ d ∷ front) (exactly front) (λ c x e. ap (λ z. d ∷ z) e) (exactly_online front) in
     node (λ c x. c ≡ d ∷ front) (λ b. if b == d then exactly front else (λ text. Err text)) d (same d front shifted)
     (λ b. pick (λ c x. c ≡ d ∷ front) b d (exactly front) (λ text. Err text) shifted (λ e. dead (λ text. refl)))
   where
-    same : (d : ℕ) (front : Text) → Online (λ w x. (d ∷ w) ≡ d ∷ front) (exactly front) → Online (λ w x. (d ∷ w) ≡ d ∷ front) (if d == d then exactly front else (λ text. Err text))
+    same : (d : ℕ) (front : Text) → Online (λ w x. (d ∷ w) ≡ d ∷ front) (exactly front) →
+        Online (λ w x. (d ∷ w) ≡ d ∷ front) (if d == d then exactly front else (λ text. Err text))
     same d front o = go (d == d) refl
       where
         go : (x : Bool) → (d == d) ≡ x → Online (λ w x. (d ∷ w) ≡ d ∷ front) (if x then exactly front else (λ text. Err text))
@@ -111,6 +123,8 @@ exactly_online (d ∷ front) =
         go false e = let right : (d == d) ≡ true = eq-eqb d d refl in cc
 
 -- these bytes, then what follows them
-pub after : {B : Type 0} (Js : Text → B → Type 0) (front : Text) (q : Parser B) → Online (λ w b. Js (front ++ w) b) q → Online Js (exactly front >> q)
+pub after : {B : Type 0} (Js : Text → B → Type 0) (front : Text) (q : Parser B) → Online (λ w b. Js (front ++ w) b) q →
+    Online Js (exactly front >> q)
 after Js front q o =
-    then_online (λ c x. c ≡ front) Js (exactly front) (λ x. q) (exactly_online front) (λ c x e. subst (λ z. Online (λ w b. Js (z ++ w) b) q) (sym e) o)
+    then_online (λ c x. c ≡ front) Js (exactly front) (λ x. q) (exactly_online front)
+    (λ c x e. subst (λ z. Online (λ w b. Js (z ++ w) b) q) (sym e) o)

@@ -13,7 +13,8 @@ use Rattle.flt_model.specs.declared.moves.JournalEntry.{JournalEntry}
 one_less : (n : ℕ) → 0 < n → n ≡ suc (n - 1)
 one_less n h = omega arith
 
-pub digits_none : (left end n : ℕ) (text new : Text) (e : Stop) → Reads {A = ℕ} (byte text) (Err e) new → Reads {A = ℕ} (digits left end n text) (Err e) new
+pub digits_none : (left end n : ℕ) (text new : Text) (e : Stop) → Reads {A = ℕ} (byte text) (Err e) new →
+    Reads {A = ℕ} (digits left end n text) (Err e) new
 unfolding digits
 digits_none zero end n text new Wrong h = rw h refl
 digits_none (suc left) end n text new Wrong h = rw h refl
@@ -24,11 +25,13 @@ unfolding digits
 digits_end zero end n b text new h e = rw (h, e) refl
 digits_end (suc left) end n b text new h e = rw (h, e) refl
 
-pub digits_last : (left end n b : ℕ) (text new : Text) → left ≡ 0 → byte text ≡ Ok (b, new) → (b == end) ≡ false → digits left end n text ≡ Err new
+pub digits_last : (left end n b : ℕ) (text new : Text) → left ≡ 0 → byte text ≡ Ok (b, new) → (b == end) ≡ false →
+    digits left end n text ≡ Err new
 unfolding digits
 digits_last left end n b text new z h e = rw (z, h, e) refl
 
-pub digits_wrong : (left end n b : ℕ) (text new : Text) → 0 < left → byte text ≡ Ok (b, new) → (b == end) ≡ false → with_digit n b ≡ None → digits left end n text ≡ Err new
+pub digits_wrong : (left end n b : ℕ) (text new : Text) → 0 < left → byte text ≡ Ok (b, new) → (b == end) ≡ false →
+    with_digit n b ≡ None → digits left end n text ≡ Err new
 unfolding digits
 digits_wrong left end n b text new z h e d = rw (one_less left z, h, e, d) refl
 
@@ -37,9 +40,11 @@ more_behind : (less end n b m : ℕ) (text new : Text) → byte text ≡ Ok (b, 
 unfolding digits
 more_behind less end n b m text new h e d = rw (h, e, d) refl
 
-pub digits_more : (left end n b m : ℕ) (text new : Text) → 0 < left → byte text ≡ Ok (b, new) → (b == end) ≡ false → with_digit n b ≡ Some m →
+pub digits_more : (left end n b m : ℕ) (text new : Text) → 0 < left → byte text ≡ Ok (b, new) → (b == end) ≡ false →
+    with_digit n b ≡ Some m →
     digits left end n text ≡ digits (left - 1) end m new
-digits_more left end n b m text new z h e d = ap (λ k. digits k end n text) (one_less left z) ∙ more_behind (left - 1) end n b m text new h e d
+digits_more left end n b m text new z h e d = ap (λ k. digits k end n text) (one_less left z)
+    ∙ more_behind (left - 1) end n b m text new h e d
 
 -- ---- entries
 

@@ -20,7 +20,8 @@ grant_again true text = refl
 grant_again false text = refl
 
 pub line_again : (entry : JournalEntry) (text : Text) → IsEntry entry → line (entry_line entry ++ text) ≡ Ok (Some entry, text)
-unfolding line operation mode key numbered twice_numbered arrive pre_or_post cancel_or_canceled detach_or_detached detach_or_drain unlink go move_by
+unfolding line operation mode key numbered twice_numbered arrive pre_or_post cancel_or_canceled detach_or_detached detach_or_drain
+    unlink go move_by
 line_again (entries.Move (moves.Arrive Create Irp file)) text h = rw (number_again 10 file text (omega arith) h) refl
 line_again (entries.Move (moves.Arrive Create Fast file)) text h = rw (number_again 10 file text (omega arith) h) refl
 line_again (entries.Move (moves.Arrive Read Irp file)) text h = rw (number_again 10 file text (omega arith) h) refl
@@ -35,15 +36,30 @@ line_again (entries.Move (moves.Lower serial)) text h = rw (number_again 10 seri
 line_again (entries.Move (moves.Post serial)) text h = rw (number_again 10 serial text (omega arith) h) refl
 line_again (entries.Move (moves.Cancel serial)) text h = rw (number_again 10 serial text (omega arith) h) refl
 line_again (entries.Move (moves.Canceled altitude serial)) text h =
-    rw (append_assoc (number_text altitude 32) (number_text serial 10) text, number_again 32 altitude (number_text serial 10 ++ text) (omega arith) h.0, number_again 10 serial text (omega arith) h.1) refl
+    rw (
+      append_assoc (number_text altitude 32) (number_text serial 10) text,
+      number_again 32 altitude (number_text serial 10 ++ text) (omega arith) h.0,
+      number_again 10 serial text (omega arith) h.1,
+    ) refl
 line_again (entries.Move (moves.Work item)) text h = rw (number_again 10 item text (omega arith) h) refl
 line_again (entries.Move (moves.Detach altitude)) text h = rw (number_again 10 altitude text (omega arith) h) refl
 line_again (entries.Move (moves.Drain altitude serial)) text h =
-    rw (append_assoc (number_text altitude 32) (number_text serial 10) text, number_again 32 altitude (number_text serial 10 ++ text) (omega arith) h.0, number_again 10 serial text (omega arith) h.1) refl
+    rw (
+      append_assoc (number_text altitude 32) (number_text serial 10) text,
+      number_again 32 altitude (number_text serial 10 ++ text) (omega arith) h.0,
+      number_again 10 serial text (omega arith) h.1,
+    ) refl
 line_again (entries.Move (moves.Unlink altitude (Stream file))) text h =
-    rw (append_assoc (number_text altitude 32) (key_text (Stream file)) text, number_again 32 altitude (key_text (Stream file) ++ text) (omega arith) h.0, number_again 10 file text (omega arith) h.1) refl
+    rw (
+      append_assoc (number_text altitude 32) (key_text (Stream file)) text,
+      number_again 32 altitude (key_text (Stream file) ++ text) (omega arith) h.0,
+      number_again 10 file text (omega arith) h.1,
+    ) refl
 line_again (entries.Move (moves.Unlink altitude Instance)) text h =
-    rw (append_assoc (number_text altitude 32) (key_text Instance) text, number_again 32 altitude (key_text Instance ++ text) (omega arith) h.0) refl
+    rw (
+      append_assoc (number_text altitude 32) (key_text Instance) text,
+      number_again 32 altitude (key_text Instance ++ text) (omega arith) h.0,
+    ) refl
 line_again (entries.Move (moves.Detached altitude)) text h = rw (number_again 10 altitude text (omega arith) h) refl
 line_again (entries.Go activation steps granted) text h =
     rw (
@@ -68,9 +84,11 @@ entries_again [] (suc left) found good few = ap Ok (sym (append-nil found))
 entries_again (entry ∷ more) zero found good few = absurd (omega arith)
 entries_again (entry ∷ more) (suc left) found good few =
     ap (entries_from (suc left) found) (append_assoc (entry_line entry) (flat_map entry_line more) last_line)
-    ∙ one_more left found entry (flat_map entry_line more ++ last_line) good.0 ∙ entries_again more left (found ++ entry ∷ []) good.1 (omega arith) ∙ ap Ok (append_assoc found (entry ∷ []) more)
+    ∙ one_more left found entry (flat_map entry_line more ++ last_line) good.0
+    ∙ entries_again more left (found ++ entry ∷ []) good.1 (omega arith) ∙ ap Ok (append_assoc found (entry ∷ []) more)
   where
-    one_more : (left : ℕ) (found : Entries) (entry : JournalEntry) (text : Text) → IsEntry entry → entries_from (suc left) found (entry_line entry ++ text) ≡ entries_from left (found ++ entry ∷ []) text
+    one_more : (left : ℕ) (found : Entries) (entry : JournalEntry) (text : Text) → IsEntry entry →
+        entries_from (suc left) found (entry_line entry ++ text) ≡ entries_from left (found ++ entry ∷ []) text
     one_more left found entry text h = rw (line_again entry text h) refl
 
 -- what is spelled so is read

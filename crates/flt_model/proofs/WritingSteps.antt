@@ -24,11 +24,14 @@ more_taken old between new at n bytes first second =
 pub two_parts : (one two three : Option Text) (a b : Text) → Appends one two a → Appends two three b → Appends one three (a ++ b)
 two_parts = Appends-trans
 
-pub three_parts : (one two three four : Option Text) (a b c : Text) → Appends one two a → Appends two three b → Appends three four c → Appends one four (a ++ (b ++ c))
-three_parts one two three four a b c first second third = Appends-trans one two four a (b ++ c) first (Appends-trans two three four b c second third)
+pub three_parts : (one two three four : Option Text) (a b c : Text) → Appends one two a → Appends two three b →
+    Appends three four c → Appends one four (a ++ (b ++ c))
+three_parts one two three four a b c first second third =
+    Appends-trans one two four a (b ++ c) first (Appends-trans two three four b c second third)
 
 -- the first line, before the entries
-pub no_entry_taken : (old new : Option Text) (entries : Entries) → Appends old new first_line → Appends old new (first_line ++ flat_map entry_line (take 0 entries))
+pub no_entry_taken : (old new : Option Text) (entries : Entries) → Appends old new first_line →
+    Appends old new (first_line ++ flat_map entry_line (take 0 entries))
 no_entry_taken old new entries first = Appends-trans old new new first_line [] first (Appends-nil new)
 
 -- one entry more
@@ -37,12 +40,15 @@ pub entry_taken : (old between new : Option Text) (entries : Entries) (at : ℕ)
     Appends old new (first_line ++ flat_map entry_line (take (at + 1) entries))
 entry_taken old between new entries at d low before entry =
     let before_it = take at entries in
-    let more : (first_line ++ flat_map entry_line before_it) ++ entry_line (get_or entries at d) ≡ first_line ++ flat_map entry_line (take (at + 1) entries) =
-    flat_map_more entry_line first_line before_it (get_or entries at d) ∙ ap (λ es. first_line ++ flat_map entry_line es) (sym (take_more entries at d low)) in
+    let more : (first_line ++ flat_map entry_line before_it) ++ entry_line (get_or entries at d) ≡ first_line
+    ++ flat_map entry_line (take (at + 1) entries) =
+    flat_map_more entry_line first_line before_it (get_or entries at d)
+    ∙ ap (λ es. first_line ++ flat_map entry_line es) (sym (take_more entries at d low)) in
     subst (Appends old new) more (Appends-trans old between new _ _ before entry)
 
 -- the last line behind the entries, unless that write failed
-pub end_taken : {X E : Type 0} (result : Result X E) (old between new : Option Text) (last : Text) (entries : Entries) (at : ℕ) → length entries ≤ at →
+pub end_taken : {X E : Type 0} (result : Result X E) (old between new : Option Text) (last : Text) (entries : Entries) (at : ℕ) →
+    length entries ≤ at →
     Appends old between (first_line ++ flat_map entry_line (take at entries)) → OnOk result (Appends between new last) →
     OnOk result (Appends old new (first_line ++ (flat_map entry_line entries ++ last)))
 end_taken (Ok x) old between new last entries at all before end =

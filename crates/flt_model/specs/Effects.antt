@@ -37,7 +37,7 @@ uses a [] = []
 uses a (None ∷ needs) = uses a needs
 uses a (Some o ∷ needs) = event.Use a o ∷ uses a needs
 
--- and each that is NULL is told
+-- and each that is NULL is reported
 abbrev pub empties : ℕ → List (Option Object) → List Event
 empties a [] = []
 empties a (None ∷ needs) = event.Empty a ∷ empties a needs

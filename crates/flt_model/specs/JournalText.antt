@@ -125,7 +125,7 @@ abbrev pub line_ends : Text → ℕ
 line_ends [] = 0
 line_ends (b ∷ text) = if b == 10 then suc (line_ends text) else line_ends text
 
--- the first byte that isn't as asked: the bytes before it begin a journal, and with it they begin none; or the bytes
+-- the first malformed byte: the bytes before it begin a journal, and with it they begin none; or the bytes
 -- begin a journal and are none, as one is missing. The line that it stands in is counted from 1, and what is left
 -- behind it isn't looked at
 pub record IsFirstFault (text : Text) (line : ℕ) (left : Text) : Type 0 where
@@ -135,5 +135,6 @@ pub record IsFirstFault (text : Text) (line : ℕ) (left : Text) : Type 0 where
   pub journal : IsJournal whose
   pub rest : Text
   pub begun : spelling whose ≡ given ++ rest
-  pub stopped : ((b : ℕ) × (text ≡ given ++ b ∷ left) × ((entries : Entries) → IsJournal entries → (others : Text) → spelling entries ≢ given ++ b ∷ others))
+  pub stopped : ((b : ℕ) × (text ≡ given ++ b ∷ left)
+      × ((entries : Entries) → IsJournal entries → (others : Text) → spelling entries ≢ given ++ b ∷ others))
       ⊎ ((text ≡ given) × (left ≡ []) × ((entries : Entries) → IsJournal entries → spelling entries ≢ given))

@@ -1,4 +1,4 @@
--- Reading a journal byte by byte, up to the first byte that isn't as asked.
+-- Reading a journal byte by byte, up to the first malformed byte.
 use Rattle.std.specs.Prelude.{◌≡◌, ◌≢◌, ℕ, zero, suc, ◌+◌, ◌-◌, ◌*◌, ◌^◌, Bool, true, false, ◌&&◌, ◌==◌, nat_lt, if◌then◌else◌, [], ◌∷◌, ◌++◌, length, codes, Option, Some, None, Result, Ok, Err}
 use Rattle.flt_rules.specs.declared.place.Operation.{Operation}
 use Rattle.flt_rules.specs.declared.place.Operation.TheVariants.{Create, Read, Write, Cleanup}
@@ -17,7 +17,7 @@ use Rattle.flt_model.specs.declared.scanner.Stop.TheVariants.{Wrong, Failed}
 use Rattle.flt_model.specs.declared.fault.JournalFault.{JournalFault}
 use Rattle.flt_model.specs.declared.fault.JournalFault.TheVariants as faults
 
--- what was read and the bytes behind it, or the bytes behind the first one that isn't as asked
+-- what was read and the bytes behind it, or the bytes behind the first malformed one
 abbrev pub Outcome : Type 0 → Type 0
 Outcome A = Result (A × Text) Text
 
@@ -44,7 +44,7 @@ p >> q = p >>= (λ _. q)
 abbrev pub pure : {A : Type 0} → A → Parser A
 pure a = λ text. Ok (a, text)
 
--- the latest byte isn't as asked
+-- the latest byte is malformed
 abbrev pub wrong : {A : Type 0} → Parser A
 wrong = λ text. Err text
 
@@ -204,7 +204,7 @@ line = byte >>= λ b.
 
 -- ---- the whole of a journal
 
--- where a journal ends, in error: its first line that isn't as asked, and the bytes that are left unread
+-- where a journal ends, in error: its first malformed line, and the bytes that are left unread
 pub record Fault : Type 0 where
   pub line : ℕ
   pub left : Text
@@ -243,7 +243,7 @@ journal text = at_line 1 (exactly first_line text) (λ q. entries_from most_entr
 
 -- ---- what a function that reads ensures: what is read, unless the reader fails or memory runs out
 
--- what was read, or that a byte isn't as asked, and what is left
+-- what was read, or that a byte is malformed, and what is left
 abbrev pub Reads : {A : Type 0} → Outcome A → Result A Stop → Text → Type 0
 Reads outcome (Ok x) left = outcome ≡ Ok (x, left)
 Reads outcome (Err Wrong) left = outcome ≡ Err left
@@ -275,7 +275,7 @@ IsHindrance (faults.Line n) = ⊥
 IsHindrance faults.Read = Unit {0}
 IsHindrance faults.OutOfMemory = Unit {0}
 
--- a fault of the text names the line of the first byte that isn't as asked, and the rest is left
+-- a fault of the text names the line of the first malformed byte, and the rest is left
 abbrev pub IsFaultOf : Text → JournalFault → Text → Type 0
 IsFaultOf text (faults.Line n) left = IsFirstFault text n left
 IsFaultOf text faults.Read left = Unit {0}

@@ -66,7 +66,7 @@ abbrev pub settles_visit : Way → Bool
 settles_visit Stays = false
 settles_visit _ = true
 
--- whether the post callback is to be called
+-- whether the post callback will be called
 abbrev pub asks_for_frame : Way → Bool
 asks_for_frame Frames = true
 asks_for_frame _ = false

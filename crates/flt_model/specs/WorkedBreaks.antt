@@ -29,7 +29,8 @@ no_callback = return status.NoCallback
 
 -- ---- V1: a variable that is NULL is released; a context is released twice
 
-pub releases_nothing : verdict (reading (call (plain.ReleaseContext C0) ∷ no_callback ∷ [])) (arrive Read ∷ pre 0 ∷ go 0 1 ∷ []) ≡ Breaks V1 2
+pub releases_nothing : verdict (reading (call (plain.ReleaseContext C0) ∷ no_callback ∷ [])) (arrive Read ∷ pre 0 ∷ go 0 1 ∷ [])
+    ≡ Breaks V1 2
 unfolding computed
 releases_nothing = refl
 
@@ -121,7 +122,8 @@ gets_under_lock = refl
 
 -- ---- V7: a lock is released that isn't the latest, taken twice, kept at the end
 
-pub releases_older : verdict (with_locks (takes_first ∷ takes_second ∷ gives_first ∷ [])) (arrive Read ∷ pre 0 ∷ go 0 1 ∷ go 0 1 ∷ go 0 1 ∷ []) ≡ Breaks V7 4
+pub releases_older : verdict (with_locks (takes_first ∷ takes_second ∷ gives_first ∷ []))
+    (arrive Read ∷ pre 0 ∷ go 0 1 ∷ go 0 1 ∷ go 0 1 ∷ []) ≡ Breaks V7 4
 unfolding computed
 releases_older = refl
 
@@ -134,7 +136,8 @@ unfolding computed
 keeps_lock = refl
 
 -- a lock that another activation holds can't be taken
-pub waits : verdict (with_locks (takes_first ∷ gives_first ∷ no_callback ∷ [])) (arrive Read ∷ arrive Read ∷ pre 0 ∷ pre 1 ∷ go 0 1 ∷ go 1 1 ∷ []) ≡ NotARun 5
+pub waits : verdict (with_locks (takes_first ∷ gives_first ∷ no_callback ∷ []))
+    (arrive Read ∷ arrive Read ∷ pre 0 ∷ pre 1 ∷ go 0 1 ∷ go 1 1 ∷ []) ≡ NotARun 5
 unfolding computed
 waits = refl
 

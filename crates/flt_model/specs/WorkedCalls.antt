@@ -46,7 +46,8 @@ replaces = on (head.Pre Read)
 abbrev pub unlinks : Callback
 unlinks = on (head.Pre Write)
     (if_call (fallible.GetContext Instance C0)
-    (call (plain.ReferenceContext C0 C1) ∷ call (plain.DeleteContext C0) ∷ call (plain.ReleaseContext C0) ∷ call (plain.ReleaseContext C1) ∷ []) []
+    (call (plain.ReferenceContext C0 C1) ∷ call (plain.DeleteContext C0) ∷ call (plain.ReleaseContext C0)
+    ∷ call (plain.ReleaseContext C1) ∷ []) []
     ∷ no_callback ∷ [])
 
 -- it is taken from its place, with the reference of the link
@@ -125,11 +126,13 @@ works = filter 100
     ∷ no_callback ∷ [])
     ∷ on (head.Generic (103 ∷ [])) (release_if Arg ∷ []) ∷ []) ∷ []
 
-pub works-granted : verdict works (arrive Read ∷ pre 0 ∷ go 0 1 ∷ go 0 1 ∷ go 0 1 ∷ lower 0 ∷ Move (move.Work 0) ∷ go 1 2 ∷ go 1 1 ∷ []) ≡ Legal
+pub works-granted : verdict works (arrive Read ∷ pre 0 ∷ go 0 1 ∷ go 0 1 ∷ go 0 1 ∷ lower 0 ∷ Move (move.Work 0) ∷ go 1 2 ∷ go 1 1
+    ∷ []) ≡ Legal
 unfolding computed
 works-granted = refl
 
-pub works-refused : verdict works (arrive Read ∷ pre 0 ∷ go 0 1 ∷ Go 0 1 false ∷ go 0 1 ∷ go 0 1 ∷ lower 0 ∷ Move (move.Work 0) ∷ []) ≡ NotARun 7
+pub works-refused : verdict works (arrive Read ∷ pre 0 ∷ go 0 1 ∷ Go 0 1 false ∷ go 0 1 ∷ go 0 1 ∷ lower 0 ∷ Move (move.Work 0)
+    ∷ []) ≡ NotARun 7
 unfolding computed
 works-refused = refl
 
@@ -218,7 +221,8 @@ second_stays = refl
 
 -- the second one is cancelled out of turn
 pub second_cancelled :
-    verdict keeps_order (two_pended ++ cancel 1 ∷ canceled 1 ∷ go 3 2 ∷ go 3 1 ∷ go 3 1 ∷ go 2 1 ∷ go 2 2 ∷ go 2 1 ∷ go 2 1 ∷ lower 0 ∷ []) ≡ Legal
+    verdict keeps_order (two_pended ++ cancel 1 ∷ canceled 1 ∷ go 3 2 ∷ go 3 1 ∷ go 3 1 ∷ go 2 1 ∷ go 2 2 ∷ go 2 1 ∷ go 2 1
+    ∷ lower 0 ∷ []) ≡ Legal
 unfolding computed
 second_cancelled = refl
 
@@ -230,12 +234,14 @@ not_cancelled = refl
 abbrev pub detach : JournalEntry
 detach = Move (move.Detach 100)
 
-pub disabled : verdict keeps_order (arrive Read ∷ pre 0 ∷ go 0 1 ∷ detach ∷ go 0 1 ∷ go 0 1 ∷ go 0 1 ∷ Move (move.Detached 100) ∷ lower 0 ∷ []) ≡ Legal
+pub disabled : verdict keeps_order (arrive Read ∷ pre 0 ∷ go 0 1 ∷ detach ∷ go 0 1 ∷ go 0 1 ∷ go 0 1 ∷ Move (move.Detached 100)
+    ∷ lower 0 ∷ []) ≡ Legal
 unfolding computed
 disabled = refl
 
 -- an operation passes a filter that is being detached, or is gone; it is detached once
-pub passed_by : verdict keeps_order (arrive Read ∷ detach ∷ Move (move.Skip 0) ∷ lower 0 ∷ Move (move.Detached 100) ∷ detach ∷ []) ≡ NotARun 5
+pub passed_by : verdict keeps_order (arrive Read ∷ detach ∷ Move (move.Skip 0) ∷ lower 0 ∷ Move (move.Detached 100) ∷ detach ∷ [])
+    ≡ NotARun 5
 unfolding computed
 passed_by = refl
 

@@ -95,7 +95,8 @@ unfolding computed
 takes_and_shares = refl
 
 -- the lock is held as it was taken first
-pub shared_stays : locks_after (pushing (shares ∷ takes ∷ []) []) (arrive Read ∷ pre 0 ∷ go 0 1 ∷ go 0 1 ∷ []) ≡ Some ((held L0 Shared ∷ []) ∷ [])
+pub shared_stays : locks_after (pushing (shares ∷ takes ∷ []) []) (arrive Read ∷ pre 0 ∷ go 0 1 ∷ go 0 1 ∷ []) ≡ Some
+    ((held L0 Shared ∷ []) ∷ [])
 unfolding computed
 shared_stays = refl
 

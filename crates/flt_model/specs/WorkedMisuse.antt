@@ -54,13 +54,15 @@ unfolding computed
 released_twice = refl
 
 -- the link's reference is gone, and one that is freed isn't brought back by who gets it
-pub released_thrice : references_after over_releases (got_and_released ++ go 1 1 ∷ go 1 1 ∷ arrive Read ∷ pre 2 ∷ go 2 1 ∷ []) ≡ Some (0 ∷ [])
+pub released_thrice : references_after over_releases (got_and_released ++ go 1 1 ∷ go 1 1 ∷ arrive Read ∷ pre 2 ∷ go 2 1 ∷ [])
+    ≡ Some (0 ∷ [])
 unfolding computed
 released_thrice = refl
 
 -- ---- a context that no frame takes over is leaked
 
-pub hands_to_nobody : verdict (makes_one (return (status.WithCallback (Some C0)) ∷ [])) (arrive Read ∷ pre 0 ∷ go 0 1 ∷ go 0 1 ∷ []) ≡ Breaks V2 3
+pub hands_to_nobody : verdict (makes_one (return (status.WithCallback (Some C0)) ∷ []))
+    (arrive Read ∷ pre 0 ∷ go 0 1 ∷ go 0 1 ∷ []) ≡ Breaks V2 3
 unfolding computed
 hands_to_nobody = refl
 
@@ -94,12 +96,13 @@ pub no_post : positions_after (returning (status.Synchronize None)) returned ≡
 unfolding computed
 no_post = refl
 
--- it is told, and has its usual effect
+-- it is reported, and has its usual effect
 pub completes_pending : verdict (returning (status.Complete final.Pending)) returned ≡ Breaks V5 2
 unfolding computed
 completes_pending = refl
 
-pub completes_pending-outcome : outcomes_after (returning (status.Complete final.Pending)) returned ≡ Some (Some (Completed final.Pending) ∷ [])
+pub completes_pending-outcome : outcomes_after (returning (status.Complete final.Pending)) returned ≡ Some
+    (Some (Completed final.Pending) ∷ [])
 unfolding computed
 completes_pending-outcome = refl
 
@@ -157,7 +160,8 @@ settled_before = filter 100
     (on (head.Pre Read) (if_call (fallible.QueueDeferredIoWorkItem (routine 114) None) [] [] ∷ no_callback ∷ [])
     ∷ on (head.DeferredPre (114 ∷ [])) (hands (status.Complete final.Success) ∷ []) ∷ []) ∷ []
 
-pub settled_stays : positions_after settled_before (arrive Read ∷ pre 0 ∷ go 0 1 ∷ Move (move.Work 0) ∷ go 1 1 ∷ go 0 1 ∷ []) ≡ Some (Up ∷ [])
+pub settled_stays : positions_after settled_before (arrive Read ∷ pre 0 ∷ go 0 1 ∷ Move (move.Work 0) ∷ go 1 1 ∷ go 0 1 ∷ [])
+    ≡ Some (Up ∷ [])
 unfolding computed
 settled_stays = refl
 
@@ -171,7 +175,8 @@ pub taken_twice : locks_after (with_locks (takes_first ∷ takes_first ∷ gives
 unfolding computed
 taken_twice = refl
 
-pub older_released : locks_after (with_locks (takes_first ∷ takes_second ∷ gives_first ∷ [])) three_steps ≡ Some ((held L1 Exclusive ∷ []) ∷ [])
+pub older_released : locks_after (with_locks (takes_first ∷ takes_second ∷ gives_first ∷ [])) three_steps ≡ Some
+    ((held L1 Exclusive ∷ []) ∷ [])
 unfolding computed
 older_released = refl
 
@@ -180,7 +185,8 @@ unfolding computed
 not_held = refl
 
 -- a lock that was kept at the end stays held: nobody takes it any more
-pub kept_for_ever : played (with_locks (takes_first ∷ no_callback ∷ [])) (arrive Read ∷ pre 0 ∷ go 0 1 ∷ go 0 1 ∷ arrive Read ∷ pre 1 ∷ go 1 1 ∷ []) ≡ None
+pub kept_for_ever : played (with_locks (takes_first ∷ no_callback ∷ []))
+    (arrive Read ∷ pre 0 ∷ go 0 1 ∷ go 0 1 ∷ arrive Read ∷ pre 1 ∷ go 1 1 ∷ []) ≡ None
 unfolding computed
 kept_for_ever = refl
 
@@ -188,7 +194,8 @@ kept_for_ever = refl
 
 abbrev pub drains_badly : List Filter
 drains_badly = filter 100
-    (passes Create ∷ on (head.Post Create) (if_call (fallible.GetContext Instance C0) [] [] ∷ return status.FinishedProcessing ∷ []) ∷ []) ∷ []
+    (passes Create ∷ on (head.Post Create)
+    (if_call (fallible.GetContext Instance C0) [] [] ∷ return status.FinishedProcessing ∷ []) ∷ []) ∷ []
 
 pub drains_badly-breaks :
     verdict drains_badly (arrive Create ∷ pre 0 ∷ go 0 1 ∷ Move (move.Detach 100) ∷ Move (move.Drain 100 0) ∷ go 1 1 ∷ []) ≡ Breaks V8 5

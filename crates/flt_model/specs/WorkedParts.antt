@@ -129,5 +129,6 @@ broken_by filters entries = option_and_then (breaks (by_altitude filters)) (expa
 
 -- the definitions that a worked run computes with
 unfoldable pub computed : List Filter → List JournalEntry → Verdict
-unfolding out-Statement one_if of_actor gains loses frees settles is_held is_live holding in_queue owners denote.Hole.Carrier.out Rattle.flt_tree.specs.declared.filter.Statement.TheBlock.shown-the_row-Statement-0 denote.Hole.Carrier.shown denote.Hole.Carrier.hidden
+unfolding out-Statement one_if of_actor gains loses frees settles is_held is_live holding in_queue owners denote.Hole.Carrier.out
+    Rattle.flt_tree.specs.declared.filter.Statement.TheBlock.shown-the_row-Statement-0 denote.Hole.Carrier.shown denote.Hole.Carrier.hidden
 computed filters entries = verdict filters entries

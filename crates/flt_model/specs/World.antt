@@ -60,7 +60,7 @@ pub data Outcome : Type 0 where
   Completed : (status : FinalStatus) → Outcome
   Disallowed : Outcome
 
--- a post callback that is to be called, with its completion context. Source: FLT_PREOP_SUCCESS_WITH_CALLBACK
+-- a post callback that will be called, with its completion context. Source: FLT_PREOP_SUCCESS_WITH_CALLBACK
 pub record Frame : Type 0 where
   pub filter : ℕ
   pub context : Option ℕ

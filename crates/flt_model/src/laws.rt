@@ -23,12 +23,14 @@ pub fn legal_journals_are_clean_runs()
     ensures law { (filters : List Filter) (entries : List JournalEntry) → (verdict filters entries ≡ Legal) ↔ IsCleanRun filters entries }
 {}
 
-/// A verdict that isn't legal tells the first fault. It names an entry before which the journal is a run that breaks
+/// A verdict that isn't legal names the first fault. It names an entry before which the journal is a run that breaks
 /// nothing: `NotARun` exactly where it is no run with that entry, `Breaks` exactly where with that entry it is a run that
 /// breaks something, and first the violation that it names. It does nothing: its clauses are the law.
 pub fn first_faults_are_told()
-    ensures stopped { (filters : List Filter) (entries : List JournalEntry) (n : ℕ) → (verdict filters entries ≡ NotARun n) ↔ IsStoppedAt filters entries n }
-    ensures broken { (filters : List Filter) (entries : List JournalEntry) (v : Violation) (n : ℕ) → (verdict filters entries ≡ Breaks v n) ↔ IsBrokenAt filters entries v n }
+    ensures stopped { (filters : List Filter) (entries : List JournalEntry) (n : ℕ) → (verdict filters entries ≡ NotARun n) ↔
+        IsStoppedAt filters entries n }
+    ensures broken { (filters : List Filter) (entries : List JournalEntry) (v : Violation) (n : ℕ) →
+        (verdict filters entries ≡ Breaks v n) ↔ IsBrokenAt filters entries v n }
 {}
 
 /// A local step has no events, and it breaks nothing that wasn't broken before it: V4, where a visit hadn't its owner
@@ -36,18 +38,21 @@ pub fn first_faults_are_told()
 /// clauses are the law.
 pub fn local_steps_are_quiet()
     ensures events { (p : List Filter) (m : Moment) (a : ℕ) (s : Step) → next p m (Local a) ≡ Some s → s.events ≡ [] }
-    ensures breaks { (p : List Filter) (m : Moment) (a : ℕ) (s : Step) → next p m (Local a) ≡ Some s → broken p m s ≡ (if one_owner m.world m.trace then (if locks_exclude m.world then None else Some V7) else Some V4) }
+    ensures breaks { (p : List Filter) (m : Moment) (a : ℕ) (s : Step) → next p m (Local a) ≡ Some s →
+        broken p m s ≡ (if one_owner m.world m.trace then (if locks_exclude m.world then None else Some V7) else Some V4) }
 {}
 
 /// No step leads from a world where no lock is held exclusively beside another activation to one where one is, and so it is at
 /// the opening. Whatever the filters do, the second half of V7 is kept by every run. It does nothing: its clauses are the law.
 pub fn locks_stay_exclusive()
     ensures opening { (p : List Filter) → IsTrue (locks_exclude (opening p)) }
-    ensures steps { (p : List Filter) (w : World) (t : List Event) (x : Transition) (s : Step) → step p w t x ≡ Some s → IsTrue (locks_exclude w) → IsTrue (locks_exclude s.world) }
+    ensures steps { (p : List Filter) (w : World) (t : List Event) (x : Transition) (s : Step) → step p w t x ≡ Some s →
+        IsTrue (locks_exclude w) → IsTrue (locks_exclude s.world) }
 {}
 
 /// A text has one first fault at most, and none where it spells a journal. It does nothing: its clauses are the law.
 pub fn one_first_fault_at_most()
-    ensures one { (text : Text) (line : ℕ) (left : Text) (other_line : ℕ) (other_left : Text) → IsFirstFault text line left → IsFirstFault text other_line other_left → (line ≡ other_line) × (left ≡ other_left) }
+    ensures one { (text : Text) (line : ℕ) (left : Text) (other_line : ℕ) (other_left : Text) → IsFirstFault text line left →
+        IsFirstFault text other_line other_left → (line ≡ other_line) × (left ≡ other_left) }
     ensures none { (entries : Entries) (line : ℕ) (left : Text) → IsJournal entries → ¬ IsFirstFault (spelling entries) line left }
 {}

@@ -16,7 +16,8 @@ pub fn read_move<R: Source>(reader: &mut R, first: u8) -> Result<Move, Stop>
     // What is read has this line.
     ensures spelled { IfOk result (λ made. first ∷ R.coming reader.old ≡ format.move_line made ++ R.coming reader.new) }
     // The line of a move is read, unless the reader fails.
-    ensures read { (made : Move) → format.IsMove made → (behind : Text) → first ∷ R.coming reader.old ≡ format.move_line made ++ behind → spec.IsReadAs made behind result (R.coming reader.new) }
+    ensures read { (made : Move) → format.IsMove made → (behind : Text) →
+        first ∷ R.coming reader.old ≡ format.move_line made ++ behind → spec.IsReadAs made behind result (R.coming reader.new) }
     ensures fails { Counts result (R.failures reader.old) (R.failures reader.new) }
     ensures reads { R.reads reader.new ≤ R.reads reader.old + 35 }
 {
@@ -28,7 +29,9 @@ pub fn read_number<R: Source>(reader: &mut R, word: &[u8]) -> Result<u32, Stop>
     // What is read is spelled so.
     ensures spelled { IfOk result (λ number. R.coming reader.old ≡ word.now ++ (format.number_text number 10 ++ R.coming reader.new)) }
     // What is spelled so is read, unless the reader fails.
-    ensures read { (number : ℕ) → format.IsNumber number → (behind : Text) → R.coming reader.old ≡ word.now ++ (format.number_text number 10 ++ behind) → spec.IsReadAs number behind result (R.coming reader.new) }
+    ensures read { (number : ℕ) → format.IsNumber number → (behind : Text) →
+        R.coming reader.old ≡ word.now ++ (format.number_text number 10 ++ behind) →
+        spec.IsReadAs number behind result (R.coming reader.new) }
     ensures fails { Counts result (R.failures reader.old) (R.failures reader.new) }
     ensures reads { R.reads reader.new ≤ R.reads reader.old + (length word.now + 11) }
 {

@@ -77,17 +77,18 @@ fn journal<R: Source>(alloc: Global, reader: &mut R) -> Result<Journal, JournalF
     }
 }
 
-/// The journal that the reader's bytes spell, all of them. It stops at the first byte that isn't as asked.
+/// The journal that the reader's bytes spell, all of them. It stops at the first malformed byte.
 pub fn read<R: Source>(alloc: Global, reader: &mut R) -> Result<Journal, JournalFault>
     // What is read is spelled so, and nothing is left.
     ensures spelled { IfOk result (λ journal. R.coming reader.old ≡ format.spelling journal) }
     ensures journal { IfOk result (λ journal. format.IsJournal journal) }
     ensures all { OnOk result (R.coming reader.new ≡ []) }
     // What is spelled so is read, unless the reader fails or memory runs out.
-    ensures read { (entries : format.Entries) → format.IsJournal entries → R.coming reader.old ≡ format.spelling entries → MatchResult result (λ journal. journal ≡ entries) spec.IsHindrance }
-    // A fault names the line of the first byte that isn't as asked, and what follows that byte isn't read.
+    ensures read { (entries : format.Entries) → format.IsJournal entries → R.coming reader.old ≡ format.spelling entries →
+        MatchResult result (λ journal. journal ≡ entries) spec.IsHindrance }
+    // A fault names the line of the first malformed byte, and what follows that byte isn't read.
     ensures fault { MatchResult result (λ _. Unit {0}) (λ e. spec.IsFaultOf (R.coming reader.old) e (R.coming reader.new)) }
-    // It is told that the reader failed where it did, and there alone.
+    // That the reader failed is reported where it did, and there alone.
     ensures fails { spec.CountsAll result (R.failures reader.old) (R.failures reader.new) }
     ensures reads { R.reads reader.new ≤ R.reads reader.old + 67108864 }
 {

@@ -8,7 +8,7 @@ use crate::streams::{ReadFault, Source};
 /// Why reading stopped.
 #[derive(Clone, Copy)]
 pub enum Stop {
-    /// The latest byte isn't as asked, or one is missing.
+    /// The latest byte is malformed, or one is missing.
     Wrong,
     /// The reader failed.
     Failed,

@@ -1,6 +1,6 @@
 //! What can be wrong with a run, and what is answered about a journal.
 
-/// A violation, named by its number as it is printed. At one moment the least is told.
+/// A violation, named by its number as it is printed. At one moment the least is reported.
 #[derive(Clone, Copy)]
 pub enum Violation {
     /// A context or an operation is used that isn't held, a context that was freed or is another filter's, or nothing.

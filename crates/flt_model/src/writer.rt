@@ -96,7 +96,8 @@ fn put_two<W: Sink>(
     altitude: u32,
     serial: u32,
 ) -> Result<(), WriteFault>
-    ensures ok { OnOk result (Appends (W.taken writer.old) (W.taken writer.new) (word.now ++ (spec.number_text altitude 32 ++ spec.number_text serial 10))) }
+    ensures ok { OnOk result (Appends (W.taken writer.old) (W.taken writer.new)
+        (word.now ++ (spec.number_text altitude 32 ++ spec.number_text serial 10))) }
     ensures fine { OnOk result (W.failures writer.new ≡ W.failures writer.old) }
     ensures err { OnErr result (W.failures writer.new ≢ W.failures writer.old) }
 {
@@ -159,7 +160,8 @@ fn put_go<W: Sink>(
     steps: u32,
     grant: bool,
 ) -> Result<(), WriteFault>
-    ensures ok { OnOk result (Appends (W.taken writer.old) (W.taken writer.new) (spec.entry_line (JournalEntry.Go activation steps grant))) }
+    ensures ok { OnOk result (Appends (W.taken writer.old) (W.taken writer.new)
+        (spec.entry_line (JournalEntry.Go activation steps grant))) }
     ensures fine { OnOk result (W.failures writer.new ≡ W.failures writer.old) }
     ensures err { OnErr result (W.failures writer.new ≢ W.failures writer.old) }
 {

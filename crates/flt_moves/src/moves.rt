@@ -49,7 +49,8 @@ fn arrive(
     mode: Mode,
     file: u32,
 ) -> Result<bool, AllocError>
-    ensures { IfOk result (λ enabled. (earlier : List Event) → ComesOf (moves.arrive world.old kind mode file) enabled world.new earlier earlier) }
+    ensures { IfOk result (λ enabled. (earlier : List Event) →
+        ComesOf (moves.arrive world.old kind mode file) enabled world.new earlier earlier) }
 {
     if fits_mode(kind, mode) && file < 1024 {
         add_operation(world, alloc, Arrival { kind, mode, file })?;
@@ -76,7 +77,8 @@ fn pre_at<'a>(
     filter: usize,
     events: &mut Vec<Event>,
 ) -> Result<bool, AllocError>
-    ensures { IfOk result (λ enabled. ComesOf (moves.pre_at stack.now world.old operation kind (spec.Down filter)) enabled world.new events.old.items events.new.items) }
+    ensures { IfOk result (λ enabled. ComesOf
+        (moves.pre_at stack.now world.old operation kind (spec.Down filter)) enabled world.new events.old.items events.new.items) }
 {
     if filter < stack.len() && calls_pre(world, stack, filter, kind) {
         start_pre(world, alloc, stack, operation, kind, filter, events)?;
@@ -93,7 +95,9 @@ fn pre<'a>(
     operation: usize,
     events: &mut Vec<Event>,
 ) -> Result<bool, AllocError>
-    ensures { IfOk result (λ enabled. ComesOf (moves.pre_at stack.now world.old operation (spec.arrival_at world.old.store operation).kind (spec.route_at world.old.store operation).position) enabled world.new events.old.items events.new.items) }
+    ensures { IfOk result (λ enabled. ComesOf
+        (moves.pre_at stack.now world.old operation (spec.arrival_at world.old.store operation).kind
+        (spec.route_at world.old.store operation).position) enabled world.new events.old.items events.new.items) }
 {
     let kind = world.kind(operation);
     match world.position(operation) {
@@ -104,7 +108,9 @@ fn pre<'a>(
 
 /// A filter that isn't there, or has no such callback, is passed.
 fn skip<'a>(world: &mut World<'a>, stack: &Stack<'a>, operation: usize) -> bool
-    ensures { (earlier : List Event) → ComesOf (moves.skip_at stack.now world.old operation (spec.arrival_at world.old.store operation).kind (spec.route_at world.old.store operation).position) result world.new earlier earlier }
+    ensures { (earlier : List Event) → ComesOf
+        (moves.skip_at stack.now world.old operation (spec.arrival_at world.old.store operation).kind
+        (spec.route_at world.old.store operation).position) result world.new earlier earlier }
 {
     let kind = world.kind(operation);
     match world.position(operation) {
@@ -119,7 +125,10 @@ fn skip<'a>(world: &mut World<'a>, stack: &Stack<'a>, operation: usize) -> bool
 
 /// Below the last filter the operation is carried out.
 fn carry_out(world: &mut World<'_>, operation: usize)
-    ensures { world.new ≡ record world.old { store = spec.with_route world.old.store operation (moves.carried_out (spec.route_at world.old.store operation)) } }
+    ensures { world.new ≡ record world.old {
+      store =
+          spec.with_route world.old.store operation (moves.carried_out (spec.route_at world.old.store operation));
+    } }
 {
     if let Some(route) = world.routes.get_mut(operation) {
         route.position = Position::Up;
@@ -128,7 +137,8 @@ fn carry_out(world: &mut World<'_>, operation: usize)
 }
 
 fn lower<'a>(world: &mut World<'a>, stack: &Stack<'a>, operation: usize) -> bool
-    ensures { (earlier : List Event) → ComesOf (moves.lower_at stack.now world.old operation (spec.route_at world.old.store operation).position) result world.new earlier earlier }
+    ensures { (earlier : List Event) → ComesOf
+        (moves.lower_at stack.now world.old operation (spec.route_at world.old.store operation).position) result world.new earlier earlier }
 {
     match world.position(operation) {
         Position::Down(filter) if filter >= stack.len() => {
@@ -141,7 +151,16 @@ fn lower<'a>(world: &mut World<'a>, stack: &Stack<'a>, operation: usize) -> bool
 
 /// The frame of the lowest filter is taken out, and its visit begins.
 fn visit_last_frame(world: &mut World<'_>, operation: usize) -> Option<Frame>
-    ensures { MatchOption result (moves.last_frame (spec.route_at world.old.store operation).frames ≡ None) (λ f. (moves.last_frame (spec.route_at world.old.store operation).frames ≡ Some f) × (world.new ≡ record world.old { store = spec.with_route world.old.store operation (record (spec.route_at world.old.store operation) { position = spec.Visiting; frames = moves.without_last (spec.route_at world.old.store operation).frames }) })) }
+    ensures { MatchOption result (moves.last_frame (spec.route_at world.old.store operation).frames ≡ None)
+        (λ f. (moves.last_frame (spec.route_at world.old.store operation).frames ≡ Some f)
+        × (world.new ≡ record world.old {
+          store =
+              spec.with_route world.old.store operation
+              (record (spec.route_at world.old.store operation) {
+                position = spec.Visiting;
+                frames = moves.without_last (spec.route_at world.old.store operation).frames;
+              });
+        })) }
 {
     match world.routes.get_mut(operation) {
         Some(route) => route.visit_last_frame(),
@@ -157,7 +176,9 @@ fn post_last<'a>(
     operation: usize,
     events: &mut Vec<Event>,
 ) -> Result<bool, AllocError>
-    ensures { IfOk result (λ enabled. ComesOf (moves.post_by stack.now world.old operation (spec.route_at world.old.store operation) (moves.last_frame (spec.route_at world.old.store operation).frames)) enabled world.new events.old.items events.new.items) }
+    ensures { IfOk result (λ enabled. ComesOf
+        (moves.post_by stack.now world.old operation (spec.route_at world.old.store operation)
+        (moves.last_frame (spec.route_at world.old.store operation).frames)) enabled world.new events.old.items events.new.items) }
 {
     match visit_last_frame(world, operation) {
         Some(frame) => {
@@ -175,7 +196,9 @@ fn post<'a>(
     operation: usize,
     events: &mut Vec<Event>,
 ) -> Result<bool, AllocError>
-    ensures { IfOk result (λ enabled. ComesOf (moves.post_at stack.now world.old operation (spec.route_at world.old.store operation) (spec.route_at world.old.store operation).position) enabled world.new events.old.items events.new.items) }
+    ensures { IfOk result (λ enabled. ComesOf
+        (moves.post_at stack.now world.old operation (spec.route_at world.old.store operation)
+        (spec.route_at world.old.store operation).position) enabled world.new events.old.items events.new.items) }
 {
     match world.position(operation) {
         Position::Up => post_last(world, alloc, stack, operation, events),

@@ -27,7 +27,8 @@ pub(crate) fn start_activation<'a>(
     start: Start<'a>,
     events: &mut Vec<Event>,
 ) -> Result<(), AllocError>
-    ensures { OnOk result (Happened world.new events.old.items events.new.items (moves.starts world.old world.old.store start.entry.actor start.entry.body.now start.entry.visit start.entry.context)) }
+    ensures { OnOk result (Happened world.new events.old.items events.new.items
+        (moves.starts world.old world.old.store start.entry.actor start.entry.body.now start.entry.visit start.entry.context)) }
 {
     let number = world.activations.len();
     let Start {
@@ -59,7 +60,10 @@ fn start_visit<'a>(
     context: Option<usize>,
     events: &mut Vec<Event>,
 ) -> Result<(), AllocError>
-    ensures { OnOk result (Happened world.new events.old.items events.new.items (moves.starts world.old (moves.with_visit world.old.store visit) (record { filter = visit.filter; place = place; draining = visit.draining }) body.now (Some (length world.old.store.visits)) context)) }
+    ensures { OnOk result (Happened world.new events.old.items events.new.items
+        (moves.starts world.old (moves.with_visit world.old.store visit)
+        (record { filter = visit.filter; place = place; draining = visit.draining }) body.now
+        (Some (length world.old.store.visits)) context)) }
 {
     let actor = Actor {
         filter: visit.filter,
@@ -108,7 +112,8 @@ pub(crate) fn start_post<'a>(
     draining: bool,
     events: &mut Vec<Event>,
 ) -> Result<(), AllocError>
-    ensures { OnOk result (Happened world.new events.old.items events.new.items (starts_post stack.now world.old operation frame draining)) }
+    ensures { OnOk result (Happened world.new events.old.items events.new.items
+        (starts_post stack.now world.old operation frame draining)) }
 {
     let kind = world.kind(operation);
     let Frame { filter, context } = frame;

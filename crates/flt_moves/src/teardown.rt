@@ -26,7 +26,16 @@ pub(crate) fn detach(world: &mut World<'_>, filter: usize) -> bool
 
 /// The first frame of a filter is taken out of an operation.
 fn take_frame(world: &mut World<'_>, filter: usize, operation: usize) -> Option<Frame>
-    ensures { MatchOption result (find (moves.is_frame_of filter) (spec.route_at world.old.store operation).frames ≡ None) (λ f. (find (moves.is_frame_of filter) (spec.route_at world.old.store operation).frames ≡ Some f) × (world.new ≡ record world.old { store = spec.with_route world.old.store operation (record (spec.route_at world.old.store operation) { frames = moves.other_frames filter (spec.route_at world.old.store operation).frames }) })) }
+    ensures { MatchOption result (find (moves.is_frame_of filter) (spec.route_at world.old.store operation).frames ≡ None)
+        (λ f. (find (moves.is_frame_of filter) (spec.route_at world.old.store operation).frames ≡ Some f)
+        × (world.new ≡ record world.old {
+          store =
+              spec.with_route world.old.store operation
+              (record (spec.route_at world.old.store operation) {
+                frames =
+                    moves.other_frames filter (spec.route_at world.old.store operation).frames;
+              });
+        })) }
 {
     match world.routes.get_mut(operation) {
         Some(route) => route.take_frame(filter),
@@ -43,7 +52,10 @@ fn drain_by<'a>(
     operation: usize,
     events: &mut Vec<Event>,
 ) -> Result<bool, AllocError>
-    ensures { IfOk result (λ enabled. ComesOf (moves.drain_by stack.now world.old filter operation (find (moves.is_frame_of filter) (spec.route_at world.old.store operation).frames)) enabled world.new events.old.items events.new.items) }
+    ensures { IfOk result (λ enabled. ComesOf
+        (moves.drain_by stack.now world.old filter operation
+        (find (moves.is_frame_of filter) (spec.route_at world.old.store operation).frames)) enabled world.new events.old.items
+        events.new.items) }
 {
     match take_frame(world, filter, operation) {
         Some(frame) => {
@@ -63,7 +75,8 @@ pub(crate) fn drain<'a>(
     operation: usize,
     events: &mut Vec<Event>,
 ) -> Result<bool, AllocError>
-    ensures { IfOk result (λ enabled. ComesOf (moves.drain stack.now world.old filter operation) enabled world.new events.old.items events.new.items) }
+    ensures { IfOk result (λ enabled. ComesOf
+        (moves.drain stack.now world.old filter operation) enabled world.new events.old.items events.new.items) }
 {
     if world.is_detaching(filter) {
         drain_by(world, alloc, stack, filter, operation, events)

@@ -21,7 +21,10 @@ fn canceled_by<'a>(
     operation: usize,
     events: &mut Vec<Event>,
 ) -> Result<bool, AllocError>
-    ensures { IfOk result (λ enabled. ComesOf (moves.canceled_by stack.now world.old filter operation (find (moves.is_entry_of world.old.store operation) (spec.queue_at world.old.store filter))) enabled world.new events.old.items events.new.items) }
+    ensures { IfOk result (λ enabled. ComesOf
+        (moves.canceled_by stack.now world.old filter operation
+        (find (moves.is_entry_of world.old.store operation) (spec.queue_at world.old.store filter))) enabled world.new
+        events.old.items events.new.items) }
 {
     match world.take_entry(alloc, filter, operation)? {
         Some(entry) => {
@@ -51,7 +54,8 @@ pub(crate) fn canceled<'a>(
     operation: usize,
     events: &mut Vec<Event>,
 ) -> Result<bool, AllocError>
-    ensures { IfOk result (λ enabled. ComesOf (moves.canceled stack.now world.old filter operation) enabled world.new events.old.items events.new.items) }
+    ensures { IfOk result (λ enabled. ComesOf
+        (moves.canceled stack.now world.old filter operation) enabled world.new events.old.items events.new.items) }
 {
     if world.is_cancelled(operation) || world.is_detaching(filter) {
         canceled_by(world, alloc, stack, filter, operation, events)
@@ -68,7 +72,9 @@ pub(crate) fn work<'a>(
     number: usize,
     events: &mut Vec<Event>,
 ) -> Result<bool, AllocError>
-    ensures { IfOk result (λ enabled. ComesOf (moves.work_by stack.now world.old number (spec.item_at world.old.store number)) enabled world.new events.old.items events.new.items) }
+    ensures { IfOk result (λ enabled. ComesOf
+        (moves.work_by stack.now world.old number (spec.item_at world.old.store number)) enabled world.new events.old.items
+        events.new.items) }
 {
     match world.take_item(number) {
         Some(item) => {

@@ -16,5 +16,6 @@ deeper n = ap indentation (add-one n) ∙ sym (below n)
 pub last_digit : {U E : Type 0} (r : Result U E) (n : ℕ) (a b c : List ℕ) → 10 ≤ n → n < 2 ^ 64 → b ≡ a ++ decimal (n / 10) →
     OnOk r (c ≡ b ++ (48 + n % 10) ∷ []) → OnOk r (c ≡ a ++ decimal n)
 last_digit (Ok u) n a b c some fits e h =
-    h ∙ ap (λ l. l ++ (48 + n % 10) ∷ []) e ∙ append_assoc a (decimal (n / 10)) ((48 + n % 10) ∷ []) ∙ ap (λ l. a ++ l) (sym (decimal_step n some fits))
+    h ∙ ap (λ l. l ++ (48 + n % 10) ∷ []) e ∙ append_assoc a (decimal (n / 10)) ((48 + n % 10) ∷ [])
+    ∙ ap (λ l. a ++ l) (sym (decimal_step n some fits))
 last_digit (Err x) n a b c some fits e h = h

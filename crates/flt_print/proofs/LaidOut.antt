@@ -10,7 +10,8 @@ indented : {ws : List Text} {vs : List Word} {z : Text} (level : ℕ) → Writte
 indented zero w = w
 indented (suc level) w = gap blank (gap blank (indented level w))
 
-words_out : (w : Text) (ws : List Text) (vs : List Word) (after : List Text) (ys : List Word) (z : Text) → Pieces (w ∷ ws) vs → Written after ys z →
+words_out : (w : Text) (ws : List Text) (vs : List Word) (after : List Text) (ys : List Word) (z : Text) → Pieces (w ∷ ws) vs →
+    Written after ys z →
     Written (w ∷ (ws ++ after)) (vs ++ ys) (w ++ (spaced ws ++ 10 ∷ z))
 words_out w _ _ after ys z (more p none) r = said p feed r
 words_out w _ _ after ys z (more {v = v} p (more {w = u} {v = x} {ws = us} {vs = xs} q ps)) r =
@@ -21,7 +22,8 @@ line_out : (ws : List Text) (vs : List Word) (after : List Text) (ys : List Word
     Written (ws ++ after) (vs ++ ys) (joined ws ++ 10 ∷ z)
 line_out _ _ after ys z none r = gap feed r
 line_out (w ∷ ws) vs after ys z (more p ps) r =
-    subst (λ l. Written (w ∷ (ws ++ after)) (vs ++ ys) l) (sym (append_assoc w (spaced ws) (10 ∷ z))) (words_out w ws vs after ys z (more p ps) r)
+    subst (λ l. Written (w ∷ (ws ++ after)) (vs ++ ys) l) (sym (append_assoc w (spaced ws) (10 ∷ z)))
+    (words_out w ws vs after ys z (more p ps) r)
 
 record Cut (ws us : List Text) (vs : List Word) : Type 0 where
   front : List Word

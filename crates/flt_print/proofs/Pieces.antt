@@ -47,13 +47,23 @@ run_by z end front e h = rw (e, h) refl
 token_run : (c : ℕ) (y : Text) → is_word c ≡ true → token (c ∷ y) ≡ run (c ∷ y)
 unfolding token
 token_run c y e =
-    rw (other c 123 e refl, other c 125 e refl, other c 60 e refl, other c 43 e refl, other c 45 e refl, other c 61 e refl, other c 33 e refl, e) refl
+    rw (
+      other c 123 e refl,
+      other c 125 e refl,
+      other c 60 e refl,
+      other c 43 e refl,
+      other c 45 e refl,
+      other c 61 e refl,
+      other c 33 e refl,
+      e,
+    ) refl
 
 token_word : (c b : ℕ) (w z : Text) → is_word c ≡ true → list_all is_word w ≡ true → Gap b →
     token (c ∷ (w ++ b ∷ z)) ≡ (if is_ascii_digit c then number (c ∷ w) else keyword (c ∷ w), suc (length w))
 token_word c b w z e h g =
     token_run c (w ++ b ∷ z) e
-    ∙ run_by (c ∷ (w ++ b ∷ z)) (suc (length w)) (c ∷ w) (run_front (c ∷ w) z b (and_from (is_word c) (list_all is_word w) e h) g) (take-append_seam (c ∷ w) (b ∷ z))
+    ∙ run_by (c ∷ (w ++ b ∷ z)) (suc (length w)) (c ∷ w) (run_front (c ∷ w) z b (and_from (is_word c) (list_all is_word w) e h) g)
+    (take-append_seam (c ∷ w) (b ∷ z))
 
 word_piece : (c : ℕ) (w : Text) (v : Word) → is_word c ≡ true → list_all is_word w ≡ true →
     (if is_ascii_digit c then number (c ∷ w) else keyword (c ∷ w)) ≡ v → is_fault v.kind ≡ false → Piece (c ∷ w) v
@@ -205,7 +215,8 @@ value_by false m l z y f e = cc
 value_append : (m l : ℕ) (ds y : Text) → value_from m ds ≡ Some l → value_from m (ds ++ y) ≡ value_from l y
 value_append m l [] y e = ap (λ n. value_from n y) (some_same m l e)
 value_append m l (b ∷ ds) y e =
-    value_by (is_ascii_digit b && nat_lt (10 * m + (b - 48)) (2 ^ 64)) (10 * m + (b - 48)) l ds y (value_append (10 * m + (b - 48)) l ds y) e
+    value_by (is_ascii_digit b && nat_lt (10 * m + (b - 48)) (2 ^ 64)) (10 * m + (b - 48)) l ds y
+    (value_append (10 * m + (b - 48)) l ds y) e
 
 value_last : (m d n : ℕ) → d < 10 → 10 * m + d ≡ n → n < 2 ^ 64 → value_from m ((48 + d) ∷ []) ≡ Some n
 value_last m d n small e fits =

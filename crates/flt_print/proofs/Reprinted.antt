@@ -29,7 +29,8 @@ found law f w =
     let l = law text _ s.vs (laid_out (filter_lines f) s.vs s.pieces) in
     s.reads (tokens text) l.rest l.tells l.ends
 
-spells : (f h : Filter) → IsWellFormed f → length (canonical_text f) ≤ max_text → FileAt (canonical_text f) (tokens (canonical_text f)) h → AlikeFilter f h →
+spells : (f h : Filter) → IsWellFormed f → length (canonical_text f) ≤ max_text →
+    FileAt (canonical_text f) (tokens (canonical_text f)) h → AlikeFilter f h →
     Spells (canonical_text f) h
 spells f h w short read a =
     record {

@@ -66,7 +66,8 @@ module _ {text : Text} where
       (i o : Input) → Tells text (w ∷ []) (v ∷ []) i o → P i o
   read_word P w v f _ _ (tell {t = t} e h (told {i})) = f t i e h
 
-  pub says_word : {P : Span} (w : Text) (v : Word) → Piece w v → ((t : Token) (o : Input) → t.word ≡ v → bytes_of text t ≡ w → P (t ∷ o) o) →
+  pub says_word : {P : Span} (w : Text) (v : Word) → Piece w v →
+      ((t : Token) (o : Input) → t.word ≡ v → bytes_of text t ≡ w → P (t ∷ o) o) →
       Says text (w ∷ []) P
   says_word w v p f = record { vs = v ∷ []; pieces = more p none; reads = read_word _ w v f }
 

@@ -50,68 +50,115 @@ module _ (text : Text) (locks : List Lock) (queue : Bool) where
   abbrev pub scope : Scope
   scope = record { text = text; locks = locks; queue = queue }
 
-  pub says_optional : (kd : Kind) → reads_back kd ≡ true → (c : Option ContextVariable) → Says text (optional_words kd c) (λ i o. OptionalAt kd i c o)
+  pub says_optional : (kd : Kind) → reads_back kd ≡ true → (c : Option ContextVariable) →
+      Says text (optional_words kd c) (λ i o. OptionalAt kd i c o)
   says_optional kd e None = says_none (λ i. words.without)
   says_optional kd e (Some c) = says_by (says_both (says_kind kd e) (says_context c)) (λ i o p. words.behind p.1 p.2)
 
   pub says_status : (s : Status) → Says text (status_words s) (λ i o. StatusAt i s o)
   unfolding spelling keyword same_kind
-  says_status (statuses.WithCallback c) = says_by (says_both (says_kind k.WithCallback refl) (says_optional k.Context refl c)) (λ i o p. calls.with_callback p.1 p.2)
-  says_status (statuses.Synchronize c) = says_by (says_both (says_kind k.Synchronize refl) (says_optional k.Context refl c)) (λ i o p. calls.synchronize p.1 p.2)
-  says_status (statuses.Complete s) = says_by (says_both (says_kind k.Complete refl) (says_final_status s)) (λ i o p. calls.complete p.1 p.2)
+  says_status (statuses.WithCallback c) =
+      says_by (says_both (says_kind k.WithCallback refl) (says_optional k.Context refl c)) (λ i o p. calls.with_callback p.1 p.2)
+  says_status (statuses.Synchronize c) =
+      says_by (says_both (says_kind k.Synchronize refl) (says_optional k.Context refl c)) (λ i o p. calls.synchronize p.1 p.2)
+  says_status (statuses.Complete s) =
+      says_by (says_both (says_kind k.Complete refl) (says_final_status s)) (λ i o p. calls.complete p.1 p.2)
   says_status statuses.NoCallback = says_by (says_meant bare_status_of k.NoCallback statuses.NoCallback refl refl) (λ i o p. calls.bare p)
   says_status statuses.Pending = says_by (says_meant bare_status_of k.Pending statuses.Pending refl refl) (λ i o p. calls.bare p)
-  says_status statuses.DisallowFastIo = says_by (says_meant bare_status_of k.DisallowFastIo statuses.DisallowFastIo refl refl) (λ i o p. calls.bare p)
-  says_status statuses.FinishedProcessing = says_by (says_meant bare_status_of k.FinishedProcessing statuses.FinishedProcessing refl refl) (λ i o p. calls.bare p)
-  says_status statuses.MoreProcessingRequired = says_by (says_meant bare_status_of k.MoreProcessingRequired statuses.MoreProcessingRequired refl refl) (λ i o p. calls.bare p)
+  says_status statuses.DisallowFastIo =
+      says_by (says_meant bare_status_of k.DisallowFastIo statuses.DisallowFastIo refl refl) (λ i o p. calls.bare p)
+  says_status statuses.FinishedProcessing =
+      says_by (says_meant bare_status_of k.FinishedProcessing statuses.FinishedProcessing refl refl) (λ i o p. calls.bare p)
+  says_status statuses.MoreProcessingRequired =
+      says_by (says_meant bare_status_of k.MoreProcessingRequired statuses.MoreProcessingRequired refl refl) (λ i o p. calls.bare p)
 
   pub says_optional_status : (s : Option Status) → Says text (optional_status_words s) (λ i o. OptionalStatusAt i s o)
   says_optional_status None = says_none (λ i. calls.no_status)
   says_optional_status (Some s) = says_by (says_status s) (λ i o p. calls.some_status p)
 
   -- a call, but for where a routine's name stands
-  pub says_call : (c : FallibleCall) → IsFallible queue c → Says text (fallible_words c) (λ i o. (d : FallibleCall) × FallibleAt scope i d o × AlikeCall c d)
+  pub says_call : (c : FallibleCall) → IsFallible queue c →
+      Says text (fallible_words c) (λ i o. (d : FallibleCall) × FallibleAt scope i d o × AlikeCall c d)
   unfolding spelling keyword same_kind
   says_call (fallible.AllocateContext c) h =
-      says_by (says_both (says_kind k.AllocateContext refl) (says_context c)) (λ i o p. (fallible.AllocateContext c, calls.allocate p.1 p.2, same))
+      says_by (says_both (says_kind k.AllocateContext refl) (says_context c))
+      (λ i o p. (fallible.AllocateContext c, calls.allocate p.1 p.2, same))
   says_call (fallible.GetContext Stream c) h =
-      says_by (says_both (says_kind k.GetStreamContext refl) (says_context c)) (λ i o p. (fallible.GetContext Stream c, calls.get_stream p.1 p.2, same))
+      says_by (says_both (says_kind k.GetStreamContext refl) (says_context c))
+      (λ i o p. (fallible.GetContext Stream c, calls.get_stream p.1 p.2, same))
   says_call (fallible.SetContext Stream e c old) h =
-      says_by (says_both (says_kind k.SetStreamContext refl) (says_both (says_existing e) (says_both (says_context c) (says_optional k.Old refl old)))) (λ i o p. (fallible.SetContext Stream e c old, calls.set_stream p.1 p.2.1 p.2.2.1 p.2.2.2 h, same))
+      says_by (says_both (says_kind k.SetStreamContext refl)
+      (says_both (says_existing e) (says_both (says_context c) (says_optional k.Old refl old))))
+      (λ i o p. (fallible.SetContext Stream e c old, calls.set_stream p.1 p.2.1 p.2.2.1 p.2.2.2 h, same))
   says_call (fallible.DeleteContextOf Stream old) h =
-      says_by (says_both (says_kind k.DeleteStreamContext refl) (says_optional k.Old refl old)) (λ i o p. (fallible.DeleteContextOf Stream old, calls.delete_stream p.1 p.2, same))
+      says_by (says_both (says_kind k.DeleteStreamContext refl) (says_optional k.Old refl old))
+      (λ i o p. (fallible.DeleteContextOf Stream old, calls.delete_stream p.1 p.2, same))
   says_call (fallible.GetContext Instance c) h =
-      says_by (says_both (says_kind k.GetInstanceContext refl) (says_context c)) (λ i o p. (fallible.GetContext Instance c, calls.get_instance p.1 p.2, same))
+      says_by (says_both (says_kind k.GetInstanceContext refl) (says_context c))
+      (λ i o p. (fallible.GetContext Instance c, calls.get_instance p.1 p.2, same))
   says_call (fallible.SetContext Instance e c old) h =
-      says_by (says_both (says_kind k.SetInstanceContext refl) (says_both (says_existing e) (says_both (says_context c) (says_optional k.Old refl old)))) (λ i o p. (fallible.SetContext Instance e c old, calls.set_instance p.1 p.2.1 p.2.2.1 p.2.2.2 h, same))
+      says_by (says_both (says_kind k.SetInstanceContext refl)
+      (says_both (says_existing e) (says_both (says_context c) (says_optional k.Old refl old))))
+      (λ i o p. (fallible.SetContext Instance e c old, calls.set_instance p.1 p.2.1 p.2.2.1 p.2.2.2 h, same))
   says_call (fallible.DeleteContextOf Instance old) h =
-      says_by (says_both (says_kind k.DeleteInstanceContext refl) (says_optional k.Old refl old)) (λ i o p. (fallible.DeleteContextOf Instance old, calls.delete_instance p.1 p.2, same))
+      says_by (says_both (says_kind k.DeleteInstanceContext refl) (says_optional k.Old refl old))
+      (λ i o p. (fallible.DeleteContextOf Instance old, calls.delete_instance p.1 p.2, same))
   says_call (fallible.InsertIo c) h =
-      says_by (says_both (says_kind k.InsertIo refl) (says_both (says_kind k.Data refl) (says_optional k.Context refl c))) (λ i o p. (fallible.InsertIo c, calls.insert_io h p.1 p.2.1 p.2.2, same))
+      says_by (says_both (says_kind k.InsertIo refl) (says_both (says_kind k.Data refl) (says_optional k.Context refl c)))
+      (λ i o p. (fallible.InsertIo c, calls.insert_io h p.1 p.2.1 p.2.2, same))
   says_call (fallible.RemoveNextIo x c) h =
-      says_by (says_both (says_kind k.RemoveNextIo refl) (says_both (says_removed x) (says_both (says_kind k.Context refl) (says_context c)))) (λ i o p. (fallible.RemoveNextIo x c, calls.remove_next_io h p.1 p.2.1 p.2.2.1 p.2.2.2, same))
+      says_by (says_both (says_kind k.RemoveNextIo refl)
+      (says_both (says_removed x) (says_both (says_kind k.Context refl) (says_context c))))
+      (λ i o p. (fallible.RemoveNextIo x c, calls.remove_next_io h p.1 p.2.1 p.2.2.1 p.2.2.2, same))
   says_call (fallible.QueueDeferredIoWorkItem r c) h =
-      says_by (says_both (says_kind k.QueueDeferredIoWorkItem refl) (says_both (says_kind k.Data refl) (says_both (says_name r.name h) (says_optional k.Context refl c)))) (λ i o p. (fallible.QueueDeferredIoWorkItem (record { name = r.name; position = position p.2.0 }) c, calls.queue_deferred p.1 p.2.1 (calls.routine p.2.2.1) p.2.2.2, deferred refl))
+      says_by (says_both (says_kind k.QueueDeferredIoWorkItem refl)
+      (says_both (says_kind k.Data refl) (says_both (says_name r.name h) (says_optional k.Context refl c))))
+      (λ i o p. (
+        fallible.QueueDeferredIoWorkItem (record { name = r.name; position = position p.2.0 }) c,
+        calls.queue_deferred p.1 p.2.1 (calls.routine p.2.2.1) p.2.2.2,
+        deferred refl,
+      ))
   says_call (fallible.QueueGenericWorkItem r c) h =
-      says_by (says_both (says_kind k.QueueGenericWorkItem refl) (says_both (says_name r.name h) (says_optional k.Context refl c))) (λ i o p. (fallible.QueueGenericWorkItem (record { name = r.name; position = position p.0 }) c, calls.queue_generic p.1 (calls.routine p.2.1) p.2.2, generic refl))
+      says_by (says_both (says_kind k.QueueGenericWorkItem refl)
+      (says_both (says_name r.name h) (says_optional k.Context refl c)))
+      (λ i o p. (
+        fallible.QueueGenericWorkItem (record { name = r.name; position = position p.0 }) c,
+        calls.queue_generic p.1 (calls.routine p.2.1) p.2.2,
+        generic refl,
+      ))
 
   says_lock : (kind : LockKind) (l : LockNumber) → IsLock locks kind l → Says text (lock_name locks l ∷ []) (λ i o. LockAt scope kind i l o)
   says_lock kind l h = says_by (says_name (lock_name locks l) h.0) (λ i o p. calls.lock p h.1)
 
   pub says_plain : (c : PlainCall) → IsPlain locks c → Says text (plain_words locks c) (λ i o. PlainAt scope i c o)
   unfolding spelling keyword same_kind
-  says_plain (plain.DeleteContext c) h = says_by (says_both (says_kind k.DeleteContext refl) (says_context c)) (λ i o p. calls.delete p.1 p.2)
-  says_plain (plain.ReferenceContext c d) h = says_by (says_both (says_kind k.ReferenceContext refl) (says_both (says_context c) (says_both (says_kind k.As refl) (says_context d)))) (λ i o p. calls.reference p.1 p.2.1 p.2.2.1 p.2.2.2 h)
-  says_plain (plain.ReleaseContext c) h = says_by (says_both (says_kind k.ReleaseContext refl) (says_context c)) (λ i o p. calls.release p.1 p.2)
-  says_plain (plain.AcquireLock Spin l) h = says_by (says_both (says_kind k.AcquireSpinLock refl) (says_lock Spin l h)) (λ i o p. calls.acquire_spin p.1 p.2)
-  says_plain (plain.AcquireLock Fast l) h = says_by (says_both (says_kind k.AcquireFastMutex refl) (says_lock Fast l h)) (λ i o p. calls.acquire_fast p.1 p.2)
-  says_plain (plain.AcquireLock Push l) h = says_by (says_both (says_kind k.AcquirePushLock refl) (says_lock Push l h)) (λ i o p. calls.acquire_push p.1 p.2)
-  says_plain (plain.AcquirePushLockShared l) h = says_by (says_both (says_kind k.AcquirePushLockShared refl) (says_lock Push l h)) (λ i o p. calls.acquire_push_shared p.1 p.2)
-  says_plain (plain.ReleaseLock Spin l) h = says_by (says_both (says_kind k.ReleaseSpinLock refl) (says_lock Spin l h)) (λ i o p. calls.release_spin p.1 p.2)
-  says_plain (plain.ReleaseLock Fast l) h = says_by (says_both (says_kind k.ReleaseFastMutex refl) (says_lock Fast l h)) (λ i o p. calls.release_fast p.1 p.2)
-  says_plain (plain.ReleaseLock Push l) h = says_by (says_both (says_kind k.ReleasePushLock refl) (says_lock Push l h)) (λ i o p. calls.release_push p.1 p.2)
-  says_plain (plain.CompletePendedPreOperation d s) h = says_by (says_both (says_kind k.CompletePendedPreOperation refl) (says_both (says_operation_variable d) (says_status s))) (λ i o p. calls.complete_pre p.1 p.2.1 p.2.2)
-  says_plain plain.CompletePendedPostOperation h = says_by (says_both (says_kind k.CompletePendedPostOperation refl) (says_kind k.Data refl)) (λ i o p. calls.complete_post p.1 p.2)
+  says_plain (plain.DeleteContext c) h =
+      says_by (says_both (says_kind k.DeleteContext refl) (says_context c)) (λ i o p. calls.delete p.1 p.2)
+  says_plain (plain.ReferenceContext c d) h =
+      says_by (says_both (says_kind k.ReferenceContext refl)
+      (says_both (says_context c) (says_both (says_kind k.As refl) (says_context d))))
+      (λ i o p. calls.reference p.1 p.2.1 p.2.2.1 p.2.2.2 h)
+  says_plain (plain.ReleaseContext c) h =
+      says_by (says_both (says_kind k.ReleaseContext refl) (says_context c)) (λ i o p. calls.release p.1 p.2)
+  says_plain (plain.AcquireLock Spin l) h =
+      says_by (says_both (says_kind k.AcquireSpinLock refl) (says_lock Spin l h)) (λ i o p. calls.acquire_spin p.1 p.2)
+  says_plain (plain.AcquireLock Fast l) h =
+      says_by (says_both (says_kind k.AcquireFastMutex refl) (says_lock Fast l h)) (λ i o p. calls.acquire_fast p.1 p.2)
+  says_plain (plain.AcquireLock Push l) h =
+      says_by (says_both (says_kind k.AcquirePushLock refl) (says_lock Push l h)) (λ i o p. calls.acquire_push p.1 p.2)
+  says_plain (plain.AcquirePushLockShared l) h =
+      says_by (says_both (says_kind k.AcquirePushLockShared refl) (says_lock Push l h)) (λ i o p. calls.acquire_push_shared p.1 p.2)
+  says_plain (plain.ReleaseLock Spin l) h =
+      says_by (says_both (says_kind k.ReleaseSpinLock refl) (says_lock Spin l h)) (λ i o p. calls.release_spin p.1 p.2)
+  says_plain (plain.ReleaseLock Fast l) h =
+      says_by (says_both (says_kind k.ReleaseFastMutex refl) (says_lock Fast l h)) (λ i o p. calls.release_fast p.1 p.2)
+  says_plain (plain.ReleaseLock Push l) h =
+      says_by (says_both (says_kind k.ReleasePushLock refl) (says_lock Push l h)) (λ i o p. calls.release_push p.1 p.2)
+  says_plain (plain.CompletePendedPreOperation d s) h =
+      says_by (says_both (says_kind k.CompletePendedPreOperation refl) (says_both (says_operation_variable d) (says_status s)))
+      (λ i o p. calls.complete_pre p.1 p.2.1 p.2.2)
+  says_plain plain.CompletePendedPostOperation h =
+      says_by (says_both (says_kind k.CompletePendedPostOperation refl) (says_kind k.Data refl)) (λ i o p. calls.complete_post p.1 p.2)
 
   says_atom : (x : Atom) → IsAtom x → Says text (atom_word x ∷ []) (λ i o. AtomAt i x o)
   says_atom (atoms.Number n) h = says_by (says_number n h) (λ i o p. actions.number p)
@@ -119,24 +166,49 @@ module _ (text : Text) (locks : List Lock) (queue : Bool) where
 
   says_expression : (e : Expression) → IsExpression e → Says text (expression_words e) (λ i o. ExpressionAt i e o)
   says_expression (expressions.Atom x) h = says_by (says_atom x h) (λ i o p. actions.one p)
-  says_expression (expressions.Sum x y) h = says_by (says_both (says_atom x h.0) (says_both (says_next k.Plus plus_piece) (says_atom y h.1))) (λ i o p. actions.sum p.1 p.2.1 p.2.2)
-  says_expression (expressions.Difference x y) h = says_by (says_both (says_atom x h.0) (says_both (says_next k.Minus minus_piece) (says_atom y h.1))) (λ i o p. actions.difference p.1 p.2.1 p.2.2)
+  says_expression (expressions.Sum x y) h =
+      says_by (says_both (says_atom x h.0) (says_both (says_next k.Plus plus_piece) (says_atom y h.1)))
+      (λ i o p. actions.sum p.1 p.2.1 p.2.2)
+  says_expression (expressions.Difference x y) h =
+      says_by (says_both (says_atom x h.0) (says_both (says_next k.Minus minus_piece) (says_atom y h.1)))
+      (λ i o p. actions.difference p.1 p.2.1 p.2.2)
 
   pub says_action : (a : Action) → IsAction a → Says text (action_words a) (λ i o. ActionAt i a o)
   unfolding spelling keyword same_kind
-  says_action (SetNumber n e) h = says_by (says_both (says_number_variable n) (says_both (says_next k.Assign assign_piece) (says_expression e h))) (λ i o p. actions.set_number p.1 p.2.1 p.2.2)
-  says_action (ReadValue n c) h = says_by (says_both (says_number_variable n) (says_both (says_next k.Assign assign_piece) (says_both (says_kind k.Value refl) (says_context c)))) (λ i o p. actions.read_value p.1 p.2.1 p.2.2.1 p.2.2.2)
-  says_action (ReadFile n d) h = says_by (says_both (says_number_variable n) (says_both (says_next k.Assign assign_piece) (says_both (says_kind k.File refl) (says_operation_variable d)))) (λ i o p. actions.read_file p.1 p.2.1 p.2.2.1 p.2.2.2)
-  says_action (WriteValue c x) h = says_by (says_both (says_kind k.Value refl) (says_both (says_context c) (says_both (says_next k.Assign assign_piece) (says_atom x h)))) (λ i o p. actions.write_value p.1 p.2.1 p.2.2.1 p.2.2.2)
-  says_action (ClearContext c) h = says_by (says_both (says_context c) (says_both (says_next k.Assign assign_piece) (says_kind k.Null refl))) (λ i o p. actions.clear_context p.1 p.2.1 p.2.2)
-  says_action (ClearOperation x) h = says_by (says_both (says_removed x) (says_both (says_next k.Assign assign_piece) (says_kind k.Null refl))) (λ i o p. actions.clear_operation p.1 p.2.1 p.2.2)
+  says_action (SetNumber n e) h = says_by
+      (says_both (says_number_variable n) (says_both (says_next k.Assign assign_piece) (says_expression e h)))
+      (λ i o p. actions.set_number p.1 p.2.1 p.2.2)
+  says_action (ReadValue n c) h = says_by
+      (says_both (says_number_variable n)
+      (says_both (says_next k.Assign assign_piece) (says_both (says_kind k.Value refl) (says_context c))))
+      (λ i o p. actions.read_value p.1 p.2.1 p.2.2.1 p.2.2.2)
+  says_action (ReadFile n d) h = says_by
+      (says_both (says_number_variable n)
+      (says_both (says_next k.Assign assign_piece) (says_both (says_kind k.File refl) (says_operation_variable d))))
+      (λ i o p. actions.read_file p.1 p.2.1 p.2.2.1 p.2.2.2)
+  says_action (WriteValue c x) h = says_by
+      (says_both (says_kind k.Value refl)
+      (says_both (says_context c) (says_both (says_next k.Assign assign_piece) (says_atom x h))))
+      (λ i o p. actions.write_value p.1 p.2.1 p.2.2.1 p.2.2.2)
+  says_action (ClearContext c) h = says_by
+      (says_both (says_context c) (says_both (says_next k.Assign assign_piece) (says_kind k.Null refl)))
+      (λ i o p. actions.clear_context p.1 p.2.1 p.2.2)
+  says_action (ClearOperation x) h = says_by
+      (says_both (says_removed x) (says_both (says_next k.Assign assign_piece) (says_kind k.Null refl)))
+      (λ i o p. actions.clear_operation p.1 p.2.1 p.2.2)
 
   says_test : (t : Test) → IsTest t → Says text (test_words t) (λ i o. TestAt i t o)
   unfolding spelling keyword same_kind
-  says_test (ContextIsSome c) h = says_by (says_both (says_context c) (says_both (says_next k.NotEqual differs_piece) (says_kind k.Null refl))) (λ i o p. actions.context_is_some p.1 p.2.1 p.2.2)
-  says_test (OperationIsSome x) h = says_by (says_both (says_removed x) (says_both (says_next k.NotEqual differs_piece) (says_kind k.Null refl))) (λ i o p. actions.operation_is_some p.1 p.2.1 p.2.2)
-  says_test (Equal n x) h = says_by (says_both (says_number_variable n) (says_both (says_next k.Equal equal_piece) (says_atom x h))) (λ i o p. actions.equal p.1 p.2.1 p.2.2)
-  says_test (Less n x) h = says_by (says_both (says_number_variable n) (says_both (says_next k.Less less_piece) (says_atom x h))) (λ i o p. actions.less p.1 p.2.1 p.2.2)
+  says_test (ContextIsSome c) h = says_by
+      (says_both (says_context c) (says_both (says_next k.NotEqual differs_piece) (says_kind k.Null refl)))
+      (λ i o p. actions.context_is_some p.1 p.2.1 p.2.2)
+  says_test (OperationIsSome x) h = says_by
+      (says_both (says_removed x) (says_both (says_next k.NotEqual differs_piece) (says_kind k.Null refl)))
+      (λ i o p. actions.operation_is_some p.1 p.2.1 p.2.2)
+  says_test (Equal n x) h = says_by (says_both (says_number_variable n)
+      (says_both (says_next k.Equal equal_piece) (says_atom x h))) (λ i o p. actions.equal p.1 p.2.1 p.2.2)
+  says_test (Less n x) h = says_by (says_both (says_number_variable n) (says_both (says_next k.Less less_piece) (says_atom x h)))
+      (λ i o p. actions.less p.1 p.2.1 p.2.2)
   says_test IsIrp h = says_by (says_both (says_kind k.Irp refl) (says_kind k.Data refl)) (λ i o p. actions.is_irp p.1 p.2)
   says_test IsDraining h = says_by (says_kind k.Draining refl) (λ i o p. actions.is_draining p)
 

@@ -37,10 +37,12 @@ module _ (text : Text) where
   says_head (Post op) e = says_by (says_both (says_kind k.Post refl) (says_operation op)) (λ i o p. g.post p.1 p.2)
   says_head Canceled e = says_by (says_kind k.Canceled refl) (λ i o p. g.canceled p)
   says_head (DeferredPre name) e = says_by (says_both (says_kind k.DeferredPre refl) (says_name name e)) (λ i o p. g.deferred_pre p.1 p.2)
-  says_head (DeferredPost name) e = says_by (says_both (says_kind k.DeferredPost refl) (says_name name e)) (λ i o p. g.deferred_post p.1 p.2)
+  says_head (DeferredPost name) e = says_by (says_both (says_kind k.DeferredPost refl) (says_name name e))
+      (λ i o p. g.deferred_post p.1 p.2)
   says_head (Generic name) e = says_by (says_both (says_kind k.Generic refl) (says_name name e)) (λ i o p. g.generic p.1 p.2)
 
-  says_locks : (ls : List Lock) → list_all (λ l. is_name l.name) ls ≡ true → Says text (words_of (map lock_line ls)) (λ i o. LocksAt text i ls o)
+  says_locks : (ls : List Lock) → list_all (λ l. is_name l.name) ls ≡ true →
+      Says text (words_of (map lock_line ls)) (λ i o. LocksAt text i ls o)
   unfolding spelling keyword same_kind
   says_locks [] e = says_none (λ i. g.no_lock)
   says_locks (l ∷ ls) e =
@@ -65,7 +67,8 @@ module _ (text : Text) where
     abbrev pub LikeCallbacks : List Callback → Span
     LikeCallbacks cs i o = (ds : List Callback) × CallbacksAt (scope text locks queue) i ds o × AlikeCallbacks cs ds
 
-    says_callback : (c : Callback) → IsHead c.head → fine.AreStatements locks queue 31 4 c.body → Says text (words_of (callback_lines locks c)) (LikeCallback c)
+    says_callback : (c : Callback) → IsHead c.head → fine.AreStatements locks queue 31 4 c.body →
+        Says text (words_of (callback_lines locks c)) (LikeCallback c)
     says_callback c h b =
         says_by
         (says_both (says_both (says_head c.head h) (says_next k.OpenBrace open_piece))
@@ -81,7 +84,11 @@ module _ (text : Text) where
     says_callbacks c [] h =
         says_by
         (says_lines (callback_lines locks c) [] (says_callback c h.0 h.1) (says_none {P = λ i o. i ≡ o} (λ i. refl)))
-        (λ i o p. (p.1.0 ∷ [], g.last (subst (λ j. CallbackAt (scope text locks queue) i p.1.0 j) p.2 p.1.1), one_callback p.1.2 no_callback))
+        (λ i o p. (
+          p.1.0 ∷ [],
+          g.last (subst (λ j. CallbackAt (scope text locks queue) i p.1.0 j) p.2 p.1.1),
+          one_callback p.1.2 no_callback,
+        ))
     says_callbacks c (d ∷ ds) h =
         says_by
         (says_lines (callback_lines locks c) (flat_map (callback_lines locks) (d ∷ ds)) (says_callback c h.0 h.1) (says_callbacks d ds h.2))
@@ -101,8 +108,11 @@ module _ (text : Text) where
   says_filter f w =
       says_by
       (says_both
-      (says_both (says_kind k.Filter refl) (says_both (says_name f.name w.name) (says_both (says_kind k.Altitude refl) (says_number f.altitude (altitude_fits f.altitude w.high)))))
-      (says_lines (map lock_line f.locks) (queue_lines (is_some f.queue) ++ flat_map (callback_lines f.locks) f.callbacks) (says_locks f.locks w.lock_names)
+      (says_both (says_kind k.Filter refl)
+      (says_both (says_name f.name w.name)
+      (says_both (says_kind k.Altitude refl) (says_number f.altitude (altitude_fits f.altitude w.high)))))
+      (says_lines (map lock_line f.locks) (queue_lines (is_some f.queue) ++ flat_map (callback_lines f.locks) f.callbacks)
+      (says_locks f.locks w.lock_names)
       (says_lines (queue_lines (is_some f.queue)) (flat_map (callback_lines f.locks) f.callbacks) (says_queue f.queue)
       (says_all f.locks (is_some f.queue) f.callbacks w.some_callbacks w.bodies))))
       (λ i o p e.

@@ -32,7 +32,8 @@ abbrev pub words_of : List Line → List Text
 words_of = flat_map (λ l. l.words)
 
 -- lines behind others
-pub says_lines : {text : Text} {P Q : Span} (a b : List Line) → Says text (words_of a) P → Says text (words_of b) Q → Says text (words_of (a ++ b)) (Both P Q)
+pub says_lines : {text : Text} {P Q : Span} (a b : List Line) → Says text (words_of a) P → Says text (words_of b) Q →
+    Says text (words_of (a ++ b)) (Both P Q)
 says_lines a b p q = says_same (words_of a ++ words_of b) (words_of (a ++ b)) (flat_map-append (λ l. l.words) a b) (says_both p q)
 
 turns_fit : (n : ℕ) → n ≤ max_turns → n < 2 ^ 64
@@ -41,9 +42,11 @@ turns_fit n h = omega arith
 module _ (text : Text) (locks : List Lock) (queue : Bool) where
   -- a statement that is made of a layer
   layer : {P : Span} (s : Statement) (y : Statement-F Statement) (level : ℕ) → roll-Statement y ≡ s →
-      Says text (words_of (lines_step locks (map-Statement Statement Lines (statement_lines locks) y) level)) P → Says text (words_of (statement_lines locks s level)) P
+      Says text (words_of (lines_step locks (map-Statement Statement Lines (statement_lines locks) y) level)) P →
+      Says text (words_of (statement_lines locks s level)) P
   layer s y level e p =
-      says_same (words_of (lines_step locks (map-Statement Statement Lines (statement_lines locks) y) level)) (words_of (statement_lines locks s level))
+      says_same (words_of (lines_step locks (map-Statement Statement Lines (statement_lines locks) y) level))
+      (words_of (statement_lines locks s level))
       (ap (λ (f : Lines). words_of (f level)) (ap (statement_lines locks) (sym e) ∙ fold-roll-Statement Lines (lines_step locks) y)) p
 
   says_if : Says text (spelling k.If ∷ []) (Next k.If)
@@ -92,7 +95,8 @@ module _ (text : Text) (locks : List Lock) (queue : Bool) where
     says_statement _ level (fine.return {at = at} {s = s}) =
         layer (Return at s) (Statement-F.Return at s) level (rolls-Return at s)
         (says_line (spelling k.Return ∷ optional_status_words s)
-        (says_by (says_both says_return (says_optional_status text locks queue s)) (λ i o p. (Return (g.line i) s, g.return p.1 p.2, alike.return))))
+        (says_by (says_both says_return (says_optional_status text locks queue s))
+        (λ i o p. (Return (g.line i) s, g.return p.1 p.2, alike.return))))
     says_statement _ level (fine.choice {at = at} {c = c} {granted = granted} {refused = refused} h (fine.block p) q) =
         layer (If at c granted refused) (Statement-F.If at c granted refused) level (rolls-If at c granted refused)
         (says_by
@@ -129,5 +133,6 @@ module _ (text : Text) (locks : List Lock) (queue : Bool) where
     says_body [] level fine.empty = says_none (λ i. ([], g.empty, alike.empty))
     says_body (s ∷ ss) level (fine.go_on h t) =
         says_by
-        (says_lines (statement_lines locks s level) (in_turn (map (statement_lines locks) ss) level) (says_statement s level h) (says_body ss level t))
+        (says_lines (statement_lines locks s level) (in_turn (map (statement_lines locks) ss) level) (says_statement s level h)
+        (says_body ss level t))
         (λ i o p. (p.1.0 ∷ p.2.0, g.go_on p.1.1 p.2.1, alike.go_on p.1.2 p.2.2))

@@ -157,8 +157,10 @@ module _ {text : Text} where
   pub says_removed : (x : RemovedVariable) → Says text (spelling (removed_kind x) ∷ []) (λ i o. Meant removed_variable_of i x o)
   says_removed x = says_meant removed_variable_of (removed_kind x) x (removed_reads x) (removed_known x)
 
-  pub says_operation_variable : (x : OperationVariable) → Says text (spelling (operation_variable_kind x) ∷ []) (λ i o. Meant operation_variable_of i x o)
-  says_operation_variable x = says_meant operation_variable_of (operation_variable_kind x) x (operation_variable_reads x) (operation_variable_known x)
+  pub says_operation_variable : (x : OperationVariable) →
+      Says text (spelling (operation_variable_kind x) ∷ []) (λ i o. Meant operation_variable_of i x o)
+  says_operation_variable x = says_meant operation_variable_of (operation_variable_kind x) x (operation_variable_reads x)
+      (operation_variable_known x)
 
   pub says_final_status : (x : FinalStatus) → Says text (spelling (final_status_kind x) ∷ []) (λ i o. Meant final_status_of i x o)
   says_final_status x = says_meant final_status_of (final_status_kind x) x (final_status_reads x) (final_status_known x)

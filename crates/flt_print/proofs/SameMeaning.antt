@@ -46,11 +46,14 @@ module _ (X : Type 0) (a b : Statement-F X → X) (same : Agree X a b) where
   mutual
     fold_alike : {s t : Statement} → Alike s t → fold-Statement X a s ≡ fold-Statement X b t
     fold_alike (alike.act {m = m} {n = n} {a = x}) =
-        unrolled X a (Act m x) (Statement-F.Act m x) (rolls-Act m x) ∙ same.acts m n x ∙ sym (unrolled X b (Act n x) (Statement-F.Act n x) (rolls-Act n x))
+        unrolled X a (Act m x) (Statement-F.Act m x) (rolls-Act m x) ∙ same.acts m n x
+        ∙ sym (unrolled X b (Act n x) (Statement-F.Act n x) (rolls-Act n x))
     fold_alike (alike.call {m} {n} {c}) =
-        unrolled X a (Call m c) (Statement-F.Call m c) (rolls-Call m c) ∙ same.calls m n c ∙ sym (unrolled X b (Call n c) (Statement-F.Call n c) (rolls-Call n c))
+        unrolled X a (Call m c) (Statement-F.Call m c) (rolls-Call m c) ∙ same.calls m n c
+        ∙ sym (unrolled X b (Call n c) (Statement-F.Call n c) (rolls-Call n c))
     fold_alike (alike.return {m} {n} {s}) =
-        unrolled X a (Return m s) (Statement-F.Return m s) (rolls-Return m s) ∙ same.returns m n s ∙ sym (unrolled X b (Return n s) (Statement-F.Return n s) (rolls-Return n s))
+        unrolled X a (Return m s) (Statement-F.Return m s) (rolls-Return m s) ∙ same.returns m n s
+        ∙ sym (unrolled X b (Return n s) (Statement-F.Return n s) (rolls-Return n s))
     fold_alike (alike.choice {m} {n} {c} {d} {gs} {hs} {rs} {ss} q p r) =
         unrolled X a (If m c gs rs) (Statement-F.If m c gs rs) (rolls-If m c gs rs)
         ∙ ap (λ l. a (Statement-F.If m c l (map (fold-Statement X a) rs))) (folds_alike p)
@@ -72,11 +75,23 @@ module _ (X : Type 0) (a b : Statement-F X → X) (same : Agree X a b) where
 
 points_agree : Agree ℕ points_step points_step
 points_agree =
-    record { acts = λ m n x. refl; calls = λ m n c. refl; returns = λ m n s. refl; choices = λ m n c d gs rs q. refl; repeats = λ m n turns bs. refl }
+    record {
+      acts = λ m n x. refl;
+      calls = λ m n c. refl;
+      returns = λ m n s. refl;
+      choices = λ m n c d gs rs q. refl;
+      repeats = λ m n turns bs. refl;
+    }
 
 cost_agree : Agree ℕ cost_step cost_step
 cost_agree =
-    record { acts = λ m n x. refl; calls = λ m n c. refl; returns = λ m n s. refl; choices = λ m n c d gs rs q. refl; repeats = λ m n turns bs. refl }
+    record {
+      acts = λ m n x. refl;
+      calls = λ m n c. refl;
+      returns = λ m n s. refl;
+      choices = λ m n c d gs rs q. refl;
+      repeats = λ m n turns bs. refl;
+    }
 
 small_by : (p c : ℕ) → Bool
 small_by p c = nat_le (p + 1) max_points && nat_le (c + 1) max_cost
@@ -113,11 +128,13 @@ declared_alike (DeferredPre name) a = routine_alike name a
 declared_alike (DeferredPost name) a = routine_alike name a
 declared_alike (Generic name) a = routine_alike name a
 
-one_behind : {cs ds : List Callback} {c d : Callback} → AlikeCallbacks cs ds → AlikeCallback c d → AlikeCallbacks (cs ++ c ∷ []) (ds ++ d ∷ [])
+one_behind : {cs ds : List Callback} {c d : Callback} → AlikeCallbacks cs ds → AlikeCallback c d →
+    AlikeCallbacks (cs ++ c ∷ []) (ds ++ d ∷ [])
 one_behind no_callback a = one_callback a no_callback
 one_behind (one_callback b r) a = one_callback b (one_behind r a)
 
-pub new_alike : (before again cs ds : List Callback) → AlikeCallbacks before again → AlikeCallbacks cs ds → AreNewCallbacks before cs → AreNewCallbacks again ds
+pub new_alike : (before again cs ds : List Callback) → AlikeCallbacks before again → AlikeCallbacks cs ds →
+    AreNewCallbacks before cs → AreNewCallbacks again ds
 new_alike before again _ _ b no_callback n = tt
 new_alike before again _ _ b (one_callback {c} {d} {cs} {ds} a r) n = (
   sym (ap (λ h. is_declared h again) a.head) ∙ sym (declared_alike c.head b) ∙ n.0,
@@ -128,7 +145,8 @@ pub length_alike : {cs ds : List Callback} → AlikeCallbacks cs ds → length c
 length_alike no_callback = refl
 length_alike (one_callback a r) = ap suc (length_alike r)
 
-pub served_alike : (q r : Option Position) (cs ds : List Callback) → is_some q ≡ is_some r → AlikeCallbacks cs ds → IsServed q cs → IsServed r ds
+pub served_alike : (q r : Option Position) (cs ds : List Callback) → is_some q ≡ is_some r → AlikeCallbacks cs ds →
+    IsServed q cs → IsServed r ds
 served_alike None None cs ds e a s = tt
 served_alike (Some at) (Some to) cs ds e a s = sym (event_alike Canceled a) ∙ s
 served_alike None (Some to) cs ds e a s = absurd (false≢true e)

@@ -78,7 +78,8 @@ fn otherwise(
     refused: &[Statement],
 ) -> Result<(), AllocError>
     requires { level + 1 + points refused.now ≤ 1024 }
-    ensures { OnOk result (out.new.items ≡ out.old.items ++ lines_text (spec.otherwise (map (spec.statement_lines locks.now) refused.now) level)) }
+    ensures { OnOk result (out.new.items ≡ out.old.items
+        ++ lines_text (spec.otherwise (map (spec.statement_lines locks.now) refused.now) level)) }
 {
     match refused {
         [] => closing(out, level),

@@ -28,7 +28,8 @@ empty_from_length (e ∷ es) h n = absurd (omega arith)
 some_counts : (k v : ℕ) (es : List (ℕ × ℕ)) → IsPositive ((k, v) ∷ es) → 0 < count ((k, v) ∷ es) k
 unfolding count
 some_counts k v es h =
-    let e : lookup (is_at (nat_cmp k)) ((k, v) ∷ es) ≡ Some v = cond-true (is_at (nat_cmp k) k) (Some v) (lookup (is_at (nat_cmp k)) es) (at_self k) in
+    let e : lookup (is_at (nat_cmp k)) ((k, v) ∷ es) ≡ Some v =
+    cond-true (is_at (nat_cmp k) k) (Some v) (lookup (is_at (nat_cmp k)) es) (at_self k) in
     let p : 0 < v = subst (λ (o : Option ℕ). IfSome o (λ times. 0 < times)) e (h k) in
     subst (λ (o : Option ℕ). 0 < unwrap_or o 0) (sym e) p
 
@@ -38,7 +39,8 @@ length_from_empty ((k, v) ∷ es) h z = absurd (omega (arith, some_counts k v es
 
 absent : (k : ℕ) (es : List (ℕ × ℕ)) → AllByRecursion (λ y. nat_cmp k y ≡ Less) (keys_of es) → lookup (is_at (nat_cmp k)) es ≡ None
 absent k [] h = refl
-absent k ((m, v) ∷ es) h = cond-false (is_at (nat_cmp k) m) (Some v) (lookup (is_at (nat_cmp k)) es) (at_later k m (less_is k m h.0)) ∙ absent k es h.1
+absent k ((m, v) ∷ es) h = cond-false (is_at (nat_cmp k) m) (Some v) (lookup (is_at (nat_cmp k)) es)
+    (at_later k m (less_is k m h.0)) ∙ absent k es h.1
 
 not_later : (k : ℕ) (es : List (ℕ × ℕ)) → AllByRecursion (λ y. nat_cmp k y ≡ Less) (keys_of es) → occurs k (keys_of es) ≡ 0
 unfolding one_if
@@ -49,14 +51,18 @@ not_later k ((m, v) ∷ es) h =
     omega (arith, sum_by-cons (λ (x : ℕ). one_if x k) m (keys_of es), here, not_later k es h.1)
 
 -- the entries after the first
-others_positive : (k v : ℕ) (es : List (ℕ × ℕ)) → AllByRecursion (λ y. nat_cmp k y ≡ Less) (keys_of es) → IsPositive ((k, v) ∷ es) → IsPositive es
+others_positive : (k v : ℕ) (es : List (ℕ × ℕ)) → AllByRecursion (λ y. nat_cmp k y ≡ Less) (keys_of es) →
+    IsPositive ((k, v) ∷ es) → IsPositive es
 others_positive k v es s h n =
-    ⊎_elim (λ (e : k ≡ n). subst (λ (m : ℕ). IfSome (lookup (is_at (nat_cmp m)) es) (λ times. 0 < times)) e (subst (λ (o : Option ℕ). IfSome o (λ times. 0 < times)) (sym (absent k es s)) tt))
-    (λ (ne : k ≢ n). subst (λ (o : Option ℕ). IfSome o (λ times. 0 < times)) (cond-false (is_at (nat_cmp n) k) (Some v) (lookup (is_at (nat_cmp n)) es) (at_other n k ne)) (h n))
+    ⊎_elim (λ (e : k ≡ n). subst (λ (m : ℕ). IfSome (lookup (is_at (nat_cmp m)) es) (λ times. 0 < times)) e
+    (subst (λ (o : Option ℕ). IfSome o (λ times. 0 < times)) (sym (absent k es s)) tt))
+    (λ (ne : k ≢ n). subst (λ (o : Option ℕ). IfSome o (λ times. 0 < times))
+    (cond-false (is_at (nat_cmp n) k) (Some v) (lookup (is_at (nat_cmp n)) es) (at_other n k ne)) (h n))
     (cases_eq k n)
 
 -- each number that counts is a key, once
-pub keys_counted : (es : List (ℕ × ℕ)) → IsStrictlySortedBy nat_cmp (keys_of es) → IsPositive es → (n : ℕ) → occurs n (keys_of es) ≡ min 1 (count es n)
+pub keys_counted : (es : List (ℕ × ℕ)) → IsStrictlySortedBy nat_cmp (keys_of es) → IsPositive es → (n : ℕ) →
+    occurs n (keys_of es) ≡ min 1 (count es n)
 unfolding count one_if
 keys_counted [] s h n = refl
 keys_counted ((k, v) ∷ es) s h n =
@@ -68,8 +74,10 @@ keys_counted ((k, v) ∷ es) s h n =
     let positive : 0 < count ((k, v) ∷ es) n = subst (λ (m : ℕ). 0 < count ((k, v) ∷ es) m) e (some_counts k v es h) in
     omega arith)
     (λ (ne : k ≢ n).
-    let rest : occurs n (keys_of es) ≡ min 1 (count es n) = keys_counted es (sorted_tail nat_cmp k (keys_of es) s) (others_positive k v es first h) n in
+    let rest : occurs n (keys_of es) ≡ min 1 (count es n) =
+    keys_counted es (sorted_tail nat_cmp k (keys_of es) s) (others_positive k v es first h) n in
     let here : one_if k n ≡ 0 = grind (arith, nat_tests) in
-    let same : count ((k, v) ∷ es) n ≡ count es n = ap (λ (o : Option ℕ). unwrap_or o 0) (cond-false (is_at (nat_cmp n) k) (Some v) (lookup (is_at (nat_cmp n)) es) (at_other n k ne)) in
+    let same : count ((k, v) ∷ es) n ≡ count es n =
+    ap (λ (o : Option ℕ). unwrap_or o 0) (cond-false (is_at (nat_cmp n) k) (Some v) (lookup (is_at (nat_cmp n)) es) (at_other n k ne)) in
     omega arith)
     (cases_eq k n)

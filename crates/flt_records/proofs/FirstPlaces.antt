@@ -14,7 +14,8 @@ none_fails true n e = absurd (cc)
 none_fails false n e = refl
 
 module _ {X : Type 0} (test : X → Bool) where
-  at_first : (xs : List X) (i : ℕ) → Some i ≡ position test xs → (i ≡ position_or_len test xs) × (nat_lt (position_or_len test xs) (length xs) ≡ true)
+  at_first : (xs : List X) (i : ℕ) → Some i ≡ position test xs → (i ≡ position_or_len test xs)
+      × (nat_lt (position_or_len test xs) (length xs) ≡ true)
   at_first xs i e = some_holds _ i (position_or_len test xs) e
 
   pub within : (xs : List X) (i : ℕ) → Some i ≡ position test xs → i < length xs

@@ -6,12 +6,14 @@ use Rattle.flt_tree.specs.declared.filter.Statement.TheVariants as tree
 use Rattle.flt_records.specs.Rest.{statements_of, before, remaining, others}
 use Rattle.flt_records.specs.declared.rest.Part.{Part}
 
-pub before_push : (others : List Statement) (parts : List Part) (p : Part) → before others (parts ++ p ∷ []) ≡ statements_of p ++ before others parts
+pub before_push : (others : List Statement) (parts : List Part) (p : Part) →
+    before others (parts ++ p ∷ []) ≡ statements_of p ++ before others parts
 unfolding before
 before_push others [] p = refl
 before_push others (q ∷ parts) p = before_push (statements_of q ++ others) parts p
 
-pub turn_left : (line turns : ℕ) (body others : List Statement) → (turns ≡ 0 → ⊥) → turns_left line turns body others ≡ body ++ tree.Repeat line (turns - 1) body ∷ others
+pub turn_left : (line turns : ℕ) (body others : List Statement) → (turns ≡ 0 → ⊥) →
+    turns_left line turns body others ≡ body ++ tree.Repeat line (turns - 1) body ∷ others
 turn_left line zero body others h = absurd (h refl)
 turn_left line (suc n) body others h = rw sub-one refl
 

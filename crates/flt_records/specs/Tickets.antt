@@ -43,4 +43,5 @@ abbrev pub IsLeast : BTreeSet (ℕ × ℕ × ℕ) → List ℕ → Option ℕ �
 IsLeast s visits least =
     MatchOption least
     ((v t : ℕ) → list_any (nat_eq v) visits ≡ true → has s 0 v t ≡ false)
-    (λ n. ((v : ℕ) × ((list_any (nat_eq v) visits ≡ true) × (has s 0 v n ≡ true))) × ((v t : ℕ) → list_any (nat_eq v) visits ≡ true → t < n → has s 0 v t ≡ false))
+    (λ n. ((v : ℕ) × ((list_any (nat_eq v) visits ≡ true) × (has s 0 v n ≡ true)))
+    × ((v t : ℕ) → list_any (nat_eq v) visits ≡ true → t < n → has s 0 v t ≡ false))

@@ -35,7 +35,14 @@ impl<'a> Model for Activation<'a> {
 
     ghost coded = { activation_code };
 
-    ghost view = { λ a. record { rest = a.rest; numbers = a.numbers; contexts = a.contexts; operations = a.operations; locks = a.locks; ended = a.ended } };
+    ghost view = { λ a. record {
+      rest = a.rest;
+      numbers = a.numbers;
+      contexts = a.contexts;
+      operations = a.operations;
+      locks = a.locks;
+      ended = a.ended;
+    } };
 }
 
 /// What a step writes to an activation.

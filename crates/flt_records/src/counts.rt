@@ -112,7 +112,8 @@ impl Counts {
 
     /// Once less, each of some numbers, of what counts.
     pub fn take_each(&mut self, numbers: &[usize])
-        ensures { ((n : ℕ) → spec.occurs n numbers.now ≤ spec.count self.old n) → (n : ℕ) → spec.count self.old n ≡ spec.count self.new n + spec.occurs n numbers.now }
+        ensures { ((n : ℕ) → spec.occurs n numbers.now ≤ spec.count self.old n) → (n : ℕ) →
+            spec.count self.old n ≡ spec.count self.new n + spec.occurs n numbers.now }
     {
         for number in numbers {
             self.take(*number);

@@ -8,5 +8,7 @@ ghost use Rattle.flt_records.specs.Tickets.{without_first};
 /// Two tests that say the same of each entry find the same one, and leave the same others. It does nothing: its clause is the law.
 #[tactic(auto, using(crate::proofs::Queues::QueueMiddle::same_first))]
 pub fn same_tests_find_the_same()
-    ensures law { (test other : machine.Entry → Bool) (entries : List machine.Entry) → AllByRecursion (λ e. test e ≡ other e) entries → (find test entries ≡ find other entries) × (without_first test entries ≡ without_first other entries) }
+    ensures law { (test other : machine.Entry → Bool) (entries : List machine.Entry) →
+        AllByRecursion (λ e. test e ≡ other e) entries → (find test entries ≡ find other entries)
+        × (without_first test entries ≡ without_first other entries) }
 {}

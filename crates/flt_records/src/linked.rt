@@ -88,7 +88,8 @@ impl Contexts {
 
     /// A freed context keeps its value.
     pub fn set_value(&mut self, context: usize, value: u64)
-        ensures { self.new ≡ if spec.is_freed (get_or self.old context spec.no_context) then self.old else set self.old context (record (get_or self.old context spec.no_context) { value = value }) }
+        ensures { self.new ≡ if spec.is_freed (get_or self.old context spec.no_context) then self.old
+            else set self.old context (record (get_or self.old context spec.no_context) { value = value }) }
     {
         if let Some(context) = self.list.get_mut(context) {
             if context.references != 0 {
@@ -99,7 +100,12 @@ impl Contexts {
 
     /// One reference more; a freed context stays as it is. The count is a number that no journal in memory reaches the end of.
     pub fn add_reference(&mut self, context: usize) -> Result<(), AllocError>
-        ensures { OnOk result (self.new ≡ set self.old context (record (get_or self.old context spec.no_context) { references = if spec.is_freed (get_or self.old context spec.no_context) then 0 else (get_or self.old context spec.no_context).references + 1 })) }
+        ensures { OnOk result (self.new ≡ set self.old context
+            (record (get_or self.old context spec.no_context) {
+              references =
+                  if spec.is_freed (get_or self.old context spec.no_context) then 0
+                  else (get_or self.old context spec.no_context).references + 1;
+            })) }
     {
         if let Some(context) = self.list.get_mut(context) {
             if context.references != 0 {
@@ -114,7 +120,8 @@ impl Contexts {
 
     /// One reference less; a freed context stays as it is.
     pub fn drop_reference(&mut self, context: usize)
-        ensures { self.new ≡ set self.old context (record (get_or self.old context spec.no_context) { references = (get_or self.old context spec.no_context).references - 1 }) }
+        ensures { self.new ≡ set self.old context
+            (record (get_or self.old context spec.no_context) { references = (get_or self.old context spec.no_context).references - 1 }) }
     {
         if let Some(context) = self.list.get_mut(context) {
             if context.references != 0 {

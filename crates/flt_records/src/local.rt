@@ -64,7 +64,8 @@ impl<'a> Activation<'a> {
 
     /// The step of a statement of the text, which was the first one. False where others see it.
     fn statement(&mut self, draining: bool, statement: &'a Statement) -> Result<bool, AllocError>
-        ensures { IfOk result (λ local. spec.after_statement draining self.old self.old.rest (out-Statement statement.now) ≡ (if local then Some self.new else None)) }
+        ensures { IfOk result (λ local. spec.after_statement draining self.old self.old.rest (out-Statement statement.now) ≡
+            (if local then Some self.new else None)) }
     {
         match statement {
             Statement::Act(_, action) => Ok(self.act(*action)),

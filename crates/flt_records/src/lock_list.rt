@@ -17,7 +17,8 @@ pub fn holds_lock(lock: LockNumber, locks: &[HeldLock]) -> bool
 fn last_place(lock: LockNumber, locks: &[HeldLock]) -> Option<usize>
     ensures held { spec.holds_lock lock locks.now ≡ is_some result }
     ensures within { IfSome result (λ at. at < length locks.now) }
-    ensures last { MatchOption result (spec.without_last lock locks.now ≡ locks.now) (λ at. spec.without_last lock locks.now ≡ remove locks.now at) }
+    ensures last { MatchOption result (spec.without_last lock locks.now ≡ locks.now)
+        (λ at. spec.without_last lock locks.now ≡ remove locks.now at) }
 {
     let [first, others @ ..] = locks else {
         return None;

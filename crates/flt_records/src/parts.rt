@@ -76,7 +76,7 @@ impl Model for Arrival {
     ghost view = { λ a. record { kind = a.kind; mode = a.mode; file = a.file } };
 }
 
-/// A post callback that is to be called, with its completion context.
+/// A post callback that will be called, with its completion context.
 #[derive(Drop)]
 pub struct Frame {
     pub filter: usize,
@@ -109,7 +109,12 @@ impl Model for Route {
     ghost use Rattle.std.specs.Prelude.{option_map};
     ghost use Rattle.flt_records.specs.Parts.{position_of, outcome_of};
 
-    ghost view = { λ r. record { position = position_of r.position; frames = r.frames; cancelled = r.cancelled; outcome = option_map outcome_of r.outcome } };
+    ghost view = { λ r. record {
+      position = position_of r.position;
+      frames = r.frames;
+      cancelled = r.cancelled;
+      outcome = option_map outcome_of r.outcome;
+    } };
 }
 
 /// One passing of an operation through a filter; it never changes.

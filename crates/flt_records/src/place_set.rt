@@ -39,7 +39,8 @@ impl Places {
 
     /// The least place of two numbers, from a number on.
     pub(crate) fn next(&self, i: usize, j: usize, from: usize) -> Option<usize>
-        ensures { MatchOption result ((c : ℕ) → from ≤ c → has self.now.set i j c ≡ false) (λ k. (from ≤ k) × ((has self.now.set i j k ≡ true) × ((c : ℕ) → from ≤ c → c < k → has self.now.set i j c ≡ false))) }
+        ensures { MatchOption result ((c : ℕ) → from ≤ c → has self.now.set i j c ≡ false)
+            (λ k. (from ≤ k) × ((has self.now.set i j k ≡ true) × ((c : ℕ) → from ≤ c → c < k → has self.now.set i j c ≡ false))) }
     {
         match self.set.range((i, j, from)..).next() {
             Some(place) if place.0 == i && place.1 == j => Some(place.2),
@@ -49,7 +50,8 @@ impl Places {
 
     /// The least place of two numbers.
     pub(crate) fn first(&self, i: usize, j: usize) -> Option<usize>
-        ensures { MatchOption result ((c : ℕ) → has self.now.set i j c ≡ false) (λ k. (has self.now.set i j k ≡ true) × ((c : ℕ) → c < k → has self.now.set i j c ≡ false)) }
+        ensures { MatchOption result ((c : ℕ) → has self.now.set i j c ≡ false)
+            (λ k. (has self.now.set i j k ≡ true) × ((c : ℕ) → c < k → has self.now.set i j c ≡ false)) }
     {
         self.next(i, j, 0)
     }

@@ -102,7 +102,8 @@ impl Queue {
 
     /// Takes the first entry with one of some visits out.
     pub(crate) fn take_entry(&mut self, visits: &[usize]) -> Option<Entry>
-        ensures { MatchOption result ((find (is_of visits.now) self.old ≡ None) × (self.new ≡ self.old)) (λ e. (find (is_of visits.now) self.old ≡ Some e) × (self.new ≡ without_first (is_of visits.now) self.old)) }
+        ensures { MatchOption result ((find (is_of visits.now) self.old ≡ None) × (self.new ≡ self.old))
+            (λ e. (find (is_of visits.now) self.old ≡ Some e) × (self.new ≡ without_first (is_of visits.now) self.old)) }
     {
         let Some(ticket) = least_ticket(&self.tickets, visits) else {
             return None;

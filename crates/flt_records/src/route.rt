@@ -1,4 +1,4 @@
-//! The frames of an operation's route: post callbacks that are to be called, in the order of the filters.
+//! The frames of an operation's route: post callbacks that will be called, in the order of the filters.
 
 ghost use Rattle.std.specs.Prelude.{◌≡◌, ◌++◌, Bool, Some, None, find, position, MatchOption};
 ghost use Rattle.std.specs.List.{before_first, after_first};
@@ -12,7 +12,9 @@ impl Route {
     /// The frame of the lowest filter is taken out, and its visit begins.
     #[tactic(auto, using(crate::proofs::LastFrames::last_after, crate::proofs::LastFrames::without_after))]
     pub fn visit_last_frame(&mut self) -> Option<Frame>
-        ensures { MatchOption result (moves.last_frame self.old.frames ≡ None) (λ f. (moves.last_frame self.old.frames ≡ Some f) × (self.new ≡ record self.old { position = spec.Visiting; frames = moves.without_last self.old.frames })) }
+        ensures { MatchOption result (moves.last_frame self.old.frames ≡ None)
+            (λ f. (moves.last_frame self.old.frames ≡ Some f)
+            × (self.new ≡ record self.old { position = spec.Visiting; frames = moves.without_last self.old.frames })) }
     {
         let frame = self.frames.pop();
         if frame.is_some() {
@@ -33,13 +35,15 @@ impl Route {
 
     /// The first frame of a filter is taken out.
     pub fn take_frame(&mut self, filter: usize) -> Option<Frame>
-        ensures { MatchOption result (find (moves.is_frame_of filter) self.old.frames ≡ None) (λ f. (find (moves.is_frame_of filter) self.old.frames ≡ Some f) × (self.new ≡ record self.old { frames = moves.other_frames filter self.old.frames })) }
+        ensures { MatchOption result (find (moves.is_frame_of filter) self.old.frames ≡ None)
+            (λ f. (find (moves.is_frame_of filter) self.old.frames ≡ Some f)
+            × (self.new ≡ record self.old { frames = moves.other_frames filter self.old.frames })) }
     {
         let place = self.frame_place(filter);
         take_out(&mut self.frames, place)
     }
 
-    /// Whether a post callback of the filter is to be called.
+    /// Whether a post callback of the filter will be called.
     pub fn has_frame(&self, filter: usize) -> bool
         ensures { result ≡ moves.has_frame filter self.now }
     {
@@ -59,7 +63,9 @@ fn is_frame_of(filter: usize, frame: &Frame) -> bool
 /// Takes out what stands at a place, if one is given.
 #[tactic(auto, using(crate::proofs::FirstPlaces::found_there, crate::proofs::FirstPlaces::without, crate::proofs::FirstPlaces::none_found, crate::proofs::FirstPlaces::within))]
 fn take_out<T: Drop>(items: &mut Items<T>, place: Option<usize>) -> Option<T>
-    ensures { (test : T → Bool) → place ≡ position test items.old → MatchOption result (find test items.old ≡ None) (λ x. (find test items.old ≡ Some x) × (items.new ≡ before_first test items.old ++ after_first test items.old)) }
+    ensures { (test : T → Bool) → place ≡ position test items.old →
+        MatchOption result (find test items.old ≡ None)
+        (λ x. (find test items.old ≡ Some x) × (items.new ≡ before_first test items.old ++ after_first test items.old)) }
 {
     match place {
         Some(place) if place < items.len() => Some(items.remove(place)),

@@ -106,7 +106,9 @@ impl Waiting {
 
     /// Takes the front entry out of a filter's queue.
     pub fn take_first(&mut self, filter: usize) -> Option<Entry>
-        ensures { MatchOption result ((get_or self.old.0 filter [] ≡ []) × (self.new ≡ self.old)) (λ e. (get_or self.old.0 filter [] ≡ e ∷ get_or self.new.0 filter []) × (self.new ≡ (set self.old.0 filter (get_or self.new.0 filter []), self.old.1))) }
+        ensures { MatchOption result ((get_or self.old.0 filter [] ≡ []) × (self.new ≡ self.old))
+            (λ e. (get_or self.old.0 filter [] ≡ e ∷ get_or self.new.0 filter [])
+            × (self.new ≡ (set self.old.0 filter (get_or self.new.0 filter []), self.old.1))) }
     {
         if let Some(queue) = self.queues.get_mut(filter) {
             if let Some(entry) = queue.take_first() {
@@ -119,7 +121,9 @@ impl Waiting {
 
     /// Takes the first entry with one of some visits out of a filter's queue.
     pub fn take_entry(&mut self, filter: usize, visits: &[usize]) -> Option<Entry>
-        ensures { MatchOption result ((find (is_of visits.now) (get_or self.old.0 filter []) ≡ None) × (self.new ≡ self.old)) (λ e. (find (is_of visits.now) (get_or self.old.0 filter []) ≡ Some e) × (self.new ≡ (set self.old.0 filter (without_first (is_of visits.now) (get_or self.old.0 filter [])), self.old.1))) }
+        ensures { MatchOption result ((find (is_of visits.now) (get_or self.old.0 filter []) ≡ None) × (self.new ≡ self.old))
+            (λ e. (find (is_of visits.now) (get_or self.old.0 filter []) ≡ Some e)
+            × (self.new ≡ (set self.old.0 filter (without_first (is_of visits.now) (get_or self.old.0 filter [])), self.old.1))) }
     {
         if let Some(queue) = self.queues.get_mut(filter) {
             if let Some(entry) = queue.take_entry(visits) {

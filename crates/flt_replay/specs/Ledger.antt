@@ -107,7 +107,11 @@ pub record Started (old new : Tally) : Type 0 where
 
 -- so it is where there are more activations than were counted
 pub record Joined (activations : ℕ) (old new : Tally) : Type 0 where
-  pub only : new ≡ record old { running = (if nat_lt (length old.running) activations then old.running ++ true ∷ [] else old.running); holders = new.holders }
+  pub only : new ≡ record old {
+    running =
+        (if nat_lt (length old.running) activations then old.running ++ true ∷ [] else old.running);
+    holders = new.holders;
+  }
   pub counted : IsCounted old → IsCounted new
 
 -- the counts have taken in some events after a trace, of which none touches anything stale

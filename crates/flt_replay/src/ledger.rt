@@ -49,7 +49,14 @@ impl Model for Ledger {
 
     ghost Value = { Tally };
 
-    ghost view = { λ l. record { contexts = l.contexts; visits = l.visits; freed = l.freed; settled = l.settled; running = l.running.items; holders = l.holders } };
+    ghost view = { λ l. record {
+      contexts = l.contexts;
+      visits = l.visits;
+      freed = l.freed;
+      settled = l.settled;
+      running = l.running.items;
+      holders = l.holders;
+    } };
 }
 
 /// What the events of a step have kept so far.
@@ -169,7 +176,8 @@ impl Ledger {
     /// An activation holds a visit once more.
     #[tactic(auto, using(crate::proofs::Counting::Holders::gained_first, crate::proofs::Counting::Holders::gained_again))]
     fn gain_visit(&mut self, alloc: Global, a: usize, visit: usize) -> Result<(), AllocError>
-        ensures visits { OnOk result ((b v : ℕ) → count_of self.new.visits b v ≡ count_of self.old.visits b v + of_actor a b (one_if visit v)) }
+        ensures visits { OnOk result ((b v : ℕ) →
+            count_of self.new.visits b v ≡ count_of self.old.visits b v + of_actor a b (one_if visit v)) }
         ensures turned { OnOk result (spec.Turned self.old self.new) }
     {
         let first = self.is_without(a, visit);
@@ -184,7 +192,8 @@ impl Ledger {
     /// An activation holds a visit once less.
     #[tactic(auto, using(crate::proofs::Counting::Holders::lost_last, crate::proofs::Counting::Holders::lost_one, crate::proofs::Counting::Holders::some_holder))]
     fn lose_visit(&mut self, a: usize, visit: usize)
-        ensures visits { 0 < count_of self.old.visits a visit → (b v : ℕ) → count_of self.old.visits b v ≡ count_of self.new.visits b v + of_actor a b (one_if visit v) }
+        ensures visits { 0 < count_of self.old.visits a visit → (b v : ℕ) →
+            count_of self.old.visits b v ≡ count_of self.new.visits b v + of_actor a b (one_if visit v) }
         ensures turned { 0 < count_of self.old.visits a visit → spec.IsCounted self.old → spec.Turned self.old self.new }
     {
         self.visits.take(a, visit);
@@ -202,7 +211,8 @@ impl Ledger {
         object: Object,
         touched: &mut Vec<usize>,
     ) -> Result<(), AllocError>
-        ensures { OnOk result ((t : List Event) → spec.Tells t self.old → spec.IsCounted self.old → spec.Noted t (Gain a object) self.old self.new touched.old.items touched.new.items) }
+        ensures { OnOk result ((t : List Event) → spec.Tells t self.old → spec.IsCounted self.old →
+            spec.Noted t (Gain a object) self.old self.new touched.old.items touched.new.items) }
     {
         match object {
             Object::Context(context) => {
@@ -219,7 +229,8 @@ impl Ledger {
 
     /// Takes in that an activation lost an object that it holds, and lists the visit that it may be.
     fn lose(&mut self, a: usize, object: Object, touched: &mut Vec<usize>) -> Result<(), AllocError>
-        ensures { OnOk result ((t : List Event) → spec.Tells t self.old → spec.IsCounted self.old → 0 < spec.held self.old a object → spec.Noted t (Lose a object) self.old self.new touched.old.items touched.new.items) }
+        ensures { OnOk result ((t : List Event) → spec.Tells t self.old → spec.IsCounted self.old →
+            0 < spec.held self.old a object → spec.Noted t (Lose a object) self.old self.new touched.old.items touched.new.items) }
     {
         match object {
             Object::Context(context) => {
@@ -236,7 +247,8 @@ impl Ledger {
 
     /// Takes in that a context was freed.
     fn free(&mut self, context: usize) -> Result<(), AllocError>
-        ensures { OnOk result ((t : List Event) (was : List ℕ) → spec.Tells t self.old → spec.IsCounted self.old → spec.Noted t (Free context) self.old self.new was was) }
+        ensures { OnOk result ((t : List Event) (was : List ℕ) → spec.Tells t self.old → spec.IsCounted self.old →
+            spec.Noted t (Free context) self.old self.new was was) }
     {
         self.freed.add(context)?;
         Ok(())
@@ -244,7 +256,8 @@ impl Ledger {
 
     /// Takes in that a visit was settled, and lists it.
     fn settle(&mut self, visit: usize, touched: &mut Vec<usize>) -> Result<(), AllocError>
-        ensures { OnOk result ((t : List Event) → spec.Tells t self.old → spec.IsCounted self.old → spec.Noted t (Settle visit) self.old self.new touched.old.items touched.new.items) }
+        ensures { OnOk result ((t : List Event) → spec.Tells t self.old → spec.IsCounted self.old →
+            spec.Noted t (Settle visit) self.old self.new touched.old.items touched.new.items) }
     {
         touched.push(visit)?;
         self.settled.add(visit)?;
@@ -258,7 +271,8 @@ impl Ledger {
         event: Event,
         touched: &mut Vec<usize>,
     ) -> Result<(), AllocError>
-        ensures { OnOk result ((t : List Event) (w : machine.World) → spec.Tells t self.old → spec.IsCounted self.old → rules.is_fresh w t event ≡ true → spec.Noted t event self.old self.new touched.old.items touched.new.items) }
+        ensures { OnOk result ((t : List Event) (w : machine.World) → spec.Tells t self.old → spec.IsCounted self.old →
+            rules.is_fresh w t event ≡ true → spec.Noted t event self.old self.new touched.old.items touched.new.items) }
     {
         match event {
             Event::Gain(a, object) => {
@@ -283,7 +297,8 @@ impl Ledger {
 
     /// What an event keeps beside those before it.
     fn also(&self, event: Event, before: Kept) -> Kept
-        ensures { (t : List Event) → spec.Tells t self.now → (result.tight ≡ (before.tight && rules.leaks_nothing t event)) × (result.once ≡ (before.once && rules.is_first_settling t event)) }
+        ensures { (t : List Event) → spec.Tells t self.now → (result.tight ≡ (before.tight && rules.leaks_nothing t event))
+            × (result.once ≡ (before.once && rules.is_first_settling t event)) }
     {
         Kept {
             tight: before.tight && self.leaks_nothing(event),
@@ -301,8 +316,10 @@ impl Ledger {
         events: &[Event],
         touched: &mut Vec<usize>,
     ) -> Result<Option<Violation>, AllocError>
-        ensures first { IfOk result (λ found. (t : List Event) → spec.Tells t self.old → spec.IsCounted self.old → found ≡ spec.first_broken world.now t events.now) }
-        ensures taken { IfOk result (λ found. found ≡ None → (t : List Event) → spec.Tells t self.old → spec.IsCounted self.old → spec.Judged world.now t events.now self.old self.new touched.old.items touched.new.items true true) }
+        ensures first { IfOk result (λ found. (t : List Event) → spec.Tells t self.old → spec.IsCounted self.old →
+            found ≡ spec.first_broken world.now t events.now) }
+        ensures taken { IfOk result (λ found. found ≡ None → (t : List Event) → spec.Tells t self.old → spec.IsCounted self.old →
+            spec.Judged world.now t events.now self.old self.new touched.old.items touched.new.items true true) }
     {
         let mut kept = Kept {
             tight: true,
@@ -442,7 +459,9 @@ impl Ledger {
         world: &World<'_>,
         events: &[Event],
     ) -> Result<Option<Violation>, AllocError>
-        ensures { IfOk result (λ found. (p : List Filter) (m : Moment) (x : Transition) (s : Step) → spec.Agrees m self.old → Follows p m x s world.now events.now → (found ≡ first_of of_holding p m s) × (found ≡ None → spec.Agrees (after m s) self.new)) }
+        ensures { IfOk result (λ found. (p : List Filter) (m : Moment) (x : Transition) (s : Step) → spec.Agrees m self.old →
+            Follows p m x s world.now events.now → (found ≡ first_of of_holding p m s)
+            × (found ≡ None → spec.Agrees (after m s) self.new)) }
     {
         let mut touched = Vec::new(alloc);
         let first = self.take_events(alloc, world, events, &mut touched)?;

@@ -58,7 +58,9 @@ impl<'a> Monitor<'a> {
         events: &[Event],
         rule: Option<Violation>,
     ) -> Result<Course, AllocError>
-        ensures { IfOk result (λ c. (p : List Filter) (m : Moment) (x : Transition) (s : Step) → Agrees m self.old.ledger → Follows p m x s self.old.world events.now → rule ≡ first_of of_rules p m s → ComesTo c self.new (spec.unless_broken (broken p m s) (spec.Reaches (after m s)))) }
+        ensures { IfOk result (λ c. (p : List Filter) (m : Moment) (x : Transition) (s : Step) → Agrees m self.old.ledger →
+            Follows p m x s self.old.world events.now → rule ≡ first_of of_rules p m s →
+            ComesTo c self.new (spec.unless_broken (broken p m s) (spec.Reaches (after m s)))) }
     {
         match self.ledger.take(alloc, &self.world, events)?.or(rule) {
             Some(violation) => Ok(Course::Fails(violation)),
@@ -113,7 +115,8 @@ impl<'a> Monitor<'a> {
 
     /// Makes steps that nobody else sees, unless one of them isn't such a step.
     fn go_unseen(&mut self, a: usize, steps: u32) -> Result<bool, AllocError>
-        ensures { IfOk result (λ unseen. (p : List Filter) (m : Moment) (xs : List Transition) → IsAt self.old m → GoesOn unseen self.new p xs (spec.course p m (replicate steps (Local a) ++ xs))) }
+        ensures { IfOk result (λ unseen. (p : List Filter) (m : Moment) (xs : List Transition) → IsAt self.old m →
+            GoesOn unseen self.new p xs (spec.course p m (replicate steps (Local a) ++ xs))) }
     {
         local_steps_are_quiet();
         locks_stay_exclusive();
@@ -134,7 +137,8 @@ impl<'a> Monitor<'a> {
         steps: u32,
         grant: bool,
     ) -> Result<Course, AllocError>
-        ensures { IfOk result (λ c. (m : Moment) → IsAt self.old m → ComesTo c self.new (spec.entry_course stack.now m (spec.go_on a steps grant))) }
+        ensures { IfOk result (λ c. (m : Moment) → IsAt self.old m →
+            ComesTo c self.new (spec.entry_course stack.now m (spec.go_on a steps grant))) }
     {
         if steps == 0 || !self.go_unseen(a, steps - 1)? {
             return Ok(Course::Stops);
@@ -149,7 +153,8 @@ impl<'a> Monitor<'a> {
         stack: &Stack<'a>,
         entry: JournalEntry,
     ) -> Result<Course, AllocError>
-        ensures { IfOk result (λ c. (m : Moment) → IsAt self.old m → ComesTo c self.new (spec.entry_course stack.now m (spec.expansion entry))) }
+        ensures { IfOk result (λ c. (m : Moment) → IsAt self.old m →
+            ComesTo c self.new (spec.entry_course stack.now m (spec.expansion entry))) }
     {
         match entry {
             JournalEntry::Move(next) => self.make(alloc, stack, next),

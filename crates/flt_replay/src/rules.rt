@@ -80,7 +80,8 @@ impl<'b, 'a> Scene<'b, 'a> {
     }
 
     fn level(&self) -> Level
-        ensures { result ≡ level_at (program.filter_at self.now.stack.now (actor_at (before self.now) self.now.activation).filter) (actor_at (before self.now) self.now.activation).place (activation_at (before self.now) self.now.activation).locks }
+        ensures { result ≡ level_at (program.filter_at self.now.stack.now (actor_at (before self.now) self.now.activation).filter)
+            (actor_at (before self.now) self.now.activation).place (activation_at (before self.now) self.now.activation).locks }
     {
         self.stack.level(
             self.world.filter(self.activation),
@@ -95,7 +96,11 @@ impl<'b, 'a> Scene<'b, 'a> {
 impl<'b, 'a> Scene<'b, 'a> {
     /// What a row says of the callback.
     fn fits_callback(&self, row: StatusRow, visit: usize) -> bool
-        ensures { result ≡ (places.fits_stage (actor_at (before self.now) self.now.activation).place row.stage && ((not row.needs_post || program.has_post (program.callbacks_at self.now.stack.now (actor_at (before self.now) self.now.activation).filter) (arrival_of (before self.now).store visit).kind) && (row.in_create || not (places.is_pre_create (actor_at (before self.now) self.now.activation).place)))) }
+        ensures { result ≡ (places.fits_stage (actor_at (before self.now) self.now.activation).place row.stage
+            && ((not row.needs_post || program.has_post
+            (program.callbacks_at self.now.stack.now (actor_at (before self.now) self.now.activation).filter)
+            (arrival_of (before self.now).store visit).kind)
+            && (row.in_create || not (places.is_pre_create (actor_at (before self.now) self.now.activation).place)))) }
     {
         let place = self.world.place(self.activation);
         place.fits(row.stage)
@@ -105,7 +110,9 @@ impl<'b, 'a> Scene<'b, 'a> {
 
     /// What a row says of the operation.
     fn fits_operation(&self, row: StatusRow, visit: usize) -> bool
-        ensures { result ≡ (statuses.is_possessed self.now.held row.data && (statuses.is_of_mode (arrival_of (before self.now).store visit).mode row.mode && (row.in_draining || not (actor_at (before self.now) self.now.activation).draining))) }
+        ensures { result ≡ (statuses.is_possessed self.now.held row.data
+            && (statuses.is_of_mode (arrival_of (before self.now).store visit).mode row.mode
+            && (row.in_draining || not (actor_at (before self.now) self.now.activation).draining))) }
     {
         is_possessed(self.held, row.data)
             && is_of_mode(self.world.mode_of(visit), row.mode)
@@ -114,13 +121,15 @@ impl<'b, 'a> Scene<'b, 'a> {
 
     /// Whether the status of a row may be returned about a visit.
     fn fits_row(&self, row: StatusRow, visit: usize) -> bool
-        ensures { (t : List Event) → self.now.held ≡ is_held t self.now.activation (Visit visit) → result ≡ statuses.fits_row self.now.stack.now (before self.now) t self.now.activation row visit }
+        ensures { (t : List Event) → self.now.held ≡ is_held t self.now.activation (Visit visit) →
+            result ≡ statuses.fits_row self.now.stack.now (before self.now) t self.now.activation row visit }
     {
         self.fits_callback(row, visit) && self.fits_operation(row, visit)
     }
 
     fn has_post(&self, kind: Operation) -> bool
-        ensures { result ≡ program.has_post (program.callbacks_at self.now.stack.now (actor_at (before self.now) self.now.activation).filter) kind }
+        ensures { result ≡ program.has_post
+            (program.callbacks_at self.now.stack.now (actor_at (before self.now) self.now.activation).filter) kind }
     {
         self.stack
             .has_post(self.world.filter(self.activation), kind)
@@ -128,7 +137,8 @@ impl<'b, 'a> Scene<'b, 'a> {
 
     /// Whether the status may be returned about a visit that is there.
     fn is_returned_legally(&self, status: Status, visit: Option<usize>) -> bool
-        ensures { (t : List Event) → self.now.held ≡ holds_visit t self.now.activation visit → result ≡ statuses.is_returned_legally self.now.stack.now (before self.now) t self.now.activation status visit }
+        ensures { (t : List Event) → self.now.held ≡ holds_visit t self.now.activation visit →
+            result ≡ statuses.is_returned_legally self.now.stack.now (before self.now) t self.now.activation status visit }
     {
         match visit {
             None => false,
@@ -140,7 +150,8 @@ impl<'b, 'a> Scene<'b, 'a> {
 
     /// A status that is missing isn't legal.
     fn may_return(&self, status: Option<Status>) -> bool
-        ensures { (t : List Event) → self.now.held ≡ holds_given t (before self.now) self.now.activation → result ≡ statuses.may_return self.now.stack.now (before self.now) t self.now.activation status }
+        ensures { (t : List Event) → self.now.held ≡ holds_given t (before self.now) self.now.activation →
+            result ≡ statuses.may_return self.now.stack.now (before self.now) t self.now.activation status }
     {
         match status {
             None => false,
@@ -149,14 +160,19 @@ impl<'b, 'a> Scene<'b, 'a> {
     }
 
     fn are_paired(&self) -> bool
-        ensures { result ≡ program.are_paired (program.callbacks_at self.now.stack.now (actor_at (before self.now) self.now.activation).filter) }
+        ensures { result ≡ program.are_paired
+            (program.callbacks_at self.now.stack.now (actor_at (before self.now) self.now.activation).filter) }
     {
         self.stack.are_paired(self.world.filter(self.activation))
     }
 
     /// In the callback of a cancelled entry only COMPLETE is for the given operation; WITH_CALLBACK needs post callbacks.
     fn fits_word(&self, whose: Possessed, word: StatusWord) -> bool
-        ensures { (t : List Event) → result ≡ (statuses.fits_canceled self.now.stack.now (before self.now) t self.now.activation (actor_at (before self.now) self.now.activation).place whose word && (not (is_with_callback word) || program.are_paired (program.callbacks_at self.now.stack.now (actor_at (before self.now) self.now.activation).filter))) }
+        ensures { (t : List Event) → result ≡
+            (statuses.fits_canceled self.now.stack.now (before self.now) t self.now.activation
+            (actor_at (before self.now) self.now.activation).place whose word
+            && (not (is_with_callback word) || program.are_paired
+            (program.callbacks_at self.now.stack.now (actor_at (before self.now) self.now.activation).filter))) }
     {
         let given_in_canceled = matches!(
             (self.world.place(self.activation), whose),
@@ -168,7 +184,8 @@ impl<'b, 'a> Scene<'b, 'a> {
 
     /// Whether the status is one to hand on, and the visit is before the filters below.
     fn is_for_handing(&self, visit: usize, status: Status) -> bool
-        ensures { result ≡ (places.same_stage (visit_at (before self.now).store visit).stage stage.Pre && ((status_row (word_of status)).handed && not (completes_pending status))) }
+        ensures { result ≡ (places.same_stage (visit_at (before self.now).store visit).stage stage.Pre
+            && ((status_row (word_of status)).handed && not (completes_pending status))) }
     {
         self.world.stage(visit).is_same(Stage::Pre)
             && status_row(status.word()).handed
@@ -177,13 +194,15 @@ impl<'b, 'a> Scene<'b, 'a> {
 
     /// Whether the status may be handed on for a visit.
     fn may_hand(&self, whose: Possessed, visit: usize, status: Status) -> bool
-        ensures { (t : List Event) → result ≡ statuses.may_hand self.now.stack.now (before self.now) t self.now.activation whose visit status }
+        ensures { (t : List Event) → result ≡ statuses.may_hand self.now.stack.now
+            (before self.now) t self.now.activation whose visit status }
     {
         self.is_for_handing(visit, status) && self.fits_word(whose, status.word())
     }
 
     fn may_answer(&self, answer: Answer) -> bool
-        ensures { (t : List Event) → self.now.held ≡ holds_given t (before self.now) self.now.activation → result ≡ statuses.may_answer self.now.stack.now (before self.now) t self.now.activation answer }
+        ensures { (t : List Event) → self.now.held ≡ holds_given t (before self.now) self.now.activation →
+            result ≡ statuses.may_answer self.now.stack.now (before self.now) t self.now.activation answer }
     {
         match answer {
             Answer::Returned(status) => self.may_return(status),
@@ -198,7 +217,8 @@ impl<'b, 'a> Scene<'b, 'a> {
 
     /// Whether the given operation is an I/O request packet, if there is one.
     fn is_packet(&self) -> bool
-        ensures { (t : List Event) → result ≡ statuses.is_packet self.now.stack.now (before self.now) t self.now.activation (operation_in (activation_at (before self.now) self.now.activation) variable.Data) }
+        ensures { (t : List Event) → result ≡ statuses.is_packet self.now.stack.now (before self.now) t self.now.activation
+            (operation_in (activation_at (before self.now) self.now.activation) variable.Data) }
     {
         match self.given() {
             None => true,
@@ -222,7 +242,8 @@ impl<'b, 'a> Scene<'b, 'a> {
 
 impl<'b, 'a> Scene<'b, 'a> {
     fn is_legal(&self, event: Event) -> bool
-        ensures { (t : List Event) → self.now.held ≡ holds_given t (before self.now) self.now.activation → is_by self.now.activation event ≡ true → result ≡ spec.is_legal self.now.stack.now (before self.now) t event }
+        ensures { (t : List Event) → self.now.held ≡ holds_given t (before self.now) self.now.activation →
+            is_by self.now.activation event ≡ true → result ≡ spec.is_legal self.now.stack.now (before self.now) t event }
     {
         match event {
             Event::Status(_, answer) => self.may_answer(answer),
@@ -233,7 +254,8 @@ impl<'b, 'a> Scene<'b, 'a> {
 
     /// Whether a call isn't made above its greatest level.
     fn is_low_enough(&self, event: Event) -> bool
-        ensures { (t : List Event) → is_by self.now.activation event ≡ true → result ≡ spec.is_low_enough self.now.stack.now (before self.now) t event }
+        ensures { (t : List Event) → is_by self.now.activation event ≡ true →
+            result ≡ spec.is_low_enough self.now.stack.now (before self.now) t event }
     {
         match event {
             Event::Call(_, call) => !self.level().is_above(row(call).greatest),
@@ -243,7 +265,8 @@ impl<'b, 'a> Scene<'b, 'a> {
 
     /// The latest lock is released first, none is taken twice, none is kept at the end.
     fn is_disciplined(&self, event: Event) -> bool
-        ensures { (t : List Event) → is_by self.now.activation event ≡ true → result ≡ spec.is_disciplined self.now.stack.now (before self.now) t event }
+        ensures { (t : List Event) → is_by self.now.activation event ≡ true →
+            result ≡ spec.is_disciplined self.now.stack.now (before self.now) t event }
     {
         match event {
             Event::Lock(_, lock) => !holds_lock(lock, self.locks()),
@@ -255,7 +278,8 @@ impl<'b, 'a> Scene<'b, 'a> {
 
     /// Each call where the table has it, and in a draining callback only what cleans up.
     fn is_in_place(&self, event: Event) -> bool
-        ensures { (t : List Event) → is_by self.now.activation event ≡ true → result ≡ spec.is_in_place self.now.stack.now (before self.now) t event }
+        ensures { (t : List Event) → is_by self.now.activation event ≡ true →
+            result ≡ spec.is_in_place self.now.stack.now (before self.now) t event }
     {
         match event {
             Event::Call(_, call) => {
@@ -271,7 +295,9 @@ impl<'b, 'a> Scene<'b, 'a> {
 
 impl<'b, 'a> Scene<'b, 'a> {
     fn are_legal(&self, events: &[Event]) -> bool
-        ensures { (t : List Event) → self.now.held ≡ holds_given t (before self.now) self.now.activation → list_all (is_by self.now.activation) events.now ≡ true → result ≡ spec.legal_statuses self.now.stack.now (before self.now) t events.now }
+        ensures { (t : List Event) → self.now.held ≡ holds_given t (before self.now) self.now.activation →
+            list_all (is_by self.now.activation) events.now ≡ true →
+            result ≡ spec.legal_statuses self.now.stack.now (before self.now) t events.now }
     {
         match events {
             [] => true,
@@ -280,7 +306,8 @@ impl<'b, 'a> Scene<'b, 'a> {
     }
 
     fn are_low_enough(&self, events: &[Event]) -> bool
-        ensures { (t : List Event) → list_all (is_by self.now.activation) events.now ≡ true → result ≡ spec.levels_kept self.now.stack.now (before self.now) t events.now }
+        ensures { (t : List Event) → list_all (is_by self.now.activation) events.now ≡ true →
+            result ≡ spec.levels_kept self.now.stack.now (before self.now) t events.now }
     {
         match events {
             [] => true,
@@ -289,7 +316,8 @@ impl<'b, 'a> Scene<'b, 'a> {
     }
 
     fn are_disciplined(&self, events: &[Event]) -> bool
-        ensures { (t : List Event) → list_all (is_by self.now.activation) events.now ≡ true → result ≡ list_all (spec.is_disciplined self.now.stack.now (before self.now) t) events.now }
+        ensures { (t : List Event) → list_all (is_by self.now.activation) events.now ≡ true →
+            result ≡ list_all (spec.is_disciplined self.now.stack.now (before self.now) t) events.now }
     {
         match events {
             [] => true,
@@ -298,7 +326,8 @@ impl<'b, 'a> Scene<'b, 'a> {
     }
 
     fn are_in_place(&self, events: &[Event]) -> bool
-        ensures { (t : List Event) → list_all (is_by self.now.activation) events.now ≡ true → result ≡ spec.legal_places self.now.stack.now (before self.now) t events.now }
+        ensures { (t : List Event) → list_all (is_by self.now.activation) events.now ≡ true →
+            result ≡ spec.legal_places self.now.stack.now (before self.now) t events.now }
     {
         match events {
             [] => true,
@@ -308,7 +337,9 @@ impl<'b, 'a> Scene<'b, 'a> {
 
     /// The least of the last four violations that the events break.
     pub(crate) fn broken_rule(&self, events: &[Event]) -> Option<Violation>
-        ensures { (t : List Event) → self.now.held ≡ holds_given t (before self.now) self.now.activation → list_all (is_by self.now.activation) events.now ≡ true → result ≡ find (λ v. not (keeps_rule self.now.stack.now (before self.now) t events.now v)) of_rules }
+        ensures { (t : List Event) → self.now.held ≡ holds_given t (before self.now) self.now.activation →
+            list_all (is_by self.now.activation) events.now ≡ true →
+            result ≡ find (λ v. not (keeps_rule self.now.stack.now (before self.now) t events.now v)) of_rules }
     {
         if !self.are_legal(events) {
             Some(Violation::V5)

@@ -3,7 +3,7 @@ use Rattle.std.specs.Prelude.{ℕ, List, codes}
 use Rattle.flt_rules.specs.declared.rule.Rule.{Rule}
 use Rattle.flt_rules.specs.declared.rule.Rule.TheVariants.{R01, R02, R03, R04, R05, R06, R07, R08, R09, R10, R11, R12, R13, R14, R15}
 
--- of several rules that fire at one point the one of the least number is told
+-- of several rules that fire at one point the one of the least number is reported
 abbrev pub number : Rule → ℕ
 number R01 = 1
 number R02 = 2

@@ -72,7 +72,8 @@ operation_need anchor.Instance = need.Nothing
 
 abbrev pub anchored : Anchor → Need → Effects → Effects → Row
 anchored a context on_ok on_fail =
-    line level.Apc (places_of a) (record nothing { context = context; output = need.Output; operation = operation_need a }) on_ok (Some on_fail)
+    line level.Apc (places_of a) (record nothing { context = context; output = need.Output; operation = operation_need a }) on_ok
+    (Some on_fail)
 
 abbrev pub lock_level : LockKind → Level
 lock_level kind.Spin = level.Dispatch
@@ -108,7 +109,8 @@ complete_places Removed = places.All
 
 abbrev pub complete_pre_row : Possessed → Row
 complete_pre_row whose =
-    line level.Apc (complete_places whose) (record nothing { context = need.HandedOver; operation = need.Held; status = true }) handed_over None
+    line level.Apc (complete_places whose)
+    (record nothing { context = need.HandedOver; operation = need.Held; status = true }) handed_over None
 
 abbrev pub complete_post_row : Row
 complete_post_row = line level.Dispatch places.DeferredPost (record nothing { operation = need.Held }) handed_over None

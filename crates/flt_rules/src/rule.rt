@@ -23,7 +23,7 @@ pub enum Rule {
     R15,
 }
 
-/// The number of a rule, from 1. Of several rules at one point the least is told.
+/// The number of a rule, from 1. Of several rules at one point the least is reported.
 pub fn number(rule: Rule) -> u8
     ensures { result ≡ spec.number rule }
 {

@@ -3,12 +3,16 @@
 -- accepted      here: a filter is well-formed, it has its graph, and a certificate covers that graph.
 -- well-formed   flt_tree/specs/WellFormed.antt. What a text spells is (`spelled_is_well_formed` of flt_syntax).
 -- graph         flt_graph/specs/Lowering.antt: the statements of each callback by number, with their successors. It is what `lower` makes.
--- covers        flt_check/specs/Covering.antt: what may be so at each point, closed under each step of a callback. It is what `check` decides.
+-- covers        flt_check/specs/Covering.antt: what may be so at each point, closed under each step of a callback. It is what
+-- `check` decides.
 -- transition    flt_model/specs/Steps.antt: a move of the filter manager, of a worker or of the system, or one step of one callback.
--- run, breaks   flt_model/specs/Runs.antt: transitions, each enabled where it comes, from the moment before all of them. `breaks` is the first
---               break of V1 to V8 (flt_model/specs/Violations.antt), in the longest part of the list that is a run; none where there is none.
+-- run, breaks   flt_model/specs/Runs.antt: transitions, each enabled where it comes, from the moment before all of them.
+-- `breaks` is the first
+--               break of V1 to V8 (flt_model/specs/Violations.antt), in the longest part of the list that is a run; none where
+-- there is none.
 --
--- To believe: that the machine in flt_model/specs and the tables in flt_rules/specs, which it reads (levels, legal places and statuses), are
+-- To believe: that the machine in flt_model/specs and the tables in flt_rules/specs, which it reads (levels, legal places and
+-- statuses), are
 -- the driver kit's. Nothing in between, neither points, nor certificates, nor the rules that the checker applies, has to be believed.
 use Rattle.std.specs.Prelude.{◌≡◌, List, None}
 use Rattle.std.specs.List.{All}

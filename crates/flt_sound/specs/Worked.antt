@@ -1,4 +1,5 @@
--- One accepted filter, so that the theorem says something: it queues reads and lets a worker complete them, takes a lock in its pre callback
+-- One accepted filter, so that the theorem says something: it queues reads and lets a worker complete them, takes a lock in its
+-- pre callback
 -- of writes, and hands a context to its post callback.
 use Rattle.std.specs.Prelude.{ℕ, List, [], ◌∷◌, map, Option, Some, None}
 use Rattle.flt_rules.specs.Held.{held}
@@ -95,11 +96,33 @@ abbrev pub worked_graph : Graph
 worked_graph = record {
   locks = Push ∷ [];
   callbacks =
-      record { place = place.Pre Read; points = tests test.IsIrp 1 4 ∷ asks (fallible.InsertIo None) 2 4 ∷ asks (fallible.QueueGenericWorkItem (routine 119) None) 3 3 ∷ returns_with status.Pending ∷ returns_with status.NoCallback ∷ point instruction.End ∷ [] }
-      ∷ record { place = place.Pre Write; points = does (plain.AcquireLock Push L0) 1 ∷ does (plain.ReleaseLock Push L0) 2 ∷ asks (fallible.AllocateContext C0) 3 4 ∷ returns_with (status.WithCallback (Some C0)) ∷ returns_with status.NoCallback ∷ point instruction.End ∷ [] }
-      ∷ record { place = place.Post Write; points = tests (test.ContextIsSome Arg) 1 2 ∷ does (plain.ReleaseContext Arg) 2 ∷ returns_with status.FinishedProcessing ∷ point instruction.End ∷ [] }
-      ∷ record { place = place.Generic; points = tests (test.ContextIsSome Arg) 1 2 ∷ does (plain.ReleaseContext Arg) 2 ∷ asks (fallible.RemoveNextIo O0 C0) 3 6 ∷ tests (test.ContextIsSome C0) 4 5 ∷ does (plain.ReleaseContext C0) 5 ∷ does (plain.CompletePendedPreOperation (Removed O0) status.NoCallback) 6 ∷ point instruction.End ∷ [] }
-      ∷ record { place = place.Canceled; points = tests (test.ContextIsSome Arg) 1 2 ∷ does (plain.ReleaseContext Arg) 2 ∷ does (plain.CompletePendedPreOperation Data (status.Complete final.Cancelled)) 3 ∷ point instruction.End ∷ [] }
+      record {
+        place = place.Pre Read;
+        points = tests test.IsIrp 1 4 ∷ asks (fallible.InsertIo None) 2 4
+            ∷ asks (fallible.QueueGenericWorkItem (routine 119) None) 3 3 ∷ returns_with status.Pending
+            ∷ returns_with status.NoCallback ∷ point instruction.End ∷ [];
+      }
+      ∷ record {
+        place = place.Pre Write;
+        points = does (plain.AcquireLock Push L0) 1 ∷ does (plain.ReleaseLock Push L0) 2 ∷ asks (fallible.AllocateContext C0) 3 4
+            ∷ returns_with (status.WithCallback (Some C0)) ∷ returns_with status.NoCallback ∷ point instruction.End ∷ [];
+      }
+      ∷ record {
+        place = place.Post Write;
+        points = tests (test.ContextIsSome Arg) 1 2 ∷ does (plain.ReleaseContext Arg) 2 ∷ returns_with status.FinishedProcessing
+            ∷ point instruction.End ∷ [];
+      }
+      ∷ record {
+        place = place.Generic;
+        points = tests (test.ContextIsSome Arg) 1 2 ∷ does (plain.ReleaseContext Arg) 2
+            ∷ asks (fallible.RemoveNextIo O0 C0) 3 6 ∷ tests (test.ContextIsSome C0) 4 5 ∷ does (plain.ReleaseContext C0) 5
+            ∷ does (plain.CompletePendedPreOperation (Removed O0) status.NoCallback) 6 ∷ point instruction.End ∷ [];
+      }
+      ∷ record {
+        place = place.Canceled;
+        points = tests (test.ContextIsSome Arg) 1 2 ∷ does (plain.ReleaseContext Arg) 2
+            ∷ does (plain.CompletePendedPreOperation Data (status.Complete final.Cancelled)) 3 ∷ point instruction.End ∷ [];
+      }
       ∷ [];
 }
 

@@ -36,7 +36,8 @@ pub fn accepted_runs_break_nothing()
 /// judged to break anything. It does nothing: its clauses are the law.
 pub fn accepted_journals_break_nothing()
     ensures ordered { (filters : List Filter) → AreAccepted filters → AreAccepted (by_altitude filters) }
-    ensures verdicts { (filters : List Filter) (entries : List JournalEntry) (v : Violation) (n : ℕ) → AreAccepted filters → verdict filters entries ≡ Breaks v n → ⊥ }
+    ensures verdicts { (filters : List Filter) (entries : List JournalEntry) (v : Violation) (n : ℕ) → AreAccepted filters →
+        verdict filters entries ≡ Breaks v n → ⊥ }
 {
     accepted_runs_break_nothing();
     first_faults_are_told();

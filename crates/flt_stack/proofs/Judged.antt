@@ -18,7 +18,8 @@ use Rattle.flt_sound.specs.Soundness.{IsAccepted, AreAccepted}
 use Rattle.flt_stack.specs.Loading.{File, IsAcceptedFile, AreAcceptedFiles}
 
 -- the graph and the certificate of an accepted file are those that it was accepted with
-pub covered_again : ((f : Filter) (g h : Graph) → IsWellFormed f → IsLowered f g → IsLowered f h → g ≡ h) → (file : File) (filter f : Filter) (graph : Graph) (cert : Certificate) (x : IsAcceptedFile file f) →
+pub covered_again : ((f : Filter) (g h : Graph) → IsWellFormed f → IsLowered f g → IsLowered f h → g ≡ h) →
+    (file : File) (filter f : Filter) (graph : Graph) (cert : Certificate) (x : IsAcceptedFile file f) →
     filter ≡ f → cert ≡ x.certificate → IsWellFormed f → IsLowered filter graph → Covers graph cert
 covered_again one file filter f graph cert x same written w lowered =
     let here : IsLowered f graph = subst (λ (y : Filter). IsLowered y graph) same lowered in
@@ -30,7 +31,8 @@ pub clean_once : (b : Option Break) → IsProp (b ≡ None)
 clean_once b = Prim.hlevel props
 
 -- files are accepted as one list of filters
-pub accepted_once : SpellsAtMostOne → (files : List File) (fs gs : List Filter) → AreAcceptedFiles files fs → AreAcceptedFiles files gs → fs ≡ gs
+pub accepted_once : SpellsAtMostOne → (files : List File) (fs gs : List Filter) → AreAcceptedFiles files fs →
+    AreAcceptedFiles files gs → fs ≡ gs
 accepted_once one [] [] [] all also = refl
 accepted_once one [] [] (g ∷ gs) all also = absurd also
 accepted_once one [] (f ∷ fs) gs all also = absurd all
@@ -42,13 +44,20 @@ accepted_once one (x ∷ files) (f ∷ fs) (g ∷ gs) all also =
     ap (λ (y : Filter). y ∷ fs) first ∙ ap (λ (l : List Filter). g ∷ l) others
 
 -- filters of accepted files are accepted
-pub files_accepted : ((text : Text) (f : Filter) → Spells text f → IsWellFormed f) → (files : List File) (fs : List Filter) → AreAcceptedFiles files fs → AreAccepted fs
+pub files_accepted : ((text : Text) (f : Filter) → Spells text f → IsWellFormed f) → (files : List File) (fs : List Filter) →
+    AreAcceptedFiles files fs → AreAccepted fs
 files_accepted fine [] [] all = All-nil IsAccepted
 files_accepted fine [] (f ∷ fs) all = absurd all
 files_accepted fine (x ∷ files) [] all = absurd all
 files_accepted fine (x ∷ files) (f ∷ fs) all =
     let k = all.0 in
-    All-cons IsAccepted f fs (record { graph = k.graph; cert = k.certificate; well_formed = fine x.text f k.spelled; lowered = k.lowered; covers = k.covers }) (files_accepted fine files fs all.1)
+    All-cons IsAccepted f fs (record {
+      graph = k.graph;
+      cert = k.certificate;
+      well_formed = fine x.text f k.spelled;
+      lowered = k.lowered;
+      covers = k.covers;
+    }) (files_accepted fine files fs all.1)
 
 -- filters whose altitudes differ have none repeated
 pub none_repeated : (filters : List Filter) (n : ℕ) → HasDistinctAltitudes filters → IsRepeated filters n → ⊥
@@ -57,6 +66,11 @@ none_repeated filters n distinct r =
     let within : at < length r.before = slice_get_within r.before at r.earlier.1 r.earlier.2 in
     let place : length r.before < length filters = omega (arith, ap length r.parts, length-append r.before (r.filter ∷ r.after)) in
     let one : get_or filters at r.filter ≡ r.earlier.1 =
-    ap (λ (l : List Filter). get_or l at r.filter) r.parts ∙ (get_or_append_left r.before (r.filter ∷ r.after) r.filter at within ∙ get_or_from_slice_get r.before at r.earlier.1 r.filter r.earlier.2) in
-    let other : get_or filters (length r.before) r.filter ≡ r.filter = ap (λ (l : List Filter). get_or l (length r.before) r.filter) r.parts ∙ get_or_at r.before r.filter r.after r.filter (length r.before) refl in
-    distinct at (length r.before) r.filter within place (ap (λ (f : Filter). f.altitude) one ∙ (r.earlier.3 ∙ sym (ap (λ (f : Filter). f.altitude) other)))
+    ap (λ (l : List Filter). get_or l at r.filter) r.parts
+    ∙ (get_or_append_left r.before (r.filter ∷ r.after) r.filter at within
+    ∙ get_or_from_slice_get r.before at r.earlier.1 r.filter r.earlier.2) in
+    let other : get_or filters (length r.before) r.filter ≡ r.filter =
+    ap (λ (l : List Filter). get_or l (length r.before) r.filter) r.parts
+    ∙ get_or_at r.before r.filter r.after r.filter (length r.before) refl in
+    distinct at (length r.before) r.filter within place
+    (ap (λ (f : Filter). f.altitude) one ∙ (r.earlier.3 ∙ sym (ap (λ (f : Filter). f.altitude) other)))

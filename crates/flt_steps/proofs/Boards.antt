@@ -31,8 +31,10 @@ module _ {E : Type 0} (p : List Filter) (w x : World) (a : ℕ) (grant : Bool) (
   tested (Ok seen) granted refused k test is h = λ t. rw is (h p t)
   tested (Err e) granted refused k test is h = h
 
-  pub acted : (r : Result Bool E) (held : Bool) (rest : List Statement) (s : Statement) (line : ℕ) (action : Action) → s ≡ tree.Act line action →
+  pub acted : (r : Result Bool E) (held : Bool) (rest : List Statement) (s : Statement) (line : ℕ) (action : Action) →
+      s ≡ tree.Act line action →
       IfOk r (λ seen. (q : List Filter) → (t : List Event) → ComesOf (act_step q t w a rest action) seen x earlier events) →
-      IfOk r (λ seen. (t : List Event) → held ≡ holds_given t w a → ComesOf (statement_step p t w a rest grant (out-Statement s)) seen x earlier events)
+      IfOk r (λ seen. (t : List Event) → held ≡ holds_given t w a →
+      ComesOf (statement_step p t w a rest grant (out-Statement s)) seen x earlier events)
   acted (Ok seen) held rest s line action is h = λ t same. rw (is, outs-Act line action) (h p t)
   acted (Err e) held rest s line action is h = h

@@ -15,14 +15,17 @@ use Rattle.flt_steps.specs.Queueing.{gives_entry}
 use Rattle.flt_world.specs.Happening.{later, Happened}
 
 -- of a world, the one where the entry is out, and the one after the step; and of the events before the call, with it, and in all
-module _ {T E : Type 0} (r : Result T E) (w v x : World) (a f : ℕ) (o : RemovedVariable) (d : ContextVariable) (granted refused : List Statement) (t middle events : List Event) where
+module _ {T E : Type 0} (r : Result T E) (w v x : World) (a f : ℕ) (o : RemovedVariable) (d : ContextVariable)
+    (granted refused : List Statement) (t middle events : List Event) where
   pub nothing_removed : f ≡ (actor_at w a).filter → queue_at w.store f ≡ [] → v ≡ w → middle ≡ t ++ Call a RemoveNextIo ∷ [] →
       OnOk r (Happened x middle events (gives_entry v a o d (refused ++ later v a) None)) →
       OnOk r (Happened x t events (remove_next w a o d (granted ++ later w a) (refused ++ later w a)))
   nothing_removed same none kept pushed happened =
-      rw (rw same at none) (on_ok_weaker r (λ h. (h.0, cc (h.1, append_assoc t (Call a RemoveNextIo ∷ []) []))) (rw (kept, pushed) at happened))
+      rw (rw same at none) (on_ok_weaker r (λ h. (h.0, cc (h.1, append_assoc t (Call a RemoveNextIo ∷ []) [])))
+      (rw (kept, pushed) at happened))
 
-  pub entry_removed : (e : Entry) (left : List Entry) → f ≡ (actor_at w a).filter → queue_at w.store f ≡ e ∷ left → v ≡ record w { store = with_queue w.store f left } → middle ≡ t ++ Call a RemoveNextIo ∷ [] →
+  pub entry_removed : (e : Entry) (left : List Entry) → f ≡ (actor_at w a).filter → queue_at w.store f ≡ e ∷ left →
+      v ≡ record w { store = with_queue w.store f left } → middle ≡ t ++ Call a RemoveNextIo ∷ [] →
       OnOk r (Happened x middle events (gives_entry v a o d (granted ++ later v a) (Some e))) →
       OnOk r (Happened x t events (remove_next w a o d (granted ++ later w a) (refused ++ later w a)))
   entry_removed e left same front kept pushed happened =

@@ -76,7 +76,8 @@ fn act_step(
     action: Action,
     events: &mut Vec<Event>,
 ) -> Result<bool, AllocError>
-    ensures { IfOk result (λ seen. (p : List Filter) → (t : List Event) → ComesOf (steps.act_step p t world.old a (later world.old a) action) seen world.new events.old.items events.new.items) }
+    ensures { IfOk result (λ seen. (p : List Filter) → (t : List Event) →
+        ComesOf (steps.act_step p t world.old a (later world.old a) action) seen world.new events.old.items events.new.items) }
 {
     match action {
         Action::ReadValue(n, c) => reads::read_value(world, a, n, c, events)?,
@@ -96,7 +97,8 @@ fn plain_step<'a>(
     call: PlainCall,
     events: &mut Vec<Event>,
 ) -> Result<(), AllocError>
-    ensures { OnOk result ((t : List Event) → Happened world.new events.old.items events.new.items (steps.plain_step stack.now t world.old a (later world.old a) call)) }
+    ensures { OnOk result ((t : List Event) →
+        Happened world.new events.old.items events.new.items (steps.plain_step stack.now t world.old a (later world.old a) call)) }
 {
     match call {
         PlainCall::DeleteContext(c) => contexts::delete(world, a, c, events),
@@ -128,7 +130,10 @@ fn fallible_step<'a>(
     to: Branches<'a>,
     events: &mut Vec<Event>,
 ) -> Result<(), AllocError>
-    ensures { OnOk result ((t : List Event) → Happened world.new events.old.items events.new.items (steps.fallible_step stack.now t world.old a grant (to.entry.granted.now ++ later world.old a) (to.entry.refused.now ++ later world.old a) call.now)) }
+    ensures { OnOk result ((t : List Event) →
+        Happened world.new events.old.items events.new.items
+        (steps.fallible_step stack.now t world.old a grant (to.entry.granted.now ++ later world.old a)
+        (to.entry.refused.now ++ later world.old a) call.now)) }
 {
     match call {
         FallibleCall::AllocateContext(d) => contexts::allocate(world, a, *d, grant, to, events),
@@ -166,7 +171,9 @@ fn test_step<'a>(
     to: Branches<'a>,
     events: &mut Vec<Event>,
 ) -> Result<bool, AllocError>
-    ensures { IfOk result (λ seen. (p : List Filter) → (t : List Event) → ComesOf (steps.test_step p t world.old a (to.entry.granted.now ++ later world.old a) (to.entry.refused.now ++ later world.old a) test) seen world.new events.old.items events.new.items) }
+    ensures { IfOk result (λ seen. (p : List Filter) → (t : List Event) →
+        ComesOf (steps.test_step p t world.old a (to.entry.granted.now ++ later world.old a)
+        (to.entry.refused.now ++ later world.old a) test) seen world.new events.old.items events.new.items) }
 {
     match test {
         Test::IsIrp => {
@@ -186,7 +193,9 @@ fn if_step<'a>(
     to: Branches<'a>,
     events: &mut Vec<Event>,
 ) -> Result<bool, AllocError>
-    ensures { IfOk result (λ seen. (t : List Event) → ComesOf (steps.if_step stack.now t world.old a grant (to.entry.granted.now ++ later world.old a) (to.entry.refused.now ++ later world.old a) condition.now) seen world.new events.old.items events.new.items) }
+    ensures { IfOk result (λ seen. (t : List Event) →
+        ComesOf (steps.if_step stack.now t world.old a grant (to.entry.granted.now ++ later world.old a)
+        (to.entry.refused.now ++ later world.old a) condition.now) seen world.new events.old.items events.new.items) }
 {
     match condition {
         Condition::Test(test) => test_step(world, a, *test, to, events),
@@ -205,7 +214,9 @@ fn statement_step<'a>(
     statement: &'a Statement,
     events: &mut Vec<Event>,
 ) -> Result<bool, AllocError>
-    ensures { IfOk result (λ seen. (t : List Event) → setup.held ≡ holds_given t world.old setup.activation → ComesOf (steps.statement_step stack.now t world.old setup.activation (later world.old setup.activation) setup.grant (out-Statement statement.now)) seen world.new events.old.items events.new.items) }
+    ensures { IfOk result (λ seen. (t : List Event) → setup.held ≡ holds_given t world.old setup.activation →
+        ComesOf (steps.statement_step stack.now t world.old setup.activation (later world.old setup.activation) setup.grant
+        (out-Statement statement.now)) seen world.new events.old.items events.new.items) }
 {
     let a = setup.activation;
     match statement {
@@ -237,7 +248,9 @@ fn first_step<'a>(
     statement: &'a Statement,
     events: &mut Vec<Event>,
 ) -> Result<bool, AllocError>
-    ensures { IfOk result (λ enabled. (t : List Event) → setup.held ≡ holds_given t world.old setup.activation → ComesOf (steps.first_step stack.now t world.old setup.activation (later world.old setup.activation) setup.grant (out-Statement statement.now)) enabled world.new events.old.items events.new.items) }
+    ensures { IfOk result (λ enabled. (t : List Event) → setup.held ≡ holds_given t world.old setup.activation →
+        ComesOf (steps.first_step stack.now t world.old setup.activation (later world.old setup.activation) setup.grant
+        (out-Statement statement.now)) enabled world.new events.old.items events.new.items) }
 {
     if may_go(world, setup.activation, setup.grant, statement) {
         statement_step(world, stack, setup, statement, events)
@@ -251,7 +264,8 @@ fn first_step<'a>(
 /// The first statement of an activation, which stays.
 fn first<'a>(world: &mut World<'a>, a: usize) -> Result<Option<Upcoming<'a>>, AllocError>
     ensures same { OnOk result (world.new ≡ world.old) }
-    ensures first { IfOk result (λ f. MatchOption f ((spec.activation_at world.old a).rest ≡ []) (λ u. (spec.activation_at world.old a).rest ≡ statement_of u ∷ later world.old a)) }
+    ensures first { IfOk result (λ f. MatchOption f ((spec.activation_at world.old a).rest ≡ [])
+        (λ u. (spec.activation_at world.old a).rest ≡ statement_of u ∷ later world.old a)) }
 {
     match world.activations.get_mut(a) {
         Some(activation) => activation.rest.first(),
@@ -267,7 +281,9 @@ fn list_step<'a>(
     first: Option<Upcoming<'a>>,
     events: &mut Vec<Event>,
 ) -> Result<bool, AllocError>
-    ensures { IfOk result (λ enabled. (t : List Event) → setup.held ≡ holds_given t world.old setup.activation → ComesOf (steps.list_step stack.now t world.old setup.activation (coming first.entry (later world.old setup.activation)) setup.grant) enabled world.new events.old.items events.new.items) }
+    ensures { IfOk result (λ enabled. (t : List Event) → setup.held ≡ holds_given t world.old setup.activation →
+        ComesOf (steps.list_step stack.now t world.old setup.activation
+        (coming first.entry (later world.old setup.activation)) setup.grant) enabled world.new events.old.items events.new.items) }
 {
     match first {
         Some(Upcoming::Statement(statement)) => {
@@ -297,7 +313,8 @@ pub fn step_seen<'a>(
     setup: Setup,
     events: &mut Vec<Event>,
 ) -> Result<bool, AllocError>
-    ensures { IfOk result (λ enabled. (t : List Event) → setup.held ≡ holds_given t world.old setup.activation → ComesOf (steps.board stack.now t world.old setup.activation setup.grant) enabled world.new events.old.items events.new.items) }
+    ensures { IfOk result (λ enabled. (t : List Event) → setup.held ≡ holds_given t world.old setup.activation →
+        ComesOf (steps.board stack.now t world.old setup.activation setup.grant) enabled world.new events.old.items events.new.items) }
 {
     if world.has_ended(setup.activation) {
         return Ok(false);
@@ -308,7 +325,8 @@ pub fn step_seen<'a>(
 
 /// A step that nobody else sees. False where the next one is seen, or isn't enabled; the first statement is then gone.
 pub fn step_unseen(world: &mut World<'_>, a: usize) -> Result<bool, AllocError>
-    ensures { IfOk result (λ enabled. (p : List Filter) → (t : List Event) → ComesOf (steps.local p t world.old a) enabled world.new [] []) }
+    ensures { IfOk result (λ enabled. (p : List Filter) → (t : List Event) →
+        ComesOf (steps.local p t world.old a) enabled world.new [] []) }
 {
     if world.has_ended(a) {
         return Ok(false);

@@ -38,7 +38,8 @@ pub(crate) struct Setting {
 
 /// The link that a call works on; none where it is on the stream of `data`, which is NULL.
 fn link_of(world: &World<'_>, a: usize, on: Anchor) -> Option<Link>
-    ensures { result ≡ calls.link_of world.now.store (spec.actor_at world.now a).filter on (variables.operation_in (spec.activation_at world.now a) Data) }
+    ensures { result ≡ calls.link_of world.now.store (spec.actor_at world.now a).filter on
+        (variables.operation_in (spec.activation_at world.now a) Data) }
 {
     let filter = world.filter(a);
     match on {
@@ -63,7 +64,9 @@ fn need_anchor(
     on: Anchor,
     events: &mut Vec<Event>,
 ) -> Result<(), AllocError>
-    ensures { OnOk result (events.new.items ≡ events.old.items ++ (effects.uses a (calls.needs_of on (variables.operation_in (spec.activation_at world.now a) Data)) ++ effects.empties a (calls.needs_of on (variables.operation_in (spec.activation_at world.now a) Data)))) }
+    ensures { OnOk result (events.new.items ≡ events.old.items
+        ++ (effects.uses a (calls.needs_of on (variables.operation_in (spec.activation_at world.now a) Data))
+        ++ effects.empties a (calls.needs_of on (variables.operation_in (spec.activation_at world.now a) Data)))) }
 {
     match on {
         Anchor::Stream => {
@@ -90,7 +93,8 @@ fn drop_link(
     old: Option<ContextVariable>,
     events: &mut Vec<Event>,
 ) -> Result<(), AllocError>
-    ensures { OnOk result ((world.new ≡ record world.old { store = effects.after_unlink world.old.store x old }) × (events.new.items ≡ events.old.items ++ effects.events_of_unlink a world.old.store x old)) }
+    ensures { OnOk result ((world.new ≡ record world.old { store = effects.after_unlink world.old.store x old })
+        × (events.new.items ≡ events.old.items ++ effects.events_of_unlink a world.old.store x old)) }
 {
     match old {
         Some(_) => {
@@ -112,7 +116,8 @@ pub(crate) fn allocate<'a>(
     to: Branches<'a>,
     events: &mut Vec<Event>,
 ) -> Result<(), AllocError>
-    ensures { OnOk result (Happened world.new events.old.items events.new.items (calls.allocate world.old a d grant (to.entry.granted.now ++ later world.old a) (to.entry.refused.now ++ later world.old a))) }
+    ensures { OnOk result (Happened world.new events.old.items events.new.items
+        (calls.allocate world.old a d grant (to.entry.granted.now ++ later world.old a) (to.entry.refused.now ++ later world.old a))) }
 {
     events.push(Event::Call(a, Call::AllocateContext))?;
     if grant {
@@ -134,7 +139,8 @@ fn got<'a>(
     x: Option<usize>,
     events: &mut Vec<Event>,
 ) -> Result<(), AllocError>
-    ensures { OnOk result (Happened world.new events.old.items events.new.items (calls.got world.old a d (to.entry.granted.now ++ later world.old a) (to.entry.refused.now ++ later world.old a) x)) }
+    ensures { OnOk result (Happened world.new events.old.items events.new.items
+        (calls.got world.old a d (to.entry.granted.now ++ later world.old a) (to.entry.refused.now ++ later world.old a) x)) }
 {
     match x {
         None => world.go_on(a, to.refused, Write::Output(Some(d), None)),
@@ -156,7 +162,8 @@ fn get_by<'a>(
     link: Option<Link>,
     events: &mut Vec<Event>,
 ) -> Result<(), AllocError>
-    ensures { OnOk result (Happened world.new events.old.items events.new.items (calls.get_by world.old a d (to.entry.granted.now ++ later world.old a) (to.entry.refused.now ++ later world.old a) link)) }
+    ensures { OnOk result (Happened world.new events.old.items events.new.items
+        (calls.get_by world.old a d (to.entry.granted.now ++ later world.old a) (to.entry.refused.now ++ later world.old a) link)) }
 {
     match link {
         None => world.go_on(a, to.refused, Write::Nothing),
@@ -175,7 +182,8 @@ pub(crate) fn get<'a>(
     to: Branches<'a>,
     events: &mut Vec<Event>,
 ) -> Result<(), AllocError>
-    ensures { OnOk result (Happened world.new events.old.items events.new.items (calls.get world.old a on d (to.entry.granted.now ++ later world.old a) (to.entry.refused.now ++ later world.old a))) }
+    ensures { OnOk result (Happened world.new events.old.items events.new.items
+        (calls.get world.old a on d (to.entry.granted.now ++ later world.old a) (to.entry.refused.now ++ later world.old a))) }
 {
     events.push(Event::Call(a, Call::GetContext(on)))?;
     need_anchor(world, a, on, events)?;
@@ -192,7 +200,8 @@ fn kept<'a>(
     y: usize,
     events: &mut Vec<Event>,
 ) -> Result<(), AllocError>
-    ensures { OnOk result (Happened world.new events.old.items events.new.items (calls.kept world.old a old (refused.now ++ later world.old a) y)) }
+    ensures { OnOk result (Happened world.new events.old.items events.new.items
+        (calls.kept world.old a old (refused.now ++ later world.old a) y)) }
 {
     match old {
         None => world.go_on(a, refused, Write::Nothing),
@@ -216,7 +225,9 @@ fn set_there<'a>(
     link: Link,
     events: &mut Vec<Event>,
 ) -> Result<(), AllocError>
-    ensures { OnOk result (Happened world.new events.old.items events.new.items (calls.set_there world.old a set.existing set.old (to.entry.granted.now ++ later world.old a) (to.entry.refused.now ++ later world.old a) x link (spec.linked_at world.old.store link))) }
+    ensures { OnOk result (Happened world.new events.old.items events.new.items
+        (calls.set_there world.old a set.existing set.old (to.entry.granted.now ++ later world.old a)
+        (to.entry.refused.now ++ later world.old a) x link (spec.linked_at world.old.store link))) }
 {
     match world.linked_at(link) {
         None => {
@@ -251,7 +262,9 @@ fn set_by<'a>(
     link: Option<Link>,
     events: &mut Vec<Event>,
 ) -> Result<(), AllocError>
-    ensures { OnOk result (Happened world.new events.old.items events.new.items (calls.set_by world.old a set.existing set.old (to.entry.granted.now ++ later world.old a) (to.entry.refused.now ++ later world.old a) x link)) }
+    ensures { OnOk result (Happened world.new events.old.items events.new.items
+        (calls.set_by world.old a set.existing set.old (to.entry.granted.now ++ later world.old a)
+        (to.entry.refused.now ++ later world.old a) x link)) }
 {
     match (x, link) {
         (Some(x), Some(link)) => {
@@ -273,7 +286,9 @@ fn need_to_set(
     x: Option<usize>,
     events: &mut Vec<Event>,
 ) -> Result<(), AllocError>
-    ensures { OnOk result (events.new.items ≡ events.old.items ++ (effects.uses a (effects.context x ∷ calls.needs_of on (variables.operation_in (spec.activation_at world.now a) Data)) ++ effects.empties a (effects.context x ∷ calls.needs_of on (variables.operation_in (spec.activation_at world.now a) Data)))) }
+    ensures { OnOk result (events.new.items ≡ events.old.items
+        ++ (effects.uses a (effects.context x ∷ calls.needs_of on (variables.operation_in (spec.activation_at world.now a) Data))
+        ++ effects.empties a (effects.context x ∷ calls.needs_of on (variables.operation_in (spec.activation_at world.now a) Data)))) }
 {
     match on {
         Anchor::Stream => {
@@ -291,7 +306,9 @@ pub(crate) fn set_context<'a>(
     to: Branches<'a>,
     events: &mut Vec<Event>,
 ) -> Result<(), AllocError>
-    ensures { OnOk result (Happened world.new events.old.items events.new.items (calls.set_context world.old a set.on set.existing set.context set.old (to.entry.granted.now ++ later world.old a) (to.entry.refused.now ++ later world.old a))) }
+    ensures { OnOk result (Happened world.new events.old.items events.new.items
+        (calls.set_context world.old a set.on set.existing set.context set.old (to.entry.granted.now ++ later world.old a)
+        (to.entry.refused.now ++ later world.old a))) }
 {
     let x = world.context_in(a, set.context);
     events.push(Event::Call(a, Call::SetContext(set.on, set.existing)))?;
@@ -309,7 +326,8 @@ fn unlinked<'a>(
     y: Option<usize>,
     events: &mut Vec<Event>,
 ) -> Result<(), AllocError>
-    ensures { OnOk result (Happened world.new events.old.items events.new.items (calls.unlinked world.old a old (to.entry.granted.now ++ later world.old a) (to.entry.refused.now ++ later world.old a) y)) }
+    ensures { OnOk result (Happened world.new events.old.items events.new.items
+        (calls.unlinked world.old a old (to.entry.granted.now ++ later world.old a) (to.entry.refused.now ++ later world.old a) y)) }
 {
     match y {
         None => world.go_on(a, to.refused, Write::Output(old, None)),
@@ -329,7 +347,8 @@ fn delete_by<'a>(
     link: Option<Link>,
     events: &mut Vec<Event>,
 ) -> Result<(), AllocError>
-    ensures { OnOk result (Happened world.new events.old.items events.new.items (calls.delete_by world.old a old (to.entry.granted.now ++ later world.old a) (to.entry.refused.now ++ later world.old a) link)) }
+    ensures { OnOk result (Happened world.new events.old.items events.new.items
+        (calls.delete_by world.old a old (to.entry.granted.now ++ later world.old a) (to.entry.refused.now ++ later world.old a) link)) }
 {
     match link {
         None => world.go_on(a, to.refused, Write::Nothing),
@@ -348,7 +367,8 @@ pub(crate) fn delete_at<'a>(
     to: Branches<'a>,
     events: &mut Vec<Event>,
 ) -> Result<(), AllocError>
-    ensures { OnOk result (Happened world.new events.old.items events.new.items (calls.delete_at world.old a on old (to.entry.granted.now ++ later world.old a) (to.entry.refused.now ++ later world.old a))) }
+    ensures { OnOk result (Happened world.new events.old.items events.new.items
+        (calls.delete_at world.old a on old (to.entry.granted.now ++ later world.old a) (to.entry.refused.now ++ later world.old a))) }
 {
     events.push(Event::Call(a, Call::DeleteContextOf(on)))?;
     need_anchor(world, a, on, events)?;

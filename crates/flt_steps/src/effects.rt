@@ -56,7 +56,7 @@ fn push_empties(
     }
 }
 
-/// Each variable that names something is used, and then each that is NULL is told.
+/// Each variable that names something is used, and then each that is NULL is reported.
 pub(crate) fn need(
     a: usize,
     needs: &[Option<Object>],
@@ -75,9 +75,11 @@ pub(crate) struct Named {
     pub(crate) context: Option<Option<usize>>,
 }
 
-/// Both are used, or told where they are NULL.
+/// Both are used, or reported where they are NULL.
 pub(crate) fn need_named(a: usize, named: Named, events: &mut Vec<Event>) -> Result<(), AllocError>
-    ensures { OnOk result (events.new.items ≡ events.old.items ++ (spec.uses a (spec.operation named.visit ∷ spec.optional named.context) ++ spec.empties a (spec.operation named.visit ∷ spec.optional named.context))) }
+    ensures { OnOk result (events.new.items ≡ events.old.items
+        ++ (spec.uses a (spec.operation named.visit ∷ spec.optional named.context)
+        ++ spec.empties a (spec.operation named.visit ∷ spec.optional named.context))) }
 {
     let visit = operation(named.visit);
     match named.context {

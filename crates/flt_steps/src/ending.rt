@@ -38,7 +38,10 @@ fn there(named: Option<Option<usize>>) -> Option<usize>
 
 /// Nothing remains of an activation; a lock that it kept stays held.
 fn end_activation(world: &mut World<'_>, alloc: Global, a: usize)
-    ensures { world.new ≡ record world.old { activations = set world.old.activations a (record (machine.activation_at world.old a) { rest = []; ended = true }) } }
+    ensures { world.new ≡ record world.old {
+      activations =
+          set world.old.activations a (record (machine.activation_at world.old a) { rest = []; ended = true });
+    } }
 {
     if let Some(activation) = world.activations.get_mut(a) {
         activation.rest = Rest::new(alloc, &[]);
@@ -77,14 +80,15 @@ fn use_context(
     }
 }
 
-/// What is told of a status, whatever it settles.
+/// What is reported of a status, whatever it settles.
 fn tell_status(
     world: &World<'_>,
     a: usize,
     status: Option<Status>,
     events: &mut Vec<Event>,
 ) -> Result<(), AllocError>
-    ensures { OnOk result (events.new.items ≡ events.old.items ++ (spec.status_given [] [] world.now a status ++ spec.context_used [] [] world.now a status)) }
+    ensures { OnOk result (events.new.items ≡ events.old.items
+        ++ (spec.status_given [] [] world.now a status ++ spec.context_used [] [] world.now a status)) }
 {
     give_status(world, a, status, events)?;
     use_context(world, a, status, events)
@@ -99,7 +103,8 @@ fn give_visit_back(
     way: Way,
     events: &mut Vec<Event>,
 ) -> Result<(), AllocError>
-    ensures { OnOk result ((t : List Event) → given.held ≡ is_held t a (Visit given.visit) → events.new.items ≡ events.old.items ++ spec.visit_given_back [] t world.now a given.visit context (way_meant way)) }
+    ensures { OnOk result ((t : List Event) → given.held ≡ is_held t a (Visit given.visit) →
+        events.new.items ≡ events.old.items ++ spec.visit_given_back [] t world.now a given.visit context (way_meant way)) }
 {
     if given.held {
         events.push(Event::Lose(a, Object::Visit(given.visit)))?;
@@ -137,7 +142,10 @@ fn answered<'a>(
     given: Given,
     events: &mut Vec<Event>,
 ) -> Result<(), AllocError>
-    ensures { OnOk result ((t : List Event) → given.held ≡ is_held t a (Visit given.visit) → Happened world.new events.old.items events.new.items (spec.answered stack.now t world.old a status given.visit (spec.there (named_in (machine.activation_at world.old a) (named_context status))))) }
+    ensures { OnOk result ((t : List Event) → given.held ≡ is_held t a (Visit given.visit) →
+        Happened world.new events.old.items events.new.items
+        (spec.answered stack.now t world.old a status given.visit
+        (spec.there (named_in (machine.activation_at world.old a) (named_context status))))) }
 {
     let context = there(world.named_in(a, named_context(status)));
     let way = way_of(world, stack, given.visit, Answer::Returned(status));
@@ -157,7 +165,8 @@ pub(crate) fn end<'a>(
     held: bool,
     events: &mut Vec<Event>,
 ) -> Result<(), AllocError>
-    ensures { OnOk result ((t : List Event) → held ≡ holds_given t world.old a → Happened world.new events.old.items events.new.items (spec.returns stack.now t world.old a status)) }
+    ensures { OnOk result ((t : List Event) → held ≡ holds_given t world.old a →
+        Happened world.new events.old.items events.new.items (spec.returns stack.now t world.old a status)) }
 {
     match world.operation_in(a, OperationVariable::Data) {
         Some(visit) if world.place(a).answers() => {

@@ -70,7 +70,8 @@ pub(crate) fn acquire_shared(
     lock: LockNumber,
     events: &mut Vec<Event>,
 ) -> Result<(), AllocError>
-    ensures { OnOk result (Happened world.new events.old.items events.new.items (calls.acquire_shared world.old a lock (later world.old a))) }
+    ensures { OnOk result (Happened world.new events.old.items events.new.items
+        (calls.acquire_shared world.old a lock (later world.old a))) }
 {
     events.push(Event::Call(a, Call::AcquirePushLockShared))?;
     events.push(Event::Lock(a, lock))?;
@@ -97,7 +98,8 @@ pub(crate) fn release_lock(
     lock: LockNumber,
     events: &mut Vec<Event>,
 ) -> Result<(), AllocError>
-    ensures { OnOk result (Happened world.new events.old.items events.new.items (calls.release_lock world.old a kind lock (later world.old a))) }
+    ensures { OnOk result (Happened world.new events.old.items events.new.items
+        (calls.release_lock world.old a kind lock (later world.old a))) }
 {
     events.push(Event::Call(a, Call::ReleaseLock(kind)))?;
     events.push(Event::Unlock(a, lock))?;

@@ -24,7 +24,8 @@ fn need_optional(
     named: Option<Option<usize>>,
     events: &mut Vec<Event>,
 ) -> Result<(), AllocError>
-    ensures { OnOk result (events.new.items ≡ events.old.items ++ (effects.uses a (effects.optional named) ++ effects.empties a (effects.optional named))) }
+    ensures { OnOk result (events.new.items ≡ events.old.items
+        ++ (effects.uses a (effects.optional named) ++ effects.empties a (effects.optional named))) }
 {
     match named {
         Some(named) => need(a, &[context(named)], events),
@@ -54,7 +55,9 @@ fn enqueued<'a>(
     to: Branches<'a>,
     events: &mut Vec<Event>,
 ) -> Result<(), AllocError>
-    ensures { OnOk result (Happened world.new events.old.items events.new.items (calls.enqueued world.old a (to.entry.granted.now ++ later world.old a) (to.entry.refused.now ++ later world.old a) visit context)) }
+    ensures { OnOk result (Happened world.new events.old.items events.new.items
+        (calls.enqueued world.old a (to.entry.granted.now ++ later world.old a)
+        (to.entry.refused.now ++ later world.old a) visit context)) }
 {
     let filter = world.filter(a);
     if world.is_attached(filter) {
@@ -75,7 +78,9 @@ fn insert_by<'a>(
     to: Branches<'a>,
     events: &mut Vec<Event>,
 ) -> Result<(), AllocError>
-    ensures { OnOk result (Happened world.new events.old.items events.new.items (calls.insert_by world.old a (to.entry.granted.now ++ later world.old a) (to.entry.refused.now ++ later world.old a) handed.visit handed.context)) }
+    ensures { OnOk result (Happened world.new events.old.items events.new.items
+        (calls.insert_by world.old a (to.entry.granted.now ++ later world.old a)
+        (to.entry.refused.now ++ later world.old a) handed.visit handed.context)) }
 {
     match (handed.visit, handed.context) {
         (None, _) | (Some(_), Some(None)) => world.go_on(a, to.refused, Write::Nothing),
@@ -93,7 +98,8 @@ pub(crate) fn insert<'a>(
     to: Branches<'a>,
     events: &mut Vec<Event>,
 ) -> Result<(), AllocError>
-    ensures { OnOk result (Happened world.new events.old.items events.new.items (calls.insert world.old a c (to.entry.granted.now ++ later world.old a) (to.entry.refused.now ++ later world.old a))) }
+    ensures { OnOk result (Happened world.new events.old.items events.new.items
+        (calls.insert world.old a c (to.entry.granted.now ++ later world.old a) (to.entry.refused.now ++ later world.old a))) }
 {
     let handed = handed(world, a, c);
     events.push(Event::Call(a, Call::InsertIo))?;
@@ -111,7 +117,8 @@ fn give_entry<'a>(
     block: &'a [Statement],
     events: &mut Vec<Event>,
 ) -> Result<(), AllocError>
-    ensures { OnOk result (Happened world.new events.old.items events.new.items (gives_entry world.old a o d (block.now ++ later world.old a) entry)) }
+    ensures { OnOk result (Happened world.new events.old.items events.new.items
+        (gives_entry world.old a o d (block.now ++ later world.old a) entry)) }
 {
     let Some(entry) = entry else {
         return world.go_on(a, block, Write::Entry(o, d, None, None));
@@ -131,7 +138,8 @@ pub(crate) fn remove_next<'a>(
     to: Branches<'a>,
     events: &mut Vec<Event>,
 ) -> Result<(), AllocError>
-    ensures { OnOk result (Happened world.new events.old.items events.new.items (calls.remove_next world.old a o d (to.entry.granted.now ++ later world.old a) (to.entry.refused.now ++ later world.old a))) }
+    ensures { OnOk result (Happened world.new events.old.items events.new.items
+        (calls.remove_next world.old a o d (to.entry.granted.now ++ later world.old a) (to.entry.refused.now ++ later world.old a))) }
 {
     events.push(Event::Call(a, Call::RemoveNextIo))?;
     match world.take_first(world.filter(a)) {
@@ -152,7 +160,8 @@ fn deferred<'a>(
     granted: &'a [Statement],
     events: &mut Vec<Event>,
 ) -> Result<(), AllocError>
-    ensures { OnOk result (Happened world.new events.old.items events.new.items (calls.deferred world.old a routine (granted.now ++ later world.old a) visit context)) }
+    ensures { OnOk result (Happened world.new events.old.items events.new.items
+        (calls.deferred world.old a routine (granted.now ++ later world.old a) visit context)) }
 {
     let filter = world.filter(a);
     world.go_on(a, granted, Write::Nothing)?;
@@ -176,7 +185,9 @@ fn defer_by<'a>(
     to: Branches<'a>,
     events: &mut Vec<Event>,
 ) -> Result<(), AllocError>
-    ensures { OnOk result (Happened world.new events.old.items events.new.items (calls.defer_by world.old a routine grant (to.entry.granted.now ++ later world.old a) (to.entry.refused.now ++ later world.old a) handed.visit handed.context)) }
+    ensures { OnOk result (Happened world.new events.old.items events.new.items
+        (calls.defer_by world.old a routine grant (to.entry.granted.now ++ later world.old a)
+        (to.entry.refused.now ++ later world.old a) handed.visit handed.context)) }
 {
     match (handed.visit, handed.context) {
         (Some(visit), Some(Some(context))) if grant => {
@@ -198,7 +209,9 @@ pub(crate) fn queue_deferred<'a>(
     to: Branches<'a>,
     events: &mut Vec<Event>,
 ) -> Result<(), AllocError>
-    ensures { OnOk result (Happened world.new events.old.items events.new.items (calls.queue_deferred world.old a routine c grant (to.entry.granted.now ++ later world.old a) (to.entry.refused.now ++ later world.old a))) }
+    ensures { OnOk result (Happened world.new events.old.items events.new.items
+        (calls.queue_deferred world.old a routine c grant (to.entry.granted.now ++ later world.old a)
+        (to.entry.refused.now ++ later world.old a))) }
 {
     let handed = handed(world, a, c);
     events.push(Event::Call(a, Call::QueueDeferredIoWorkItem))?;
@@ -215,7 +228,8 @@ fn queued<'a>(
     granted: &'a [Statement],
     events: &mut Vec<Event>,
 ) -> Result<(), AllocError>
-    ensures { OnOk result (Happened world.new events.old.items events.new.items (calls.queued world.old a routine (granted.now ++ later world.old a) context)) }
+    ensures { OnOk result (Happened world.new events.old.items events.new.items
+        (calls.queued world.old a routine (granted.now ++ later world.old a) context)) }
 {
     let filter = world.filter(a);
     world.go_on(a, granted, Write::Nothing)?;
@@ -238,7 +252,9 @@ fn queue_by<'a>(
     to: Branches<'a>,
     events: &mut Vec<Event>,
 ) -> Result<(), AllocError>
-    ensures { OnOk result (Happened world.new events.old.items events.new.items (calls.queue_by world.old a routine grant (to.entry.granted.now ++ later world.old a) (to.entry.refused.now ++ later world.old a) named)) }
+    ensures { OnOk result (Happened world.new events.old.items events.new.items
+        (calls.queue_by world.old a routine grant (to.entry.granted.now ++ later world.old a)
+        (to.entry.refused.now ++ later world.old a) named)) }
 {
     match named {
         Some(Some(context)) if grant => {
@@ -258,7 +274,9 @@ pub(crate) fn queue_generic<'a>(
     to: Branches<'a>,
     events: &mut Vec<Event>,
 ) -> Result<(), AllocError>
-    ensures { OnOk result (Happened world.new events.old.items events.new.items (calls.queue_generic world.old a routine c grant (to.entry.granted.now ++ later world.old a) (to.entry.refused.now ++ later world.old a))) }
+    ensures { OnOk result (Happened world.new events.old.items events.new.items
+        (calls.queue_generic world.old a routine c grant (to.entry.granted.now ++ later world.old a)
+        (to.entry.refused.now ++ later world.old a))) }
 {
     let named = world.named_in(a, c);
     events.push(Event::Call(a, Call::QueueGenericWorkItem))?;

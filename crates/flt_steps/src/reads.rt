@@ -39,7 +39,8 @@ pub(crate) fn write_value(
     value: Atom,
     events: &mut Vec<Event>,
 ) -> Result<(), AllocError>
-    ensures { OnOk result (Happened world.new events.old.items events.new.items (spec.write_value world.old a c value (later world.old a))) }
+    ensures { OnOk result (Happened world.new events.old.items events.new.items
+        (spec.write_value world.old a c value (later world.old a))) }
 {
     let x = world.context_in(a, c);
     need(a, &[context(x)], events)?;
@@ -77,7 +78,8 @@ pub(crate) fn test_irp<'a>(
     to: Branches<'a>,
     events: &mut Vec<Event>,
 ) -> Result<(), AllocError>
-    ensures { OnOk result (Happened world.new events.old.items events.new.items (spec.test_irp world.old a (to.entry.granted.now ++ later world.old a) (to.entry.refused.now ++ later world.old a))) }
+    ensures { OnOk result (Happened world.new events.old.items events.new.items
+        (spec.test_irp world.old a (to.entry.granted.now ++ later world.old a) (to.entry.refused.now ++ later world.old a))) }
 {
     let visit = world.operation_in(a, OperationVariable::Data);
     need(a, &[operation(visit)], events)?;

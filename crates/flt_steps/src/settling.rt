@@ -82,7 +82,7 @@ pub(crate) fn settles_visit(way: Way) -> bool
     !matches!(way, Way::Stays)
 }
 
-/// Whether the post callback is to be called.
+/// Whether the post callback will be called.
 fn asks_for_frame(way: Way) -> bool
     ensures { result ≡ spec.asks_for_frame (way_meant way) }
 {
@@ -211,7 +211,8 @@ fn completed<'a>(
     answer: Answer,
     events: &mut Vec<Event>,
 ) -> Result<(), AllocError>
-    ensures { OnOk result (Happened world.new events.old.items events.new.items (calls.completed world.old a stack.now (later world.old a) visit context answer)) }
+    ensures { OnOk result (Happened world.new events.old.items events.new.items
+        (calls.completed world.old a stack.now (later world.old a) visit context answer)) }
 {
     let way = way_of(world, stack, visit, answer);
     events.push(Event::Lose(a, Object::Visit(visit)))?;
@@ -233,7 +234,8 @@ fn complete_by<'a>(
     named: Named,
     events: &mut Vec<Event>,
 ) -> Result<(), AllocError>
-    ensures { OnOk result (Happened world.new events.old.items events.new.items (calls.complete_by world.old a stack.now d status (later world.old a) named.visit named.context)) }
+    ensures { OnOk result (Happened world.new events.old.items events.new.items
+        (calls.complete_by world.old a stack.now d status (later world.old a) named.visit named.context)) }
 {
     match (named.visit, named.context) {
         (None, _) | (Some(_), Some(None)) => world.go_on(a, &[], Write::Nothing),
@@ -257,7 +259,8 @@ pub(crate) fn complete_pre<'a>(
     status: Status,
     events: &mut Vec<Event>,
 ) -> Result<(), AllocError>
-    ensures { OnOk result (Happened world.new events.old.items events.new.items (calls.complete_pre world.old a stack.now d status (later world.old a))) }
+    ensures { OnOk result (Happened world.new events.old.items events.new.items
+        (calls.complete_pre world.old a stack.now d status (later world.old a))) }
 {
     let named = Named {
         visit: world.operation_in(a, d),
@@ -278,7 +281,8 @@ fn complete_post_by<'a>(
     visit: Option<usize>,
     events: &mut Vec<Event>,
 ) -> Result<(), AllocError>
-    ensures { OnOk result (Happened world.new events.old.items events.new.items (calls.complete_post_by world.old a stack.now (later world.old a) visit)) }
+    ensures { OnOk result (Happened world.new events.old.items events.new.items
+        (calls.complete_post_by world.old a stack.now (later world.old a) visit)) }
 {
     match visit {
         Some(visit) => {
@@ -296,7 +300,8 @@ pub(crate) fn complete_post<'a>(
     a: usize,
     events: &mut Vec<Event>,
 ) -> Result<(), AllocError>
-    ensures { OnOk result (Happened world.new events.old.items events.new.items (calls.complete_post world.old a stack.now (later world.old a))) }
+    ensures { OnOk result (Happened world.new events.old.items events.new.items
+        (calls.complete_post world.old a stack.now (later world.old a))) }
 {
     let given = world.operation_in(a, OperationVariable::Data);
     events.push(Event::Call(a, Call::CompletePendedPostOperation))?;

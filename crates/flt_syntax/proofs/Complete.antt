@@ -19,7 +19,8 @@ use Rattle.flt_syntax.specs.Status.{begins_status}
 use Rattle.flt_syntax.specs.Cursor.{Input, Outcome, and_then, kind, next, unknown, sees, eat, expect, name, number_within, known_or}
 use Rattle.flt_syntax.proofs.Sound.{differ}
 
-pub then_again : {A B : Type 0} {o : Outcome A} {x : A × Input} {r : Outcome B} (f : A × Input → Outcome B) → o ≡ Ok x → f x ≡ r → and_then o f ≡ r
+pub then_again : {A B : Type 0} {o : Outcome A} {x : A × Input} {r : Outcome B} (f : A × Input → Outcome B) → o ≡ Ok x → f x ≡ r →
+    and_then o f ≡ r
 then_again f e h = ap (λ o. and_then o f) e ∙ h
 
 -- ---- tokens
@@ -52,7 +53,8 @@ pub eat_none : (kd : Kind) (i : Input) → sees kd i ≡ false → eat kd i ≡ 
 unfolding eat
 eat_none kd i e = rw e refl
 
-pub known_again : {A : Type 0} {table : Kind → Option A} {i o : Input} {a : A} (f : SyntaxFault) → Meant table i a o → known_or f (table (kind i)) i ≡ Ok (a, o)
+pub known_again : {A : Type 0} {table : Kind → Option A} {i o : Input} {a : A} (f : SyntaxFault) → Meant table i a o →
+    known_or f (table (kind i)) i ≡ Ok (a, o)
 known_again f (words.meant {t = t} {o = o} e) = ap (λ m. known_or f m (t ∷ o)) e
 
 pub context_again : {i o : Input} {c : ContextVariable} → ContextAt i c o → context_variable i ≡ Ok (c, o)

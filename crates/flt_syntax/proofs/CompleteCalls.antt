@@ -45,7 +45,8 @@ not_same : (a b : ContextVariable) → a ≢ b → same_context a b ≡ false
 unfolding same_context
 not_same a b h = false_same the_type (search rules) a b h
 
-other_again : {i o : Input} {c : ContextVariable} (first : ContextVariable) → ContextAt i c o → c ≢ first → other_context first i ≡ Ok (c, o)
+other_again : {i o : Input} {c : ContextVariable} (first : ContextVariable) → ContextAt i c o → c ≢ first →
+    other_context first i ≡ Ok (c, o)
 unfolding other_context
 other_again {c = c} first p h = then_again _ (context_again p) (rw (not_same c first h) refl)
 
@@ -59,7 +60,8 @@ unfolding old
 old_again (words.without {i = i}) f = then_again _ (eat_none k.Old i (no_tail k.Old i f refl)) refl
 old_again (words.behind n p) f = then_again _ (eat_again n) (then_again _ (context_again p) refl)
 
-other_old_again : {i o : Input} {d : Option ContextVariable} (first : ContextVariable) → OptionalAt k.Old i d o → d ≢ Some first → Follows o → other_old first i ≡ Ok (d, o)
+other_old_again : {i o : Input} {d : Option ContextVariable} (first : ContextVariable) → OptionalAt k.Old i d o → d ≢ Some first →
+    Follows o → other_old first i ≡ Ok (d, o)
 unfolding other_old
 other_old_again first (words.without {i = i}) h f = then_again _ (eat_none k.Old i (no_tail k.Old i f refl)) refl
 other_old_again first (words.behind n p) h f = then_again _ (eat_again n) (then_again _ (other_again first p (λ e. h (ap Some e))) refl)
@@ -137,23 +139,31 @@ remove_at : {i j : Input} (scope : Scope) → scope.queue ≡ true → Next k.Re
 unfolding queue_call same_kind
 remove_at scope q n = fallible_at scope n ∙ rw (q, kind_is n) refl
 
-pub fallible_again : {scope : Scope} {i o : Input} {c : FallibleCall} → FallibleAt scope i c o → Follows o → fallible_call scope i ≡ Ok (c, o)
+pub fallible_again : {scope : Scope} {i o : Input} {c : FallibleCall} → FallibleAt scope i c o → Follows o →
+    fallible_call scope i ≡ Ok (c, o)
 unfolding get_context set_context delete_context_of insert_io remove_next_io queue_deferred queue_generic
-fallible_again {scope = scope} (g.allocate n p) f = fallible_at scope n ∙ then_again _ (ap context_variable (rest_is n) ∙ context_again p) refl
-fallible_again {scope = scope} (g.get_stream n p) f = fallible_at scope n ∙ then_again _ (ap context_variable (rest_is n) ∙ context_again p) refl
-fallible_again {scope = scope} (g.get_instance n p) f = fallible_at scope n ∙ then_again _ (ap context_variable (rest_is n) ∙ context_again p) refl
+fallible_again {scope = scope} (g.allocate n p) f = fallible_at scope n
+    ∙ then_again _ (ap context_variable (rest_is n) ∙ context_again p) refl
+fallible_again {scope = scope} (g.get_stream n p) f = fallible_at scope n
+    ∙ then_again _ (ap context_variable (rest_is n) ∙ context_again p) refl
+fallible_again {scope = scope} (g.get_instance n p) f = fallible_at scope n
+    ∙ then_again _ (ap context_variable (rest_is n) ∙ context_again p) refl
 fallible_again {scope = scope} (g.set_stream n p q x h) f =
-    fallible_at scope n ∙ then_again _ (ap existing (rest_is n) ∙ existing_again p) (then_again _ (context_again q) (then_again _ (other_old_again _ x h f) refl))
+    fallible_at scope n ∙ then_again _ (ap existing (rest_is n) ∙ existing_again p)
+    (then_again _ (context_again q) (then_again _ (other_old_again _ x h f) refl))
 fallible_again {scope = scope} (g.set_instance n p q x h) f =
-    fallible_at scope n ∙ then_again _ (ap existing (rest_is n) ∙ existing_again p) (then_again _ (context_again q) (then_again _ (other_old_again _ x h f) refl))
+    fallible_at scope n ∙ then_again _ (ap existing (rest_is n) ∙ existing_again p)
+    (then_again _ (context_again q) (then_again _ (other_old_again _ x h f) refl))
 fallible_again {scope = scope} (g.delete_stream n p) f = fallible_at scope n ∙ then_again _ (ap old (rest_is n) ∙ old_again p f) refl
 fallible_again {scope = scope} (g.delete_instance n p) f = fallible_at scope n ∙ then_again _ (ap old (rest_is n) ∙ old_again p f) refl
 fallible_again {scope = scope} (g.insert_io q n m p) f =
     insert_at scope q n ∙ then_again _ (ap (expect k.Data) (rest_is n) ∙ expect_again m) (then_again _ (with_context_again p f) refl)
 fallible_again {scope = scope} (g.remove_next_io q n p m x) f =
-    remove_at scope q n ∙ then_again _ (ap removed_variable (rest_is n) ∙ removed_again p) (then_again _ (expect_again m) (then_again _ (context_again x) refl))
+    remove_at scope q n ∙ then_again _ (ap removed_variable (rest_is n) ∙ removed_again p)
+    (then_again _ (expect_again m) (then_again _ (context_again x) refl))
 fallible_again {scope = scope} (g.queue_deferred n m p q) f =
-    fallible_at scope n ∙ then_again _ (ap (expect k.Data) (rest_is n) ∙ expect_again m) (then_again _ (routine_again scope p) (then_again _ (with_context_again q f) refl))
+    fallible_at scope n ∙ then_again _ (ap (expect k.Data) (rest_is n) ∙ expect_again m)
+    (then_again _ (routine_again scope p) (then_again _ (with_context_again q f) refl))
 fallible_again {scope = scope} (g.queue_generic n p q) f =
     fallible_at scope n ∙ then_again _ (ap (routine scope) (rest_is n) ∙ routine_again scope p) (then_again _ (with_context_again q f) refl)
 
@@ -165,15 +175,23 @@ pub plain_again : {scope : Scope} {i o : Input} {c : PlainCall} → PlainAt scop
 unfolding reference_context acquire_lock acquire_shared release_lock complete_pre complete_post
 plain_again {scope = scope} (g.delete n p) f = plain_at scope n ∙ then_again _ (ap context_variable (rest_is n) ∙ context_again p) refl
 plain_again {scope = scope} (g.reference n p m q h) f =
-    plain_at scope n ∙ then_again _ (ap context_variable (rest_is n) ∙ context_again p) (then_again _ (expect_again m) (then_again _ (other_again _ q h) refl))
+    plain_at scope n ∙ then_again _ (ap context_variable (rest_is n) ∙ context_again p)
+    (then_again _ (expect_again m) (then_again _ (other_again _ q h) refl))
 plain_again {scope = scope} (g.release n p) f = plain_at scope n ∙ then_again _ (ap context_variable (rest_is n) ∙ context_again p) refl
-plain_again {scope = scope} (g.acquire_spin n p) f = plain_at scope n ∙ then_again _ (ap (lock_named scope Spin) (rest_is n) ∙ lock_again p) refl
-plain_again {scope = scope} (g.release_spin n p) f = plain_at scope n ∙ then_again _ (ap (lock_named scope Spin) (rest_is n) ∙ lock_again p) refl
-plain_again {scope = scope} (g.acquire_fast n p) f = plain_at scope n ∙ then_again _ (ap (lock_named scope Fast) (rest_is n) ∙ lock_again p) refl
-plain_again {scope = scope} (g.release_fast n p) f = plain_at scope n ∙ then_again _ (ap (lock_named scope Fast) (rest_is n) ∙ lock_again p) refl
-plain_again {scope = scope} (g.acquire_push n p) f = plain_at scope n ∙ then_again _ (ap (lock_named scope Push) (rest_is n) ∙ lock_again p) refl
-plain_again {scope = scope} (g.acquire_push_shared n p) f = plain_at scope n ∙ then_again _ (ap (lock_named scope Push) (rest_is n) ∙ lock_again p) refl
-plain_again {scope = scope} (g.release_push n p) f = plain_at scope n ∙ then_again _ (ap (lock_named scope Push) (rest_is n) ∙ lock_again p) refl
+plain_again {scope = scope} (g.acquire_spin n p) f = plain_at scope n
+    ∙ then_again _ (ap (lock_named scope Spin) (rest_is n) ∙ lock_again p) refl
+plain_again {scope = scope} (g.release_spin n p) f = plain_at scope n
+    ∙ then_again _ (ap (lock_named scope Spin) (rest_is n) ∙ lock_again p) refl
+plain_again {scope = scope} (g.acquire_fast n p) f = plain_at scope n
+    ∙ then_again _ (ap (lock_named scope Fast) (rest_is n) ∙ lock_again p) refl
+plain_again {scope = scope} (g.release_fast n p) f = plain_at scope n
+    ∙ then_again _ (ap (lock_named scope Fast) (rest_is n) ∙ lock_again p) refl
+plain_again {scope = scope} (g.acquire_push n p) f = plain_at scope n
+    ∙ then_again _ (ap (lock_named scope Push) (rest_is n) ∙ lock_again p) refl
+plain_again {scope = scope} (g.acquire_push_shared n p) f = plain_at scope n
+    ∙ then_again _ (ap (lock_named scope Push) (rest_is n) ∙ lock_again p) refl
+plain_again {scope = scope} (g.release_push n p) f = plain_at scope n
+    ∙ then_again _ (ap (lock_named scope Push) (rest_is n) ∙ lock_again p) refl
 plain_again {scope = scope} (g.complete_pre n p q) f =
     plain_at scope n ∙ then_again _ (ap operation_variable (rest_is n) ∙ operation_again p) (then_again _ (status_again q f) refl)
 plain_again {scope = scope} (g.complete_post n m) f = plain_at scope n ∙ then_again _ (ap (expect k.Data) (rest_is n) ∙ expect_again m) refl

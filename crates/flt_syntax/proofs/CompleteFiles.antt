@@ -39,7 +39,8 @@ operation_again : {i o : Input} {op : Operation} → Meant operation_of i op o �
 unfolding operation
 operation_again {i = i} p = known_again (refusal i) p
 
-head_at : {kd : Kind} {i j : Input} (text : Text) (found : List Callback) → Next kd i j → new_head text found i ≡ new_head_by text found kd i
+head_at : {kd : Kind} {i j : Input} (text : Text) (found : List Callback) → Next kd i j →
+    new_head text found i ≡ new_head_by text found kd i
 unfolding new_head
 head_at {i = i} text found n = ap (λ x. new_head_by text found x i) (kind_is n)
 
@@ -47,16 +48,19 @@ event_at : {kd : Kind} {i j : Input} → Next kd i j → event i ≡ event_by kd
 unfolding event
 event_at {i = i} n = ap (λ x. event_by x i) (kind_is n)
 
-event_again : {o : Input} {h : Head} (found : List Callback) (i : Input) → event i ≡ Ok (h, o) → has_event h found ≡ false → new_event found i ≡ Ok (h, o)
+event_again : {o : Input} {h : Head} (found : List Callback) (i : Input) → event i ≡ Ok (h, o) → has_event h found ≡ false →
+    new_event found i ≡ Ok (h, o)
 unfolding new_event
 event_again found i e fresh = then_again _ e (rw fresh refl)
 
-routine_again : {text name : Text} {kd : Kind} {i j o : Input} (found : List Callback) → Next kd i j → NameAt text j name o → has_routine name found ≡ false →
+routine_again : {text name : Text} {kd : Kind} {i j o : Input} (found : List Callback) → Next kd i j → NameAt text j name o →
+    has_routine name found ≡ false →
     new_routine text found i ≡ Ok (name, o)
 unfolding new_routine
 routine_again {text = text} found n p fresh = ap (new_name text found) (rest_is n) ∙ then_again _ (spelled_again p) (rw fresh refl)
 
-new_head_again : {text : Text} {i o : Input} {h : Head} (found : List Callback) → HeadAt text i h o → is_declared h found ≡ false → new_head text found i ≡ Ok (h, o)
+new_head_again : {text : Text} {i o : Input} {h : Head} (found : List Callback) → HeadAt text i h o →
+    is_declared h found ≡ false → new_head text found i ≡ Ok (h, o)
 new_head_again {text = text} found (g.pre n p) fresh =
     head_at text found n ∙ event_again found _ (event_at n ∙ then_again _ (ap operation (rest_is n) ∙ operation_again p) refl) fresh
 new_head_again {text = text} found (g.post n p) fresh =
@@ -67,7 +71,8 @@ new_head_again {text = text} found (g.deferred_pre n p) fresh = head_at text fou
 new_head_again {text = text} found (g.deferred_post n p) fresh = head_at text found n ∙ then_again _ (routine_again found n p fresh) refl
 new_head_again {text = text} found (g.generic n p) fresh = head_at text found n ∙ then_again _ (routine_again found n p fresh) refl
 
-head_again : {text : Text} {i o : Input} {h : Head} (found : List Callback) → HeadAt text i h o → is_declared h found ≡ false → length found < max_callbacks →
+head_again : {text : Text} {i o : Input} {h : Head} (found : List Callback) → HeadAt text i h o → is_declared h found ≡ false →
+    length found < max_callbacks →
     head text found i ≡ Ok (h, o)
 unfolding head
 head_again found p fresh few = rw (lt-ltb _ _ few) (new_head_again found p fresh)
@@ -90,11 +95,13 @@ head_less (g.generic n p) = omega (arith, next_less n, name_less p)
 
 -- ---- callbacks
 
-callback_again : {scope : Scope} {i o : Input} {c : Callback} (found : List Callback) → CallbackAt scope i c o → is_declared c.head found ≡ false →
+callback_again : {scope : Scope} {i o : Input} {c : Callback} (found : List Callback) → CallbackAt scope i c o →
+    is_declared c.head found ≡ false →
     length found < max_callbacks → is_small c ≡ true → callback scope found i ≡ Ok (c, o)
 unfolding callback
 callback_again found (g.callback p n q m) fresh few small =
-    then_again _ (head_again found p fresh few) (then_again _ (expect_again n) (then_again _ (statements_again q m) (then_again _ (expect_again m) (rw small refl))))
+    then_again _ (head_again found p fresh few)
+    (then_again _ (expect_again n) (then_again _ (statements_again q m) (then_again _ (expect_again m) (rw small refl))))
 
 callback_less : {scope : Scope} {i o : Input} {c : Callback} → CallbackAt scope i c o → length o < length i
 callback_less (g.callback p n q m) = omega (arith, head_less p, next_less n, statements_less q, next_less m)
@@ -138,8 +145,10 @@ both_true : (a b : Bool) → (a && b) ≡ true → (a ≡ true) × (b ≡ true)
 both_true true b e = (refl, e)
 both_true false b e = elim (differ e) [ ]
 
-callbacks_from_again : {scope : Scope} {i o : Input} {cs : List Callback} → CallbacksAt scope i cs o → kind o ≡ k.End → (n : ℕ) (found : List Callback) → length i ≤ n →
-    AreNewCallbacks found cs → length found + length cs ≤ max_callbacks → list_all is_small cs ≡ true → callbacks_from scope n found i ≡ Ok (found ++ cs, o)
+callbacks_from_again : {scope : Scope} {i o : Input} {cs : List Callback} → CallbacksAt scope i cs o → kind o ≡ k.End →
+    (n : ℕ) (found : List Callback) → length i ≤ n →
+    AreNewCallbacks found cs → length found + length cs ≤ max_callbacks → list_all is_small cs ≡ true →
+    callbacks_from scope n found i ≡ Ok (found ++ cs, o)
 unfolding callbacks_from
 callbacks_from_again (g.last p) end zero found h fresh few small = absurd (omega (arith, callback_less p))
 callbacks_from_again {o = o} (g.last {c = c} p) end (suc n) found h fresh few small =
@@ -153,7 +162,8 @@ callbacks_from_again {o = o} (g.more {j = j} {c = c} {cs = cs} p q) end (suc n) 
     (callbacks_from_again q end n (found ++ c ∷ []) (omega (arith, callback_less p)) fresh.1 (one_less found cs c max_callbacks few) s.1
     ∙ ap (λ x. Ok (x, o)) (append_assoc found (c ∷ []) cs)))
 
-callbacks_again : {scope : Scope} {i o : Input} {cs : List Callback} → CallbacksAt scope i cs o → kind o ≡ k.End → AreNewCallbacks [] cs → length cs ≤ max_callbacks →
+callbacks_again : {scope : Scope} {i o : Input} {cs : List Callback} → CallbacksAt scope i cs o → kind o ≡ k.End →
+    AreNewCallbacks [] cs → length cs ≤ max_callbacks →
     list_all is_small cs ≡ true → callbacks scope i ≡ Ok (cs, o)
 unfolding callbacks
 callbacks_again {i = i} p end fresh few small = callbacks_from_again p end (length i) [] (omega arith) fresh (omega arith) small
@@ -164,12 +174,14 @@ lock_kind_again : {i o : Input} {x : LockKind} → Meant lock_kind_of i x o → 
 unfolding lock_kind
 lock_kind_again {i = i} p = known_again (refusal i) p
 
-lock_again : {text name : Text} {i b o : Input} {lk : LockKind} (found : List Lock) → Meant lock_kind_of i lk b → NameAt text b name o → has_lock name found ≡ false →
+lock_again : {text name : Text} {i b o : Input} {lk : LockKind} (found : List Lock) → Meant lock_kind_of i lk b →
+    NameAt text b name o → has_lock name found ≡ false →
     length found < max_locks → lock text found i ≡ Ok (record { kind = lk; name = name }, o)
 unfolding lock
 lock_again found p q fresh few = then_again _ (lock_kind_again p) (then_again _ (spelled_again q) (rw (fresh, lt-ltb _ _ few) refl))
 
-locks_from_again : {text : Text} {i o : Input} {ls : List Lock} → LocksAt text i ls o → sees k.Lock o ≡ false → 0 < length o → (n : ℕ) (found : List Lock) → length i ≤ n →
+locks_from_again : {text : Text} {i o : Input} {ls : List Lock} → LocksAt text i ls o → sees k.Lock o ≡ false → 0 < length o →
+    (n : ℕ) (found : List Lock) → length i ≤ n →
     AreNewLocks found ls → length found + length ls ≤ max_locks → locks_from text n found i ≡ Ok (found ++ ls, o)
 unfolding locks_from
 locks_from_again g.no_lock e some zero found h fresh few = absurd (omega arith)
@@ -179,10 +191,12 @@ locks_from_again {o = o} (g.one_lock {kind = lk} {name = name} {ls = ls} m p q x
     let l : Lock = record { kind = lk; name = name } in
     then_again _ (eat_again m)
     (then_again _ (lock_again found p q fresh.0 (omega arith))
-    (locks_from_again x e some n (found ++ l ∷ []) (omega (arith, next_less m, meant_less p, name_less q)) fresh.1 (one_less found ls l max_locks few)
+    (locks_from_again x e some n (found ++ l ∷ []) (omega (arith, next_less m, meant_less p, name_less q)) fresh.1
+    (one_less found ls l max_locks few)
     ∙ ap (λ y. Ok (y, o)) (append_assoc found (l ∷ []) ls)))
 
-locks_again : {text : Text} {i o : Input} {ls : List Lock} → LocksAt text i ls o → sees k.Lock o ≡ false → 0 < length o → AreNewLocks [] ls → length ls ≤ max_locks →
+locks_again : {text : Text} {i o : Input} {ls : List Lock} → LocksAt text i ls o → sees k.Lock o ≡ false → 0 < length o →
+    AreNewLocks [] ls → length ls ≤ max_locks →
     locks text i ≡ Ok (ls, o)
 unfolding locks
 locks_again {i = i} p e some fresh few = locks_from_again p e some (length i) [] (omega arith) fresh (omega arith)
@@ -203,13 +217,15 @@ queue_less (g.some_queue n) = omega (arith, next_less n)
 
 -- ---- the file
 
-file_at : {text : Text} {i : Input} {f : Filter} → FileAt text i f → 1 ≤ f.altitude → f.altitude ≤ max_altitude → AreNewLocks [] f.locks → length f.locks ≤ max_locks →
+file_at : {text : Text} {i : Input} {f : Filter} → FileAt text i f → 1 ≤ f.altitude → f.altitude ≤ max_altitude →
+    AreNewLocks [] f.locks → length f.locks ≤ max_locks →
     AreNewCallbacks [] f.callbacks → length f.callbacks ≤ max_callbacks → IsTrue (are_small f) → (o : Input) × (file text i ≡ Ok (f, o))
 unfolding file
 file_at (g.file {e = e} {l = l} {o = o} n m x p y q w end) low high new_locks few_locks new_callbacks few_callbacks small =
     let begins = callbacks_begin w in (
       o,
-      then_again _ (expect_again n) (then_again _ (spelled_again m) (then_again _ (expect_again x) (then_again _ (within_again 1 max_altitude p low high)
+      then_again _ (expect_again n) (then_again _ (spelled_again m)
+          (then_again _ (expect_again x) (then_again _ (within_again 1 max_altitude p low high)
           (then_again _ (locks_again y (queue_no_lock q begins) (omega (arith, queue_less q, callbacks_less w)) new_locks few_locks)
           (then_again _ (queue_again q begins)
           (then_again _ (callbacks_again w end new_callbacks few_callbacks small) refl)))))),
@@ -221,7 +237,8 @@ no_queue_fault : (q : Option Position) (cs : List Callback) → IsServed q cs �
 no_queue_fault None cs e = refl
 no_queue_fault (Some at) cs e = rw e refl
 
-no_callback_fault : (cs : List Callback) (c : Callback) → lacks_pre cs c.head ≡ false → missing cs c.head c.body ≡ None → callback_fault cs c ≡ None
+no_callback_fault : (cs : List Callback) (c : Callback) → lacks_pre cs c.head ≡ false → missing cs c.head c.body ≡ None →
+    callback_fault cs c ≡ None
 unfolding callback_fault
 no_callback_fault cs c e h = rw (e, h) refl
 

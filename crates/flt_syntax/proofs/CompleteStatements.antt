@@ -79,8 +79,10 @@ sign_at {i = i} x n = ap (λ y. expression_by x y i) (kind_is n)
 expression_again : {i o : Input} {x : Expression} → ExpressionAt i x o → Follows o → expression i ≡ Ok (x, o)
 unfolding expression
 expression_again {o = o} (g.one {x = x} p) f = then_again _ (leading_again p) (ends_there x o (kind o) f)
-expression_again (g.sum {x = x} p n q) f = then_again _ (leading_again p) (sign_at x n ∙ then_again _ (ap atom (rest_is n) ∙ atom_again q) refl)
-expression_again (g.difference {x = x} p n q) f = then_again _ (leading_again p) (sign_at x n ∙ then_again _ (ap atom (rest_is n) ∙ atom_again q) refl)
+expression_again (g.sum {x = x} p n q) f =
+    then_again _ (leading_again p) (sign_at x n ∙ then_again _ (ap atom (rest_is n) ∙ atom_again q) refl)
+expression_again (g.difference {x = x} p n q) f =
+    then_again _ (leading_again p) (sign_at x n ∙ then_again _ (ap atom (rest_is n) ∙ atom_again q) refl)
 
 expression_less : {i o : Input} {x : Expression} → ExpressionAt i x o → length o < length i
 expression_less (g.one p) = atom_less p
@@ -115,15 +117,18 @@ value_at {i = i} n m = ap (λ y. number_by n y i) (kind_is m)
 
 -- of statements without blocks, those that begin with a variable
 module _ (scope : Scope) (l : ℕ) where
-  at_number : {i a : Input} {n : NumberVariable} → Meant number_variable_of i n a → simple_statement scope l i ≡ (statements_made.Act l <$> set_number n) i
+  at_number : {i a : Input} {n : NumberVariable} → Meant number_variable_of i n a →
+      simple_statement scope l i ≡ (statements_made.Act l <$> set_number n) i
   unfolding simple_statement
   at_number p = rw (means p) refl
 
-  at_context : {i a : Input} {c : ContextVariable} → ContextAt i c a → simple_statement scope l i ≡ (statements_made.Act l <$> clear_context c) i
+  at_context : {i a : Input} {c : ContextVariable} → ContextAt i c a →
+      simple_statement scope l i ≡ (statements_made.Act l <$> clear_context c) i
   unfolding simple_statement
   at_context {i = i} p = rw (none_of _ (other is_context is_number (kind i) (context_number (kind i)) (some_of (means p))), means p) refl
 
-  at_removed : {i a : Input} {x : RemovedVariable} → Meant removed_variable_of i x a → simple_statement scope l i ≡ (statements_made.Act l <$> clear_operation x) i
+  at_removed : {i a : Input} {x : RemovedVariable} → Meant removed_variable_of i x a →
+      simple_statement scope l i ≡ (statements_made.Act l <$> clear_operation x) i
   unfolding simple_statement
   at_removed {i = i} p =
       rw (
@@ -163,11 +168,14 @@ module _ (scope : Scope) (l : ℕ) where
       at_number p ∙ then_again _ (then_again _ (ap (expect k.Assign) (left_is p) ∙ expect_again m)
       (value_at n w ∙ then_again _ (ap operation_variable (rest_is w) ∙ operation_again q) refl)) refl
   action_again (g.write_value n p m q) f =
-      word_at n refl ∙ then_again _ (then_again _ (ap context_variable (rest_is n) ∙ context_again p) (then_again _ (expect_again m) (then_again _ (atom_again q) refl))) refl
+      word_at n refl ∙ then_again _ (then_again _ (ap context_variable (rest_is n) ∙ context_again p)
+      (then_again _ (expect_again m) (then_again _ (atom_again q) refl))) refl
   action_again (g.clear_context p m n) f =
-      at_context p ∙ then_again _ (then_again _ (then_again _ (ap (expect k.Assign) (left_is p) ∙ expect_again m) (expect_again n)) refl) refl
+      at_context p ∙ then_again _ (then_again _
+      (then_again _ (ap (expect k.Assign) (left_is p) ∙ expect_again m) (expect_again n)) refl) refl
   action_again (g.clear_operation p m n) f =
-      at_removed p ∙ then_again _ (then_again _ (then_again _ (ap (expect k.Assign) (left_is p) ∙ expect_again m) (expect_again n)) refl) refl
+      at_removed p ∙ then_again _ (then_again _
+      (then_again _ (ap (expect k.Assign) (left_is p) ∙ expect_again m) (expect_again n)) refl) refl
 
 action_simply : {i o : Input} {a : Action} → ActionAt i a o → not_simple (kind i) ≡ false
 action_simply {i = i} (g.set_number p m q) = other is_number not_simple (kind i) (number_simple (kind i)) (some_of (means p))
@@ -195,7 +203,8 @@ module _ (scope : Scope) where
   unfolding condition
   if_context p = rw (means p) refl
 
-  if_removed : {i a : Input} {x : RemovedVariable} → Meant removed_variable_of i x a → condition scope i ≡ (made.Test <$> operation_test x) i
+  if_removed : {i a : Input} {x : RemovedVariable} → Meant removed_variable_of i x a →
+      condition scope i ≡ (made.Test <$> operation_test x) i
   unfolding condition
   if_removed {i = i} p = rw (none_of _ (other is_removed is_context (kind i) (removed_context (kind i)) (some_of (means p))), means p) refl
 
@@ -230,13 +239,17 @@ module _ (scope : Scope) where
   test_again : {i o : Input} {t : Test} → TestAt i t o → condition scope i ≡ Ok (made.Test t, o)
   unfolding context_test operation_test number_test
   test_again (g.context_is_some p m n) =
-      if_context p ∙ then_again _ (then_again _ (then_again _ (ap (expect k.NotEqual) (left_is p) ∙ expect_again m) (expect_again n)) refl) refl
+      if_context p ∙ then_again _ (then_again _
+      (then_again _ (ap (expect k.NotEqual) (left_is p) ∙ expect_again m) (expect_again n)) refl) refl
   test_again (g.operation_is_some p m n) =
-      if_removed p ∙ then_again _ (then_again _ (then_again _ (ap (expect k.NotEqual) (left_is p) ∙ expect_again m) (expect_again n)) refl) refl
+      if_removed p ∙ then_again _ (then_again _
+      (then_again _ (ap (expect k.NotEqual) (left_is p) ∙ expect_again m) (expect_again n)) refl) refl
   test_again (g.equal {n = n} p m q) =
-      if_number p ∙ then_again _ (ap (λ x. comparison_by n (kind x) x) (left_is p) ∙ comparison_at n m ∙ then_again _ (ap atom (rest_is m) ∙ atom_again q) refl) refl
+      if_number p ∙ then_again _ (ap (λ x. comparison_by n (kind x) x) (left_is p) ∙ comparison_at n m
+      ∙ then_again _ (ap atom (rest_is m) ∙ atom_again q) refl) refl
   test_again (g.less {n = n} p m q) =
-      if_number p ∙ then_again _ (ap (λ x. comparison_by n (kind x) x) (left_is p) ∙ comparison_at n m ∙ then_again _ (ap atom (rest_is m) ∙ atom_again q) refl) refl
+      if_number p ∙ then_again _ (ap (λ x. comparison_by n (kind x) x) (left_is p) ∙ comparison_at n m
+      ∙ then_again _ (ap atom (rest_is m) ∙ atom_again q) refl) refl
   test_again (g.is_irp n m) = if_at n refl ∙ then_again _ (ap (expect k.Data) (rest_is n) ∙ expect_again m) refl
   test_again (g.is_draining n) = if_at n refl ∙ ap (λ x. Ok (made.Test IsDraining, x)) (rest_is n)
 
@@ -294,9 +307,11 @@ statement_follows : {scope : Scope} {d r : ℕ} {i o : Input} {s : Statement} �
 statement_follows {i = i} p = left_false (goes_on (kind i)) (is_close (kind i)) (statement_starts p)
 
 statement_stays : {scope : Scope} {d r : ℕ} {i o : Input} {s : Statement} → StatementAt scope d r i s o → sees k.CloseBrace i ≡ false
-statement_stays {i = i} p = apart is_close (kind i) k.CloseBrace (right_false (goes_on (kind i)) (is_close (kind i)) (statement_starts p)) refl
+statement_stays {i = i} p = apart is_close (kind i) k.CloseBrace
+    (right_false (goes_on (kind i)) (is_close (kind i)) (statement_starts p)) refl
 
-statements_follow : {scope : Scope} {d r : ℕ} {i o e : Input} {ss : List Statement} → StatementsAt scope d r i ss o → Next k.CloseBrace o e → Follows i
+statements_follow : {scope : Scope} {d r : ℕ} {i o e : Input} {ss : List Statement} → StatementsAt scope d r i ss o →
+    Next k.CloseBrace o e → Follows i
 statements_follow s.empty n = follows_close n
 statements_follow (s.go_on p _) n = statement_follows p
 
@@ -325,20 +340,27 @@ repeats_less scope inner r i = let e : suc r - 1 ≡ r = omega arith in rw (ne_e
 mutual
   unfolding otherwise choice block statements statements_from
 
-  statement_again : {scope : Scope} {d r : ℕ} {i o : Input} {s : Statement} → StatementAt scope d r i s o → Follows o → statement scope (block scope d) r i ≡ Ok (s, o)
-  statement_again {scope = scope} {d = d} {r = r} {i = i} (s.act p) f = at_simple scope (block scope d) r i (action_simply p) ∙ action_again scope (line i) p f
+  statement_again : {scope : Scope} {d r : ℕ} {i o : Input} {s : Statement} → StatementAt scope d r i s o → Follows o →
+      statement scope (block scope d) r i ≡ Ok (s, o)
+  statement_again {scope = scope} {d = d} {r = r} {i = i} (s.act p) f = at_simple scope (block scope d) r i (action_simply p)
+      ∙ action_again scope (line i) p f
   statement_again {scope = scope} {d = d} {r = r} {i = i} (s.call p) f =
-      at_simple scope (block scope d) r i (plain_simply p) ∙ at_plain scope (line i) i (plain_begins p) ∙ then_again _ (plain_again p f) refl
+      at_simple scope (block scope d) r i (plain_simply p) ∙ at_plain scope (line i) i (plain_begins p)
+      ∙ then_again _ (plain_again p f) refl
   statement_again {scope = scope} {d = d} {r = r} {i = i} (s.return n p) f =
-      at_simple scope (block scope d) r i (ap not_simple (kind_is n)) ∙ word_at scope (line i) n refl ∙ then_again _ (ap optional_status (rest_is n) ∙ optional_status_again p f) refl
+      at_simple scope (block scope d) r i (ap not_simple (kind_is n)) ∙ word_at scope (line i) n refl
+      ∙ then_again _ (ap optional_status (rest_is n) ∙ optional_status_again p f) refl
   statement_again {scope = scope} {d = d} {r = r} (s.choice n p q x) f =
       statement_at scope (block scope d) r n ∙
-      then_again _ (ap (condition scope) (rest_is n) ∙ condition_again scope p (block_follows q)) (then_again _ (block_again q) (then_again _ (else_again x f) refl))
+      then_again _ (ap (condition scope) (rest_is n) ∙ condition_again scope p (block_follows q))
+      (then_again _ (block_again q) (then_again _ (else_again x f) refl))
   statement_again {scope = scope} {d = d} (s.repeat {r = r} {i = i} n p h q) f =
       statement_at scope (block scope d) (suc r) n ∙ repeats_less scope (block scope d) r i ∙
-      then_again _ (ap (number_within 0 max_turns) (rest_is n) ∙ within_again 0 max_turns p (omega arith) h) (then_again _ (block_again q) refl)
+      then_again _ (ap (number_within 0 max_turns) (rest_is n) ∙ within_again 0 max_turns p (omega arith) h)
+      (then_again _ (block_again q) refl)
 
-  else_again : {scope : Scope} {d r : ℕ} {i o : Input} {ss : List Statement} → ElseAt scope d r i ss o → Follows o → otherwise scope (block scope d) r i ≡ Ok (ss, o)
+  else_again : {scope : Scope} {d r : ℕ} {i o : Input} {ss : List Statement} → ElseAt scope d r i ss o → Follows o →
+      otherwise scope (block scope d) r i ≡ Ok (ss, o)
   else_again (s.no_else {i = i}) f = then_again _ (eat_none k.Else i (no_tail k.Else i f refl)) refl
   else_again (s.some_else n p) f = then_again _ (eat_again n) (block_again p)
 
@@ -346,9 +368,11 @@ mutual
   block_follows (s.block n p m) = follows_open n
 
   block_again : {scope : Scope} {d r : ℕ} {i o : Input} {ss : List Statement} → BlockAt scope d r i ss o → block scope d r i ≡ Ok (ss, o)
-  block_again (s.block {a = a} n p m) = then_again _ (expect_again n) (then_again _ (turns_again p m (length a) [] (omega arith)) (then_again _ (expect_again m) refl))
+  block_again (s.block {a = a} n p m) =
+      then_again _ (expect_again n) (then_again _ (turns_again p m (length a) [] (omega arith)) (then_again _ (expect_again m) refl))
 
-  turns_again : {scope : Scope} {d r : ℕ} {i o e : Input} {ss : List Statement} → StatementsAt scope d r i ss o → Next k.CloseBrace o e → (n : ℕ) (found : List Statement) → length i ≤ n →
+  turns_again : {scope : Scope} {d r : ℕ} {i o e : Input} {ss : List Statement} → StatementsAt scope d r i ss o →
+      Next k.CloseBrace o e → (n : ℕ) (found : List Statement) → length i ≤ n →
       statements_from scope (block scope d) n r found i ≡ Ok (found ++ ss, o)
   turns_again s.empty m zero found h = absurd (omega (arith, next_less m))
   turns_again s.empty m (suc n) found h = rw (sees_it m, append-nil) refl
@@ -358,7 +382,8 @@ mutual
       (then_again _ (statement_again p (statements_follow q m))
       (turns_again q m n (found ++ x ∷ []) (omega (arith, statement_less p)) ∙ ap (λ z. Ok (z, o)) (append_assoc found (x ∷ []) ss)))
 
-pub statements_again : {scope : Scope} {d r : ℕ} {i o e : Input} {ss : List Statement} → StatementsAt scope d r i ss o → Next k.CloseBrace o e →
+pub statements_again : {scope : Scope} {d r : ℕ} {i o e : Input} {ss : List Statement} → StatementsAt scope d r i ss o →
+    Next k.CloseBrace o e →
     statements scope (block scope d) r i ≡ Ok (ss, o)
 unfolding statements
 statements_again {i = i} p m = turns_again p m (length i) [] (omega arith)

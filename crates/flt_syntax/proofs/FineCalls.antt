@@ -42,7 +42,8 @@ use Rattle.flt_syntax.proofs.TokenBytes.{AreTokens, more}
 pub next_on : {text : Text} {kd : Kind} {i o : Input} → Next kd i o → AreTokens text i → AreTokens text o
 next_on (words.next e) (more t h) = h
 
-pub meant_on : {A : Type 0} {text : Text} {table : Kind → Option A} {i o : Input} {a : A} → Meant table i a o → AreTokens text i → AreTokens text o
+pub meant_on : {A : Type 0} {text : Text} {table : Kind → Option A} {i o : Input} {a : A} → Meant table i a o → AreTokens text i →
+    AreTokens text o
 meant_on (words.meant e) (more t h) = h
 
 pub fine_name : {text name : Text} {i o : Input} → NameAt text i name o → AreTokens text i → (is_name name ≡ true) × AreTokens text o
@@ -51,7 +52,8 @@ fine_name (words.name e) (more t h) = (t.named e, h)
 pub fine_number : {text : Text} {n : ℕ} {i o : Input} → NumberAt i n o → AreTokens text i → (n < 2 ^ 64) × AreTokens text o
 fine_number (words.number e) (more t h) = (t.fits, h)
 
-optional_on : {text : Text} {kd : Kind} {i o : Input} {c : Option ContextVariable} → OptionalAt kd i c o → AreTokens text i → AreTokens text o
+optional_on : {text : Text} {kd : Kind} {i o : Input} {c : Option ContextVariable} → OptionalAt kd i c o → AreTokens text i →
+    AreTokens text o
 optional_on words.without h = h
 optional_on (words.behind n p) h = meant_on p (next_on n h)
 
@@ -93,7 +95,8 @@ name_at kind name locks l (Some n) e h =
     ∙ (bytes_eq-Decides x.name name).0 (and_parts (same_lock_kind x.kind kind) (bytes_eq x.name name) p.1).1
 
 -- the lock that is found by a name has that name
-name_back : (kind : LockKind) (name : Text) (locks : List Lock) (l : LockNumber) → lock_number kind name locks ≡ Some l → lock_name locks l ≡ name
+name_back : (kind : LockKind) (name : Text) (locks : List Lock) (l : LockNumber) → lock_number kind name locks ≡ Some l →
+    lock_name locks l ≡ name
 name_back kind name locks l e = name_at kind name locks l (lock_place kind name locks) refl e
 
 fine_lock : {scope : Scope} {kind : LockKind} {i o : Input} {l : LockNumber} → LockAt scope kind i l o → AreTokens scope.text i →
@@ -105,7 +108,8 @@ fine_lock {scope = scope} {kind = kind} {l = l} (calls.lock {name = name} p e) h
 
 -- ---- calls
 
-fine_routine : {text : Text} {i o : Input} {r : Routine} → RoutineAt text i r o → AreTokens text i → (is_name r.name ≡ true) × AreTokens text o
+fine_routine : {text : Text} {i o : Input} {r : Routine} → RoutineAt text i r o → AreTokens text i → (is_name r.name ≡ true)
+    × AreTokens text o
 fine_routine (calls.routine p) h = fine_name p h
 
 fine_call : {scope : Scope} {i o : Input} {c : FallibleCall} → FallibleAt scope i c o → AreTokens scope.text i →

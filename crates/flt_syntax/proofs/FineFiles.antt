@@ -73,7 +73,8 @@ fine_callback (g.callback p n q m) h =
     let y = fine_statements q (next_on n x.1) in
     (x.0, y.0, next_on m y.1)
 
-fine_callbacks : {scope : Scope} {i o : Input} {cs : List Callback} → CallbacksAt scope i cs o → AreTokens scope.text i → AreCallbacks scope.locks scope.queue cs
+fine_callbacks : {scope : Scope} {i o : Input} {cs : List Callback} → CallbacksAt scope i cs o → AreTokens scope.text i →
+    AreCallbacks scope.locks scope.queue cs
 unfolding FineCallback
 fine_callbacks (g.last p) h = let x = fine_callback p h in (x.0, x.1, tt)
 fine_callbacks (g.more p q) h = let x = fine_callback p h in (x.0, x.1, fine_callbacks q x.2)
@@ -84,7 +85,8 @@ some_callbacks (g.more p q) = omega arith
 
 -- ---- the file
 
-fine_locks : {text : Text} {i o : Input} {ls : List Lock} → LocksAt text i ls o → AreTokens text i → (list_all (λ l. is_name l.name) ls ≡ true) × AreTokens text o
+fine_locks : {text : Text} {i o : Input} {ls : List Lock} → LocksAt text i ls o → AreTokens text i →
+    (list_all (λ l. is_name l.name) ls ≡ true) × AreTokens text o
 fine_locks g.no_lock h = (refl, h)
 fine_locks (g.one_lock {name = name} {ls = ls} n p q x) h =
     let y = fine_name q (meant_on p (next_on n h)) in

@@ -12,14 +12,16 @@ use Rattle.flt_tree.specs.declared.tree.Tree.{Tree}
 use Rattle.flt_syntax.proofs.CompleteFiles.{is_found}
 use Rattle.flt_syntax.proofs.SoundFiles.{is_spelled, same_ok}
 
-pub spelled_result : (text : Text) (r : Result Tree ParseError) → IfOk r (λ t. filter_of text ≡ Ok t.filter) → IfOk r (λ t. Spells text t.filter)
+pub spelled_result : (text : Text) (r : Result Tree ParseError) → IfOk r (λ t. filter_of text ≡ Ok t.filter) →
+    IfOk r (λ t. Spells text t.filter)
 spelled_result text (Ok t) e = is_spelled text t.filter e
 spelled_result text (Err e) h = tt
 
 err_or_ok : (r : Result Filter SyntaxFault) (e : SyntaxFault) (f : Filter) → r ≡ Err e → r ≡ Ok f → ⊥
 err_or_ok r e f h l = cc
 
-pub found_result : (text : Text) (r : Result Tree ParseError) → IfOk r (λ t. filter_of text ≡ Ok t.filter) → IfErr r (IsFaultOf (filter_of text)) →
+pub found_result : (text : Text) (r : Result Tree ParseError) → IfOk r (λ t. filter_of text ≡ Ok t.filter) →
+    IfErr r (IsFaultOf (filter_of text)) →
     (f : Filter) → Spells text f → MatchResult r (λ t. t.filter ≡ f) (λ e. e ≡ OutOfMemory)
 found_result text (Ok t) e h f p = same_ok (filter_of text) t.filter f e (is_found text f p)
 found_result text (Err OutOfMemory) e h f p = refl

@@ -19,7 +19,8 @@ suc_less n = omega arith
 first : (c : ℕ) (w y : Text) (v : Word) (last : ℕ) (at : Position) (off : ℕ) → (c == 35) ≡ false → is_blank c ≡ false →
     token (c ∷ (w ++ y)) ≡ (v, suc (length w)) → is_fault v.kind ≡ false →
     tokens_from zero false last at off (c ∷ (w ++ y))
-    ≡ record { word = v; position = past last at; start = off; end = off + suc (length w) } ∷ tokens_from (length w) false c (past last at) (off + 1) (w ++ y)
+    ≡ record { word = v; position = past last at; start = off; end = off + suc (length w) }
+    ∷ tokens_from (length w) false c (past last at) (off + 1) (w ++ y)
 first c w y v last at off e1 e2 e3 e4 = rw (e1, e2, e3, e4, suc_less (length w)) refl
 
 pub record Rest (w y : Text) (last : ℕ) (at : Position) (off : ℕ) : Type 0 where
@@ -62,7 +63,8 @@ cut pre w y =
     ∙ ap (take (length w)) (drop-append_seam pre (w ++ y)) ∙ take-append_seam w y
 
 -- the bytes of a word that stands behind others
-pub bytes : (text pre w y : Text) (t : Token) → text ≡ pre ++ (w ++ y) → t.start ≡ length pre → t.end ≡ length pre + length w → bytes_of text t ≡ w
+pub bytes : (text pre w y : Text) (t : Token) → text ≡ pre ++ (w ++ y) → t.start ≡ length pre → t.end ≡ length pre + length w →
+    bytes_of text t ≡ w
 bytes text pre w y t e s n =
     rw (s, n, e, min_left _ _ (within pre w y), before_end (length pre) (length w)) (cut pre w y)
 
@@ -88,11 +90,13 @@ lexed_gap text pre z b e = e ∙ sym (append_assoc pre (b ∷ []) z)
 lexed_word : (text pre w z : Text) (b : ℕ) → text ≡ pre ++ (w ++ b ∷ z) → text ≡ (pre ++ (w ++ b ∷ [])) ++ z
 lexed_word text pre w z b e = e ∙ simp append_assoc
 
-one_more : {text : Text} {ws : List Text} {vs : List Word} {i : Input} (w : Text) (v : Word) (t : Token) → t.word ≡ v → bytes_of text t ≡ w →
+one_more : {text : Text} {ws : List Text} {vs : List Word} {i : Input} (w : Text) (v : Word) (t : Token) → t.word ≡ v →
+    bytes_of text t ≡ w →
     Lexed text ws vs i → Lexed text (w ∷ ws) (v ∷ vs) (t ∷ i)
 one_more w v t e h r = record { rest = r.rest; ends = r.ends; tells = tell e h r.tells }
 
-lexes : (text pre z : Text) (ws : List Text) (vs : List Word) → Written ws vs z → text ≡ pre ++ z → (last : ℕ) (at : Position) (off : ℕ) → off ≡ length pre →
+lexes : (text pre z : Text) (ws : List Text) (vs : List Word) → Written ws vs z → text ≡ pre ++ z →
+    (last : ℕ) (at : Position) (off : ℕ) → off ≡ length pre →
     Lexed text ws vs (tokens_from zero false last at off z)
 lexes text pre _ _ _ done e last at off h = record { rest = _; ends = refl; tells = told }
 lexes text pre _ ws vs (gap {b} {z = z} g r) e last at off h =
@@ -105,7 +109,8 @@ lexes text pre _ _ _ (said {b = b} {ws} {vs} {z} (piece {c} {w} {v} e1 e2 e3 e4)
     (first c w (b ∷ z) v last at off e1 e2 (e3 b z g) e4
     ∙ ap (λ i. t ∷ i) (s.same ∙ gap_read b z s.then_last s.then_at (off + 1 + length w) g))
     (one_more (c ∷ w) v t refl (bytes text pre (c ∷ w) (b ∷ z) t e h (ap (λ n. n + suc (length w)) h))
-    (lexes text (pre ++ ((c ∷ w) ++ b ∷ [])) z ws vs r (lexed_word text pre (c ∷ w) z b e) b (past s.then_last s.then_at) (off + 1 + length w + 1)
+    (lexes text (pre ++ ((c ∷ w) ++ b ∷ [])) z ws vs r (lexed_word text pre (c ∷ w) z b e) b (past s.then_last s.then_at)
+    (off + 1 + length w + 1)
     (ap (λ n. n + 1) (plus_more off (length w)) ∙ some_on pre (c ∷ w) b off h)))
 
 pub reads_back : ReadsBackWords

@@ -22,10 +22,12 @@ any_of f p [] = refl
 any_of f p (x ∷ xs) = ap (λ b. p (f x) || b) (any_of f p xs)
 
 -- where a test first passes, by the first element
-place_step : {X : Type 0} (p : X → Bool) (x : X) (xs : List X) → position p (x ∷ xs) ≡ (if p x then Some 0 else option_map (λ n. 1 + n) (position p xs))
+place_step : {X : Type 0} (p : X → Bool) (x : X) (xs : List X) →
+    position p (x ∷ xs) ≡ (if p x then Some 0 else option_map (λ n. 1 + n) (position p xs))
 place_step p x xs = by (p x) refl
   where
-    inside : (n m : ℕ) (c : Bool) → nat_lt n m ≡ c → cond (nat_lt (1 + n) (suc m)) (Some (1 + n)) None ≡ option_map (λ n. 1 + n) (cond (nat_lt n m) (Some n) None)
+    inside : (n m : ℕ) (c : Bool) → nat_lt n m ≡ c →
+        cond (nat_lt (1 + n) (suc m)) (Some (1 + n)) None ≡ option_map (λ n. 1 + n) (cond (nat_lt n m) (Some n) None)
     inside n m true h = let e : nat_lt (1 + n) (suc m) ≡ true = grind (arith, common_steps) in rw (e, h) refl
     inside n m false h = let e : nat_lt (1 + n) (suc m) ≡ false = grind (arith, common_steps) in rw (e, h) refl
 
@@ -35,21 +37,26 @@ place_step p x xs = by (p x) refl
 
 place_of : {X Y : Type 0} (f : X → Y) (p : Y → Bool) (xs : List X) → position p (map f xs) ≡ position (λ x. p (f x)) xs
 place_of f p [] = refl
-place_of f p (x ∷ xs) = place_step p (f x) (map f xs) ∙ ap (λ q. if p (f x) then Some 0 else option_map (λ n. 1 + n) q) (place_of f p xs) ∙ sym (place_step (λ x. p (f x)) x xs)
+place_of f p (x ∷ xs) = place_step p (f x) (map f xs)
+    ∙ ap (λ q. if p (f x) then Some 0 else option_map (λ n. 1 + n) q) (place_of f p xs) ∙ sym (place_step (λ x. p (f x)) x xs)
 
 -- what the number of a name says, and whether a name is there
-pub number_of : (name : List ℕ) (names : List (Bor (List ℕ))) → position (λ k. bytes_eq name k.now) names ≡ position (bytes_eq name) (map (λ k. k.now) names)
+pub number_of : (name : List ℕ) (names : List (Bor (List ℕ))) →
+    position (λ k. bytes_eq name k.now) names ≡ position (bytes_eq name) (map (λ k. k.now) names)
 number_of name names = sym (place_of (λ k. k.now) (bytes_eq name) names)
 
-pub is_there : (name : List ℕ) (names : List (Bor (List ℕ))) → list_any (λ k. bytes_eq name k.now) names ≡ list_any (bytes_eq name) (map (λ k. k.now) names)
+pub is_there : (name : List ℕ) (names : List (Bor (List ℕ))) →
+    list_any (λ k. bytes_eq name k.now) names ≡ list_any (bytes_eq name) (map (λ k. k.now) names)
 is_there name names = sym (any_of (λ k. k.now) (bytes_eq name) names)
 
 -- names that differ where they lie differ as texts
-others : {X Y : Type 0} (f : X → Y) (eq : Y → Y → Bool) (x : Y) (xs : List X) → AllByRecursion (λ y. eq x (f y) ≡ false) xs → AllByRecursion (λ y. eq x y ≡ false) (map f xs)
+others : {X Y : Type 0} (f : X → Y) (eq : Y → Y → Bool) (x : Y) (xs : List X) → AllByRecursion (λ y. eq x (f y) ≡ false) xs →
+    AllByRecursion (λ y. eq x y ≡ false) (map f xs)
 others f eq x [] h = h
 others f eq x (y ∷ xs) h = (h.0, others f eq x xs h.1)
 
-pub distinct_of : {X Y : Type 0} (f : X → Y) (eq : Y → Y → Bool) (xs : List X) → IsDistinct (λ a b. eq (f a) (f b)) xs → IsDistinct eq (map f xs)
+pub distinct_of : {X Y : Type 0} (f : X → Y) (eq : Y → Y → Bool) (xs : List X) → IsDistinct (λ a b. eq (f a) (f b)) xs →
+    IsDistinct eq (map f xs)
 unfolding IsDistinct
 distinct_of f eq [] h = h
 distinct_of f eq (x ∷ xs) h = (others f eq (f x) xs h.0, distinct_of f eq xs h.1)
@@ -87,7 +94,8 @@ kept_behind kind i (Some l) = by (same_lock_kind l.kind kind)
 behind : {X : Type 0} (x : X) (xs : List X) (i : ℕ) → slice_get (x ∷ xs) (1 + i) ≡ slice_get xs i
 behind x xs i = grind (arith, common_steps)
 
-of_kind_behind : (kind : LockKind) (l : Lock) (ls : List Lock) (place : Option ℕ) → of_kind kind (l ∷ ls) (option_map (λ n. 1 + n) place) ≡ option_map (λ n. 1 + n) (of_kind kind ls place)
+of_kind_behind : (kind : LockKind) (l : Lock) (ls : List Lock) (place : Option ℕ) →
+    of_kind kind (l ∷ ls) (option_map (λ n. 1 + n) place) ≡ option_map (λ n. 1 + n) (of_kind kind ls place)
 of_kind_behind kind l ls None = refl
 of_kind_behind kind l ls (Some i) = ap (kept kind (1 + i)) (behind l ls i) ∙ kept_behind kind i (slice_get ls i)
 
@@ -100,7 +108,8 @@ module _ (kind : LockKind) (name : Text) where
   unfolding Fits
   unfit l e = ap (λ b. same_lock_kind l.kind kind && b) (same_either_way l.name name ∙ e) ∙ never _
 
-  no_other : (x : Text) (ls : List Lock) → bytes_eq name x ≡ true → AllByRecursion (λ y. bytes_eq x y ≡ false) (lock_names ls) → position Fits ls ≡ None
+  no_other : (x : Text) (ls : List Lock) → bytes_eq name x ≡ true → AllByRecursion (λ y. bytes_eq x y ≡ false) (lock_names ls) →
+      position Fits ls ≡ None
   no_other x [] e h = refl
   no_other x (l ∷ ls) e h =
       let u : Fits l ≡ false = unfit l (nat_list_eq_equiv.congr name x l.name e ∙ h.0) in
@@ -136,11 +145,14 @@ one_lock_more (x ∷ locks) l = ap (λ ns. x.name ∷ ns) (one_lock_more locks l
 
 -- ---- routines by their names
 
-pub one_callback_more : (callbacks : List Callback) (c : Callback) → routine_names (callbacks ++ c ∷ []) ≡ routine_names callbacks ++ names_of c.head
+pub one_callback_more : (callbacks : List Callback) (c : Callback) →
+    routine_names (callbacks ++ c ∷ []) ≡ routine_names callbacks ++ names_of c.head
 one_callback_more [] c = append-nil (names_of c.head)
-one_callback_more (x ∷ callbacks) c = ap (λ ns. names_of x.head ++ ns) (one_callback_more callbacks c) ∙ sym (append_assoc (names_of x.head) (routine_names callbacks) (names_of c.head))
+one_callback_more (x ∷ callbacks) c = ap (λ ns. names_of x.head ++ ns) (one_callback_more callbacks c)
+    ∙ sym (append_assoc (names_of x.head) (routine_names callbacks) (names_of c.head))
 
-named_so : (name : Text) (head : Head) (names : List Text) → has_name name (names_of head ++ names) ≡ (is_named name head || has_name name names)
+named_so : (name : Text) (head : Head) (names : List Text) →
+    has_name name (names_of head ++ names) ≡ (is_named name head || has_name name names)
 named_so name (DeferredPre r) names = rw (same_either_way name r) refl
 named_so name (DeferredPost r) names = rw (same_either_way name r) refl
 named_so name (Generic r) names = rw (same_either_way name r) refl
@@ -157,7 +169,8 @@ and_no_name names more e = rw e (sym (append-nil names))
 
 -- what stands at the number of a name is the lock of the name
 pub place_is : (kind : LockKind) (name : Text) (names : List Text) (locks : List Lock) (i : ℕ) (l : Lock) (b : Bool) →
-    names ≡ lock_names locks → IsDistinct bytes_eq names → Some i ≡ position (bytes_eq name) names → i < length locks → l ≡ get_or locks i l →
+    names ≡ lock_names locks → IsDistinct bytes_eq names → Some i ≡ position (bytes_eq name) names → i < length locks →
+    l ≡ get_or locks i l →
     b ≡ same_lock_kind l.kind kind → (if b then Some i else None) ≡ lock_place kind name locks
 place_is kind name names locks i l b named once number within there same =
     ap (λ c. if c then Some i else None) same ∙ ap (kept kind i) (ap Some there ∙ sym (slice_get-get_or locks i l within))

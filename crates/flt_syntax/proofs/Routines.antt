@@ -41,14 +41,17 @@ module _ (cs : List Callback) (from : Head) where
   both a b x y e h = first_is_none a b ∙ rw (e, h) refl
 
   all_same : (es : List ((s : Statement) × Same s)) →
-      is_none (first_some (map (missing_of cs from) (map (λ e. e.0) es))) ≡ list_all (λ b. b) (map (statement_finds cs from) (map (λ e. e.0) es))
+      is_none (first_some (map (missing_of cs from) (map (λ e. e.0) es))) ≡ list_all (λ b. b)
+      (map (statement_finds cs from) (map (λ e. e.0) es))
   unfolding Same
   all_same [] = refl
   all_same (e ∷ es) = both _ _ _ _ e.1 (all_same es)
 
   step_same : (y : Statement-F ((s : Statement) × Same s)) →
-      is_none (missing_step cs from (map-Statement Statement (Option Position) (missing_of cs from) (map-Statement ((s : Statement) × Same s) Statement (λ e. e.0) y)))
-      ≡ finds_step cs from (map-Statement Statement Bool (statement_finds cs from) (map-Statement ((s : Statement) × Same s) Statement (λ e. e.0) y))
+      is_none (missing_step cs from (map-Statement Statement (Option Position) (missing_of cs from)
+      (map-Statement ((s : Statement) × Same s) Statement (λ e. e.0) y)))
+      ≡ finds_step cs from (map-Statement Statement Bool (statement_finds cs from)
+      (map-Statement ((s : Statement) × Same s) Statement (λ e. e.0) y))
   step_same (Statement-F.If line c granted refused) = both _ _ _ _ (test_same c) (both _ _ _ _ (all_same granted) (all_same refused))
   step_same (Statement-F.Repeat line turns body) = all_same body
   step_same _ = refl
@@ -70,8 +73,10 @@ is_none_none : {A : Type 0} (m : Option A) → is_none m ≡ true → m ≡ None
 is_none_none None e = refl
 is_none_none (Some a) e = elim (differ e) [ ]
 
-pub finds_all : (cs : List Callback) (from : Head) (body : List Statement) → missing cs from body ≡ None → finds_routines cs from body ≡ true
+pub finds_all : (cs : List Callback) (from : Head) (body : List Statement) → missing cs from body ≡ None →
+    finds_routines cs from body ≡ true
 finds_all cs from body e = sym (body_same cs from body) ∙ ap is_none e
 
-pub none_missing : (cs : List Callback) (from : Head) (body : List Statement) → finds_routines cs from body ≡ true → missing cs from body ≡ None
+pub none_missing : (cs : List Callback) (from : Head) (body : List Statement) → finds_routines cs from body ≡ true →
+    missing cs from body ≡ None
 none_missing cs from body e = is_none_none (missing cs from body) (body_same cs from body ∙ e)

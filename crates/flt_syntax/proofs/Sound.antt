@@ -45,7 +45,8 @@ pub took : (i : Input) (kd : Kind) → same_kind k.End kd ≡ false → kind i �
 took [] kd other e = elim (differ (sym other ∙ ap (λ x. same_kind x kd) e ∙ kind_self kd)) [ ]
 took (t ∷ i) kd other e = words.next e
 
-expect_by : (i : Input) (kd : Kind) (b : Bool) → same_kind k.End kd ≡ false → sees kd i ≡ b → Gives (λ (_ : Unit {0}) o. Next kd i o) (if b then Ok (tt {0}, next i) else Err (refusal i))
+expect_by : (i : Input) (kd : Kind) (b : Bool) → same_kind k.End kd ≡ false → sees kd i ≡ b →
+    Gives (λ (_ : Unit {0}) o. Next kd i o) (if b then Ok (tt {0}, next i) else Err (refusal i))
 expect_by i kd true other e = gives (took i kd other (kind_same _ _ e))
 expect_by i kd false other e = fails
 
@@ -70,11 +71,13 @@ pub none_some : {A : Type 0} (a : A) → None ≡ Some a → ⊥
 none_some a e = cc
 
 -- a token that a table knows
-pub meant_at : {A : Type 0} (table : Kind → Option A) (i : Input) (a : A) → table k.End ≡ None → table (kind i) ≡ Some a → Meant table i a (next i)
+pub meant_at : {A : Type 0} (table : Kind → Option A) (i : Input) (a : A) → table k.End ≡ None → table (kind i) ≡ Some a →
+    Meant table i a (next i)
 meant_at table [] a other e = elim (none_some a (sym other ∙ e)) [ ]
 meant_at table (t ∷ i) a other e = words.meant e
 
-pub known_gives : {A : Type 0} (table : Kind → Option A) (f : SyntaxFault) (i : Input) (m : Option A) → table k.End ≡ None → table (kind i) ≡ m →
+pub known_gives : {A : Type 0} (table : Kind → Option A) (f : SyntaxFault) (i : Input) (m : Option A) → table k.End ≡ None →
+    table (kind i) ≡ m →
     Gives (Meant table i) (known_or f m i)
 known_gives table f i None other e = fails
 known_gives table f i (Some a) other e = gives (meant_at table i a other e)

@@ -41,9 +41,11 @@ pub record WithinAt (low high : ℕ) (i : Input) (n : ℕ) (o : Input) : Type 0 
   pub from : low ≤ n
   pub up_to : n ≤ high
 
-within_by : (low high : ℕ) (i : Input) (b c d : Bool) → sees k.Number i ≡ b → nat_le low (front i).word.value ≡ c → nat_le (front i).word.value high ≡ d →
+within_by : (low high : ℕ) (i : Input) (b c d : Bool) → sees k.Number i ≡ b → nat_le low (front i).word.value ≡ c →
+    nat_le (front i).word.value high ≡ d →
     Gives (WithinAt low high i) (if b then (if c && d then Ok ((front i).word.value, next i) else fail E06 i) else refuse i)
-within_by low high i true true true e h l = gives (record { at = number_at i (kind_same _ _ e); from = leb-true _ _ h; up_to = leb-true _ _ l })
+within_by low high i true true true e h l =
+    gives (record { at = number_at i (kind_same _ _ e); from = leb-true _ _ h; up_to = leb-true _ _ l })
 within_by low high i true true false e h l = fails
 within_by low high i true false d e h l = fails
 within_by low high i false c d e h l = fails
@@ -78,7 +80,8 @@ other_gives : (first : ContextVariable) (i : Input) → Gives (λ c o. ContextAt
 unfolding other_context
 other_gives first i = then_gives _ (context_gives i) (λ c o p. other_by first i c o (same_context c first) p refl)
 
-optional_of : (word : Kind) (i : Input) (b : Bool) (j : Input) → Eaten word i b j → Gives (OptionalAt word i) ((if b then (Some <$> context_variable) else pure None) j)
+optional_of : (word : Kind) (i : Input) (b : Bool) (j : Input) → Eaten word i b j →
+    Gives (OptionalAt word i) ((if b then (Some <$> context_variable) else pure None) j)
 optional_of word i true j (eaten n) = then_gives _ (context_gives j) (λ c o p. gives (words.behind n p))
 optional_of word i false j left = gives words.without
 
@@ -95,7 +98,8 @@ some_same a b e = cc
 
 other_old_of : (first : ContextVariable) (i : Input) (b : Bool) (j : Input) → Eaten k.Old i b j →
     Gives (λ d o. OptionalAt k.Old i d o × (d ≢ Some first)) ((if b then (Some <$> other_context first) else pure None) j)
-other_old_of first i true j (eaten n) = then_gives _ (other_gives first j) (λ c o p. gives (words.behind n p.0, λ e. p.1 (some_same c first e)))
+other_old_of first i true j (eaten n) =
+    then_gives _ (other_gives first j) (λ c o p. gives (words.behind n p.0, λ e. p.1 (some_same c first e)))
 other_old_of first i false j left = gives (words.without, λ e. none_some first e)
 
 other_old_gives : (first : ContextVariable) (i : Input) → Gives (λ d o. OptionalAt k.Old i d o × (d ≢ Some first)) (other_old first i)
@@ -114,8 +118,10 @@ bare_gives i = gives_by (λ s o p. g.bare p) (known_gives bare_status_of (refusa
 
 status_by_gives : (i : Input) (kd : Kind) → kind i ≡ kd → Gives (StatusAt i) (status_by kd i)
 unfolding same_kind
-status_by_gives i k.WithCallback e = then_gives _ (with_context_gives (next i)) (λ c o p. gives (g.with_callback (took i k.WithCallback refl e) p))
-status_by_gives i k.Synchronize e = then_gives _ (with_context_gives (next i)) (λ c o p. gives (g.synchronize (took i k.Synchronize refl e) p))
+status_by_gives i k.WithCallback e =
+    then_gives _ (with_context_gives (next i)) (λ c o p. gives (g.with_callback (took i k.WithCallback refl e) p))
+status_by_gives i k.Synchronize e =
+    then_gives _ (with_context_gives (next i)) (λ c o p. gives (g.synchronize (took i k.Synchronize refl e) p))
 status_by_gives i k.Complete e = then_gives _ (final_gives (next i)) (λ c o p. gives (g.complete (took i k.Complete refl e) p))
 status_by_gives i _ e = bare_gives i
 
@@ -162,7 +168,8 @@ insert_gives scope i q n =
     then_gives _ (expect_gives (next i) k.Data refl) (λ _ b m.
     then_gives _ (with_context_gives b) (λ c o p. gives (g.insert_io q n m p)))
 
-remove_gives : (scope : Scope) (i : Input) → scope.queue ≡ true → Next k.RemoveNextIo i (next i) → Gives (FallibleAt scope i) (remove_next_io i)
+remove_gives : (scope : Scope) (i : Input) → scope.queue ≡ true → Next k.RemoveNextIo i (next i) →
+    Gives (FallibleAt scope i) (remove_next_io i)
 unfolding remove_next_io same_kind
 remove_gives scope i q n =
     then_gives _ (removed_gives (next i)) (λ x b p.
@@ -187,21 +194,27 @@ queue_remove scope i true h e =
 
 fallible_by_gives : (scope : Scope) (i : Input) (kd : Kind) → kind i ≡ kd → Gives (FallibleAt scope i) (fallible_by scope kd i)
 unfolding same_kind get_context set_context delete_context_of queue_call queue_deferred queue_generic
-fallible_by_gives scope i k.AllocateContext e = then_gives _ (context_gives (next i)) (λ c o p. gives (g.allocate (took i k.AllocateContext refl e) p))
-fallible_by_gives scope i k.GetStreamContext e = then_gives _ (context_gives (next i)) (λ c o p. gives (g.get_stream (took i k.GetStreamContext refl e) p))
-fallible_by_gives scope i k.GetInstanceContext e = then_gives _ (context_gives (next i)) (λ c o p. gives (g.get_instance (took i k.GetInstanceContext refl e) p))
+fallible_by_gives scope i k.AllocateContext e =
+    then_gives _ (context_gives (next i)) (λ c o p. gives (g.allocate (took i k.AllocateContext refl e) p))
+fallible_by_gives scope i k.GetStreamContext e =
+    then_gives _ (context_gives (next i)) (λ c o p. gives (g.get_stream (took i k.GetStreamContext refl e) p))
+fallible_by_gives scope i k.GetInstanceContext e =
+    then_gives _ (context_gives (next i)) (λ c o p. gives (g.get_instance (took i k.GetInstanceContext refl e) p))
 fallible_by_gives scope i k.SetStreamContext e =
     then_gives _ (existing_gives (next i)) (λ x b p. then_gives _ (context_gives b) (λ c l q. then_gives _ (other_old_gives c l) (λ d o r.
     gives (g.set_stream (took i k.SetStreamContext refl e) p q r.0 r.1))))
 fallible_by_gives scope i k.SetInstanceContext e =
     then_gives _ (existing_gives (next i)) (λ x b p. then_gives _ (context_gives b) (λ c l q. then_gives _ (other_old_gives c l) (λ d o r.
     gives (g.set_instance (took i k.SetInstanceContext refl e) p q r.0 r.1))))
-fallible_by_gives scope i k.DeleteStreamContext e = then_gives _ (old_gives (next i)) (λ d o p. gives (g.delete_stream (took i k.DeleteStreamContext refl e) p))
-fallible_by_gives scope i k.DeleteInstanceContext e = then_gives _ (old_gives (next i)) (λ d o p. gives (g.delete_instance (took i k.DeleteInstanceContext refl e) p))
+fallible_by_gives scope i k.DeleteStreamContext e =
+    then_gives _ (old_gives (next i)) (λ d o p. gives (g.delete_stream (took i k.DeleteStreamContext refl e) p))
+fallible_by_gives scope i k.DeleteInstanceContext e =
+    then_gives _ (old_gives (next i)) (λ d o p. gives (g.delete_instance (took i k.DeleteInstanceContext refl e) p))
 fallible_by_gives scope i k.InsertIo e = queue_insert scope i scope.queue refl e
 fallible_by_gives scope i k.RemoveNextIo e = queue_remove scope i scope.queue refl e
 fallible_by_gives scope i k.QueueDeferredIoWorkItem e =
-    then_gives _ (expect_gives (next i) k.Data refl) (λ _ b m. then_gives _ (routine_gives scope b) (λ x l p. then_gives _ (with_context_gives l) (λ c o q.
+    then_gives _ (expect_gives (next i) k.Data refl)
+    (λ _ b m. then_gives _ (routine_gives scope b) (λ x l p. then_gives _ (with_context_gives l) (λ c o q.
     gives (g.queue_deferred (took i k.QueueDeferredIoWorkItem refl e) m p q))))
 fallible_by_gives scope i k.QueueGenericWorkItem e =
     then_gives _ (routine_gives scope (next i)) (λ x b p. then_gives _ (with_context_gives b) (λ c o q.
@@ -214,18 +227,28 @@ fallible_gives scope i = fallible_by_gives scope i (kind i) refl
 
 plain_by_gives : (scope : Scope) (i : Input) (kd : Kind) → kind i ≡ kd → Gives (PlainAt scope i) (plain_by scope kd i)
 unfolding same_kind reference_context acquire_lock acquire_shared release_lock complete_pre complete_post
-plain_by_gives scope i k.DeleteContext e = then_gives _ (context_gives (next i)) (λ c o p. gives (g.delete (took i k.DeleteContext refl e) p))
+plain_by_gives scope i k.DeleteContext e =
+    then_gives _ (context_gives (next i)) (λ c o p. gives (g.delete (took i k.DeleteContext refl e) p))
 plain_by_gives scope i k.ReferenceContext e =
-    then_gives _ (context_gives (next i)) (λ c b p. then_gives _ (expect_gives b k.As refl) (λ _ l n. then_gives _ (other_gives c l) (λ d o q.
+    then_gives _ (context_gives (next i))
+    (λ c b p. then_gives _ (expect_gives b k.As refl) (λ _ l n. then_gives _ (other_gives c l) (λ d o q.
     gives (g.reference (took i k.ReferenceContext refl e) p n q.0 q.1))))
-plain_by_gives scope i k.ReleaseContext e = then_gives _ (context_gives (next i)) (λ c o p. gives (g.release (took i k.ReleaseContext refl e) p))
-plain_by_gives scope i k.AcquireSpinLock e = then_gives _ (lock_gives scope Spin (next i)) (λ l o p. gives (g.acquire_spin (took i k.AcquireSpinLock refl e) p))
-plain_by_gives scope i k.ReleaseSpinLock e = then_gives _ (lock_gives scope Spin (next i)) (λ l o p. gives (g.release_spin (took i k.ReleaseSpinLock refl e) p))
-plain_by_gives scope i k.AcquireFastMutex e = then_gives _ (lock_gives scope Fast (next i)) (λ l o p. gives (g.acquire_fast (took i k.AcquireFastMutex refl e) p))
-plain_by_gives scope i k.ReleaseFastMutex e = then_gives _ (lock_gives scope Fast (next i)) (λ l o p. gives (g.release_fast (took i k.ReleaseFastMutex refl e) p))
-plain_by_gives scope i k.AcquirePushLock e = then_gives _ (lock_gives scope Push (next i)) (λ l o p. gives (g.acquire_push (took i k.AcquirePushLock refl e) p))
-plain_by_gives scope i k.AcquirePushLockShared e = then_gives _ (lock_gives scope Push (next i)) (λ l o p. gives (g.acquire_push_shared (took i k.AcquirePushLockShared refl e) p))
-plain_by_gives scope i k.ReleasePushLock e = then_gives _ (lock_gives scope Push (next i)) (λ l o p. gives (g.release_push (took i k.ReleasePushLock refl e) p))
+plain_by_gives scope i k.ReleaseContext e =
+    then_gives _ (context_gives (next i)) (λ c o p. gives (g.release (took i k.ReleaseContext refl e) p))
+plain_by_gives scope i k.AcquireSpinLock e =
+    then_gives _ (lock_gives scope Spin (next i)) (λ l o p. gives (g.acquire_spin (took i k.AcquireSpinLock refl e) p))
+plain_by_gives scope i k.ReleaseSpinLock e =
+    then_gives _ (lock_gives scope Spin (next i)) (λ l o p. gives (g.release_spin (took i k.ReleaseSpinLock refl e) p))
+plain_by_gives scope i k.AcquireFastMutex e =
+    then_gives _ (lock_gives scope Fast (next i)) (λ l o p. gives (g.acquire_fast (took i k.AcquireFastMutex refl e) p))
+plain_by_gives scope i k.ReleaseFastMutex e =
+    then_gives _ (lock_gives scope Fast (next i)) (λ l o p. gives (g.release_fast (took i k.ReleaseFastMutex refl e) p))
+plain_by_gives scope i k.AcquirePushLock e =
+    then_gives _ (lock_gives scope Push (next i)) (λ l o p. gives (g.acquire_push (took i k.AcquirePushLock refl e) p))
+plain_by_gives scope i k.AcquirePushLockShared e =
+    then_gives _ (lock_gives scope Push (next i)) (λ l o p. gives (g.acquire_push_shared (took i k.AcquirePushLockShared refl e) p))
+plain_by_gives scope i k.ReleasePushLock e =
+    then_gives _ (lock_gives scope Push (next i)) (λ l o p. gives (g.release_push (took i k.ReleasePushLock refl e) p))
 plain_by_gives scope i k.CompletePendedPreOperation e =
     then_gives _ (operation_gives (next i)) (λ d b p. then_gives _ (status_gives b) (λ s o q.
     gives (g.complete_pre (took i k.CompletePendedPreOperation refl e) p q)))

@@ -87,9 +87,13 @@ module _ (text : Text) (found : List Callback) where
 
   new_head_by_gives : (i : Input) (kd : Kind) → kind i ≡ kd → Gives (NewHeadAt text found i) (new_head_by text found kd i)
   unfolding same_kind NewNameAt
-  new_head_by_gives i k.DeferredPre e = then_gives _ (new_routine_gives i) (λ name o p. gives (record { at = g.deferred_pre (took i k.DeferredPre refl e) p.0; fresh = p.1 }))
-  new_head_by_gives i k.DeferredPost e = then_gives _ (new_routine_gives i) (λ name o p. gives (record { at = g.deferred_post (took i k.DeferredPost refl e) p.0; fresh = p.1 }))
-  new_head_by_gives i k.Generic e = then_gives _ (new_routine_gives i) (λ name o p. gives (record { at = g.generic (took i k.Generic refl e) p.0; fresh = p.1 }))
+  new_head_by_gives i k.DeferredPre e =
+      then_gives _ (new_routine_gives i) (λ name o p. gives (record { at = g.deferred_pre (took i k.DeferredPre refl e) p.0; fresh = p.1 }))
+  new_head_by_gives i k.DeferredPost e =
+      then_gives _ (new_routine_gives i) (λ name o p. gives
+      (record { at = g.deferred_post (took i k.DeferredPost refl e) p.0; fresh = p.1 }))
+  new_head_by_gives i k.Generic e = then_gives _ (new_routine_gives i)
+      (λ name o p. gives (record { at = g.generic (took i k.Generic refl e) p.0; fresh = p.1 }))
   new_head_by_gives i _ e = new_event_gives i
 
   new_head_gives : (i : Input) → Gives (NewHeadAt text found i) (new_head text found i)
@@ -97,7 +101,8 @@ module _ (text : Text) (found : List Callback) where
   new_head_gives i = new_head_by_gives i (kind i) refl
 
   head_by : (i : Input) (b : Bool) → nat_lt (length found) max_callbacks ≡ b →
-      Gives (λ h o. NewHeadAt text found i h o × (length found < max_callbacks)) (if b then new_head text found i else Err (crowded found i))
+      Gives (λ h o. NewHeadAt text found i h o × (length found < max_callbacks))
+      (if b then new_head text found i else Err (crowded found i))
   head_by i true e = gives_by (λ h o p. (p, ltb-true _ _ e)) (new_head_gives i)
   head_by i false e = fails
 
@@ -156,7 +161,8 @@ go_on scope found i j c p all o m = record {
   small = small_too c m.more p.small m.small;
 }
 
-module _ (scope : Scope) (n : ℕ) (rest : (found : List Callback) (i : Input) → Gives (ManyAt scope found i) (callbacks_from scope n found i)) where
+module _ (scope : Scope) (n : ℕ) (rest : (found : List Callback) (i : Input) →
+    Gives (ManyAt scope found i) (callbacks_from scope n found i)) where
   turn_gives : (found : List Callback) (i j : Input) (c : Callback) (b : Bool) → NewAt scope found i c j → sees k.End j ≡ b →
       Gives (ManyAt scope found i) (if b then Ok (found ++ c ∷ [], j) else callbacks_from scope n (found ++ c ∷ []) j)
   turn_gives found i j c true p e = gives (record {
@@ -170,11 +176,13 @@ module _ (scope : Scope) (n : ℕ) (rest : (found : List Callback) (i : Input) �
   })
   turn_gives found i j c false p e = gives_by (go_on scope found i j c p) (rest (found ++ c ∷ []) j)
 
-callbacks_from_gives : (scope : Scope) (n : ℕ) (found : List Callback) (i : Input) → Gives (ManyAt scope found i) (callbacks_from scope n found i)
+callbacks_from_gives : (scope : Scope) (n : ℕ) (found : List Callback) (i : Input) →
+    Gives (ManyAt scope found i) (callbacks_from scope n found i)
 unfolding callbacks_from
 callbacks_from_gives scope zero found i = fails
 callbacks_from_gives scope (suc n) found i =
-    then_gives _ (callback_gives scope found i) (λ c j p. turn_gives scope n (callbacks_from_gives scope n) found i j c (sees k.End j) p refl)
+    then_gives _ (callback_gives scope found i)
+    (λ c j p. turn_gives scope n (callbacks_from_gives scope n) found i j c (sees k.End j) p refl)
 
 callbacks_gives : (scope : Scope) (i : Input) → Gives (λ cs o. ManyAt scope [] i cs o) (callbacks scope i)
 unfolding callbacks
@@ -189,11 +197,14 @@ record NewLockAt (text : Text) (found : List Lock) (i : Input) (l : Lock) (o : I
   fresh : has_lock l.name found ≡ false
   few : length found < max_locks
 
-new_lock_by : (text : Text) (found : List Lock) (i b o : Input) (lk : LockKind) (name : Text) (x y : Bool) → Meant lock_kind_of i lk b → NameAt text b name o →
+new_lock_by : (text : Text) (found : List Lock) (i b o : Input) (lk : LockKind) (name : Text) (x y : Bool) →
+    Meant lock_kind_of i lk b → NameAt text b name o →
     has_lock name found ≡ x → nat_lt (length found) max_locks ≡ y →
-    Gives (NewLockAt text found i) (if x then Err (fault E05 (position b)) else (if y then Ok (record { kind = lk; name = name }, o) else Err (fault E06 (position b))))
+    Gives (NewLockAt text found i) (if x then Err (fault E05 (position b))
+    else (if y then Ok (record { kind = lk; name = name }, o) else Err (fault E06 (position b))))
 new_lock_by text found i b o lk name true y p q e h = fails
-new_lock_by text found i b o lk name false true p q e h = gives (record { after = b; kind_at = p; named = q; fresh = e; few = ltb-true _ _ h })
+new_lock_by text found i b o lk name false true p q e h =
+    gives (record { after = b; kind_at = p; named = q; fresh = e; few = ltb-true _ _ h })
 new_lock_by text found i b o lk name false false p q e h = fails
 
 lock_kind_gives : (i : Input) → Gives (Meant lock_kind_of i) (lock_kind i)
@@ -214,7 +225,8 @@ record ManyLocksAt (text : Text) (found : List Lock) (i : Input) (all : List Loc
   fresh : AreNewLocks found more
   few : length found + length more ≤ max_locks
 
-next_lock : (text : Text) (found : List Lock) (i a j : Input) (l : Lock) → Next k.Lock i a → NewLockAt text found a l j → (all : List Lock) (o : Input) →
+next_lock : (text : Text) (found : List Lock) (i a j : Input) (l : Lock) → Next k.Lock i a → NewLockAt text found a l j →
+    (all : List Lock) (o : Input) →
     ManyLocksAt text (found ++ l ∷ []) j all o → ManyLocksAt text found i all o
 next_lock text found i a j l n p all o m = record {
   more = l ∷ m.more;
@@ -227,15 +239,18 @@ next_lock text found i a j l n p all o m = record {
 one_longer : {A : Type 0} (found : List A) (c : A) (n : ℕ) → length found < n → length (found ++ c ∷ []) ≤ n
 one_longer found c n h = omega (arith, length-append found (c ∷ []))
 
-module _ (text : Text) (n : ℕ) (rest : (found : List Lock) (i : Input) → length found ≤ max_locks → Gives (ManyLocksAt text found i) (locks_from text n found i)) where
+module _ (text : Text) (n : ℕ) (rest : (found : List Lock) (i : Input) → length found ≤ max_locks →
+    Gives (ManyLocksAt text found i) (locks_from text n found i)) where
   lock_turn : (found : List Lock) (i : Input) (b : Bool) (j : Input) → length found ≤ max_locks → Eaten k.Lock i b j →
       Gives (ManyLocksAt text found i) ((if b then (lock text found >>= (λ l. locks_from text n (found ++ l ∷ []))) else pure found) j)
   lock_turn found i true j few (eaten m) =
       then_gives _ (lock_gives text found j) (λ l o p.
       gives_by (next_lock text found i j o l m p) (rest (found ++ l ∷ []) o (one_longer found l max_locks p.few)))
-  lock_turn found i false j few left = gives (record { more = []; parts = sym (append-nil found); at = g.no_lock; fresh = tt; few = omega arith })
+  lock_turn found i false j few left =
+      gives (record { more = []; parts = sym (append-nil found); at = g.no_lock; fresh = tt; few = omega arith })
 
-locks_from_gives : (text : Text) (n : ℕ) (found : List Lock) (i : Input) → length found ≤ max_locks → Gives (ManyLocksAt text found i) (locks_from text n found i)
+locks_from_gives : (text : Text) (n : ℕ) (found : List Lock) (i : Input) → length found ≤ max_locks →
+    Gives (ManyLocksAt text found i) (locks_from text n found i)
 unfolding locks_from same_kind
 locks_from_gives text zero found i few = fails
 locks_from_gives text (suc n) found i few =
@@ -305,12 +320,14 @@ is_served : (q : Option Position) (cs : List Callback) → queue_fault q cs ≡ 
 is_served None cs e = tt
 is_served (Some at) cs e = served_by at (has_event Canceled cs) e
 
-fault_none : (c : Callback) (b : Bool) (m : Option Position) → (if b then Some (fault E07 c.position) else option_map (fault E04) m) ≡ None → (b ≡ false) × (m ≡ None)
+fault_none : (c : Callback) (b : Bool) (m : Option Position) →
+    (if b then Some (fault E07 c.position) else option_map (fault E04) m) ≡ None → (b ≡ false) × (m ≡ None)
 fault_none c true m e = elim (some_none (fault E07 c.position) e) [ ]
 fault_none c false None e = (refl, refl)
 fault_none c false (Some at) e = elim (some_none (fault E04 at) e) [ ]
 
-callback_none : (cs : List Callback) (c : Callback) → callback_fault cs c ≡ None → (lacks_pre cs c.head ≡ false) × (missing cs c.head c.body ≡ None)
+callback_none : (cs : List Callback) (c : Callback) → callback_fault cs c ≡ None → (lacks_pre cs c.head ≡ false)
+    × (missing cs c.head c.body ≡ None)
 unfolding callback_fault
 callback_none cs c e = fault_none c (lacks_pre cs c.head) (missing cs c.head c.body) e
 
@@ -344,12 +361,14 @@ to_spells text f short r e =
       whole = are_whole f.callbacks f.callbacks both.1;
     }
 
-spells_unless : (text : Text) (a f : Filter) (m : Option SyntaxFault) → length text ≤ max_text → IsRead text (tokens text) a → whole_fault a ≡ m →
+spells_unless : (text : Text) (a f : Filter) (m : Option SyntaxFault) → length text ≤ max_text → IsRead text (tokens text) a →
+    whole_fault a ≡ m →
     unless_fault a m ≡ Ok f → Spells text f
 spells_unless text a f None short r e h = subst (Spells text) (same_ok (Ok a) a f refl h) (to_spells text a short r e)
 spells_unless text a f (Some x) short r e h = elim (err_ok x f h) [ ]
 
-spells_whole : (text : Text) (f : Filter) (o : Outcome Filter) → length text ≤ max_text → Gives (λ f o. IsRead text (tokens text) f) o → whole o ≡ Ok f → Spells text f
+spells_whole : (text : Text) (f : Filter) (o : Outcome Filter) → length text ≤ max_text →
+    Gives (λ f o. IsRead text (tokens text) f) o → whole o ≡ Ok f → Spells text f
 spells_whole text f _ short (gives {a = a} r) h = spells_unless text a f (whole_fault a) short r refl h
 spells_whole text f _ short (fails {f = x}) h = elim (err_ok x f h) [ ]
 

@@ -46,7 +46,8 @@ number_atom : (f : SyntaxFault) (i : Input) (b : Bool) → sees k.Number i ≡ b
 number_atom f i true e = gives (g.number (number_at i (kind_same _ _ e)))
 number_atom f i false e = fails
 
-atom_by_gives : (f : SyntaxFault) (i : Input) (m : Option NumberVariable) → number_variable_of (kind i) ≡ m → Gives (AtomAt i) (atom_by f m i)
+atom_by_gives : (f : SyntaxFault) (i : Input) (m : Option NumberVariable) → number_variable_of (kind i) ≡ m →
+    Gives (AtomAt i) (atom_by f m i)
 atom_by_gives f i (Some n) e = gives (g.variable (meant_at number_variable_of i n refl e))
 atom_by_gives f i None e = number_atom f i (sees k.Number i) refl
 
@@ -85,7 +86,8 @@ clear_context_gives : (i : Input) (c : ContextVariable) → ContextAt i c (next 
 unfolding clear_context same_kind TwoAt
 clear_context_gives i c p = then_gives _ (two_gives k.Assign k.Null (next i) refl refl) (λ _ o m. gives (g.clear_context p m.1 m.2))
 
-clear_operation_gives : (i : Input) (x : RemovedVariable) → Meant removed_variable_of i x (next i) → Gives (ActionAt i) (clear_operation x i)
+clear_operation_gives : (i : Input) (x : RemovedVariable) → Meant removed_variable_of i x (next i) →
+    Gives (ActionAt i) (clear_operation x i)
 unfolding clear_operation same_kind TwoAt
 clear_operation_gives i x p = then_gives _ (two_gives k.Assign k.Null (next i) refl refl) (λ _ o m. gives (g.clear_operation p m.1 m.2))
 
@@ -100,7 +102,8 @@ module _ (scope : Scope) (d r : ℕ) where
   word_statement_by_gives : (i : Input) (kd : Kind) → kind i ≡ kd → Gives (StatementAt scope d r i) (word_statement_by scope (line i) kd i)
   unfolding same_kind
   word_statement_by_gives i k.Value e = then_gives _ (write_value_gives i (took i k.Value refl e)) (λ a o p. gives (s.act p))
-  word_statement_by_gives i k.Return e = then_gives _ (optional_status_gives (next i)) (λ x o p. gives (s.return (took i k.Return refl e) p))
+  word_statement_by_gives i k.Return e =
+      then_gives _ (optional_status_gives (next i)) (λ x o p. gives (s.return (took i k.Return refl e) p))
   word_statement_by_gives i _ e = then_gives _ (plain_gives scope i) (λ c o p. gives (s.call p))
 
   word_statement_gives : (i : Input) → Gives (StatementAt scope d r i) (word_statement scope (line i) i)
@@ -114,9 +117,12 @@ module _ (scope : Scope) (d r : ℕ) where
       (given c (λ c. statements_made.Act (line i) <$> clear_context c)
       (given x (λ o. statements_made.Act (line i) <$> clear_operation o)
       (word_statement scope (line i)))) i)
-  simple_by_gives i (Some n) c x e f h = then_gives _ (set_number_gives i n (meant_at number_variable_of i n refl e)) (λ a o p. gives (s.act p))
-  simple_by_gives i None (Some c) x e f h = then_gives _ (clear_context_gives i c (meant_at context_variable_of i c refl f)) (λ a o p. gives (s.act p))
-  simple_by_gives i None None (Some x) e f h = then_gives _ (clear_operation_gives i x (meant_at removed_variable_of i x refl h)) (λ a o p. gives (s.act p))
+  simple_by_gives i (Some n) c x e f h =
+      then_gives _ (set_number_gives i n (meant_at number_variable_of i n refl e)) (λ a o p. gives (s.act p))
+  simple_by_gives i None (Some c) x e f h =
+      then_gives _ (clear_context_gives i c (meant_at context_variable_of i c refl f)) (λ a o p. gives (s.act p))
+  simple_by_gives i None None (Some x) e f h =
+      then_gives _ (clear_operation_gives i x (meant_at removed_variable_of i x refl h)) (λ a o p. gives (s.act p))
   simple_by_gives i None None None e f h = word_statement_gives i
 
   simple_gives : (i : Input) → Gives (StatementAt scope d r i) (simple_statement scope (line i) i)
@@ -133,7 +139,8 @@ operation_test_gives : (i : Input) (x : RemovedVariable) → Meant removed_varia
 unfolding operation_test same_kind TwoAt
 operation_test_gives i x p = then_gives _ (two_gives k.NotEqual k.Null (next i) refl refl) (λ _ o m. gives (g.operation_is_some p m.1 m.2))
 
-comparison_by_gives : (i a : Input) (n : NumberVariable) (kd : Kind) → Meant number_variable_of i n a → kind a ≡ kd → Gives (TestAt i) (comparison_by n kd a)
+comparison_by_gives : (i a : Input) (n : NumberVariable) (kd : Kind) → Meant number_variable_of i n a → kind a ≡ kd →
+    Gives (TestAt i) (comparison_by n kd a)
 unfolding same_kind
 comparison_by_gives i a n k.Equal p e = then_gives _ (atom_gives (next a)) (λ x o q. gives (g.equal p (took a k.Equal refl e) q))
 comparison_by_gives i a n k.Less p e = then_gives _ (atom_gives (next a)) (λ x o q. gives (g.less p (took a k.Less refl e) q))
@@ -145,7 +152,8 @@ number_test_gives i n p = comparison_by_gives i (next i) n (kind (next i)) p ref
 
 word_test_by_gives : (scope : Scope) (i : Input) (kd : Kind) → kind i ≡ kd → Gives (ConditionAt scope i) (word_test_by scope kd i)
 unfolding same_kind
-word_test_by_gives scope i k.Irp e = then_gives _ (expect_gives (next i) k.Data refl) (λ _ o m. gives (g.test (g.is_irp (took i k.Irp refl e) m)))
+word_test_by_gives scope i k.Irp e =
+    then_gives _ (expect_gives (next i) k.Data refl) (λ _ o m. gives (g.test (g.is_irp (took i k.Irp refl e) m)))
 word_test_by_gives scope i k.Draining e = gives (g.test (g.is_draining (took i k.Draining refl e)))
 word_test_by_gives scope i _ e = then_gives _ (fallible_gives scope i) (λ c o p. gives (g.succeeds p))
 
@@ -160,9 +168,12 @@ condition_by_gives : (scope : Scope) (i : Input) (c : Option ContextVariable) (x
     (given x (λ o. made.Test <$> operation_test o)
     (given n (λ n. made.Test <$> number_test n)
     (word_test scope))) i)
-condition_by_gives scope i (Some c) x n e f h = then_gives _ (context_test_gives i c (meant_at context_variable_of i c refl e)) (λ t o p. gives (g.test p))
-condition_by_gives scope i None (Some x) n e f h = then_gives _ (operation_test_gives i x (meant_at removed_variable_of i x refl f)) (λ t o p. gives (g.test p))
-condition_by_gives scope i None None (Some n) e f h = then_gives _ (number_test_gives i n (meant_at number_variable_of i n refl h)) (λ t o p. gives (g.test p))
+condition_by_gives scope i (Some c) x n e f h =
+    then_gives _ (context_test_gives i c (meant_at context_variable_of i c refl e)) (λ t o p. gives (g.test p))
+condition_by_gives scope i None (Some x) n e f h =
+    then_gives _ (operation_test_gives i x (meant_at removed_variable_of i x refl f)) (λ t o p. gives (g.test p))
+condition_by_gives scope i None None (Some n) e f h =
+    then_gives _ (number_test_gives i n (meant_at number_variable_of i n refl h)) (λ t o p. gives (g.test p))
 condition_by_gives scope i None None None e f h = word_test_gives scope i
 
 condition_gives : (scope : Scope) (i : Input) → Gives (ConditionAt scope i) (condition scope i)
@@ -179,7 +190,8 @@ pub After : Scope → ℕ → ℕ → List Statement → Input → List Statemen
 After scope d r found i all o = (ss : List Statement) × (all ≡ found ++ ss) × StatementsAt scope d r i ss o
 
 module _ (scope : Scope) (d : ℕ) (inner : (r : ℕ) (i : Input) → Gives (BlockAt scope d r i) (block scope d r i)) where
-  else_of : (r : ℕ) (i : Input) (b : Bool) (j : Input) → Eaten k.Else i b j → Gives (ElseAt scope d r i) ((if b then block scope d r else pure []) j)
+  else_of : (r : ℕ) (i : Input) (b : Bool) (j : Input) → Eaten k.Else i b j →
+      Gives (ElseAt scope d r i) ((if b then block scope d r else pure []) j)
   else_of r i true j (eaten n) = gives_by (λ ss o p. s.some_else n p) (inner r j)
   else_of r i false j left = gives s.no_else
 
@@ -203,7 +215,8 @@ module _ (scope : Scope) (d : ℕ) (inner : (r : ℕ) (i : Input) → Gives (Blo
       (then_gives _ (within_gives 0 max_turns (next i)) (λ turns b p.
       then_gives _ (inner r b) (λ body o q. gives (s.repeat n p.at p.up_to q))))
 
-  statement_by_gives : (r : ℕ) (i : Input) (kd : Kind) → kind i ≡ kd → Gives (StatementAt scope d r i) (statement_by scope (block scope d) r kd i)
+  statement_by_gives : (r : ℕ) (i : Input) (kd : Kind) → kind i ≡ kd →
+      Gives (StatementAt scope d r i) (statement_by scope (block scope d) r kd i)
   unfolding same_kind
   statement_by_gives r i k.If e = choice_gives r i (took i k.If refl e)
   statement_by_gives r i k.Repeat e = repetition_gives r i (took i k.Repeat refl e)
@@ -213,22 +226,26 @@ module _ (scope : Scope) (d : ℕ) (inner : (r : ℕ) (i : Input) → Gives (Blo
   unfolding statement
   statement_gives r i = statement_by_gives r i (kind i) refl
 
-  module _ (n r : ℕ) (rest : (found : List Statement) (i : Input) → Gives (After scope d r found i) (statements_from scope (block scope d) n r found i)) where
+  module _ (n r : ℕ) (rest : (found : List Statement) (i : Input) →
+      Gives (After scope d r found i) (statements_from scope (block scope d) n r found i)) where
     turn_gives : (found : List Statement) (i : Input) (b : Bool) → Gives (After scope d r found i)
-        (if b then Ok (found, i) else (statement scope (block scope d) r >>= (λ s. statements_from scope (block scope d) n r (found ++ s ∷ []))) i)
+        (if b then Ok (found, i) else (statement scope (block scope d) r
+        >>= (λ s. statements_from scope (block scope d) n r (found ++ s ∷ []))) i)
     unfolding After
     turn_gives found i true = gives ([], sym (append-nil found), s.empty)
     turn_gives found i false = then_gives _ (statement_gives r i) (λ x l p.
         gives_by (λ all o a. (x ∷ a.0, a.1 ∙ append_assoc found (x ∷ []) a.0, s.go_on p a.2)) (rest (found ++ x ∷ []) l))
 
-  statements_from_gives : (n r : ℕ) (found : List Statement) (i : Input) → Gives (After scope d r found i) (statements_from scope (block scope d) n r found i)
+  statements_from_gives : (n r : ℕ) (found : List Statement) (i : Input) →
+      Gives (After scope d r found i) (statements_from scope (block scope d) n r found i)
   unfolding statements_from
   statements_from_gives zero r found i = fails
   statements_from_gives (suc n) r found i = turn_gives n r (statements_from_gives n r) found i (sees k.CloseBrace i)
 
   pub statements_gives : (r : ℕ) (i : Input) → Gives (StatementsAt scope d r i) (statements scope (block scope d) r i)
   unfolding statements After
-  statements_gives r i = gives_by (λ all o a. subst (λ ss. StatementsAt scope d r i ss o) (sym a.1) a.2) (statements_from_gives (length i) r [] i)
+  statements_gives r i = gives_by (λ all o a. subst (λ ss. StatementsAt scope d r i ss o) (sym a.1) a.2)
+      (statements_from_gives (length i) r [] i)
 
   braced_gives : (r : ℕ) (i : Input) → Gives (BlockAt scope (suc d) r i) (braced scope (block scope d) r i)
   unfolding same_kind

@@ -115,7 +115,8 @@ word_fits w = none_fits
 is_short : (n : ℕ) → nat_lt 64 (suc n) ≡ false → nat_lt n 64 ≡ true
 is_short n e = lt-ltb n 64 (omega (arith, ltb-false 64 (suc n) e))
 
-a_name : (b : ℕ) (w : Text) → is_word b ≡ true → is_ascii_digit b ≡ false → list_all is_word w ≡ true → nat_lt 64 (length (b ∷ w)) ≡ false → is_name (b ∷ w) ≡ true
+a_name : (b : ℕ) (w : Text) → is_word b ≡ true → is_ascii_digit b ≡ false → list_all is_word w ≡ true →
+    nat_lt 64 (length (b ∷ w)) ≡ false → is_name (b ∷ w) ≡ true
 a_name b w e d h s = rw (e, d, h, is_short (length w) s) refl
 
 name_run : (b : ℕ) (z w : Text) → w ≡ b ∷ take (prefix_len is_word z) z → is_word b ≡ true → is_ascii_digit b ≡ false →
@@ -155,7 +156,8 @@ token_front b z =
     either (is_word b) _ _ (run_front b z) (λ _. symbol k.Stray 1 refl))))))))
 
 -- the bytes of the token that was read at the front
-front_bytes : (text pre z : Text) (t : Token) (n : ℕ) → text ≡ pre ++ z → t.start ≡ length pre → t.end ≡ length pre + n → length (take n z) ≡ n →
+front_bytes : (text pre z : Text) (t : Token) (n : ℕ) → text ≡ pre ++ z → t.start ≡ length pre → t.end ≡ length pre + n →
+    length (take n z) ≡ n →
     bytes_of text t ≡ take n z
 front_bytes text pre z t n e s h l =
     bytes text pre (take n z) (drop n z) t (e ∙ ap (λ y. pre ++ y) (sym (take-append-drop n z))) s (h ∙ ap (λ m. length pre + m) (sym l))
@@ -181,11 +183,13 @@ tokens_along text pre (b ∷ z) (suc left) comment last at off e h =
 tokens_along text pre (b ∷ z) zero true last at off e h =
     tokens_along text (pre ++ b ∷ []) z zero (not (b == 10)) b (past last at) (off + 1) (lexed_gap text pre z b e) (one_on pre b off h)
 tokens_along text pre (b ∷ z) zero false last at off e h =
-    let on = λ (left : ℕ) (comment : Bool). tokens_along text (pre ++ b ∷ []) z left comment b (past last at) (off + 1) (lexed_gap text pre z b e) (one_on pre b off h) in
+    let on = λ (left : ℕ) (comment : Bool). tokens_along text (pre ++ b ∷ []) z left comment b (past last at) (off + 1)
+    (lexed_gap text pre z b e) (one_on pre b off h) in
     let t = token (b ∷ z) in
     tokens_if (b == 35) _ _ (on zero true)
     (tokens_if (is_blank b) _ _ (on zero false)
-    (more (is_token text pre (b ∷ z) t (past last at) off e h (token_front b z)) (tokens_if (is_fault t.0.kind) _ _ none (on (t.1 - 1) false))))
+    (more (is_token text pre (b ∷ z) t (past last at) off e h (token_front b z))
+    (tokens_if (is_fault t.0.kind) _ _ none (on (t.1 - 1) false))))
 
 pub are_tokens : (text : Text) → AreTokens text (tokens text)
 unfolding tokens

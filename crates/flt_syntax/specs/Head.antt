@@ -32,11 +32,11 @@ event_by _ = refuse
 unfoldable pub event : Parser Head
 event = peek >>= event_by
 
--- an event of which there is none among the callbacks before; a second one is told at its first word
+-- an event of which there is none among the callbacks before; a second one is reported at its first word
 unfoldable pub new_event : List Callback → Parser Head
 new_event found = λ i. and_then (event i) (λ q. if has_event q.0 found then fail E05 i else Ok q)
 
--- NAME of a routine, told where one before has it
+-- NAME of a routine, reported where one before has it
 abbrev pub new_name : Text → List Callback → Parser Text
 new_name text found = λ i. and_then (spelled text i) (λ q. if has_routine q.0 found then fail E05 i else Ok q)
 

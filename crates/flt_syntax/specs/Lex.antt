@@ -19,7 +19,7 @@ use denote.Enum.Bare.{sameb}
 abbrev pub past : ℕ → Position → Position
 past b at = if b == 10 then record { line = at.line + 1; column = 1 } else record { line = at.line; column = at.column + 1 }
 
--- the end of a text stands one column after its last byte, also where that is a line feed
+-- the end of a text stands one column after its last byte, even where that is a line feed
 abbrev pub one_column_on : Position → Position
 one_column_on at = record { line = at.line; column = at.column + 1 }
 

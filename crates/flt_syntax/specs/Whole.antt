@@ -1,4 +1,4 @@
--- The faults that are told once a text is read to its end. They are looked for in the order of the text: the queue stands
+-- The faults that are reported once a text is read to its end. They are looked for in the order of the text: the queue stands
 -- before the callbacks, and a head before its body; so the first one has the least position.
 use Rattle.std.specs.Prelude.{Bool, if◌then◌else◌, List, [], ◌∷◌, map, Option, Some, None, option_map}
 use Rattle.flt_syntax.specs.Cursor.{fault}

@@ -25,7 +25,8 @@ fn otherwise(
     depth: usize,
     repeats: usize,
 ) -> Result<Items<Statement>, ParseError>
-    ensures { Reads (spec.otherwise (scope_of scope.now) (spec.block (scope_of scope.now) depth) repeats tokens.old.rest.now) result tokens.new.rest.now }
+    ensures { Reads (spec.otherwise (scope_of scope.now) (spec.block (scope_of scope.now) depth) repeats tokens.old.rest.now)
+        result tokens.new.rest.now }
 {
     if tokens.eat(Kind::Else) {
         block(alloc, scope, tokens, depth, repeats)
@@ -43,7 +44,8 @@ fn choice(
     depth: usize,
     repeats: usize,
 ) -> Result<Statement, ParseError>
-    ensures { Reads (spec.choice (scope_of scope.now) (spec.block (scope_of scope.now) depth) repeats tokens.old.rest.now) result tokens.new.rest.now }
+    ensures { Reads (spec.choice (scope_of scope.now) (spec.block (scope_of scope.now) depth) repeats tokens.old.rest.now) result
+        tokens.new.rest.now }
 {
     let line = tokens.position().line;
     tokens.take();
@@ -63,7 +65,8 @@ fn repetition(
     depth: usize,
     repeats: usize,
 ) -> Result<Statement, ParseError>
-    ensures { Reads (spec.repetition (scope_of scope.now) (spec.block (scope_of scope.now) depth) repeats tokens.old.rest.now) result tokens.new.rest.now }
+    ensures { Reads (spec.repetition (scope_of scope.now) (spec.block (scope_of scope.now) depth) repeats tokens.old.rest.now)
+        result tokens.new.rest.now }
 {
     if repeats == 0 {
         return Err(tokens.fault(FaultKind::E06));
@@ -84,7 +87,8 @@ fn statement(
     depth: usize,
     repeats: usize,
 ) -> Result<Statement, ParseError>
-    ensures { Reads (spec.statement (scope_of scope.now) (spec.block (scope_of scope.now) depth) repeats tokens.old.rest.now) result tokens.new.rest.now }
+    ensures { Reads (spec.statement (scope_of scope.now) (spec.block (scope_of scope.now) depth) repeats tokens.old.rest.now)
+        result tokens.new.rest.now }
 {
     match tokens.peek() {
         Kind::If => choice(alloc, scope, tokens, depth, repeats),
@@ -106,7 +110,8 @@ pub fn statements(
     depth: usize,
     repeats: usize,
 ) -> Result<Items<Statement>, ParseError>
-    ensures { Reads (spec.statements (scope_of scope.now) (spec.block (scope_of scope.now) depth) repeats tokens.old.rest.now) result tokens.new.rest.now }
+    ensures { Reads (spec.statements (scope_of scope.now) (spec.block (scope_of scope.now) depth) repeats tokens.old.rest.now)
+        result tokens.new.rest.now }
 {
     let mut found = Items::new(alloc);
     for _turn in 0..tokens.left() {

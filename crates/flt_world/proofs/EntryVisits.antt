@@ -1,4 +1,4 @@
--- Visits by which the entries of an operation are told in a queue.
+-- Visits by which the entries of an operation are found in a queue.
 use Rattle.std.proofs.Common.{◌≡◌, ◌≤◌, ◌<◌, ℕ, Bool, true, false, ◌&&◌, ◌||◌, ◌==◌, nat_eq, nat_lt, List, [], ◌∷◌, Option, Some, None, length, get_or, set, find, map, ⊎_elim, refl, sym, ap, ◌∙◌, arith}
 use Rattle.std.specs.Prelude.{filter}
 use Rattle.std.specs.Option.{MatchOption}
@@ -34,7 +34,9 @@ or_here false y h = absurd (cc)
 same_number : (v : ℕ) → (v == v) ≡ true
 same_number v = grind (arith, nat_tests)
 
-each_of : (f : ℕ → Bool) (xs : List ℕ) (q : List Entry) → ((v : ℕ) → list_any (nat_eq v) (visits_of q) ≡ true → list_any (nat_eq v) xs ≡ true) → AllByRecursion (λ e. is_of (filter f xs) e ≡ f e.visit) q
+each_of : (f : ℕ → Bool) (xs : List ℕ) (q : List Entry) →
+    ((v : ℕ) → list_any (nat_eq v) (visits_of q) ≡ true → list_any (nat_eq v) xs ≡ true) →
+    AllByRecursion (λ e. is_of (filter f xs) e ≡ f e.visit) q
 each_of f xs [] h = tt
 each_of f xs (e ∷ q) h = (
   told f e.visit xs (h e.visit (or_here (e.visit == e.visit) (list_any (nat_eq e.visit) (visits_of q)) (same_number e.visit))),
@@ -42,7 +44,8 @@ each_of f xs (e ∷ q) h = (
 )
 
 -- those among the queue's own visits
-pub among_own : (s : Store) (o : ℕ) (q : List Entry) (vs : List ℕ) → vs ≡ filter (λ (v : ℕ). (visit_at s v).operation == o) (visits_of q) → AllByRecursion (λ e. is_of vs e ≡ is_entry_of s o e) q
+pub among_own : (s : Store) (o : ℕ) (q : List Entry) (vs : List ℕ) →
+    vs ≡ filter (λ (v : ℕ). (visit_at s v).operation == o) (visits_of q) → AllByRecursion (λ e. is_of vs e ≡ is_entry_of s o e) q
 among_own s o q vs is = rw is (each_of (λ (v : ℕ). (visit_at s v).operation == o) (visits_of q) q (λ v a. a))
 
 both_false : (x : Bool) → (x && false) ≡ false
@@ -65,13 +68,23 @@ by_number visits o h v =
     (cases_lt v (length visits))
 
 -- the visits of an operation, which isn't that of visits that aren't there
-pub of_operation : (s : Store) (o : ℕ) (q : List Entry) (vs : List ℕ) → (o ≡ 0 → ⊥) → ((v : ℕ) → list_any (nat_eq v) vs ≡ is_visit_of o s.visits v) → AllByRecursion (λ e. is_of vs e ≡ is_entry_of s o e) q
+pub of_operation : (s : Store) (o : ℕ) (q : List Entry) (vs : List ℕ) → (o ≡ 0 → ⊥) →
+    ((v : ℕ) → list_any (nat_eq v) vs ≡ is_visit_of o s.visits v) → AllByRecursion (λ e. is_of vs e ≡ is_entry_of s o e) q
 of_operation s o q vs h are =
     all_of (λ (e : Entry). is_of vs e ≡ is_entry_of s o e) q (λ e. are e.visit ∙ by_number s.visits o h e.visit)
 
 -- ---- the first entry of an operation is taken out of what waits
 
-pub taken_out : (w : World) (f o : ℕ) (vs : List ℕ) (r : Option Entry) (new : List (List Entry) × List (Option Item)) → (find (is_of vs) (queue_at w.store f) ≡ find (is_entry_of w.store o) (queue_at w.store f)) × (without_first (is_of vs) (queue_at w.store f) ≡ without_first (is_entry_of w.store o) (queue_at w.store f)) → MatchOption r ((find (is_of vs) (queue_at w.store f) ≡ None) × (new ≡ (w.store.queues, w.store.items))) (λ e. (find (is_of vs) (queue_at w.store f) ≡ Some e) × (new ≡ (set w.store.queues f (without_first (is_of vs) (queue_at w.store f)), w.store.items))) → MatchOption r (find (is_entry_of w.store o) (queue_at w.store f) ≡ None) (λ e. (find (is_entry_of w.store o) (queue_at w.store f) ≡ Some e) × (record w { store = record w.store { queues = new.0; items = new.1 } } ≡ record w { store = with_queue w.store f (other_entries w.store o (queue_at w.store f)) }))
+pub taken_out : (w : World) (f o : ℕ) (vs : List ℕ) (r : Option Entry) (new : List (List Entry) × List (Option Item)) →
+    (find (is_of vs) (queue_at w.store f) ≡ find (is_entry_of w.store o) (queue_at w.store f))
+    × (without_first (is_of vs) (queue_at w.store f) ≡ without_first (is_entry_of w.store o) (queue_at w.store f)) →
+    MatchOption r ((find (is_of vs) (queue_at w.store f) ≡ None) × (new ≡ (w.store.queues, w.store.items)))
+    (λ e. (find (is_of vs) (queue_at w.store f) ≡ Some e)
+    × (new ≡ (set w.store.queues f (without_first (is_of vs) (queue_at w.store f)), w.store.items))) →
+    MatchOption r (find (is_entry_of w.store o) (queue_at w.store f) ≡ None)
+    (λ e. (find (is_entry_of w.store o) (queue_at w.store f) ≡ Some e)
+    × (record w { store = record w.store { queues = new.0; items = new.1 } }
+    ≡ record w { store = with_queue w.store f (other_entries w.store o (queue_at w.store f)) }))
 taken_out w f o vs None new same h = sym same.0 ∙ h.0
 taken_out w f o vs (Some e) new same h = (
   sym same.0 ∙ h.0,

@@ -9,7 +9,11 @@ all_the_same x [] = refl
 all_the_same {X = X} x (f ∷ p) = ap (λ (l : List X). x ∷ l) (all_the_same x p)
 
 pub opened_is : (p : List Filter) → opened (length p) ≡ opening p
-opened_is p = rw (all_the_same Attached p, all_the_same {X = List Entry} [] p, all_the_same {X = List (List Holder)} (replicate 8 []) p) refl
+opened_is p = rw (
+  all_the_same Attached p,
+  all_the_same {X = List Entry} [] p,
+  all_the_same {X = List (List Holder)} (replicate 8 []) p,
+) refl
 
 pub opened_of : (n : ℕ) (p : List Filter) → length p ≡ n → opened n ≡ opening p
 opened_of n p e = rw (← e) (opened_is p)

@@ -20,7 +20,8 @@ impl<'a> World<'a> {
 
     /// The link goes, and its reference is dropped.
     pub fn unlink_context(&mut self, x: usize, events: &mut Vec<Event>) -> Result<(), AllocError>
-        ensures { OnOk result ((self.new ≡ record self.old { store = effects.after_unlink self.old.store x None }) × (events.new.items ≡ events.old.items ++ effects.freed_by_drop self.old.store x)) }
+        ensures { OnOk result ((self.new ≡ record self.old { store = effects.after_unlink self.old.store x None })
+            × (events.new.items ≡ events.old.items ++ effects.freed_by_drop self.old.store x)) }
     {
         self.tell_drop(x, events)?;
         self.clear_link(x);

@@ -50,7 +50,21 @@ impl<'a> Model for World<'a> {
 
     ghost coded = { Prim.hlevel (codes, activation_code) };
 
-    ghost view = { λ w. record { actors = w.actors.items; activations = w.activations.items; store = record { presences = w.presences.items; queues = w.waiting.0; holders = w.holders.items; arrivals = w.arrivals.items; routes = w.routes.items; visits = w.visits.0; settled = w.visits.1; contexts = w.contexts; items = w.waiting.1 } } };
+    ghost view = { λ w. record {
+      actors = w.actors.items;
+      activations = w.activations.items;
+      store = record {
+        presences = w.presences.items;
+        queues = w.waiting.0;
+        holders = w.holders.items;
+        arrivals = w.arrivals.items;
+        routes = w.routes.items;
+        visits = w.visits.0;
+        settled = w.visits.1;
+        contexts = w.contexts;
+        items = w.waiting.1;
+      };
+    } };
 }
 
 #[tactic(auto, using(crate::proofs::Reading::found, crate::proofs::Reading::missing))]
@@ -469,7 +483,14 @@ impl<'a> World<'a> {
 
     /// One more filter, which is there, has an empty queue and whose locks nobody holds.
     pub fn add_filter(&mut self, alloc: Global) -> Result<(), AllocError>
-        ensures { OnOk result (self.new ≡ record self.old { store = record self.old.store { presences = self.old.store.presences ++ spec.Attached ∷ []; queues = self.old.store.queues ++ [] ∷ []; holders = self.old.store.holders ++ replicate 8 [] ∷ [] } }) }
+        ensures { OnOk result (self.new ≡ record self.old {
+          store =
+              record self.old.store {
+                presences = self.old.store.presences ++ spec.Attached ∷ [];
+                queues = self.old.store.queues ++ [] ∷ [];
+                holders = self.old.store.holders ++ replicate 8 [] ∷ [];
+              };
+        }) }
     {
         self.presences.push(Standing {
             presence: Presence::Attached,
@@ -486,7 +507,10 @@ impl<'a> World<'a> {
         block: &'a [Statement],
         write: Write,
     ) -> Result<(), AllocError>
-        ensures { OnOk result (self.new ≡ record self.old { activations = set self.old.activations a (written write (onward self.old a (block.now ++ later self.old a))) }) }
+        ensures { OnOk result (self.new ≡ record self.old {
+          activations =
+              set self.old.activations a (written write (onward self.old a (block.now ++ later self.old a)));
+        }) }
     {
         if let Some(activation) = self.activations.get_mut(a) {
             activation.go_on(block, write)?;
@@ -505,7 +529,11 @@ impl<'a> World<'a> {
 
     /// The operation stands there from now on.
     pub fn set_position(&mut self, operation: usize, position: Position)
-        ensures { self.new ≡ record self.old { store = spec.with_route self.old.store operation (record (spec.route_at self.old.store operation) { position = position_of position }) } }
+        ensures { self.new ≡ record self.old {
+          store =
+              spec.with_route self.old.store operation
+              (record (spec.route_at self.old.store operation) { position = position_of position });
+        } }
     {
         if let Some(route) = self.routes.get_mut(operation) {
             route.position = position;
@@ -514,7 +542,10 @@ impl<'a> World<'a> {
 
     /// The operation is cancelled.
     pub fn set_cancelled(&mut self, operation: usize)
-        ensures { self.new ≡ record self.old { store = spec.with_route self.old.store operation (record (spec.route_at self.old.store operation) { cancelled = true }) } }
+        ensures { self.new ≡ record self.old {
+          store =
+              spec.with_route self.old.store operation (record (spec.route_at self.old.store operation) { cancelled = true });
+        } }
     {
         if let Some(route) = self.routes.get_mut(operation) {
             route.cancelled = true;
@@ -547,7 +578,14 @@ impl<'a> World<'a> {
 
     /// A new context, with the value 0 and one reference.
     pub fn add_context(&mut self, owner: usize) -> Result<usize, AllocError>
-        ensures { IfOk result (λ x. (x ≡ length self.old.store.contexts) × (self.new ≡ record self.old { store = record self.old.store { contexts = self.old.store.contexts ++ record { owner = owner; references = 1; value = 0; link = None } ∷ [] } })) }
+        ensures { IfOk result (λ x. (x ≡ length self.old.store.contexts)
+            × (self.new ≡ record self.old {
+              store =
+                  record self.old.store {
+                    contexts = self.old.store.contexts
+                        ++ record { owner = owner; references = 1; value = 0; link = None } ∷ [];
+                  };
+            })) }
     {
         let number = self.contexts.len();
         self.contexts.add(owner)?;
@@ -591,14 +629,19 @@ impl<'a> World<'a> {
 
     /// One more entry at the end of a filter's queue.
     pub fn add_entry(&mut self, filter: usize, entry: Entry) -> Result<(), AllocError>
-        ensures { OnOk result (self.new ≡ record self.old { store = spec.with_queue self.old.store filter (spec.queue_at self.old.store filter ++ entry ∷ []) }) }
+        ensures { OnOk result (self.new ≡ record self.old {
+          store =
+              spec.with_queue self.old.store filter (spec.queue_at self.old.store filter ++ entry ∷ []);
+        }) }
     {
         self.waiting.push(filter, entry)
     }
 
     /// Takes the front entry out of a filter's queue.
     pub fn take_first(&mut self, filter: usize) -> Option<Entry>
-        ensures { MatchOption result ((spec.queue_at self.old.store filter ≡ []) × (self.new ≡ self.old)) (λ e. (spec.queue_at self.old.store filter ≡ e ∷ spec.queue_at self.new.store filter) × (self.new ≡ record self.old { store = spec.with_queue self.old.store filter (spec.queue_at self.new.store filter) })) }
+        ensures { MatchOption result ((spec.queue_at self.old.store filter ≡ []) × (self.new ≡ self.old))
+            (λ e. (spec.queue_at self.old.store filter ≡ e ∷ spec.queue_at self.new.store filter)
+            × (self.new ≡ record self.old { store = spec.with_queue self.old.store filter (spec.queue_at self.new.store filter) })) }
     {
         self.waiting.take_first(filter)
     }
@@ -621,7 +664,7 @@ impl<'a> World<'a> {
         Ok(among)
     }
 
-    /// Visits that tell the entries of an operation in a filter's queue. An entry of a visit that isn't there, which no run of the
+    /// Visits by which the entries of an operation are found in a filter's queue. An entry of a visit that isn't there, which no run of the
     /// machine has, is of operation 0, so for that one the queue is looked through.
     fn visits_for(
         &self,
@@ -629,7 +672,8 @@ impl<'a> World<'a> {
         filter: usize,
         operation: usize,
     ) -> Result<Vec<usize>, AllocError>
-        ensures { IfOk result (λ vs. AllByRecursion (λ e. is_of vs.items e ≡ moves.is_entry_of self.now.store operation e) (spec.queue_at self.now.store filter)) }
+        ensures { IfOk result (λ vs. AllByRecursion (λ e. is_of vs.items e ≡ moves.is_entry_of self.now.store operation e)
+            (spec.queue_at self.now.store filter)) }
     {
         if operation == 0 {
             let visits = self.waiting.visits(alloc, filter)?;
@@ -646,7 +690,14 @@ impl<'a> World<'a> {
         filter: usize,
         operation: usize,
     ) -> Result<Option<Entry>, AllocError>
-        ensures { IfOk result (λ r. MatchOption r (find (moves.is_entry_of self.old.store operation) (spec.queue_at self.old.store filter) ≡ None) (λ e. (find (moves.is_entry_of self.old.store operation) (spec.queue_at self.old.store filter) ≡ Some e) × (self.new ≡ record self.old { store = spec.with_queue self.old.store filter (moves.other_entries self.old.store operation (spec.queue_at self.old.store filter)) }))) }
+        ensures { IfOk result (λ r. MatchOption r
+            (find (moves.is_entry_of self.old.store operation) (spec.queue_at self.old.store filter) ≡ None)
+            (λ e. (find (moves.is_entry_of self.old.store operation) (spec.queue_at self.old.store filter) ≡ Some e)
+            × (self.new ≡ record self.old {
+              store =
+                  spec.with_queue self.old.store filter
+                  (moves.other_entries self.old.store operation (spec.queue_at self.old.store filter));
+            }))) }
     {
         same_tests_find_the_same();
         let visits = self.visits_for(alloc, filter, operation)?;
@@ -655,7 +706,10 @@ impl<'a> World<'a> {
 
     /// One more work item.
     pub fn add_item(&mut self, item: Item) -> Result<(), AllocError>
-        ensures { OnOk result (self.new ≡ record self.old { store = record self.old.store { items = self.old.store.items ++ Some item ∷ [] } }) }
+        ensures { OnOk result (self.new ≡ record self.old {
+          store =
+              record self.old.store { items = self.old.store.items ++ Some item ∷ [] };
+        }) }
     {
         self.waiting.add_item(item)
     }
@@ -670,7 +724,8 @@ impl<'a> World<'a> {
 
     /// A new visit, which isn't settled.
     pub fn add_visit(&mut self, visit: Visit) -> Result<usize, AllocError>
-        ensures { IfOk result (λ v. (v ≡ length self.old.store.visits) × (self.new ≡ record self.old { store = moves.with_visit self.old.store visit })) }
+        ensures { IfOk result (λ v. (v ≡ length self.old.store.visits)
+            × (self.new ≡ record self.old { store = moves.with_visit self.old.store visit })) }
     {
         let number = self.visits.len();
         self.visits.add(visit)?;

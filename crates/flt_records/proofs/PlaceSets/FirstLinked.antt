@@ -8,7 +8,10 @@ use Rattle.flt_records.specs.Links.{AreLinks, key_code}
 use Rattle.flt_records.specs.Places.{has}
 use Rattle.flt_records.proofs.PlaceSets.First.{is_position}
 
-pub linked_first : (cs : List Context) (s : BTreeSet (ℕ × ℕ × ℕ)) (l : Link) (r : Option ℕ) → AreLinks cs s → MatchOption r ((c : ℕ) → has s l.filter (key_code l.key) c ≡ false) (λ k. (has s l.filter (key_code l.key) k ≡ true) × ((c : ℕ) → c < k → has s l.filter (key_code l.key) c ≡ false)) → r ≡ position (λ (c : Context). is_linked_to l c.link) cs
+pub linked_first : (cs : List Context) (s : BTreeSet (ℕ × ℕ × ℕ)) (l : Link) (r : Option ℕ) → AreLinks cs s →
+    MatchOption r ((c : ℕ) → has s l.filter (key_code l.key) c ≡ false)
+    (λ k. (has s l.filter (key_code l.key) k ≡ true) × ((c : ℕ) → c < k → has s l.filter (key_code l.key) c ≡ false)) →
+    r ≡ position (λ (c : Context). is_linked_to l c.link) cs
 linked_first cs s l None are h =
     is_position (λ (c : Context). is_linked_to l c.link) cs no_context refl None (λ c. sym (are.each l c) ∙ h c)
 linked_first cs s l (Some k) are h =

@@ -45,11 +45,16 @@ pub record NotAfter (i j k a b c : ℕ) : Type 0 where
   pub second : i ≡ a → j ≤ b
   pub third : i ≡ a → j ≡ b → k ≤ c
 
-by_orders : (i j k a b c : ℕ) (x y z : Ordering) → nat_cmp i a ≡ x → nat_cmp j b ≡ y → nat_cmp k c ≡ z → is_gt (ordering_then (ordering_then x y) z) ≡ false → NotAfter i j k a b c
-by_orders i j k a b c Less y z p q r h = let l = nat_less i a p in record { first = omega arith; second = λ e. omega arith; third = λ e f. omega arith }
-by_orders i j k a b c Equal Less z p q r h = let l = nat_less j b q in let m = nat_equal i a p in record { first = omega arith; second = λ e. omega arith; third = λ e f. omega arith }
-by_orders i j k a b c Equal Equal Less p q r h = let l = nat_less k c r in let m = nat_equal i a p in let n = nat_equal j b q in record { first = omega arith; second = λ e. omega arith; third = λ e f. omega arith }
-by_orders i j k a b c Equal Equal Equal p q r h = let l = nat_equal k c r in let m = nat_equal i a p in let n = nat_equal j b q in record { first = omega arith; second = λ e. omega arith; third = λ e f. omega arith }
+by_orders : (i j k a b c : ℕ) (x y z : Ordering) → nat_cmp i a ≡ x → nat_cmp j b ≡ y → nat_cmp k c ≡ z →
+    is_gt (ordering_then (ordering_then x y) z) ≡ false → NotAfter i j k a b c
+by_orders i j k a b c Less y z p q r h = let l = nat_less i a p in
+    record { first = omega arith; second = λ e. omega arith; third = λ e f. omega arith }
+by_orders i j k a b c Equal Less z p q r h = let l = nat_less j b q in let m = nat_equal i a p in
+    record { first = omega arith; second = λ e. omega arith; third = λ e f. omega arith }
+by_orders i j k a b c Equal Equal Less p q r h = let l = nat_less k c r in let m = nat_equal i a p in let n = nat_equal j b q in
+    record { first = omega arith; second = λ e. omega arith; third = λ e f. omega arith }
+by_orders i j k a b c Equal Equal Equal p q r h = let l = nat_equal k c r in let m = nat_equal i a p in let n = nat_equal j b q in
+    record { first = omega arith; second = λ e. omega arith; third = λ e f. omega arith }
 by_orders i j k a b c Equal Equal Greater p q r h = absurd (cc)
 by_orders i j k a b c Equal Greater z p q r h = absurd (cc)
 by_orders i j k a b c Greater y z p q r h = absurd (cc)
@@ -57,12 +62,14 @@ by_orders i j k a b c Greater y z p q r h = absurd (cc)
 pub not_after : (i j k a b c : ℕ) → is_gt (place_cmp (i, j, k) (a, b, c)) ≡ false → NotAfter i j k a b c
 not_after i j k a b c h = by_orders i j k a b c (nat_cmp i a) (nat_cmp j b) (nat_cmp k c) refl refl refl h
 
-order_from : (i j c a b d : ℕ) (x y z : Ordering) → nat_cmp i a ≡ x → nat_cmp j b ≡ y → nat_cmp c d ≡ z → NotAfter i j c a b d → is_gt (ordering_then (ordering_then x y) z) ≡ false
+order_from : (i j c a b d : ℕ) (x y z : Ordering) → nat_cmp i a ≡ x → nat_cmp j b ≡ y → nat_cmp c d ≡ z → NotAfter i j c a b d →
+    is_gt (ordering_then (ordering_then x y) z) ≡ false
 order_from i j c a b d Less y z p q r h = refl
 order_from i j c a b d Equal Less z p q r h = refl
 order_from i j c a b d Equal Equal Less p q r h = refl
 order_from i j c a b d Equal Equal Equal p q r h = refl
-order_from i j c a b d Equal Equal Greater p q r h = let l = nat_greater c d r in let m = nat_equal i a p in let n = nat_equal j b q in absurd (omega (arith, h.third m n))
+order_from i j c a b d Equal Equal Greater p q r h = let l = nat_greater c d r in let m = nat_equal i a p in let n =
+    nat_equal j b q in absurd (omega (arith, h.third m n))
 order_from i j c a b d Equal Greater z p q r h = let l = nat_greater j b q in let m = nat_equal i a p in absurd (omega (arith, h.second m))
 order_from i j c a b d Greater y z p q r h = let l = nat_greater i a p in absurd (omega (arith, h.first))
 
@@ -81,20 +88,27 @@ module _ (s : BTreeSet (ℕ × ℕ × ℕ)) (i j l : ℕ) (r : List (ℕ × ℕ 
   module _ (p : ℕ × ℕ × ℕ) (rest : List (ℕ × ℕ × ℕ)) (is : r ≡ p ∷ rest) where
     first_is : (is_gt (place_cmp (i, j, l) p) ≡ false × ⊤) × IsTrue (contains place_cmp s p)
     first_is =
-        subst (λ (xs : List (ℕ × ℕ × ℕ)). IfSome (slice_get xs 0) (λ (q : ℕ × ℕ × ℕ). (is_gt (place_cmp (i, j, l) q) ≡ false × ⊤) × IsTrue (contains place_cmp s q))) is h.1
+        subst (λ (xs : List (ℕ × ℕ × ℕ)). IfSome (slice_get xs 0)
+        (λ (q : ℕ × ℕ × ℕ). (is_gt (place_cmp (i, j, l) q) ≡ false × ⊤) × IsTrue (contains place_cmp s q))) is h.1
 
     from_start : NotAfter i j l p.0 p.1 p.2
     from_start = not_after i j l p.0 p.1 p.2 first_is.0.0
 
     to_each : (c : ℕ) → l ≤ c → contains place_cmp s (i, j, c) ≡ true → NotAfter p.0 p.1 p.2 i j c
     to_each c k is_in =
-        let upto = subst (λ (xs : List (ℕ × ℕ × ℕ)). IfSome (slice_get xs 0) (λ (q : ℕ × ℕ × ℕ). is_gt (place_cmp q (i, j, c)) ≡ false)) is (h.2 (i, j, c) (from_least i j l c k, tt) is_in) in
+        let upto = subst (λ (xs : List (ℕ × ℕ × ℕ)). IfSome (slice_get xs 0)
+        (λ (q : ℕ × ℕ × ℕ). is_gt (place_cmp q (i, j, c)) ≡ false)) is (h.2 (i, j, c) (from_least i j l c k, tt) is_in) in
         not_after p.0 p.1 p.2 i j c upto
 
     pub least_here : p.0 ≡ i → p.1 ≡ j → (l ≤ p.2) × ((has s i j p.2 ≡ true) × ((c : ℕ) → l ≤ c → c < p.2 → has s i j c ≡ false))
     unfolding has
-    least_here e f =
-        (from_start.third (sym e) (sym f), (rw (sym e, sym f) first_is.1, λ c k less. false_where_absurd _ (λ is_in. let m = to_each c k is_in in let n = m.third e f in omega arith)))
+    least_here e f = (
+      from_start.third (sym e) (sym f),
+      (
+        rw (sym e, sym f) first_is.1,
+        λ c k less. false_where_absurd _ (λ is_in. let m = to_each c k is_in in let n = m.third e f in omega arith),
+      ),
+    )
 
     pub none_past : (p.0 ≡ i → p.1 ≡ j → ⊥) → (c : ℕ) → l ≤ c → has s i j c ≡ false
     unfolding has

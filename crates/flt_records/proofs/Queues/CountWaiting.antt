@@ -22,7 +22,9 @@ pub in_cons : (v : ℕ) (e : Entry) (q : List Entry) → in_queue v (e ∷ q) �
 unfolding in_queue
 in_cons v e q = sum_by-cons (λ (x : Entry). one_if x.visit v) e q
 
-in_without_by : (v : ℕ) (p : Entry → Bool) (x : Entry) (q : List Entry) (e : Entry) (b : Bool) → p x ≡ b → find p (x ∷ q) ≡ Some e → (find p q ≡ Some e → in_queue v q ≡ one_if e.visit v + in_queue v (without_first p q)) → in_queue v (x ∷ q) ≡ one_if e.visit v + in_queue v (without_first p (x ∷ q))
+in_without_by : (v : ℕ) (p : Entry → Bool) (x : Entry) (q : List Entry) (e : Entry) (b : Bool) → p x ≡ b →
+    find p (x ∷ q) ≡ Some e → (find p q ≡ Some e → in_queue v q ≡ one_if e.visit v + in_queue v (without_first p q)) →
+    in_queue v (x ∷ q) ≡ one_if e.visit v + in_queue v (without_first p (x ∷ q))
 in_without_by v p x q e true h is rest =
     let f = first_passes p x q h in
     let same : Some x ≡ Some e = sym f.0 ∙ is in
@@ -36,12 +38,14 @@ in_without_by v p x q e false h is rest =
     omega arith
 
 -- the entries without the first that passes
-pub in_without : (v : ℕ) (p : Entry → Bool) (q : List Entry) (e : Entry) → find p q ≡ Some e → in_queue v q ≡ one_if e.visit v + in_queue v (without_first p q)
+pub in_without : (v : ℕ) (p : Entry → Bool) (q : List Entry) (e : Entry) → find p q ≡ Some e →
+    in_queue v q ≡ one_if e.visit v + in_queue v (without_first p q)
 in_without v p [] e is = absurd (cc)
 in_without v p (x ∷ q) e is = in_without_by v p x q e (p x) refl is (in_without v p q e)
 
 -- as often as before, where one was counted and taken back
-pub back : (cs ds es : List (ℕ × ℕ)) (u : ℕ) → ((v : ℕ) → count ds v ≡ count cs v + one_if u v) → (0 < count ds u → (v : ℕ) → count ds v ≡ count es v + one_if u v) → (v : ℕ) → count es v ≡ count cs v
+pub back : (cs ds es : List (ℕ × ℕ)) (u : ℕ) → ((v : ℕ) → count ds v ≡ count cs v + one_if u v) →
+    (0 < count ds u → (v : ℕ) → count ds v ≡ count es v + one_if u v) → (v : ℕ) → count es v ≡ count cs v
 unfolding one_if
 back cs ds es u more less v =
     let one : one_if u u ≡ 1 = grind (arith, nat_tests) in
@@ -62,7 +66,8 @@ module _ (queues : List (List Entry)) (items : List (Option Item)) (cs ds : List
           omega arith;
     }
 
-    pub entry_added : (e : Entry) → new ≡ old ++ e ∷ [] → ((v : ℕ) → count ds v ≡ count cs v + one_if e.visit v) → AreWaiting (set queues f new) items ds
+    pub entry_added : (e : Entry) → new ≡ old ++ e ∷ [] → ((v : ℕ) → count ds v ≡ count cs v + one_if e.visit v) →
+        AreWaiting (set queues f new) items ds
     entry_added e is more = record {
       each = λ v.
           let s = sum_by-set (in_queue v) queues f new [] l in

@@ -56,7 +56,8 @@ module _ (t : List Event) (c : Tally) (k : Tells t c) (v : ℕ) where
   holding_is : (a : ℕ) (act : Activation) → holding t v a act ≡ share (not act.ended) (count_of c.visits a v)
   unfolding holding
   holding_is a act =
-      ap (λ (b : Bool). if not act.ended && b then 1 else 0) (sym (held_is t c a (Visit v) k)) ∙ sharing (not act.ended) (count_of c.visits a v)
+      ap (λ (b : Bool). if not act.ended && b then 1 else 0) (sym (held_is t c a (Visit v) k))
+      ∙ sharing (not act.ended) (count_of c.visits a v)
 
   holders_are : (acts : List Activation) (a : ℕ) → holders_from t v a acts ≡ running_with (going acts) (λ b. count_of c.visits b v) a
   unfolding running_with
@@ -65,22 +66,25 @@ module _ (t : List Event) (c : Tally) (k : Tells t c) (v : ℕ) where
       ap (λ n. n + holders_from t v (a + 1) acts) (holding_is a act)
       ∙ ap (λ n. share (not act.ended) (count_of c.visits a v) + n) (holders_are acts (a + 1))
 
-  -- the counts tell who owns a visit
+  -- the counts say who owns a visit
   owned_is : (w : World) → IsCounted c → c.running ≡ going w.activations → is_owned w t v ≡ owns c w v
   unfolding owners
   owned_is w counted running =
       let holders : holders_from t v 0 w.activations ≡ count c.holders v =
-      holders_are w.activations 0 ∙ ap (λ (ons : List Bool). running_with ons (λ b. count_of c.visits b v) 0) (sym running) ∙ sym (counted.by_visit v) in
+      holders_are w.activations 0 ∙ ap (λ (ons : List Bool). running_with ons (λ b. count_of c.visits b v) 0) (sym running)
+      ∙ sym (counted.by_visit v) in
       let all : owners w t v ≡ count c.holders v + waiting w.store v = omega arith in
       ap (λ n. n == (if is_settled w.store v then 0 else 1)) all
 
 -- ---- counts that differ in who goes on alone
 
-held_alike : (old new : Tally) (ons : List Bool) (holders : List (ℕ × ℕ)) → new ≡ record old { running = ons; holders = holders } → (a : ℕ) (o : Object) → held new a o ≡ held old a o
+held_alike : (old new : Tally) (ons : List Bool) (holders : List (ℕ × ℕ)) →
+    new ≡ record old { running = ons; holders = holders } → (a : ℕ) (o : Object) → held new a o ≡ held old a o
 held_alike old new ons holders e a (Context x) = ap (λ (d : Tally). count_of d.contexts a x) e
 held_alike old new ons holders e a (Visit v) = ap (λ (d : Tally). count_of d.visits a v) e
 
-tells_alike : (t : List Event) (old new : Tally) (ons : List Bool) (holders : List (ℕ × ℕ)) → new ≡ record old { running = ons; holders = holders } → Tells t old → Tells t new
+tells_alike : (t : List Event) (old new : Tally) (ons : List Bool) (holders : List (ℕ × ℕ)) →
+    new ≡ record old { running = ons; holders = holders } → Tells t old → Tells t new
 tells_alike t old new ons holders e k = record {
   balance = λ a o. omega (arith, k.balance a o, held_alike old new ons holders e a o);
   frees_are = λ x. k.frees_are x ∙ sym (ap (λ (d : Tally). count d.freed x) e);
@@ -117,10 +121,12 @@ module _ (w : World) (s : Step) (onwards : Onward w s) (ons : List Bool) (size :
   unfolding joined
   goes_on_all is =
       ap (λ (b : Bool). if b then ons ++ true ∷ [] else ons) (le-ltb (length ons) (length s.world.activations) (omega (arith, size, is)))
-      ∙ ext_get_or false ons (going s.world.activations) (omega (arith, size, is, length-map s.world.activations (λ (act : Activation). not act.ended)))
+      ∙ ext_get_or false ons (going s.world.activations)
+      (omega (arith, size, is, length-map s.world.activations (λ (act : Activation). not act.ended)))
       (λ i l. goes_there i (omega (arith, size, l)))
 
-  pushed_at : (goes : (activation_at s.world (length w.activations)).ended ≡ false) → (i : ℕ) → i < length ons + 1 → (i < length ons) ⊎ (length ons ≤ i) →
+  pushed_at : (goes : (activation_at s.world (length w.activations)).ended ≡ false) → (i : ℕ) → i < length ons + 1 →
+      (i < length ons) ⊎ (length ons ≤ i) →
       get_or (ons ++ true ∷ []) i false ≡ get_or (going s.world.activations) i false
   pushed_at goes i l (inl below) = get_or-append ons (true ∷ []) false i below ∙ goes_there i (omega (arith, size, below))
   pushed_at goes i l (inr past) =
@@ -129,7 +135,8 @@ module _ (w : World) (s : Step) (onwards : Onward w s) (ons : List Bool) (size :
       subst (λ (n : ℕ). get_or (ons ++ true ∷ []) n false ≡ true) last (get_or-append_seam ons true [] false)
       ∙ sym (going_at s.world.activations i ∙ ap not (subst (λ (n : ℕ). (activation_at s.world n).ended ≡ false) place goes))
 
-  goes_on_one : length s.world.activations ≡ length w.activations + 1 → (activation_at s.world (length w.activations)).ended ≡ false → joined ≡ going s.world.activations
+  goes_on_one : length s.world.activations ≡ length w.activations + 1 →
+      (activation_at s.world (length w.activations)).ended ≡ false → joined ≡ going s.world.activations
   unfolding joined
   goes_on_one is goes =
       ap (λ (b : Bool). if b then ons ++ true ∷ [] else ons) (lt-ltb (length ons) (length s.world.activations) (omega (arith, size, is)))
@@ -167,13 +174,17 @@ least true true false d = refl
 least true false c d = refl
 least false b c d = refl
 
-first_is : (p : List Filter) (m : Moment) (s : Step) → first_of of_holding p m s ≡ fourth (first_broken s.world m.trace s.events) (one_owner s.world (m.trace ++ s.events))
-first_is p m s = least (no_stale_use s.world m.trace s.events) (no_leak m.trace s.events) (settled_once m.trace s.events) (one_owner s.world (m.trace ++ s.events))
+first_is : (p : List Filter) (m : Moment) (s : Step) →
+    first_of of_holding p m s ≡ fourth (first_broken s.world m.trace s.events) (one_owner s.world (m.trace ++ s.events))
+first_is p m s = least (no_stale_use s.world m.trace s.events) (no_leak m.trace s.events) (settled_once m.trace s.events)
+    (one_owner s.world (m.trace ++ s.events))
 
 -- ---- a step whose events were taken in
 
-module _ (p : List Filter) (m : Moment) (x : Transition) (s : Step) (e : next p m x ≡ Some s) (old mid last new : Tally) (some all : List ℕ) (agrees : Agrees m old)
-    (j : Judged s.world m.trace s.events old mid [] some true true) (h : Halted s.events mid last some all) (n : Joined (length s.world.activations) last new) where
+module _ (p : List Filter) (m : Moment) (x : Transition) (s : Step) (e : next p m x ≡ Some s) (old mid last new : Tally)
+    (some all : List ℕ) (agrees : Agrees m old)
+    (j : Judged s.world m.trace s.events old mid [] some true true) (h : Halted s.events mid last some all)
+    (n : Joined (length s.world.activations) last new) where
   tidy : Tidy m
   tidy = record { paired = agrees.paired; strangers = agrees.strangers }
 
@@ -189,7 +200,8 @@ module _ (p : List Filter) (m : Moment) (x : Transition) (s : Step) (e : next p 
 
   tells_new : Tells (m.trace ++ s.events) new
   tells_new =
-      tells_alike (m.trace ++ s.events) last new (if nat_lt (length last.running) (length s.world.activations) then last.running ++ true ∷ [] else last.running) new.holders n.only
+      tells_alike (m.trace ++ s.events) last new
+      (if nat_lt (length last.running) (length s.world.activations) then last.running ++ true ∷ [] else last.running) new.holders n.only
       (tells_alike (m.trace ++ s.events) mid last last.running last.holders h.only j.tells)
 
   counted_new : IsCounted new
@@ -203,7 +215,8 @@ module _ (p : List Filter) (m : Moment) (x : Transition) (s : Step) (e : next p 
       let apart = j.apart v (h.listed v z) in
       record {
         apart = apart;
-        released = λ b end. sym (held_apart m.trace s.events b v apart) ∙ sym (held_is (m.trace ++ s.events) mid b (Visit v) j.tells) ∙ ap (λ k. nat_lt 0 k) (h.released b v end z);
+        released = λ b end. sym (held_apart m.trace s.events b v apart)
+            ∙ sym (held_is (m.trace ++ s.events) mid b (Visit v) j.tells) ∙ ap (λ k. nat_lt 0 k) (h.released b v end z);
       }
 
   is_listed : ℕ → Bool
@@ -213,11 +226,15 @@ module _ (p : List Filter) (m : Moment) (x : Transition) (s : Step) (e : next p 
   unfolding is_listed
   left v l = spared v (eqb-true (occurs v all) 0 (not-false (occurs v all == 0) l))
 
-  looked : list_all (owns_any new s.world) all ≡ true → (v : ℕ) → v < length s.world.store.visits → is_listed v ≡ true → is_owned s.world (m.trace ++ s.events) v ≡ true
+  looked : list_all (owns_any new s.world) all ≡ true → (v : ℕ) → v < length s.world.store.visits → is_listed v ≡ true →
+      is_owned s.world (m.trace ++ s.events) v ≡ true
   unfolding is_listed
   looked each v within l =
-      let any : owns_any new s.world v ≡ true = all_at (owns_any new s.world) all each v (λ z. both_ways (occurs v all == 0) (not-true (occurs v all == 0) l) (eq-eqb (occurs v all) 0 z)) in
-      let here : owns_any new s.world v ≡ owns new s.world v = ap (λ b. not b || owns new s.world v) (lt-ltb v (length s.world.store.visits) within) in
+      let any : owns_any new s.world v ≡ true =
+      all_at (owns_any new s.world) all each v
+      (λ z. both_ways (occurs v all == 0) (not-true (occurs v all == 0) l) (eq-eqb (occurs v all) 0 z)) in
+      let here : owns_any new s.world v ≡ owns new s.world v =
+      ap (λ b. not b || owns new s.world v) (lt-ltb v (length s.world.store.visits) within) in
       owned_new v ∙ sym here ∙ any
 
   owned_each : list_all (owns_any new s.world) all ≡ true → one_owner s.world (m.trace ++ s.events) ≡ true
@@ -226,7 +243,8 @@ module _ (p : List Filter) (m : Moment) (x : Transition) (s : Step) (e : next p 
   any_owned : one_owner s.world (m.trace ++ s.events) ≡ true → (v : ℕ) → owns_any new s.world v ≡ true
   any_owned one v =
       elim (cases_lt v (length s.world.store.visits)) [
-        | inl within ↦ or_right (not (nat_lt v (length s.world.store.visits))) (owns new s.world v) (sym (owned_new v) ∙ one_owner_at p m x s e tidy one v within)
+        | inl within ↦ or_right (not (nat_lt v (length s.world.store.visits))) (owns new s.world v)
+            (sym (owned_new v) ∙ one_owner_at p m x s e tidy one v within)
         | inr past ↦ ap (λ b. not b || owns new s.world v) (le-ltb v (length s.world.store.visits) past)
       ]
 
@@ -236,11 +254,20 @@ module _ (p : List Filter) (m : Moment) (x : Transition) (s : Step) (e : next p 
   agrees_after : one_owner s.world (m.trace ++ s.events) ≡ true → Agrees (after m s) new
   agrees_after one =
       let later = tidy_after p m x s e tidy in
-      record { tells = tells_new; counted = counted_new; running_is = running_new; owned = one; paired = later.paired; strangers = later.strangers }
+      record {
+        tells = tells_new;
+        counted = counted_new;
+        running_is = running_new;
+        owned = one;
+        paired = later.paired;
+        strangers = later.strangers;
+      }
 
-module _ (p : List Filter) (m : Moment) (x : Transition) (s : Step) (w : World) (es : List Event) (old mid last new : Tally) (some all : List ℕ) (agrees : Agrees m old)
+module _ (p : List Filter) (m : Moment) (x : Transition) (s : Step) (w : World) (es : List Event) (old mid last new : Tally)
+    (some all : List ℕ) (agrees : Agrees m old)
     (f : Follows p m x s w es) (found : Option Violation) (no : is_some found ≡ false) (first : found ≡ first_broken w m.trace es)
-    (was : List ℕ) (blank : was ≡ []) (taken : found ≡ None → Judged w m.trace es old mid was some true true) (h : Halted es mid last some all)
+    (was : List ℕ) (blank : was ≡ []) (taken : found ≡ None → Judged w m.trace es old mid was some true true)
+    (h : Halted es mid last some all)
     (n : Joined (length w.activations) last new) where
   none : None ≡ first_broken w m.trace es
   none = sym (none_from found no) ∙ first
@@ -250,7 +277,8 @@ module _ (p : List Filter) (m : Moment) (x : Transition) (s : Step) (w : World) 
 
   none_first : None ≡ first_broken s.world m.trace s.events
   none_first =
-      subst (λ (v : World). None ≡ first_broken v m.trace s.events) (sym f.world) (subst (λ (fs : List Event). None ≡ first_broken w m.trace fs) (sym f.events_are) none)
+      subst (λ (v : World). None ≡ first_broken v m.trace s.events) (sym f.world)
+      (subst (λ (fs : List Event). None ≡ first_broken w m.trace fs) (sym f.events_are) none)
 
   judged_step : Judged s.world m.trace s.events old mid [] some true true
   judged_step =
@@ -264,12 +292,14 @@ module _ (p : List Filter) (m : Moment) (x : Transition) (s : Step) (w : World) 
   joined_step = subst (λ (v : World). Joined (length v.activations) last new) (sym f.world) n
 
   fourth_is : (b : Bool) → one_owner s.world (m.trace ++ s.events) ≡ b → (if b then None else Some V4) ≡ first_of of_holding p m s
-  fourth_is b one = sym (first_is p m s ∙ ap (λ o. fourth o (one_owner s.world (m.trace ++ s.events))) (sym none_first) ∙ ap (λ (c : Bool). if c then None else Some V4) one)
+  fourth_is b one = sym (first_is p m s ∙ ap (λ o. fourth o (one_owner s.world (m.trace ++ s.events))) (sym none_first)
+      ∙ ap (λ (c : Bool). if c then None else Some V4) one)
 
   -- each that was listed has its owner
   pub concluded : list_all (owns_any new w) all ≡ true → (None ≡ first_of of_holding p m s) × (nothing ≡ None → Agrees (after m s) new)
   concluded each =
-      let one = owned_each p m x s f.is old mid last new some all agrees judged_step halted_step joined_step (subst (λ (v : World). list_all (owns_any new v) all ≡ true) (sym f.world) each) in
+      let one = owned_each p m x s f.is old mid last new some all agrees judged_step halted_step joined_step
+      (subst (λ (v : World). list_all (owns_any new v) all ≡ true) (sym f.world) each) in
       (fourth_is true one, λ _. agrees_after p m x s f.is old mid last new some all agrees judged_step halted_step joined_step one)
 
   -- one has not

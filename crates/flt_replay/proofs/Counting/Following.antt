@@ -17,7 +17,10 @@ use Rattle.flt_replay.specs.Ledger.{Tally, Stopped, Halted, Started, Joined}
 
 pub joined_one : (n : ℕ) (old new : Tally) → length old.running < n → Started old new → Joined n old new
 joined_one n old new l s = record {
-  only = s.only ∙ ap (λ (b : Bool). record old { running = (if b then old.running ++ true ∷ [] else old.running); holders = new.holders }) (sym (lt-ltb (length old.running) n l));
+  only = s.only ∙ ap (λ (b : Bool). record old {
+    running = (if b then old.running ++ true ∷ [] else old.running);
+    holders = new.holders;
+  }) (sym (lt-ltb (length old.running) n l));
   counted = s.counted;
 }
 
@@ -108,7 +111,8 @@ and_nor true true d = refl
 and_nor true false d = refl
 and_nor false c d = refl
 
-module _ (es fs : List Event) (old mid new : Tally) (was now later : List ℕ) (h : Halted es old mid was now) (k : Halted fs mid new now later) where
+module _ (es fs : List Event) (old mid new : Tally) (was now later : List ℕ) (h : Halted es old mid was now)
+    (k : Halted fs mid new now later) where
   ends_both : (a : ℕ) → ends_in a (es ++ fs) ≡ (ends_in a es || ends_in a fs)
   ends_both a = list_any-append (is_end_of a) es fs
 

@@ -37,7 +37,8 @@ moved (on ∷ ons) f g a k zero e h =
     omega arith
 moved (on ∷ ons) f g a k (suc i) e h =
     let here : share on (g k) ≡ share on (f k) = ap (share on) (h k (λ q. omega arith)) in
-    let later : running_with ons g (k + 1) + share (get_or ons i false) (f a) ≡ running_with ons f (k + 1) + share (get_or ons i false) (g a) = moved ons f g a (k + 1) i (omega arith) h in
+    let later : running_with ons g (k + 1) + share (get_or ons i false) (f a) ≡ running_with ons f (k + 1) + share
+    (get_or ons i false) (g a) = moved ons f g a (k + 1) i (omega arith) h in
     omega arith
 
 -- those that go on and have a count are at least one
@@ -48,7 +49,8 @@ some_share (on ∷ ons) f k zero =
     let same : share on (f (k + 0)) ≡ share on (f k) = ap (λ n. share on (f n)) (omega arith) in
     omega arith
 some_share (on ∷ ons) f k (suc i) =
-    let same : share (get_or ons i false) (f (k + suc i)) ≡ share (get_or ons i false) (f (k + 1 + i)) = ap (λ n. share (get_or ons i false) (f n)) (omega arith) in
+    let same : share (get_or ons i false) (f (k + suc i)) ≡ share (get_or ons i false) (f (k + 1 + i)) =
+    ap (λ n. share (get_or ons i false) (f n)) (omega arith) in
     omega (arith, some_share ons f (k + 1) i)
 
 pub one_when : Bool → ℕ → ℕ
@@ -88,24 +90,31 @@ module _ (ons : List Bool) (a v : ℕ) (less more : List (List (ℕ × ℕ)))
   unfolding of_visit
   at_actor m = one a m ∙ ap (λ n. count_of less a m + n) (actor_here a (one_if v m))
 
-  both : (m : ℕ) → running_with ons (of_visit more m) 0 + share on (of_visit less m a) ≡ running_with ons (of_visit less m) 0 + share on (of_visit more m a)
+  both : (m : ℕ) → running_with ons (of_visit more m) 0 + share on (of_visit less m a) ≡ running_with ons
+      (of_visit less m) 0 + share on (of_visit more m a)
   unfolding on
   both m = moved ons (of_visit less m) (of_visit more m) a 0 a (omega arith) (apart m)
 
   -- the holders are one more where the activation had none
-  pub holders_more : (m : ℕ) → running_with ons (λ b. count_of more b m) 0 ≡ running_with ons (λ b. count_of less b m) 0 + one_when (is_without (get_or ons a false) (count_of less a v)) (one_if v m)
+  pub holders_more : (m : ℕ) → running_with ons (λ b. count_of more b m) 0 ≡ running_with ons
+      (λ b. count_of less b m) 0 + one_when (is_without (get_or ons a false) (count_of less a v)) (one_if v m)
   unfolding on of_visit
   holders_more m =
-      ⊎_elim (λ (e : v ≡ m). subst (λ (u : ℕ). running_with ons (λ b. count_of more b u) 0 ≡ running_with ons (λ b. count_of less b u) 0 + one_when (is_without (get_or ons a false) (count_of less a v)) (one_if v u)) e
-      (let grows : share on (of_visit more v a) ≡ share on (of_visit less v a) + one_when (is_without (get_or ons a false) (count_of less a v)) 1 =
+      ⊎_elim (λ (e : v ≡ m). subst (λ (u : ℕ). running_with ons (λ b. count_of more b u) 0 ≡ running_with ons
+      (λ b. count_of less b u) 0 + one_when (is_without (get_or ons a false) (count_of less a v)) (one_if v u)) e
+      (let grows : share on (of_visit more v a) ≡ share on (of_visit less v a) + one_when
+      (is_without (get_or ons a false) (count_of less a v)) 1 =
       ap (share on) (at_actor v ∙ ap (λ n. of_visit less v a + n) (one_here v)) ∙ share_more on (of_visit less v a) in
-      let unit : one_when (is_without (get_or ons a false) (count_of less a v)) (one_if v v) ≡ one_when (is_without (get_or ons a false) (count_of less a v)) 1 =
+      let unit : one_when (is_without (get_or ons a false) (count_of less a v)) (one_if v v) ≡ one_when
+      (is_without (get_or ons a false) (count_of less a v)) 1 =
       ap (one_when (is_without (get_or ons a false) (count_of less a v))) (one_here v) in
       omega (arith, both v)))
       (λ (ne : v ≢ m).
-      let stays : share on (of_visit more m a) ≡ share on (of_visit less m a) = ap (share on) (omega (arith, at_actor m, one_elsewhere v m ne)) in
+      let stays : share on (of_visit more m a) ≡ share on (of_visit less m a) =
+      ap (share on) (omega (arith, at_actor m, one_elsewhere v m ne)) in
       let none : one_when (is_without (get_or ons a false) (count_of less a v)) (one_if v m) ≡ 0 =
-      ap (one_when (is_without (get_or ons a false) (count_of less a v))) (one_elsewhere v m ne) ∙ one_when_none (is_without (get_or ons a false) (count_of less a v)) in
+      ap (one_when (is_without (get_or ons a false) (count_of less a v))) (one_elsewhere v m ne)
+      ∙ one_when_none (is_without (get_or ons a false) (count_of less a v)) in
       omega (arith, both m))
       (cases_eq v m)
 
@@ -125,14 +134,29 @@ module _ (c : Tally) (a v : ℕ) (rows : List (List (ℕ × ℕ))) where
       Turned c (record c { visits = rows; holders = holders })
   gained_first holders one first h = record {
     only = refl;
-    counted = λ k. record { by_visit = λ m. omega (arith, h m, k.by_visit m, holders_more c.running a v c.visits rows one m, when_true (is_without (get_or c.running a false) (count_of c.visits a v)) (one_if v m) first) };
+    counted = λ k. record {
+      by_visit = λ m. omega (
+        arith,
+        h m,
+        k.by_visit m,
+        holders_more c.running a v c.visits rows one m,
+        when_true (is_without (get_or c.running a false) (count_of c.visits a v)) (one_if v m) first,
+      );
+    };
   }
 
   pub gained_again : ((b m : ℕ) → count_of rows b m ≡ count_of c.visits b m + of_actor a b (one_if v m)) →
       is_without (get_or c.running a false) (count_of c.visits a v) ≡ false → Turned c (record c { visits = rows })
   gained_again one again = record {
     only = refl;
-    counted = λ k. record { by_visit = λ m. omega (arith, k.by_visit m, holders_more c.running a v c.visits rows one m, when_false (is_without (get_or c.running a false) (count_of c.visits a v)) (one_if v m) again) };
+    counted = λ k. record {
+      by_visit = λ m. omega (
+        arith,
+        k.by_visit m,
+        holders_more c.running a v c.visits rows one m,
+        when_false (is_without (get_or c.running a false) (count_of c.visits a v)) (one_if v m) again,
+      );
+    };
   }
 
   pub lost_last : (holders : List (ℕ × ℕ)) → ((b m : ℕ) → count_of c.visits b m ≡ count_of rows b m + of_actor a b (one_if v m)) →
@@ -140,28 +164,47 @@ module _ (c : Tally) (a v : ℕ) (rows : List (List (ℕ × ℕ))) where
       Turned c (record c { visits = rows; holders = holders })
   lost_last holders one last h = record {
     only = refl;
-    counted = λ k. record { by_visit = λ m. omega (arith, h m, k.by_visit m, holders_more c.running a v rows c.visits one m, when_true (is_without (get_or c.running a false) (count_of rows a v)) (one_if v m) last) };
+    counted = λ k. record {
+      by_visit = λ m. omega (
+        arith,
+        h m,
+        k.by_visit m,
+        holders_more c.running a v rows c.visits one m,
+        when_true (is_without (get_or c.running a false) (count_of rows a v)) (one_if v m) last,
+      );
+    };
   }
 
   pub lost_one : ((b m : ℕ) → count_of c.visits b m ≡ count_of rows b m + of_actor a b (one_if v m)) →
       is_without (get_or c.running a false) (count_of rows a v) ≡ false → Turned c (record c { visits = rows })
   lost_one one again = record {
     only = refl;
-    counted = λ k. record { by_visit = λ m. omega (arith, k.by_visit m, holders_more c.running a v rows c.visits one m, when_false (is_without (get_or c.running a false) (count_of rows a v)) (one_if v m) again) };
+    counted = λ k. record {
+      by_visit = λ m. omega (
+        arith,
+        k.by_visit m,
+        holders_more c.running a v rows c.visits one m,
+        when_false (is_without (get_or c.running a false) (count_of rows a v)) (one_if v m) again,
+      );
+    };
   }
 
 -- what one holds that goes on has a holder
 pub some_holder : (c : Tally) (a v : ℕ) → IsCounted c → get_or c.running a false ≡ true → 0 < count_of c.visits a v → 0 < count c.holders v
 unfolding share
 some_holder c a v k on some =
-    let one : share (get_or c.running a false) (count_of c.visits a v) ≡ min 1 (count_of c.visits a v) = ap (λ b. share b (count_of c.visits a v)) on in
-    let at : share (get_or c.running a false) (count_of c.visits (0 + a) v) ≤ running_with c.running (λ b. count_of c.visits b v) 0 = some_share c.running (λ b. count_of c.visits b v) 0 a in
-    let same : share (get_or c.running a false) (count_of c.visits (0 + a) v) ≡ share (get_or c.running a false) (count_of c.visits a v) = ap (λ n. share (get_or c.running a false) (count_of c.visits n v)) (omega arith) in
+    let one : share (get_or c.running a false) (count_of c.visits a v) ≡ min 1 (count_of c.visits a v) =
+    ap (λ b. share b (count_of c.visits a v)) on in
+    let at : share (get_or c.running a false) (count_of c.visits (0 + a) v) ≤ running_with c.running
+    (λ b. count_of c.visits b v) 0 = some_share c.running (λ b. count_of c.visits b v) 0 a in
+    let same : share (get_or c.running a false) (count_of c.visits (0 + a) v) ≡ share (get_or c.running a false)
+    (count_of c.visits a v) = ap (λ n. share (get_or c.running a false) (count_of c.visits n v)) (omega arith) in
     omega (arith, k.by_visit v)
 
 -- ---- an activation that goes on no more, and one more that is there
 
-running_off : (ons : List Bool) (f : ℕ → ℕ) (a k i : ℕ) → a ≡ k + i → running_with (set ons i false) f k + share (get_or ons i false) (f a) ≡ running_with ons f k
+running_off : (ons : List Bool) (f : ℕ → ℕ) (a k i : ℕ) → a ≡ k + i →
+    running_with (set ons i false) f k + share (get_or ons i false) (f a) ≡ running_with ons f k
 unfolding running_with
 running_off [] f a k i e = omega (arith, share_off (f a))
 running_off (on ∷ ons) f a k zero e =
@@ -169,7 +212,8 @@ running_off (on ∷ ons) f a k zero e =
     omega (arith, share_off (f k))
 running_off (on ∷ ons) f a k (suc i) e = omega (arith, running_off ons f a (k + 1) i (omega arith))
 
-running_push : (ons : List Bool) (on : Bool) (f : ℕ → ℕ) (a k : ℕ) → a ≡ k + length ons → running_with (ons ++ on ∷ []) f k ≡ running_with ons f k + share on (f a)
+running_push : (ons : List Bool) (on : Bool) (f : ℕ → ℕ) (a k : ℕ) → a ≡ k + length ons →
+    running_with (ons ++ on ∷ []) f k ≡ running_with ons f k + share on (f a)
 unfolding running_with
 running_push [] on f a k e =
     let here : share on (f a) ≡ share on (f k) = ap (λ n. share on (f n)) (omega arith) in
@@ -180,7 +224,8 @@ share_on : (goes : Bool) (n : ℕ) → goes ≡ true → share goes n ≡ min 1 
 unfolding share
 share_on goes n e = ap (λ b. share b n) e
 
-module _ (c : Tally) (a : ℕ) (visits was now : List ℕ) (all : (v : ℕ) → occurs v visits ≡ min 1 (count_of c.visits a v)) (listed : now ≡ was ++ visits) where
+module _ (c : Tally) (a : ℕ) (visits was now : List ℕ) (all : (v : ℕ) → occurs v visits ≡ min 1 (count_of c.visits a v))
+    (listed : now ≡ was ++ visits) where
   listed_both : (v : ℕ) → occurs v now ≡ occurs v was + occurs v visits
   listed_both v = ap (occurs v) listed ∙ sum_by-append (λ (n : ℕ). one_if n v) was visits
 

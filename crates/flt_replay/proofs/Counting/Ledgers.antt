@@ -16,7 +16,8 @@ use Rattle.flt_replay.proofs.Machine.Owners.{Tidy, Spared, tidy_after, one_owner
 use Rattle.flt_replay.specs.Apart.{is_apart, ends_in}
 use Rattle.flt_replay.specs.Ledger.{Tally, Tells, Agrees, going}
 
-module _ (p : List Filter) (m : Moment) (a : ℕ) (s : Step) (c : Tally) (agrees : Agrees m c) (e : next p m (Local a) ≡ Some s) (none : s.events ≡ []) where
+module _ (p : List Filter) (m : Moment) (a : ℕ) (s : Step) (c : Tally) (agrees : Agrees m c) (e : next p m (Local a) ≡ Some s)
+    (none : s.events ≡ []) where
   tidy : Tidy m
   tidy = record { paired = agrees.paired; strangers = agrees.strangers }
 
@@ -42,7 +43,8 @@ module _ (p : List Filter) (m : Moment) (a : ℕ) (s : Step) (c : Tally) (agrees
         tells = subst (λ (t : List Event). Tells t c) (sym same_trace) agrees.tells;
         counted = agrees.counted;
         running_is = agrees.running_is ∙ sym same_going;
-        owned = one_owner_after p m (Local a) s e tidy (λ v. false) (λ v _. spared v) (λ v within l. absurd (true≢false (sym l))) agrees.owned;
+        owned = one_owner_after p m (Local a) s e tidy (λ v. false) (λ v _. spared v)
+            (λ v within l. absurd (true≢false (sym l))) agrees.owned;
         paired = later.paired;
         strangers = later.strangers;
       }

@@ -52,13 +52,17 @@ apart_from_one u v h = grind (arith, nat_tests)
 -- ---- what is held, after one gain or one loss
 
 module _ (c : Tally) (a : ℕ) where
-  held_gained_context : (x : ℕ) (rows : List (List (ℕ × ℕ))) → ((b n : ℕ) → count_of rows b n ≡ count_of c.contexts b n + of_actor a b (one_if x n)) →
-      (b : ℕ) (o : Object) → held (record c { contexts = rows }) b o + lose b o (event.Gain a (Context x)) ≡ held c b o + gain b o (event.Gain a (Context x))
+  held_gained_context : (x : ℕ) (rows : List (List (ℕ × ℕ))) →
+      ((b n : ℕ) → count_of rows b n ≡ count_of c.contexts b n + of_actor a b (one_if x n)) →
+      (b : ℕ) (o : Object) → held (record c { contexts = rows }) b o + lose b o (event.Gain a (Context x)) ≡ held c b o + gain b o
+      (event.Gain a (Context x))
   held_gained_context x rows h b (Context n) = omega (arith, h b n)
   held_gained_context x rows h b (Visit u) = omega (arith, actor_none a b)
 
-  held_lost_context : (x : ℕ) (rows : List (List (ℕ × ℕ))) → ((b n : ℕ) → count_of c.contexts b n ≡ count_of rows b n + of_actor a b (one_if x n)) →
-      (b : ℕ) (o : Object) → held (record c { contexts = rows }) b o + lose b o (event.Lose a (Context x)) ≡ held c b o + gain b o (event.Lose a (Context x))
+  held_lost_context : (x : ℕ) (rows : List (List (ℕ × ℕ))) →
+      ((b n : ℕ) → count_of c.contexts b n ≡ count_of rows b n + of_actor a b (one_if x n)) →
+      (b : ℕ) (o : Object) → held (record c { contexts = rows }) b o + lose b o (event.Lose a (Context x)) ≡ held c b o + gain b o
+      (event.Lose a (Context x))
   held_lost_context x rows h b (Context n) = omega (arith, h b n)
   held_lost_context x rows h b (Visit u) = omega (arith, actor_none a b)
 
@@ -91,20 +95,24 @@ held_settled c counts v a (Visit u) = refl
 -- ---- each event
 
 module _ (t : List Event) (c : Tally) (was : List ℕ) (k : Tells t c) (counted : IsCounted c) where
-  pub gained_context : (a x : ℕ) (rows : List (List (ℕ × ℕ))) → ((b n : ℕ) → count_of rows b n ≡ count_of c.contexts b n + of_actor a b (one_if x n)) →
+  pub gained_context : (a x : ℕ) (rows : List (List (ℕ × ℕ))) →
+      ((b n : ℕ) → count_of rows b n ≡ count_of c.contexts b n + of_actor a b (one_if x n)) →
       Noted t (event.Gain a (Context x)) c (record c { contexts = rows }) was was
   gained_context a x rows h = record {
-    tells = told t (event.Gain a (Context x)) c (record c { contexts = rows }) (held_gained_context c a x rows h) (λ y. omega arith) (λ v. omega arith) k;
+    tells = told t (event.Gain a (Context x)) c (record c { contexts = rows }) (held_gained_context c a x rows h)
+        (λ y. omega arith) (λ v. omega arith) k;
     counted = record { by_visit = counted.by_visit };
     same_running = refl;
     listed = λ v z. z;
     apart = λ v z. refl;
   }
 
-  pub lost_context : (a x : ℕ) (rows : List (List (ℕ × ℕ))) → ((b n : ℕ) → count_of c.contexts b n ≡ count_of rows b n + of_actor a b (one_if x n)) →
+  pub lost_context : (a x : ℕ) (rows : List (List (ℕ × ℕ))) →
+      ((b n : ℕ) → count_of c.contexts b n ≡ count_of rows b n + of_actor a b (one_if x n)) →
       Noted t (event.Lose a (Context x)) c (record c { contexts = rows }) was was
   lost_context a x rows h = record {
-    tells = told t (event.Lose a (Context x)) c (record c { contexts = rows }) (held_lost_context c a x rows h) (λ y. omega arith) (λ v. omega arith) k;
+    tells = told t (event.Lose a (Context x)) c (record c { contexts = rows }) (held_lost_context c a x rows h) (λ y. omega arith)
+        (λ v. omega arith) k;
     counted = record { by_visit = counted.by_visit };
     same_running = refl;
     listed = λ v z. z;
@@ -177,7 +185,8 @@ module _ (t : List Event) (c : Tally) (was : List ℕ) (k : Tells t c) (counted 
       pub gained_visit : ((b n : ℕ) → count_of new.visits b n ≡ count_of c.visits b n + of_actor a b (one_if v n)) →
           Noted t (event.Gain a (Visit v)) c new was now
       gained_visit h = record {
-        tells = told t (event.Gain a (Visit v)) c new (held_gained_visit c a v new turned h) (λ y. omega (arith, same_freed y)) (λ u. omega (arith, same_settled u)) k;
+        tells = told t (event.Gain a (Visit v)) c new (held_gained_visit c a v new turned h) (λ y. omega (arith, same_freed y))
+            (λ u. omega (arith, same_settled u)) k;
         counted = turned.counted counted;
         same_running = ap (λ (d : Tally). d.running) turned.only;
         listed = keeps;
@@ -187,7 +196,8 @@ module _ (t : List Event) (c : Tally) (was : List ℕ) (k : Tells t c) (counted 
       pub lost_visit : ((b n : ℕ) → count_of c.visits b n ≡ count_of new.visits b n + of_actor a b (one_if v n)) →
           Noted t (event.Lose a (Visit v)) c new was now
       lost_visit h = record {
-        tells = told t (event.Lose a (Visit v)) c new (held_lost_visit c a v new turned h) (λ y. omega (arith, same_freed y)) (λ u. omega (arith, same_settled u)) k;
+        tells = told t (event.Lose a (Visit v)) c new (held_lost_visit c a v new turned h) (λ y. omega (arith, same_freed y))
+            (λ u. omega (arith, same_settled u)) k;
         counted = turned.counted counted;
         same_running = ap (λ (d : Tally). d.running) turned.only;
         listed = keeps;

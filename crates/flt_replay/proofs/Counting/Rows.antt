@@ -16,7 +16,9 @@ elsewhere : (rows : List (List (ℕ × ℕ))) (a b : ℕ) (counts : List (ℕ ×
 elsewhere rows a b counts ne = get_or-set_other rows a b counts [] (λ e. ne (sym e))
 
 -- one number was counted once more
-pub added : (rows : List (List (ℕ × ℕ))) (a k : ℕ) (counts : List (ℕ × ℕ)) → a < length rows → ((n : ℕ) → count counts n ≡ count (get_or rows a []) n + one_if k n) → (b n : ℕ) → count_of (set rows a counts) b n ≡ count_of rows b n + of_actor a b (one_if k n)
+pub added : (rows : List (List (ℕ × ℕ))) (a k : ℕ) (counts : List (ℕ × ℕ)) → a < length rows →
+    ((n : ℕ) → count counts n ≡ count (get_or rows a []) n + one_if k n) → (b n : ℕ) →
+    count_of (set rows a counts) b n ≡ count_of rows b n + of_actor a b (one_if k n)
 unfolding count_of
 added rows a k counts l h b n =
     ⊎_elim (λ (e : a ≡ b). subst (λ (c : ℕ). count_of (set rows a counts) c n ≡ count_of rows c n + of_actor a c (one_if k n)) e
@@ -27,11 +29,14 @@ added rows a k counts l h b n =
     (cases_eq a b)
 
 -- one number was counted once less
-pub taken : (rows : List (List (ℕ × ℕ))) (a k : ℕ) (counts : List (ℕ × ℕ)) → a < length rows → ((n : ℕ) → count (get_or rows a []) n ≡ count counts n + one_if k n) → (b n : ℕ) → count_of rows b n ≡ count_of (set rows a counts) b n + of_actor a b (one_if k n)
+pub taken : (rows : List (List (ℕ × ℕ))) (a k : ℕ) (counts : List (ℕ × ℕ)) → a < length rows →
+    ((n : ℕ) → count (get_or rows a []) n ≡ count counts n + one_if k n) → (b n : ℕ) →
+    count_of rows b n ≡ count_of (set rows a counts) b n + of_actor a b (one_if k n)
 unfolding count_of
 taken rows a k counts l h b n =
     ⊎_elim (λ (e : a ≡ b). subst (λ (c : ℕ). count_of rows c n ≡ count_of (set rows a counts) c n + of_actor a c (one_if k n)) e
-    (h n ∙ ap (λ m. count counts n + m) (sym (actor_here a (one_if k n))) ∙ ap (λ cs. count cs n + of_actor a a (one_if k n)) (sym (here rows a counts l))))
+    (h n ∙ ap (λ m. count counts n + m) (sym (actor_here a (one_if k n)))
+    ∙ ap (λ cs. count cs n + of_actor a a (one_if k n)) (sym (here rows a counts l))))
     (λ (ne : a ≢ b).
     let other : count_of (set rows a counts) b n ≡ count_of rows b n = ap (λ cs. count cs n) (elsewhere rows a b counts ne) in
     omega (arith, actor_elsewhere a b (one_if k n) ne))

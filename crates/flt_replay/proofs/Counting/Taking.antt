@@ -46,7 +46,8 @@ module _ (w : World) (t : List Event) (old : Tally) (was : List ℕ) where
   }
 
   -- one more
-  pub judged_more : (es : List Event) (e : Event) (mid new : Tally) (now later : List ℕ) (tight once : Bool) → Judged w t es old mid was now tight once →
+  pub judged_more : (es : List Event) (e : Event) (mid new : Tally) (now later : List ℕ) (tight once : Bool) →
+      Judged w t es old mid was now tight once →
       is_fresh w (t ++ es) e ≡ true → Noted (t ++ es) e mid new now later →
       Judged w t (es ++ e ∷ []) old new was later (tight && leaks_nothing (t ++ es) e) (once && is_first_settling (t ++ es) e)
   judged_more es e mid new now later tight once j fresh n = record {
@@ -54,16 +55,19 @@ module _ (w : World) (t : List Event) (old : Tally) (was : List ℕ) where
     counted = n.counted;
     same_running = n.same_running ∙ j.same_running;
     listed = λ v z. j.listed v (n.listed v z);
-    apart = λ v z. list_all-append (is_apart v) es (e ∷ []) ∙ and_from (are_apart v es) (is_apart v e && true) (j.apart v (n.listed v z)) (and_from (is_apart v e) true (n.apart v z) refl);
+    apart = λ v z. list_all-append (is_apart v) es (e ∷ [])
+        ∙ and_from (are_apart v es) (is_apart v e && true) (j.apart v (n.listed v z)) (and_from (is_apart v e) true (n.apart v z) refl);
     fresh = along_push (is_fresh w) t es e ∙ and_from (no_stale_use w t es) (is_fresh w (t ++ es) e) j.fresh fresh;
     tight_is = ap (λ b. b && leaks_nothing (t ++ es) e) j.tight_is ∙ sym (along_push leaks_nothing t es e);
     once_is = ap (λ b. b && is_first_settling (t ++ es) e) j.once_is ∙ sym (along_push is_first_settling t es e);
   }
 
   -- one that touches something stale
-  pub judged_stale : (es : List Event) (e : Event) (ys : List Event) → is_fresh w (t ++ es) e ≡ false → first_broken w t (es ++ (e ∷ ys)) ≡ Some V1
+  pub judged_stale : (es : List Event) (e : Event) (ys : List Event) → is_fresh w (t ++ es) e ≡ false →
+      first_broken w t (es ++ (e ∷ ys)) ≡ Some V1
   judged_stale es e ys h =
-      ap (λ b. if b then (if no_leak t (es ++ (e ∷ ys)) then (if settled_once t (es ++ (e ∷ ys)) then None else Some V3) else Some V2) else Some V1)
+      ap (λ b. if b then (if no_leak t (es ++ (e ∷ ys)) then (if settled_once t (es ++ (e ∷ ys)) then None else Some V3)
+      else Some V2) else Some V1)
       (along_fails (is_fresh w) t es e ys h)
 
   -- all
@@ -76,20 +80,25 @@ module _ (w : World) (t : List Event) (old : Tally) (was : List ℕ) where
 
   -- ---- by place
 
-  pub judged_at : (events : List Event) (i : ℕ) (d : Event) → i < length events → (mid new : Tally) (now later : List ℕ) (tight once tight_too once_too : Bool) →
+  pub judged_at : (events : List Event) (i : ℕ) (d : Event) → i < length events →
+      (mid new : Tally) (now later : List ℕ) (tight once tight_too once_too : Bool) →
       Judged w t (take i events) old mid was now tight once → is_fresh w (t ++ take i events) (get_or events i d) ≡ true →
-      Noted (t ++ take i events) (get_or events i d) mid new now later → tight_too ≡ (tight && leaks_nothing (t ++ take i events) (get_or events i d)) →
+      Noted (t ++ take i events) (get_or events i d) mid new now later →
+      tight_too ≡ (tight && leaks_nothing (t ++ take i events) (get_or events i d)) →
       once_too ≡ (once && is_first_settling (t ++ take i events) (get_or events i d)) →
       Judged w t (take (i + 1) events) old new was later tight_too once_too
   judged_at events i d l mid new now later tight once tight_too once_too j fresh n a b =
       let more = judged_more (take i events) (get_or events i d) mid new now later tight once j fresh n in
-      let first = subst (λ (x : Bool). Judged w t (take i events ++ get_or events i d ∷ []) old new was later x (once && is_first_settling (t ++ take i events) (get_or events i d))) (sym a) more in
+      let first = subst (λ (x : Bool). Judged w t (take i events ++ get_or events i d ∷ []) old new was later x
+      (once && is_first_settling (t ++ take i events) (get_or events i d))) (sym a) more in
       let second = subst (λ (x : Bool). Judged w t (take i events ++ get_or events i d ∷ []) old new was later tight_too x) (sym b) first in
       subst (λ (es : List Event). Judged w t es old new was later tight_too once_too) (sym (take_at_read events i d l).1) second
 
-  pub stale_at : (events : List Event) (i : ℕ) (d : Event) → i < length events → is_fresh w (t ++ take i events) (get_or events i d) ≡ false →
+  pub stale_at : (events : List Event) (i : ℕ) (d : Event) → i < length events →
+      is_fresh w (t ++ take i events) (get_or events i d) ≡ false →
       Some V1 ≡ first_broken w t events
   stale_at events i d l h =
       let split : take i events ++ (get_or events i d ∷ drop (suc i) events) ≡ events =
       ap (λ es. take i events ++ es) (sym (drop-cons events i d l)) ∙ take-append-drop i events in
-      subst (λ (es : List Event). Some V1 ≡ first_broken w t es) split (sym (judged_stale (take i events) (get_or events i d) (drop (suc i) events) h))
+      subst (λ (es : List Event). Some V1 ≡ first_broken w t es) split
+      (sym (judged_stale (take i events) (get_or events i d) (drop (suc i) events) h))

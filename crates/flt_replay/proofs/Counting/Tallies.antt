@@ -98,8 +98,10 @@ module _ (t : List Event) (a : ℕ) where
   held_none c k x h = sym (held_is t c a (Context x) k) ∙ ap (λ n. nat_lt 0 n) h
 
 -- it has let all go if no context counts
-pub leaks_nothing_is : (t : List Event) (c : Tally) (a : ℕ) (b : Bool) → Tells t c → (IsTrue b ↔ ((x : ℕ) → count_of c.contexts a x ≡ 0)) → b ≡ leaks_nothing t (event.End a)
+pub leaks_nothing_is : (t : List Event) (c : Tally) (a : ℕ) (b : Bool) → Tells t c →
+    (IsTrue b ↔ ((x : ℕ) → count_of c.contexts a x ≡ 0)) → b ≡ leaks_nothing t (event.End a)
 leaks_nothing_is t c a b k h =
     ⊎_elim (λ (e : b ≡ true). e ∙ sym (all_let_go t a (λ x. held_none t a c k x (h.0 e x)) t))
-    (λ (e : b ≡ false). e ∙ sym (false_from_ne_true (list_all (is_let_go t a) t) (λ go. both_ways b e (h.1 (λ x. count_none t a c k x (let_go_is t a go x))))))
+    (λ (e : b ≡ false). e ∙ sym (false_from_ne_true (list_all (is_let_go t a) t)
+    (λ go. both_ways b e (h.1 (λ x. count_none t a c k x (let_go_is t a go x))))))
     (cases_Bool b)

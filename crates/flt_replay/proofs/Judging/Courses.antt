@@ -38,12 +38,14 @@ in_other_words P Q (Err e) f h = tt
 
 -- ---- a transition happened, or isn't enabled
 
-pub happened : (step : Option Step) (enabled : Bool) (w : World) (earlier events : List Event) → enabled ≡ true → ComesOf step enabled w earlier events →
+pub happened : (step : Option Step) (enabled : Bool) (w : World) (earlier events : List Event) → enabled ≡ true →
+    ComesOf step enabled w earlier events →
     (s : Step) × (step ≡ Some s) × Happened w earlier events s
 happened None enabled w earlier events e h = absurd (cc (e, h))
 happened (Some s) enabled w earlier events e h = (s, refl, h.1)
 
-pub not_enabled : (step : Option Step) (enabled : Bool) (w : World) (earlier events : List Event) → enabled ≡ false → ComesOf step enabled w earlier events → step ≡ None
+pub not_enabled : (step : Option Step) (enabled : Bool) (w : World) (earlier events : List Event) → enabled ≡ false →
+    ComesOf step enabled w earlier events → step ≡ None
 not_enabled None enabled w earlier events e h = refl
 not_enabled (Some s) enabled w earlier events e h = absurd (cc (e, h.0))
 
@@ -62,7 +64,8 @@ module _ (p : List Filter) (m : Moment) (s : Step) (monitor : Monitor) (found ru
   both : broken p m s ≡ option_or found rule
   both = least_of_both p m s ∙ rw (← holding, ← rules) refl
 
-  pub fails : (v : Violation) → option_or found rule ≡ Some v → ComesTo (code.Fails v) monitor (unless_broken (broken p m s) (Reaches (after m s)))
+  pub fails : (v : Violation) → option_or found rule ≡ Some v →
+      ComesTo (code.Fails v) monitor (unless_broken (broken p m s) (Reaches (after m s)))
   fails v e = rw (both, e) refl
 
   pub reaches : option_or found rule ≡ None → monitor.world ≡ s.world → (found ≡ None → Agrees (after m s) monitor.ledger) →
@@ -86,14 +89,16 @@ module _ (p : List Filter) (m : Moment) (x : Transition) where
 -- not at the opening, and not after a step from where it was so
 pub record StayExclusive : Type 0 where
   pub opening : (p : List Filter) → IsTrue (locks_exclude (opening p))
-  pub steps : (p : List Filter) (w : World) (t : List Event) (x : Transition) (s : Step) → step p w t x ≡ Some s → IsTrue (locks_exclude w) →
+  pub steps : (p : List Filter) (w : World) (t : List Event) (x : Transition) (s : Step) → step p w t x ≡ Some s →
+      IsTrue (locks_exclude w) →
       IsTrue (locks_exclude s.world)
 
 -- ---- a move
 
 pub made : (p : List Filter) (m : Moment) (x : Move) (old new : Monitor) (u : World) (es : List Event) (enabled : Bool) (c : Code) →
     StayExclusive → IsAt old m → ComesOf (make p old.world x) enabled u [] es → enabled ≡ true →
-    ((s : Step) → Follows p m (Make x) s u es → None ≡ first_of of_rules p m s → ComesTo c new (unless_broken (broken p m s) (Reaches (after m s)))) →
+    ((s : Step) → Follows p m (Make x) s u es → None ≡ first_of of_rules p m s →
+    ComesTo c new (unless_broken (broken p m s) (Reaches (after m s)))) →
     ComesTo c new (course p m (Make x ∷ []))
 made p m x old new u es enabled c stay at h is judges =
     let here : ComesOf (make p m.world x) enabled u [] es = subst (λ w. ComesOf (make p w x) enabled u [] es) at.world h in
@@ -115,7 +120,8 @@ held_after : (p : List Filter) (m : Moment) (a : ℕ) (grant : Bool) (s : Step) 
     holds_given m.trace (with_locks s.world a (activation_at m.world a).locks) a ≡ holds_given m.trace m.world a
 held_after p m a grant s e = ap (holds_visit m.trace a) (alike_after m.world a s (stepped p m.trace m.world a grant s e)).given
 
-module _ (p : List Filter) (m : Moment) (a : ℕ) (grant held : Bool) (old new : Monitor) (u : World) (es : List Event) (enabled : Bool) (at : IsAt old m)
+module _ (p : List Filter) (m : Moment) (a : ℕ) (grant held : Bool) (old new : Monitor) (u : World) (es : List Event)
+    (enabled : Bool) (at : IsAt old m)
     (is_held : held ≡ holds_given m.trace m.world a)
     (h : (t : List Event) → held ≡ holds_given t old.world a → ComesOf (board p t old.world a grant) enabled u [] es) where
   board_here : ComesOf (board p m.trace m.world a grant) enabled u [] es
@@ -132,8 +138,10 @@ module _ (p : List Filter) (m : Moment) (a : ℕ) (grant held : Bool) (old new :
       (t : List Event) → held ≡ holds_given t (with_locks w a locks) a → list_all (is_by a) events ≡ true →
       rule ≡ find (λ v. not (keeps_rule p (with_locks w a locks) t events v)) of_rules
 
-  module _ (rule : Option Violation) (locks : List HeldLock) (are : locks ≡ (activation_at old.world a).locks) (rules : IsRule rule u es locks)
-      (s : Step) (e : board p m.trace m.world a grant ≡ Some s) (exclusive : locks_exclude s.world ≡ true) (world : u ≡ s.world) (events : es ≡ s.events) where
+  module _ (rule : Option Violation) (locks : List HeldLock) (are : locks ≡ (activation_at old.world a).locks)
+      (rules : IsRule rule u es locks)
+      (s : Step) (e : board p m.trace m.world a grant ≡ Some s) (exclusive : locks_exclude s.world ≡ true) (world : u ≡ s.world)
+      (events : es ≡ s.events) where
     abbrev own : List HeldLock
     own = (activation_at m.world a).locks
 
@@ -147,13 +155,16 @@ module _ (p : List Filter) (m : Moment) (a : ℕ) (grant held : Bool) (old new :
         read_after m.trace (is_held ∙ sym (held_after p m a grant s e)) (stepped p m.trace m.world a grant s e).framed.by_actor
         ∙ sym (rules_of_step p m a grant s e exclusive)
 
-  pub seen : (c : Code) (rule : Option Violation) (locks : List HeldLock) → StayExclusive → enabled ≡ true → locks ≡ (activation_at old.world a).locks → IsRule rule u es locks →
-      ((s : Step) → Follows p m (Board a grant) s u es → rule ≡ first_of of_rules p m s → ComesTo c new (unless_broken (broken p m s) (Reaches (after m s)))) →
+  pub seen : (c : Code) (rule : Option Violation) (locks : List HeldLock) → StayExclusive → enabled ≡ true →
+      locks ≡ (activation_at old.world a).locks → IsRule rule u es locks →
+      ((s : Step) → Follows p m (Board a grant) s u es → rule ≡ first_of of_rules p m s →
+      ComesTo c new (unless_broken (broken p m s) (Reaches (after m s)))) →
       ComesTo c new (course p m (Board a grant ∷ []))
   seen c rule locks stay is are rules judges =
       let t = happened (board p m.trace m.world a grant) enabled u [] es is board_here in
       goes_to p m (Board a grant) c new t.0 t.1
-      (judges t.0 (record { is = t.1; world = sym t.2.0; events_are = sym t.2.1 }) (rule_is rule locks are rules t.0 t.1 (stay.steps p m.world m.trace (Board a grant) t.0 t.1 at.exclusive) t.2.0 t.2.1))
+      (judges t.0 (record { is = t.1; world = sym t.2.0; events_are = sym t.2.1 })
+      (rule_is rule locks are rules t.0 t.1 (stay.steps p m.world m.trace (Board a grant) t.0 t.1 at.exclusive) t.2.0 t.2.1))
 
 -- ---- steps that nobody else sees
 
@@ -183,7 +194,8 @@ module _ (p : List Filter) (m : Moment) (a : ℕ) (old : Monitor) (u : World) (e
     rw (e, quiet.breaks p m a s e, at.counts.owned, at.exclusive) refl,
   )
 
-  pub unseen : AreQuiet → StayExclusive → enabled ≡ true → GoesOn true (record { world = u; ledger = old.ledger }) p ys (course p m (Local a ∷ ys))
+  pub unseen : AreQuiet → StayExclusive → enabled ≡ true →
+      GoesOn true (record { world = u; ledger = old.ledger }) p ys (course p m (Local a ∷ ys))
   unseen quiet stay is =
       let t = happened (local p m.trace m.world a) enabled u [] [] is local_here in
       unseen_by quiet stay t.0 t.1 t.2.0
@@ -192,7 +204,8 @@ module _ (p : List Filter) (m : Moment) (a : ℕ) (old : Monitor) (u : World) (e
 pub one_less : (steps made : ℕ) → made < steps → steps - made ≡ suc (steps - (made + 1))
 one_less steps made h = omega (arith, h)
 
-pub go_on_more : (a steps : ℕ) (grant : Bool) → (steps ≡ 0 → ⊥) → go_on a steps grant ≡ Some (replicate (steps - 1) (Local a) ++ Board a grant ∷ [])
+pub go_on_more : (a steps : ℕ) (grant : Bool) → (steps ≡ 0 → ⊥) →
+    go_on a steps grant ≡ Some (replicate (steps - 1) (Local a) ++ Board a grant ∷ [])
 go_on_more a zero grant h = absurd (h refl)
 go_on_more a (suc n) grant h = rw sub-one refl
 
@@ -214,13 +227,15 @@ reached monitor (Reaches m) h = (m, h, refl)
 reached monitor Stops h = absurd h
 reached monitor (Fails v) h = absurd h
 
-drop_at : (entries : List JournalEntry) (n : ℕ) (d : JournalEntry) → n < length entries → drop n entries ≡ get_or entries n d ∷ drop (suc n) entries
+drop_at : (entries : List JournalEntry) (n : ℕ) (d : JournalEntry) → n < length entries →
+    drop n entries ≡ get_or entries n d ∷ drop (suc n) entries
 drop_at [] n d h = absurd (omega arith)
 drop_at (e ∷ entries) zero d h = refl
 drop_at (e ∷ entries) (suc n) d h = drop_at entries n d (omega arith)
 
 -- one entry more
-pub judged_at : (p : List Filter) (m : Moment) (n : ℕ) (entries : List JournalEntry) (d : JournalEntry) (whole : Verdict) (k : Course) → n < length entries →
+pub judged_at : (p : List Filter) (m : Moment) (n : ℕ) (entries : List JournalEntry) (d : JournalEntry) (whole : Verdict)
+    (k : Course) → n < length entries →
     verdict_from p m n (drop n entries) ≡ whole → entry_course p m (expansion (get_or entries n d)) ≡ k →
     judged k n (λ r. verdict_from p r (n + 1) (drop (n + 1) entries)) ≡ whole
 judged_at p m n entries d whole k h is e =
@@ -228,5 +243,6 @@ judged_at p m n entries d whole k h is e =
     ap (λ c. judged c n (λ r. verdict_from p r (n + 1) (drop (n + 1) entries))) (sym e) ∙ (sym (ap (verdict_from p m n) left) ∙ is)
 
 -- before the first entry
-pub begins : (p : List Filter) (monitor : Monitor) → StayExclusive → monitor.world ≡ opening p → Agrees (start p) monitor.ledger → IsAt monitor (start p)
+pub begins : (p : List Filter) (monitor : Monitor) → StayExclusive → monitor.world ≡ opening p → Agrees (start p) monitor.ledger →
+    IsAt monitor (start p)
 begins p monitor stay world counts = record { world = world; counts = counts; exclusive = stay.opening p }

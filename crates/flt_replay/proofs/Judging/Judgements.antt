@@ -21,14 +21,15 @@ use Rattle.flt_replay.proofs.Machine.Frames.{stepped}
 use Rattle.flt_replay.proofs.Machine.MoveRules.{moves_keep_rules}
 use Rattle.flt_replay.proofs.Judging.RulesAfter.{rules_alike, alike_after}
 
-pub least_of_both : (p : List Filter) (m : Moment) (s : Step) → broken p m s ≡ option_or (first_of of_holding p m s) (first_of of_rules p m s)
+pub least_of_both : (p : List Filter) (m : Moment) (s : Step) →
+    broken p m s ≡ option_or (first_of of_holding p m s) (first_of of_rules p m s)
 least_of_both p m s = find-append (λ v. not (keeps p m s v)) of_holding of_rules
 
 and_true : (b : Bool) → (b && true) ≡ b
 and_true true = refl
 and_true false = refl
 
--- the rules, told by other words for them, after a step to where no lock is held exclusively beside another activation
+-- the rules, in other words, after a step to where no lock is held exclusively beside another activation
 rules_by : (p : List Filter) (m : Moment) (s : Step) (kept : Violation → Bool) → locks_exclude s.world ≡ true →
     ((v : Violation) → keeps_rule p m.world m.trace s.events v ≡ kept v) → first_of of_rules p m s ≡ find (λ v. not (kept v)) of_rules
 rules_by p m s kept exclusive h =
@@ -39,11 +40,13 @@ rules_by p m s kept exclusive h =
 -- read after a step of an activation, with the locks from before it
 pub rules_of_step : (p : List Filter) (m : Moment) (a : ℕ) (grant : Bool) (s : Step) → board p m.trace m.world a grant ≡ Some s →
     locks_exclude s.world ≡ true →
-    first_of of_rules p m s ≡ find (λ v. not (keeps_rule p (with_locks s.world a (activation_at m.world a).locks) m.trace s.events v)) of_rules
+    first_of of_rules p m s ≡ find (λ v. not
+    (keeps_rule p (with_locks s.world a (activation_at m.world a).locks) m.trace s.events v)) of_rules
 rules_of_step p m a grant s e exclusive =
     let h = stepped p m.trace m.world a grant s e in
     rules_by p m s (keeps_rule p (with_locks s.world a (activation_at m.world a).locks) m.trace s.events) exclusive
-    (λ v. sym (rules_alike p m.trace (with_locks s.world a (activation_at m.world a).locks) m.world a (alike_after m.world a s h) s.events h.framed.by_actor v))
+    (λ v. sym (rules_alike p m.trace (with_locks s.world a (activation_at m.world a).locks) m.world a
+    (alike_after m.world a s h) s.events h.framed.by_actor v))
 
 -- a move breaks none
 pub no_rule_of_move : (p : List Filter) (m : Moment) (x : Move) (s : Step) → make p m.world x ≡ Some s → locks_exclude s.world ≡ true →

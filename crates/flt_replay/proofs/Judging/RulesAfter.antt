@@ -98,7 +98,8 @@ all_alike test f g h (e ∷ es) k =
     let parts = and_parts (test e) (list_all test es) k in
     ap (λ b. b && list_all f es) (h e parts.0) ∙ ap (λ b. g e && b) (all_alike test f g h es parts.1)
 
-pub rules_alike : (p : List Filter) (t : List Event) (u w : World) (a : ℕ) → Alike u w a → (es : List Event) → list_all (is_by a) es ≡ true →
+pub rules_alike : (p : List Filter) (t : List Event) (u w : World) (a : ℕ) → Alike u w a → (es : List Event) →
+    list_all (is_by a) es ≡ true →
     (v : Violation) → keeps_rule p u t es v ≡ keeps_rule p w t es v
 rules_alike p t u w a h es by V1 = refl
 rules_alike p t u w a h es by V2 = refl

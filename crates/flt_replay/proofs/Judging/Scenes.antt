@@ -15,7 +15,8 @@ missing_set (z ∷ xs) zero y d e = absurd (cc)
 missing_set (z ∷ xs) (suc i) y d e = missing_set xs i y d e
 
 -- all else stays
-pub operations_kept : (xs : List Activation) (i : ℕ) (locks : List HeldLock) → (get_or (set xs i (record (get_or xs i nobody) { locks = locks })) i nobody).operations ≡ (get_or xs i nobody).operations
+pub operations_kept : (xs : List Activation) (i : ℕ) (locks : List HeldLock) →
+    (get_or (set xs i (record (get_or xs i nobody) { locks = locks })) i nobody).operations ≡ (get_or xs i nobody).operations
 operations_kept [] i locks = refl
 operations_kept (x ∷ xs) zero locks = refl
 operations_kept (x ∷ xs) (suc i) locks = operations_kept xs i locks

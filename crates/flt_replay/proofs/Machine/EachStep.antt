@@ -31,7 +31,8 @@ pub record OfEach (p : List Filter) (t : List Event) (w : World) (a : ℕ) (P : 
   pub of_file_read : (n : NumberVariable) (d : OperationVariable) (rest : List Statement) → P (read_file w a n d rest)
   pub of_irp_test : (holds fails : List Statement) → P (test_irp w a holds fails)
   pub of_plain_call : (rest : List Statement) (c : PlainCall) → P (plain_step p t w a rest c)
-  pub of_fallible_call : (grant : Bool) (granted refused : List Statement) (c : FallibleCall) → P (fallible_step p t w a grant granted refused c)
+  pub of_fallible_call : (grant : Bool) (granted refused : List Statement) (c : FallibleCall) →
+      P (fallible_step p t w a grant granted refused c)
   pub of_return : (st : Option Status) → P (returns p t w a st)
 
 module _ (p : List Filter) (t : List Event) (w : World) (a : ℕ) (P : Step → Type 0) (each : OfEach p t w a P) where
@@ -54,11 +55,14 @@ module _ (p : List Filter) (t : List Event) (w : World) (a : ℕ) (P : Step → 
   of_test holds fails (test.Less n x) s e = absurd (cc)
   of_test holds fails test.IsDraining s e = absurd (cc)
 
-  of_if : (grant : Bool) (granted refused : List Statement) (asked : Condition) (s : Step) → if_step p t w a grant granted refused asked ≡ Some s → P s
+  of_if : (grant : Bool) (granted refused : List Statement) (asked : Condition) (s : Step) →
+      if_step p t w a grant granted refused asked ≡ Some s → P s
   of_if grant granted refused (condition.Test x) s e = of_test granted refused x s e
-  of_if grant granted refused (condition.Succeeds c) s e = of_some (fallible_step p t w a grant granted refused c) s (each.of_fallible_call grant granted refused c) e
+  of_if grant granted refused (condition.Succeeds c) s e =
+      of_some (fallible_step p t w a grant granted refused c) s (each.of_fallible_call grant granted refused c) e
 
-  of_statement : (rest : List Statement) (grant : Bool) (layer : Statement-F Statement) (s : Step) → statement_step p t w a rest grant layer ≡ Some s → P s
+  of_statement : (rest : List Statement) (grant : Bool) (layer : Statement-F Statement) (s : Step) →
+      statement_step p t w a rest grant layer ≡ Some s → P s
   of_statement rest grant (Statement-F.Act line x) s e = of_act rest x s e
   of_statement rest grant (Statement-F.Call line c) s e = of_some (plain_step p t w a rest c) s (each.of_plain_call rest c) e
   of_statement rest grant (Statement-F.Return line st) s e = of_some (returns p t w a st) s (each.of_return st) e

@@ -346,7 +346,8 @@ module _ (w : World) (a : ℕ) where
 
   acquire_framed : (k : LockKind) (l : LockNumber) (rest : List Statement) → Framed w a (acquire w a k l rest)
   acquire_framed k l rest =
-      called _ (event.Lock a l ∷ []) [] (taken w a l Exclusive rest) (and_from (a == a) true (self_by a) refl) (taken_framed l Exclusive rest)
+      called _ (event.Lock a l ∷ []) [] (taken w a l Exclusive rest) (and_from (a == a) true (self_by a) refl)
+      (taken_framed l Exclusive rest)
 
   acquire_shared_framed : (l : LockNumber) (rest : List Statement) → Framed w a (acquire_shared w a l rest)
   acquire_shared_framed l rest =
@@ -476,7 +477,8 @@ module _ (w : World) (a : ℕ) where
 
       context_used_by : (st : Option Status) → list_all (is_by a) (context_used p t w a st) ≡ true
       context_used_by st =
-          let needs = optional (named_in here (named_context st)) in append_by a (uses a needs) (empties a needs) (uses_by a needs) (empties_by a needs)
+          let needs = optional (named_in here (named_context st)) in
+          append_by a (uses a needs) (empties a needs) (uses_by a needs) (empties_by a needs)
 
       given_back_by : (v : ℕ) (x : Option ℕ) (way : Way) → list_all (is_by a) (visit_given_back p t w a v x way) ≡ true
       given_back_by v x way =
@@ -546,10 +548,14 @@ module _ (w : World) (a : ℕ) where
 
       each_framed : OfEach p t w a (λ s. Framed w a s)
       each_framed = record {
-        of_value_read = λ n c rest. needed (context (context_in here c) ∷ []) (read_value_of w a n rest (context_in here c)) (value_read n rest (context_in here c));
-        of_value_written = λ c x rest. needed (context (context_in here c) ∷ []) (write_value_of w a x rest (context_in here c)) (value_written x rest (context_in here c));
-        of_file_read = λ n d rest. needed (operation (operation_in here d) ∷ []) (read_file_of w a n rest (operation_in here d)) (file_read n rest (operation_in here d));
-        of_irp_test = λ holds fails. needed (operation (operation_in here Data) ∷ []) (test_irp_of w a holds fails (operation_in here Data)) (irp_tested holds fails (operation_in here Data));
+        of_value_read = λ n c rest. needed (context (context_in here c) ∷ []) (read_value_of w a n rest (context_in here c))
+            (value_read n rest (context_in here c));
+        of_value_written = λ c x rest. needed (context (context_in here c) ∷ []) (write_value_of w a x rest (context_in here c))
+            (value_written x rest (context_in here c));
+        of_file_read = λ n d rest. needed (operation (operation_in here d) ∷ []) (read_file_of w a n rest (operation_in here d))
+            (file_read n rest (operation_in here d));
+        of_irp_test = λ holds fails. needed (operation (operation_in here Data) ∷ [])
+            (test_irp_of w a holds fails (operation_in here Data)) (irp_tested holds fails (operation_in here Data));
         of_plain_call = plain_framed;
         of_fallible_call = fallible_framed;
         of_return = returns_framed;
@@ -567,7 +573,8 @@ pub there_from : (acts : List Activation) (a : ℕ) → (get_or acts a nobody).e
 there_from acts a e =
     elim (cases_lt a (length acts)) [
       | inl h ↦ h
-      | inr h ↦ absurd (let past : get_or acts a nobody ≡ nobody = get_or_past acts a nobody h in true≢false (sym (ap (λ (n : Activation). n.ended) past) ∙ e))
+      | inr h ↦ absurd (let past : get_or acts a nobody ≡ nobody = get_or_past acts a nobody h in
+          true≢false (sym (ap (λ (n : Activation). n.ended) past) ∙ e))
     ]
 
 module _ (p : List Filter) (t : List Event) (w : World) (a : ℕ) (grant : Bool) (s : Step) where

@@ -565,7 +565,8 @@ module _ (w : World) (a : ℕ) where
 
       context_used_going : (st : Option Status) → list_all (is_going a) (context_used p t w a st) ≡ true
       context_used_going st =
-          let needs = optional (named_in here (named_context st)) in append_going a (uses a needs) (empties a needs) (uses_going a needs) (empties_going a needs)
+          let needs = optional (named_in here (named_context st)) in
+          append_going a (uses a needs) (empties a needs) (uses_going a needs) (empties_going a needs)
 
       given_back_going : (v : ℕ) (x : Option ℕ) (way : Way) → list_all (is_going a) (visit_given_back p t w a v x way) ≡ true
       given_back_going v x way =
@@ -573,7 +574,8 @@ module _ (w : World) (a : ℕ) where
           let handed = if makes_frame w.store v way then loses_context a x else [] in
           let settled = if settles_visit way then event.Settle v ∷ [] else [] in
           append_going a (lost ++ handed) settled
-          (append_going a lost handed (if_same (list_all (is_going a)) (is_held t a (Visit v)) (event.Lose a (Visit v) ∷ []) [] true (first_going a [] refl) refl)
+          (append_going a lost handed (if_same (list_all (is_going a)) (is_held t a (Visit v))
+          (event.Lose a (Visit v) ∷ []) [] true (first_going a [] refl) refl)
           (if_same (list_all (is_going a)) (makes_frame w.store v way) (loses_context a x) [] true (loses_going a x) refl))
           (if_same (list_all (is_going a)) (settles_visit way) (event.Settle v ∷ []) [] true refl refl)
 
@@ -651,10 +653,14 @@ module _ (w : World) (a : ℕ) where
 
       each_handed : OfEach p t w a (λ s. Handed w a s)
       each_handed = record {
-        of_value_read = λ n c rest. needed (context (context_in here c) ∷ []) (read_value_of w a n rest (context_in here c)) (value_read n rest (context_in here c));
-        of_value_written = λ c x rest. needed (context (context_in here c) ∷ []) (write_value_of w a x rest (context_in here c)) (value_written x rest (context_in here c));
-        of_file_read = λ n d rest. needed (operation (operation_in here d) ∷ []) (read_file_of w a n rest (operation_in here d)) (file_read n rest (operation_in here d));
-        of_irp_test = λ holds fails. needed (operation (operation_in here Data) ∷ []) (test_irp_of w a holds fails (operation_in here Data)) (irp_tested holds fails (operation_in here Data));
+        of_value_read = λ n c rest. needed (context (context_in here c) ∷ []) (read_value_of w a n rest (context_in here c))
+            (value_read n rest (context_in here c));
+        of_value_written = λ c x rest. needed (context (context_in here c) ∷ []) (write_value_of w a x rest (context_in here c))
+            (value_written x rest (context_in here c));
+        of_file_read = λ n d rest. needed (operation (operation_in here d) ∷ []) (read_file_of w a n rest (operation_in here d))
+            (file_read n rest (operation_in here d));
+        of_irp_test = λ holds fails. needed (operation (operation_in here Data) ∷ [])
+            (test_irp_of w a holds fails (operation_in here Data)) (irp_tested holds fails (operation_in here Data));
         of_plain_call = plain_handed;
         of_fallible_call = fallible_handed;
         of_return = returns_handed;

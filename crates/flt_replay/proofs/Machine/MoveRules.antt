@@ -40,7 +40,8 @@ drop_frees s x = if_same (list_all is_gain_or_free) ((context_at s x).references
 start_gains : (a : ℕ) (v x : Option ℕ) → list_all is_gain_or_free (gains_visit a v ++ gains_context a x) ≡ true
 start_gains a v x =
     list_all-append is_gain_or_free (gains_visit a v) (gains_context a x)
-    ∙ and_from (list_all is_gain_or_free (gains_visit a v)) (list_all is_gain_or_free (gains_context a x)) (visit_gains a v) (context_gains a x)
+    ∙ and_from (list_all is_gain_or_free (gains_visit a v)) (list_all is_gain_or_free (gains_context a x)) (visit_gains a v)
+    (context_gains a x)
 
 pub gains_and_frees : (p : List Filter) (w : World) (x : Move) (s : Step) → make p w x ≡ Some s → list_all is_gain_or_free s.events ≡ true
 gains_and_frees p w =

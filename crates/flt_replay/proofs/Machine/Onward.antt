@@ -138,7 +138,8 @@ module _ (w : World) (s : Step) where
       (activation_at s.world b).ended ≡ (activation_at w b).ended
   grown_flag (Same is) b within = ap (λ acts. (get_or acts b nobody).ended) is
   grown_flag (Joined act is goes) b within =
-      ap (λ acts. (get_or acts b nobody).ended) is ∙ ap (λ (n : Activation). n.ended) (get_or-append w.activations (act ∷ []) nobody b within)
+      ap (λ acts. (get_or acts b nobody).ended) is
+      ∙ ap (λ (n : Activation). n.ended) (get_or-append w.activations (act ∷ []) nobody b within)
 
   move_onward : list_all is_gain_or_free s.events ≡ true → Moved w s → Onward w s
   move_onward gains h = record {

@@ -84,7 +84,8 @@ impl Rows {
         activation: usize,
         number: usize,
     ) -> Result<(), AllocError>
-        ensures { OnOk result ((a n : ℕ) → spec.count_of self.new a n ≡ spec.count_of self.old a n + of_actor activation a (one_if number n)) }
+        ensures { OnOk result ((a n : ℕ) → spec.count_of self.new a n ≡ spec.count_of self.old a n + of_actor activation a
+            (one_if number n)) }
     {
         self.grow(alloc, activation)?;
         match self.rows.get_mut(activation) {
@@ -96,7 +97,8 @@ impl Rows {
     /// Once less of an activation, of what counts.
     #[tactic(auto, using(crate::proofs::Counting::Rows::taken, crate::proofs::Counting::Rows::counts_no_more, crate::proofs::Counting::Rows::row_counts))]
     pub(crate) fn take(&mut self, activation: usize, number: usize)
-        ensures { 0 < spec.count_of self.old activation number → (a n : ℕ) → spec.count_of self.old a n ≡ spec.count_of self.new a n + of_actor activation a (one_if number n) }
+        ensures { 0 < spec.count_of self.old activation number → (a n : ℕ) →
+            spec.count_of self.old a n ≡ spec.count_of self.new a n + of_actor activation a (one_if number n) }
     {
         let Some(counts) = self.rows.get_mut(activation) else {
             return;

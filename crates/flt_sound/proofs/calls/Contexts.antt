@@ -64,7 +64,8 @@ module _ {p : List Filter} {m : Moment} {a : ℕ} {s : Shadow} (at : IsAt p m a 
   -- a variable that receives a context then owns one more
   gives_one : (d : ContextVariable) (n : ℕ) → (state_context (state_of at) d).held ≡ false → (y : ℕ) →
       own_all y (put_old s (Some d) (Owns n)).contexts ≡ gains (event.Gain a (Context n) ∷ []) a (Context y) + own_all y s.contexts
-  gives_one d n h y = simp (counts, of_actor-same) (omega (arith, own_all-put y s.contexts (context_place d) (Owns n) (out_free d h y) (place_there d)))
+  gives_one d n h y = simp (counts, of_actor-same)
+      (omega (arith, own_all-put y s.contexts (context_place d) (Owns n) (out_free d h y) (place_there d)))
 
   -- a variable that becomes NULL leaves as many owned as before
   gives_none : (old : Option ContextVariable) → may_hold_context (state_of at) old ≡ false → (y : ℕ) →
@@ -100,7 +101,8 @@ module _ {p : List Filter} {m : Moment} {a : ℕ} {s : Shadow} (at : IsAt p m a 
         (λ x. simp counts) (λ v. simp (counts, of_actor-same)) (gives_one d x h) placed
 
     -- a step that drops a reference is good
-    pub drops : (x : ℕ) (list : List Statement) (store : Store) → CalmStore at store → Ledger a m.world.store store (freed_by_drop m.world.store x) →
+    pub drops : (x : ℕ) (list : List Statement) (store : Store) → CalmStore at store →
+        Ledger a m.world.store store (freed_by_drop m.world.store x) →
         PlacedAt at list (before at) → GoodBehind at pre (goes_on m.world a (onward m.world a list) store (freed_by_drop m.world.store x))
     drops x list store c l placed =
         let es = freed_by_drop m.world.store x in
@@ -112,7 +114,8 @@ module _ {p : List Filter} {m : Moment} {a : ℕ} {s : Shadow} (at : IsAt p m a 
         (λ y. rw (gains_none (Context y)) (omega arith)) placed
 
     -- a step that removes a link and drops its reference is good
-    pub unlinks : (x : ℕ) (l : Link) (list : List Statement) → 1 ≤ (context_at m.world.store x).references → (context_at m.world.store x).link ≡ Some l →
+    pub unlinks : (x : ℕ) (l : Link) (list : List Statement) → 1 ≤ (context_at m.world.store x).references →
+        (context_at m.world.store x).link ≡ Some l →
         PlacedAt at list (before at) →
         GoodBehind at pre (goes_on m.world a (onward m.world a list) (after_unlink m.world.store x None) (freed_by_drop m.world.store x))
     unlinks x l list refs is placed =
@@ -129,7 +132,8 @@ module _ {p : List Filter} {m : Moment} {a : ℕ} {s : Shadow} (at : IsAt p m a 
 
     -- a step that gives the context that was found, or NULL where there is none, is good
     got_good : (d : ContextVariable) (granted refused : List Statement) → (state_context (state_of at) d).held ≡ false →
-        PlacedAt at granted (put (Some d) (Some status.Held) (before at)) → PlacedAt at refused (put (Some d) (Some status.Null) (before at)) →
+        PlacedAt at granted (put (Some d) (Some status.Held) (before at)) →
+        PlacedAt at refused (put (Some d) (Some status.Null) (before at)) →
         (x : Option ℕ) → ((y : ℕ) → x ≡ Some y → IsAvailable at y) → GoodBehind at pre (got m.world a d granted refused x)
     got_good d granted refused h ok fail None available = nothing_given (Some d) refused h fail
     got_good d granted refused h ok fail (Some x) available = adds d x granted h (available x refl) ok
@@ -154,7 +158,8 @@ module _ {p : List Filter} {m : Moment} {a : ℕ} {s : Shadow} (at : IsAt p m a 
         let k = at_link y refl in
         let store = after_unlink m.world.store y (Some d) in
         let l = references.unlinks a m.world.store at.kept.mine y k.link (link_refs at y k) k.is in
-        gets d y granted store h (same_calm at store refl refl refl refl refl refl) l (available_touch at store l.older y (link_available at y k)) ok
+        gets d y granted store h (same_calm at store refl refl refl refl refl refl) l
+        (available_touch at store l.older y (link_available at y k)) ok
 
   -- ---- calls
 
@@ -164,7 +169,8 @@ module _ {p : List Filter} {m : Moment} {a : ℕ} {s : Shadow} (at : IsAt p m a 
 
   -- FltAllocateContext is good, whether the system grants it or not
   pub allocate_good : (cs : List Callback) (d : ContextVariable) (grant : Bool) (granted refused : List Statement) →
-      AtCall at (graph.fallible cs (fallible_call.AllocateContext d)) granted refused → Good p m (allocate m.world a d grant granted refused)
+      AtCall at (graph.fallible cs (fallible_call.AllocateContext d)) granted refused →
+      Good p m (allocate m.world a d grant granted refused)
   allocate_good cs d true granted refused k =
       let n = length m.world.store.contexts in
       let new : world.Context = record { owner = (actor_at m.world a).filter; references = 1; value = 0; link = None } in
@@ -183,19 +189,22 @@ module _ {p : List Filter} {m : Moment} {a : ℕ} {s : Shadow} (at : IsAt p m a 
   get_good cs anchor.Instance d granted refused k =
       let l : Link = record { filter = (actor_at m.world a).filter; key = Instance } in
       let opened = opened_call at (call.GetContext anchor.Instance) k.clear refl in
-      got_good (event.Call a (call.GetContext anchor.Instance) ∷ []) opened d granted refused (or_parts _ _ k.fine.r03).0 (k.ok true) (k.fails _ refl true)
+      got_good (event.Call a (call.GetContext anchor.Instance) ∷ []) opened d granted refused (or_parts _ _ k.fine.r03).0
+      (k.ok true) (k.fails _ refl true)
       (linked_at m.world.store l) (λ y e. link_available at y (found_link at l refl y e))
   get_good cs anchor.Stream d granted refused k =
       let o = owned_operation at Data k.fine.r04 in
       let l : Link = record { filter = (actor_at m.world a).filter; key = Stream (arrival_of m.world.store o.object).file } in
       let opened = opened_use at (call.GetContext anchor.Stream) (Visit o.object) k.clear refl (has_owned_visit at Data o) in
       rw (operation_is at Data (Owns o.object) o.is)
-      (got_good (event.Call a (call.GetContext anchor.Stream) ∷ event.Use a (Visit o.object) ∷ []) opened d granted refused (or_parts _ _ k.fine.r03).0
+      (got_good (event.Call a (call.GetContext anchor.Stream) ∷ event.Use a (Visit o.object) ∷ []) opened d granted refused
+      (or_parts _ _ k.fine.r03).0
       (k.ok true) (k.fails _ refl true) (linked_at m.world.store l) (λ y e. link_available at y (found_link at l refl y e)))
 
   -- FltDeleteStreamContext and FltDeleteInstanceContext are good
   pub delete_at_good : (cs : List Callback) (on : Anchor) (old : Option ContextVariable) (granted refused : List Statement) →
-      AtCall at (graph.fallible cs (fallible_call.DeleteContextOf on old)) granted refused → Good p m (delete_at m.world a on old granted refused)
+      AtCall at (graph.fallible cs (fallible_call.DeleteContextOf on old)) granted refused →
+      Good p m (delete_at m.world a on old granted refused)
   delete_at_good cs anchor.Instance old granted refused k =
       let l : Link = record { filter = (actor_at m.world a).filter; key = Instance } in
       let opened = opened_call at (call.DeleteContextOf anchor.Instance) k.clear refl in
@@ -206,7 +215,8 @@ module _ {p : List Filter} {m : Moment} {a : ℕ} {s : Shadow} (at : IsAt p m a 
       let l : Link = record { filter = (actor_at m.world a).filter; key = Stream (arrival_of m.world.store o.object).file } in
       let opened = opened_use at (call.DeleteContextOf anchor.Stream) (Visit o.object) k.clear refl (has_owned_visit at Data o) in
       rw (operation_is at Data (Owns o.object) o.is)
-      (unlinked_good (event.Call a (call.DeleteContextOf anchor.Stream) ∷ event.Use a (Visit o.object) ∷ []) opened old granted refused (or_parts _ _ k.fine.r03).0
+      (unlinked_good (event.Call a (call.DeleteContextOf anchor.Stream) ∷ event.Use a (Visit o.object) ∷ []) opened old granted
+      refused (or_parts _ _ k.fine.r03).0
       (k.ok true) (k.fails _ refl true) (linked_at m.world.store l) (found_link at l refl))
 
   -- FltDeleteContext is good: the context, which is held, loses its link
@@ -222,7 +232,8 @@ module _ {p : List Filter} {m : Moment} {a : ℕ} {s : Shadow} (at : IsAt p m a 
       (is_some (context_at m.world.store x).link) (held_refs at x has) refl (k.ok true))
 
   -- FltReferenceContext is good: a second variable gets a reference of the context, which is held
-  pub reference_good : (c d : ContextVariable) (list : List Statement) → AtCall at (graph.plain (plain_call.ReferenceContext c d)) list list →
+  pub reference_good : (c d : ContextVariable) (list : List Statement) →
+      AtCall at (graph.plain (plain_call.ReferenceContext c d)) list list →
       Good p m (reference m.world a c d list)
   reference_good c d list k =
       let o = owned_context at c k.fine.r01 in
@@ -231,7 +242,8 @@ module _ {p : List Filter} {m : Moment} {a : ℕ} {s : Shadow} (at : IsAt p m a 
       let opened = opened_use at call.ReferenceContext (Context x) k.clear refl has in
       let available : IsAvailable at x = record { refs = held_refs at x has; own = at.kept.owns a x (held_one at.kept a x has) } in
       rw (context_is at c (Owns x) o.is)
-      (adds (event.Call a call.ReferenceContext ∷ event.Use a (Context x) ∷ []) opened d x list (or_parts _ _ k.fine.r03).0 available (k.ok true))
+      (adds (event.Call a call.ReferenceContext ∷ event.Use a (Context x) ∷ []) opened d x list
+      (or_parts _ _ k.fine.r03).0 available (k.ok true))
 
   -- FltReleaseContext is good: the reference is held, and goes
   pub release_good : (c : ContextVariable) (list : List Statement) → AtCall at (graph.plain (plain_call.ReleaseContext c)) list list →
@@ -247,7 +259,8 @@ module _ {p : List Filter} {m : Moment} {a : ℕ} {s : Shadow} (at : IsAt p m a 
       let new = put_context (with_rest s list) c (Past x) in
       let store = drop_reference m.world.store x in
       let calm = same_calm at store refl refl refl refl refl refl in
-      let turned = calm_of at calm es (λ v. simp (counts, gains-dropped, loses-dropped, of_actor-same)) (λ v. simp (counts, settles-dropped)) in
+      let turned = calm_of at calm es (λ v. simp (counts, gains-dropped, loses-dropped, of_actor-same))
+      (λ v. simp (counts, settles-dropped)) in
       let l = references.lets_go a m.world.store at.kept.mine x (held_refs at x has) in
       let clean : CleanBy (Touched at store) es = (held_touch at store l.older x has, drop_clean (Touched at store) m.world.store x) in
       rw (context_is at c (Owns x) o.is)
@@ -257,6 +270,8 @@ module _ {p : List Filter} {m : Moment} {a : ℕ} {s : Shadow} (at : IsAt p m a 
       (subst (λ t. PlacedAt at list t) (situation-put_context (draining_of at) (with_rest s list) c (Past x)) (k.ok true)))
       calm.change
       (λ v. simp (counts, gains-dropped, loses-dropped, of_actor-same) (omega arith))
-      (λ y. simp (counts, gains-dropped, loses-dropped, of_actor-same) (let e = rw o.is at (own_all-set y s.contexts i (Past x) (owned_there s.contexts i x o.is)) in
+      (λ y. simp (counts, gains-dropped, loses-dropped, of_actor-same)
+      (let e = rw o.is at (own_all-set y s.contexts i (Past x) (owned_there s.contexts i x o.is)) in
       omega (arith, e)))
-      (behind at pre es store opened turned) (running at new refl) (ledger_after at pre es store opened l) (clean_after at pre es store opened l clean))
+      (behind at pre es store opened turned) (running at new refl) (ledger_after at pre es store opened l)
+      (clean_after at pre es store opened l clean))

@@ -82,7 +82,8 @@ module _ {p : List Filter} {m : Moment} {a : ℕ} {s : Shadow} (at : IsAt p m a 
   no_ledger = quiet_ledger at [] (λ y. simp counts) (λ y. simp counts)
 
   -- a call after which the activation only goes on is good
-  pub unchanged_good : (pre : List Event) (list : List Statement) → Opened at pre → PlacedAt at list (before at) → GoodBehind pre (unchanged m.world a list)
+  pub unchanged_good : (pre : List Event) (list : List Statement) → Opened at pre → PlacedAt at list (before at) →
+      GoodBehind pre (unchanged m.world a list)
   unchanged_good pre list o placed =
       given_good at pre [] None Unset list m.world.store o (λ t. none t) same_store.change no_turn no_ledger tt
       (λ q. simp counts) (λ u. simp counts) (λ y. simp counts (omega arith)) placed

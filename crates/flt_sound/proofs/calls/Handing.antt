@@ -62,7 +62,8 @@ use Rattle.flt_sound.proofs.sums.Touching.{CleanBy, one_lost_clean}
 use Rattle.std.proofs.lemmas.Bool.{or_parts}
 
 -- a set of modes that has IRP alone means IRP
-irp_alone : (irp fast : Bool) (mode : Mode) → not (irp && not fast) ≡ false → has_mode (record { irp = irp; fast = fast }) mode ≡ true → mode ≡ Irp
+irp_alone : (irp fast : Bool) (mode : Mode) → not (irp && not fast) ≡ false →
+    has_mode (record { irp = irp; fast = fast }) mode ≡ true → mode ≡ Irp
 irp_alone irp fast Irp e h = refl
 irp_alone true true Fast e h = absurd (cc)
 irp_alone false fast Fast e h = absurd (cc)
@@ -110,7 +111,8 @@ module _ {p : List Filter} {m : Moment} {a : ℕ} {s : Shadow} (at : IsAt p m a 
     pub clean : CleanBy (Touched at store) tail
 
   -- a hand-over whose further events are the loss of the context alone
-  pub with_context : (v : ℕ) (c : Option ContextVariable) (x : Option ℕ) (store : Store) → Names at c x → StoreChange p m.world.store store →
+  pub with_context : (v : ℕ) (c : Option ContextVariable) (x : Option ℕ) (store : Store) → Names at c x →
+      StoreChange p m.world.store store →
       Turned a m.world.store store (event.Lose a (Visit v) ∷ loses_context a x) →
       Ledger a m.world.store store (event.Lose a (Visit v) ∷ loses_context a x) → HandOver v x store (loses_context a x)
   with_context v c x store n change turned ledger = record {
@@ -129,7 +131,8 @@ module _ {p : List Filter} {m : Moment} {a : ℕ} {s : Shadow} (at : IsAt p m a 
   after_hand d v c x list = record s { rest = list; contexts = handed at c x; operations = set s.operations (operation_place d) (Past v) }
 
   -- a hand-over is good, where the rest of the callback stands with both variables stale
-  pub hand_good : (pre tail : List Event) (d : OperationVariable) (v : ℕ) (c : Option ContextVariable) (x : Option ℕ) (list : List Statement) (store : Store) →
+  pub hand_good : (pre tail : List Event) (d : OperationVariable) (v : ℕ) (c : Option ContextVariable) (x : Option ℕ)
+      (list : List Statement) (store : Store) →
       Opened at pre → operation_slot s d ≡ Owns v → Names at c x → HandOver v x store tail →
       PlacedAt at list (put_operation (Some d) (Some Stale) (put_context c (Some Stale) (before at))) →
       GoodBehind at pre (goes_on m.world a (onward m.world a list) store (event.Lose a (Visit v) ∷ tail))
@@ -160,8 +163,10 @@ module _ {p : List Filter} {m : Moment} {a : ℕ} {s : Shadow} (at : IsAt p m a 
       (ledger_after at pre es store o h.ledger) (clean_after at pre es store o h.ledger h.clean)
 
   -- a hand-over of a context alone, or of none, is good
-  pub context_good : (pre : List Event) (c : Option ContextVariable) (x : Option ℕ) (list : List Statement) (store : Store) → Opened at pre → Names at c x →
-      StoreChange p m.world.store store → Turned a m.world.store store (loses_context a x) → Ledger a m.world.store store (loses_context a x) →
+  pub context_good : (pre : List Event) (c : Option ContextVariable) (x : Option ℕ) (list : List Statement) (store : Store) →
+      Opened at pre → Names at c x →
+      StoreChange p m.world.store store → Turned a m.world.store store (loses_context a x) →
+      Ledger a m.world.store store (loses_context a x) →
       PlacedAt at list (put_context c (Some Stale) (before at)) →
       GoodBehind at pre (goes_on m.world a (onward m.world a list) store (loses_context a x))
   context_good pre c x list store o n change turned ledger placed =
@@ -171,7 +176,8 @@ module _ {p : List Filter} {m : Moment} {a : ℕ} {s : Shadow} (at : IsAt p m a 
       row_good at new store (pre ++ es) (onward m.world a list)
       (onward_is at list ∙ rw (handed_values at c x n) refl)
       (o.events es (λ t k. context_lost c x n t (λ y. k (Context y))))
-      (stood_contexts at new refl refl (handed_wide at c x) (subst (λ t. PlacedAt at list t) (handed_situation at c x n (before at) refl) placed))
+      (stood_contexts at new refl refl (handed_wide at c x)
+      (subst (λ t. PlacedAt at list t) (handed_situation at c x n (before at) refl) placed))
       change
       (λ u. simp counts (omega (arith, o.gains_none a (Visit u), o.loses_none a (Visit u), lost_gains a x a (Visit u), lost_visit a x u)))
       (λ y. simp counts (let e = handed_count at c x n y in
@@ -192,7 +198,8 @@ module _ {p : List Filter} {m : Moment} {a : ℕ} {s : Shadow} (at : IsAt p m a 
   -- what a pre callback or its work item was given is a visit before the filters below
   pre_given : (v : ℕ) → operation_slot s Data ≡ Owns v → has_place places.PreOrDeferredPre (own_place at) ≡ true → s.mode ≡ Irp →
       IsGiven m.world.store.visits m.world.store.arrivals (own_filter at) stage.Pre Irp v
-  pre_given v e h irp = by (own_place at) h (subst (λ mode. GivenAt at mode (own_place at) (Some v)) irp (given_as at (Some v) (ap value_of e)))
+  pre_given v e h irp = by (own_place at) h
+      (subst (λ mode. GivenAt at mode (own_place at) (Some v)) irp (given_as at (Some v) (ap value_of e)))
     where
       by : (q : Place) → has_place places.PreOrDeferredPre q ≡ true → GivenAt at Irp q (Some v) →
           IsGiven m.world.store.visits m.world.store.arrivals (own_filter at) stage.Pre Irp v
@@ -223,7 +230,8 @@ module _ {p : List Filter} {m : Moment} {a : ℕ} {s : Shadow} (at : IsAt p m a 
   -- the entry takes visit and context over, or the queue is disabled and all stays
   enqueue_good : (pre : List Event) (v : ℕ) (c : Option ContextVariable) (x : Option ℕ) (granted refused : List Statement) →
       Opened at pre → operation_slot s Data ≡ Owns v → Names at c x → FitsEntry (record { visit = v; context = x }) →
-      PlacedAt at granted (put_operation (Some Data) (Some Stale) (put_context c (Some Stale) (before at))) → PlacedAt at refused (before at) →
+      PlacedAt at granted (put_operation (Some Data) (Some Stale) (put_context c (Some Stale) (before at))) →
+      PlacedAt at refused (before at) →
       GoodBehind at pre (enqueued m.world a granted refused v x)
   enqueue_good pre v c x granted refused o owns n fits ok fail = by (is_attached (presence_at m.world.store (own_filter at)))
     where
@@ -243,7 +251,8 @@ module _ {p : List Filter} {m : Moment} {a : ℕ} {s : Shadow} (at : IsAt p m a 
 
   -- FltCbdqInsertIo is good, where the filter has the callback that takes canceled entries
   pub insert_good : (cs : List Callback) (c : Option ContextVariable) (granted refused : List Statement) →
-      AtCall at (graph.fallible cs (fallible_call.InsertIo c)) granted refused → has_head is_canceled (callbacks_at p (own_filter at)) ≡ true →
+      AtCall at (graph.fallible cs (fallible_call.InsertIo c)) granted refused →
+      has_head is_canceled (callbacks_at p (own_filter at)) ≡ true →
       Good p m (insert m.world a c granted refused)
   insert_good cs None granted refused k served =
       let d = owned_operation at Data k.fine.r04 in

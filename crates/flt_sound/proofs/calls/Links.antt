@@ -59,7 +59,10 @@ module _ {p : List Filter} {m : Moment} {a : ℕ} {s : Shadow} (at : IsAt p m a 
 
   -- a linked context is available
   pub link_available : (y : ℕ) → IsLinked y → IsAvailable y
-  link_available y k = record { refs = link_refs y k; own = subst (λ f. IsOf m.world.store.contexts f y) k.own (at.kept.mine.links y k.link k.is) }
+  link_available y k = record {
+    refs = link_refs y k;
+    own = subst (λ f. IsOf m.world.store.contexts f y) k.own (at.kept.mine.links y k.link k.is);
+  }
 
   -- an available context may be touched by a step that keeps it
   pub available_touch : (store : Store) → Older m.world.store.contexts store.contexts → (y : ℕ) → IsAvailable y → Touched at store a y
@@ -82,7 +85,8 @@ module _ {p : List Filter} {m : Moment} {a : ℕ} {s : Shadow} (at : IsAt p m a 
 
   -- it isn't a context that is linked already
   pub other_link : (x : ℕ) (l : Link) (y : ℕ) → CanLink x l → IsLinked y → x ≢ y
-  other_link x l y can k e = let bad : None ≡ Some k.link = sym can.free ∙ (ap (λ z. (context_at m.world.store z).link) e ∙ k.is) in absurd (cc)
+  other_link x l y can k e = let bad : None ≡ Some k.link = sym can.free
+      ∙ (ap (λ z. (context_at m.world.store z).link) e ∙ k.is) in absurd (cc)
 
   -- it stays as it is where another context's link is removed
   pub unlink_keeps : (x y : ℕ) → x ≢ y → context_at (with_link m.world.store y None) x ≡ context_at m.world.store x

@@ -76,7 +76,8 @@ module _ {p : List Filter} {m : Moment} {a : ℕ} {s : Shadow} (at : IsAt p m a 
       (still a m.world.store store es at.kept.mine refl refl refl refl (λ x. even (Context x)) free) (clean (Touched at store))
 
   -- acquiring a lock that isn't held, in either way, is good
-  taken_good : (c : Call) (l : LockNumber) (access : Access) (list : List Statement) → Cleared p m a c → may_pend p m.world m.trace a c ≡ true →
+  taken_good : (c : Call) (l : LockNumber) (access : Access) (list : List Statement) → Cleared p m a c →
+      may_pend p m.world m.trace a c ≡ true →
       holds_lock l s.locks ≡ false → PlacedAt at list (situation (draining_of at) (with_locks (s.locks ++ held l access ∷ []) list)) →
       Good p m (calling m.world a c (event.Lock a l ∷ []) [] (taken m.world a l access list))
   taken_good c l access list clear pends free placed =
@@ -87,21 +88,24 @@ module _ {p : List Filter} {m : Moment} {a : ℕ} {s : Shadow} (at : IsAt p m a 
       (λ o. simp counts) (λ v. simp counts) (λ x. simp counts) (λ P. tt) placed)
 
   -- acquiring a lock is good: by R11 it isn't held
-  pub acquire_good : (k : LockKind) (l : LockNumber) (list : List Statement) → AtCall at (graph.plain (plain_call.AcquireLock k l)) list list →
+  pub acquire_good : (k : LockKind) (l : LockNumber) (list : List Statement) →
+      AtCall at (graph.plain (plain_call.AcquireLock k l)) list list →
       Good p m (acquire m.world a k l list)
   acquire_good k l list c =
       let free : holds_lock l s.locks ≡ false = rw state_locks at c.fine.r11 in
       taken_good (call.AcquireLock k) l Exclusive list c.clear refl free (rw free at (c.ok true))
 
   -- so is acquiring a push lock beside others
-  pub acquire_shared_good : (l : LockNumber) (list : List Statement) → AtCall at (graph.plain (plain_call.AcquirePushLockShared l)) list list →
+  pub acquire_shared_good : (l : LockNumber) (list : List Statement) →
+      AtCall at (graph.plain (plain_call.AcquirePushLockShared l)) list list →
       Good p m (acquire_shared m.world a l list)
   acquire_shared_good l list c =
       let free : holds_lock l s.locks ≡ false = rw state_locks at c.fine.r11 in
       taken_good call.AcquirePushLockShared l Shared list c.clear refl free (rw free at (c.ok true))
 
   -- releasing a lock is good: by R09 it is the latest
-  pub release_lock_good : (k : LockKind) (l : LockNumber) (list : List Statement) → AtCall at (graph.plain (plain_call.ReleaseLock k l)) list list →
+  pub release_lock_good : (k : LockKind) (l : LockNumber) (list : List Statement) →
+      AtCall at (graph.plain (plain_call.ReleaseLock k l)) list list →
       Good p m (release_lock m.world a k l list)
   release_lock_good k l list c =
       let latest : is_latest l s.locks ≡ true = rw state_locks at (not-false _ c.fine.r09) in

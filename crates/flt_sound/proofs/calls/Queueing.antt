@@ -107,25 +107,38 @@ module _ {p : List Filter} {m : Moment} {a : ℕ} {s : Shadow} (at : IsAt p m a 
   Fits routine _ = Unit {0}
 
   -- the item that takes over what a pre or post callback was given is one that fits
-  deferred_fits : (routine v : ℕ) (x : Option ℕ) → operation_slot s Data ≡ Owns v → has_place places.PreOrPost (own_place at) ≡ true → s.mode ≡ Irp →
+  deferred_fits : (routine v : ℕ) (x : Option ℕ) → operation_slot s Data ≡ Owns v →
+      has_place places.PreOrPost (own_place at) ≡ true → s.mode ≡ Irp →
       Fits routine (own_place at) → IsFitting (record { filter = own_filter at; routine = routine; visit = Some v; context = x })
   deferred_fits routine v x e h irp fits =
       by (own_place at) h fits (subst (λ mode. GivenAt at mode (own_place at) (Some v)) irp (given_as at (Some v) (ap value_of e)))
     where
       by : (q : Place) → has_place places.PreOrPost q ≡ true → Fits routine q → GivenAt at Irp q (Some v) →
           IsFitting (record { filter = own_filter at; routine = routine; visit = Some v; context = x })
-      by (place.Pre kind) h f g = record { given = rw f.place_is g.given; callback = f.callback; there = f.there; is_work = rw f.place_is refl }
-      by (place.Post kind) h f g = record { given = rw f.place_is g.given; callback = f.callback; there = f.there; is_work = rw f.place_is refl }
+      by (place.Pre kind) h f g = record {
+        given = rw f.place_is g.given;
+        callback = f.callback;
+        there = f.there;
+        is_work = rw f.place_is refl;
+      }
+      by (place.Post kind) h f g = record {
+        given = rw f.place_is g.given;
+        callback = f.callback;
+        there = f.there;
+        is_work = rw f.place_is refl;
+      }
       by place.Canceled h f g = absurd (cc)
       by place.DeferredPre h f g = absurd (cc)
       by place.DeferredPost h f g = absurd (cc)
       by place.Generic h f g = absurd (cc)
 
   -- a step in which the item takes visit and context over, or in which the system refuses, is good
-  defer_good : (pre : List Event) (v : ℕ) (c : Option ContextVariable) (x : Option ℕ) (routine : ℕ) (grant : Bool) (granted refused : List Statement) →
+  defer_good : (pre : List Event) (v : ℕ) (c : Option ContextVariable) (x : Option ℕ) (routine : ℕ) (grant : Bool)
+      (granted refused : List Statement) →
       Opened at pre → operation_slot s Data ≡ Owns v → Names at c x →
       IsFitting (record { filter = own_filter at; routine = routine; visit = Some v; context = x }) →
-      PlacedAt at granted (put_operation (Some Data) (Some Stale) (put_context c (Some Stale) (before at))) → PlacedAt at refused (before at) →
+      PlacedAt at granted (put_operation (Some Data) (Some Stale) (put_context c (Some Stale) (before at))) →
+      PlacedAt at refused (before at) →
       GoodBehind at pre (if grant then deferred m.world a routine granted v x else unchanged m.world a refused)
   defer_good pre v c x routine true granted refused o owns n fits ok fail =
       let i : Item = record { filter = own_filter at; routine = routine; visit = Some v; context = x } in
@@ -137,7 +150,8 @@ module _ {p : List Filter} {m : Moment} {a : ℕ} {s : Shadow} (at : IsAt p m a 
   defer_good pre v c x routine false granted refused o owns n fits ok fail = unchanged_good at pre refused o fail
 
   -- FltQueueDeferredIoWorkItem is good, where the routine fits the callback
-  pub deferred_good : (cs : List Callback) (r : Routine) (routine : ℕ) (c : Option ContextVariable) (grant : Bool) (granted refused : List Statement) →
+  pub deferred_good : (cs : List Callback) (r : Routine) (routine : ℕ) (c : Option ContextVariable) (grant : Bool)
+      (granted refused : List Statement) →
       AtCall at (graph.fallible cs (fallible_call.QueueDeferredIoWorkItem r c)) granted refused → Fits routine (own_place at) →
       Good p m (queue_deferred m.world a routine c grant granted refused)
   deferred_good cs r routine None grant granted refused k fits =
@@ -145,7 +159,8 @@ module _ {p : List Filter} {m : Moment} {a : ℕ} {s : Shadow} (at : IsAt p m a 
       let v = d.object in
       let irp = mode_irp at (or_parts _ _ k.fine.r06).0 in
       let e = operation_is at Data (Owns v) d.is in
-      let opened = opened_use at call.QueueDeferredIoWorkItem (Visit v) k.clear (rw e (given_irp at v d.is irp)) (has_owned_visit at Data d) in
+      let opened = opened_use at call.QueueDeferredIoWorkItem (Visit v) k.clear (rw e (given_irp at v d.is irp))
+      (has_owned_visit at Data d) in
       let item = deferred_fits routine v None d.is (in_place at places.PreOrPost _ k.fine.r08) irp fits in
       rw e
       (defer_good (event.Call a call.QueueDeferredIoWorkItem ∷ event.Use a (Visit v) ∷ []) v None None routine grant granted refused
@@ -161,32 +176,42 @@ module _ {p : List Filter} {m : Moment} {a : ℕ} {s : Shadow} (at : IsAt p m a 
       (has_owned_visit at Data d) (has_owned_context at c o) in
       let item = deferred_fits routine v (Some x) d.is (in_place at places.PreOrPost _ k.fine.r08) irp fits in
       rw (e, context_is at c (Owns x) o.is)
-      (defer_good (event.Call a call.QueueDeferredIoWorkItem ∷ event.Use a (Visit v) ∷ event.Use a (Context x) ∷ []) v (Some c) (Some x) routine grant granted refused
+      (defer_good (event.Call a call.QueueDeferredIoWorkItem ∷ event.Use a (Visit v) ∷ event.Use a (Context x) ∷ []) v (Some c)
+      (Some x) routine grant granted refused
       opened d.is o.is item (k.ok true) (k.fails _ refl true))
 
   -- ---- FltQueueGenericWorkItem
 
   -- a step in which the item takes the context over, or in which the system refuses, is good
-  queue_good : (pre : List Event) (c : Option ContextVariable) (x : Option ℕ) (routine : ℕ) (grant : Bool) (granted refused : List Statement) →
+  queue_good : (pre : List Event) (c : Option ContextVariable) (x : Option ℕ) (routine : ℕ) (grant : Bool)
+      (granted refused : List Statement) →
       Opened at pre → Names at c x → IsRoutineAt callbacks place.Generic routine →
       PlacedAt at granted (put_context c (Some Stale) (before at)) → PlacedAt at refused (before at) →
       GoodBehind at pre (if grant then queued m.world a routine granted x else unchanged m.world a refused)
   queue_good pre c x routine true granted refused o n f ok fail =
       let i : Item = record { filter = own_filter at; routine = routine; visit = None; context = x } in
-      let fits : IsFitting i = record { given = rw f.place_is refl; callback = f.callback; there = f.there; is_work = rw f.place_is refl } in
-      let turned = item_turned a m.world.store i (loses_context a x) refl (λ u. lost_gains a x a (Visit u)) (λ u. lost_visit a x u) (settles-handed at x) in
+      let fits : IsFitting i = record {
+        given = rw f.place_is refl;
+        callback = f.callback;
+        there = f.there;
+        is_work = rw f.place_is refl;
+      } in
+      let turned = item_turned a m.world.store i (loses_context a x) refl (λ u. lost_gains a x a (Visit u))
+      (λ u. lost_visit a x u) (settles-handed at x) in
       let ledger = item_ledger i (loses_context a x) (named_own at x (names_has at c x n))
       (λ y. omega (arith, loses-named at x y, lost_gains a x a (Context y))) (frees-handed at x) in
       context_good at pre c x granted (with_item m.world a i) o n (item_stored i fits) turned ledger ok
   queue_good pre c x routine false granted refused o n f ok fail = unchanged_good at pre refused o fail
 
   -- FltQueueGenericWorkItem is good, where the routine is there
-  pub generic_good : (cs : List Callback) (r : Routine) (routine : ℕ) (c : Option ContextVariable) (grant : Bool) (granted refused : List Statement) →
+  pub generic_good : (cs : List Callback) (r : Routine) (routine : ℕ) (c : Option ContextVariable) (grant : Bool)
+      (granted refused : List Statement) →
       AtCall at (graph.fallible cs (fallible_call.QueueGenericWorkItem r c)) granted refused → IsRoutineAt callbacks place.Generic routine →
       Good p m (queue_generic m.world a routine c grant granted refused)
   generic_good cs r routine None grant granted refused k f =
       let opened = opened_call at call.QueueGenericWorkItem k.clear refl in
-      queue_good (event.Call a call.QueueGenericWorkItem ∷ []) None None routine grant granted refused opened tt f (k.ok true) (k.fails _ refl true)
+      queue_good (event.Call a call.QueueGenericWorkItem ∷ []) None None routine grant granted refused opened tt f (k.ok true)
+      (k.fails _ refl true)
   generic_good cs r routine (Some c) grant granted refused k f =
       let o = owned_context at c k.fine.r13 in
       let x = o.object in

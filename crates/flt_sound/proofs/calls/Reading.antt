@@ -78,7 +78,8 @@ module _ {p : List Filter} {m : Moment} {a : ℕ} {s : Shadow} (at : IsAt p m a 
       (ap (λ act. with_number act n file) (onward_is at list)) (has_owned_visit at d o) k.ok)
 
   -- the test of whether the given operation is an IRP is good: it finds what the activation's mode says
-  pub test_irp_good : (granted refused : List Statement) → AtTest at test.IsIrp granted refused → Good p m (test_irp m.world a granted refused)
+  pub test_irp_good : (granted refused : List Statement) → AtTest at test.IsIrp granted refused →
+      Good p m (test_irp m.world a granted refused)
   test_irp_good granted refused k =
       let o = owned_operation at Data k.fine.r04 in
       let list = if is_irp s.mode then granted else refused in
@@ -90,7 +91,10 @@ module _ {p : List Filter} {m : Moment} {a : ℕ} {s : Shadow} (at : IsAt p m a 
 
   -- the store after a write, where the context isn't freed
   abbrev with_value : ℕ → ℕ → Store
-  with_value x value = record m.world.store { contexts = set m.world.store.contexts x (record (context_at m.world.store x) { value = value }) }
+  with_value x value = record m.world.store {
+    contexts =
+        set m.world.store.contexts x (record (context_at m.world.store x) { value = value });
+  }
 
   -- a write leaves visits and what stores them as they are
   value_calm : (x value : ℕ) → CalmStore at (put_value m.world.store x value)
@@ -101,12 +105,14 @@ module _ {p : List Filter} {m : Moment} {a : ℕ} {s : Shadow} (at : IsAt p m a 
       by false = same_calm at (with_value x value) refl refl refl refl refl refl
 
   -- a write leaves references as they are
-  value_ledger : (x value : ℕ) → Has m.trace a (Context x) → Ledger a m.world.store (put_value m.world.store x value) (event.Use a (Context x) ∷ [])
+  value_ledger : (x value : ℕ) → Has m.trace a (Context x) →
+      Ledger a m.world.store (put_value m.world.store x value) (event.Use a (Context x) ∷ [])
   value_ledger x value h = by (is_freed (context_at m.world.store x))
     where
       by : (b : Bool) → Ledger a m.world.store (if b then m.world.store else with_value x value) (event.Use a (Context x) ∷ [])
       by true = quiet_ledger at (event.Use a (Context x) ∷ []) (λ y. simp counts) (λ y. simp counts)
-      by false = values a m.world.store at.kept.mine x value (event.Use a (Context x) ∷ []) (held_refs at x h) (λ y. simp counts) (λ y. simp counts)
+      by false = values a m.world.store at.kept.mine x value (event.Use a (Context x) ∷ []) (held_refs at x h) (λ y. simp counts)
+          (λ y. simp counts)
 
   -- writing a context's value is good
   pub write_value_good : (c : ContextVariable) (y : Atom) (list : List Statement) → AtAct at (action.WriteValue c y) list →

@@ -77,10 +77,12 @@ module _ {p : List Filter} {m : Moment} {a : ℕ} {s : Shadow} (at : IsAt p m a 
       record s { rest = list; contexts = set s.contexts (context_place d) x; operations = set s.operations (operation_place (Removed o)) v }
 
   -- a step that takes out is good, where both variables may receive
-  taken_good : (pre es : List Event) (o : RemovedVariable) (v : Slot) (d : ContextVariable) (x : Slot) (list : List Statement) (store : Store) → Opened at pre →
+  taken_good : (pre es : List Event) (o : RemovedVariable) (v : Slot) (d : ContextVariable) (x : Slot) (list : List Statement)
+      (store : Store) → Opened at pre →
       (state_context (state_of at) d).held ≡ false → (state_operation (state_of at) (Removed o)).held ≡ false → Takes v x store es →
       PlacedAt at list (put_operation (Some (Removed o)) (Some (status_of v)) (put_context (Some d) (Some (status_of x)) (before at))) →
-      GoodBehind at pre (goes_on m.world a (with_context_in (with_operation_in (onward m.world a list) (Removed o) (value_of v)) d (value_of x)) store es)
+      GoodBehind at pre (goes_on m.world a
+      (with_context_in (with_operation_in (onward m.world a list) (Removed o) (value_of v)) d (value_of x)) store es)
   taken_good pre es o v d x list store opened context_free operation_free takes placed =
       let new = after_taking o v d x list in
       let i = operation_place (Removed o) in
@@ -91,7 +93,8 @@ module _ {p : List Filter} {m : Moment} {a : ℕ} {s : Shadow} (at : IsAt p m a 
       let j_there : j < length s.contexts = omega (arith, w.wide, context_there d) in
       let no_visit = λ (u : ℕ). not_held q.state.operations s.operations i u q.means.operations operation_free in
       let no_context = λ (y : ℕ). not_held q.state.contexts s.contexts j y q.means.contexts context_free in
-      row_good at new store (pre ++ es) (with_context_in (with_operation_in (onward m.world a list) (Removed o) (value_of v)) d (value_of x))
+      row_good at new store (pre ++ es) (with_context_in (with_operation_in (onward m.world a list) (Removed o) (value_of v)) d
+      (value_of x))
       (ap (λ act. with_context_in (with_operation_in act (Removed o) (value_of v)) d (value_of x)) (onward_is at list)
       ∙ rw (map-set value_of s.contexts j x, map-set value_of s.operations i v) refl)
       (opened.events es (λ t k. takes.events t))
@@ -99,7 +102,8 @@ module _ {p : List Filter} {m : Moment} {a : ℕ} {s : Shadow} (at : IsAt p m a 
         placed = rw (map-set status_of s.contexts j x, map-set status_of s.operations i v) placed;
         given = rw (data_stays s.operations o v) w.given;
         removed = λ r u e. elim (cases_eq (operation_place (Removed r)) i) [
-          | inl same ↦ takes.fits u (sym (get_or-set_same s.operations i v Unset i_there) ∙ (ap (λ k. get_or (set s.operations i v) k Unset) (sym same) ∙ e))
+          | inl same ↦ takes.fits u (sym (get_or-set_same s.operations i v Unset i_there)
+              ∙ (ap (λ k. get_or (set s.operations i v) k Unset) (sym same) ∙ e))
           | inr ne ↦ w.removed r u (sym (get_or-set_other s.operations i (operation_place (Removed r)) v Unset ne) ∙ e)
         ];
         wide = length-set s.contexts j x ∙ w.wide;
@@ -158,7 +162,8 @@ module _ {p : List Filter} {m : Moment} {a : ℕ} {s : Shadow} (at : IsAt p m a 
   AreOwn queue = Each (λ (e : Entry). Belongs m.world.store.contexts (own_filter at) e.context) queue
 
   -- a filter whose queue has an entry has a queue
-  queue_there : (e : Entry) (rest : List Entry) → queue_at m.world.store (own_filter at) ≡ e ∷ rest → own_filter at < length m.world.store.queues
+  queue_there : (e : Entry) (rest : List Entry) → queue_at m.world.store (own_filter at) ≡ e ∷ rest →
+      own_filter at < length m.world.store.queues
   queue_there e rest same =
       elim (cases_lt (own_filter at) (length m.world.store.queues)) [
         | inl h ↦ h
@@ -166,12 +171,14 @@ module _ {p : List Filter} {m : Moment} {a : ℕ} {s : Shadow} (at : IsAt p m a 
       ]
 
   -- the entry's reference is the variable's
-  taking_ledger : (e : Entry) (rest : List Entry) → queue_at m.world.store (own_filter at) ≡ e ∷ rest → Ledger a m.world.store (shorter rest) (taking e)
+  taking_ledger : (e : Entry) (rest : List Entry) → queue_at m.world.store (own_filter at) ≡ e ∷ rest →
+      Ledger a m.world.store (shorter rest) (taking e)
   taking_ledger e rest same =
       let own : AreOwn (e ∷ rest) = subst (λ l. AreOwn l) same (at.kept.mine.entries (own_filter at)) in
       leaves_queue a m.world.store at.kept.mine (own_filter at) e rest (taking e) (queue_there e rest same)
       (λ x. rw same (omega (arith, sum_by-cons (λ (e : Entry). in_some x e.context) e rest))) own.1
-      (λ x. simp (counts, of_actor-same) (omega (arith, gained_one a e.context x))) (λ x. simp counts (omega (arith, gained_loses a e.context a (Context x))))
+      (λ x. simp (counts, of_actor-same) (omega (arith, gained_one a e.context x)))
+      (λ x. simp counts (omega (arith, gained_loses a e.context a (Context x))))
       (λ x. simp counts (omega (arith, gained_free a e.context x)))
 
   -- the entry's context has a reference, so it wasn't freed, and it is the filter's own
@@ -180,9 +187,12 @@ module _ {p : List Filter} {m : Moment} {a : ℕ} {s : Shadow} (at : IsAt p m a 
   entry_touch e rest same y some =
       let l = taking_ledger e rest same in
       let lost : loses (taking e) a (Context y) ≡ 0 = simp counts (omega (arith, gained_loses a e.context a (Context y))) in
-      let got : gains (taking e) a (Context y) ≡ 1 = simp (counts, of_actor-same) (omega (arith, gained_one a e.context y, ap (in_some y) some, one_if-same y)) in
-      let own : AreOwn (e ∷ rest) = subst (λ l. AreOwn l) same (at.kept.mine.entries (own_filter at)) in
-      (alive_fresh at y (omega (arith, at.kept.count y, l.refs y, lost, got)), subst (λ x. Belongs m.world.store.contexts (own_filter at) x) some own.0)
+      let got : gains (taking e) a (Context y) ≡ 1 =
+      simp (counts, of_actor-same) (omega (arith, gained_one a e.context y, ap (in_some y) some, one_if-same y)) in
+      let own : AreOwn (e ∷ rest) = subst (λ l. AreOwn l) same (at.kept.mine.entries (own_filter at)) in (
+        alive_fresh at y (omega (arith, at.kept.count y, l.refs y, lost, got)),
+        subst (λ x. Belongs m.world.store.contexts (own_filter at) x) some own.0,
+      )
 
   -- an empty queue gives nothing
   takes_nothing : Takes Unset Unset m.world.store []
@@ -230,7 +240,8 @@ module _ {p : List Filter} {m : Moment} {a : ℕ} {s : Shadow} (at : IsAt p m a 
       opened = opened_call at call.RemoveNextIo k.clear refl
 
       -- by what the entry's context may be
-      ok : (x : Option ℕ) → PlacedAt at granted (put_operation (Some (Removed o)) (Some Held) (put_context (Some d) (Some (status_of (given x))) (before at)))
+      ok : (x : Option ℕ) → PlacedAt at granted
+          (put_operation (Some (Removed o)) (Some Held) (put_context (Some d) (Some (status_of (given x))) (before at)))
       ok None = k.ok false
       ok (Some x) = k.ok true
 

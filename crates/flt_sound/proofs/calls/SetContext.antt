@@ -54,17 +54,22 @@ module _ {p : List Filter} {m : Moment} {a : ℕ} {s : Shadow} (at : IsAt p m a 
         (references.puts_link a m.world.store at.kept.mine x l can.refs can.free can.own) placed
 
     -- KEEP_IF_EXISTS: the context that is there stays, and is given
-    keep_good : (old : Option ContextVariable) (granted refused : List Statement) (x : ℕ) (l : Link) → may_hold_context (state_of at) old ≡ false →
+    keep_good : (old : Option ContextVariable) (granted refused : List Statement) (x : ℕ) (l : Link) →
+        may_hold_context (state_of at) old ≡ false →
         PlacedAt at granted (put old (Some status.Null) (before at)) → PlacedAt at refused (put old (Some status.Held) (before at)) →
-        CanLink at x l → (y : Option ℕ) → ((z : ℕ) → y ≡ Some z → IsLinked at z) → GoodBehind at pre (set_there m.world a Keep old granted refused x l y)
+        CanLink at x l → (y : Option ℕ) → ((z : ℕ) → y ≡ Some z → IsLinked at z) →
+        GoodBehind at pre (set_there m.world a Keep old granted refused x l y)
     keep_good old granted refused x l h ok held can None at_link = takes_link old granted x l h ok can
     keep_good None granted refused x l h ok held can (Some y) at_link = unchanged_good at pre refused o held
-    keep_good (Some d) granted refused x l h ok held can (Some y) at_link = adds at pre o d y refused h (link_available at y (at_link y refl)) held
+    keep_good (Some d) granted refused x l h ok held can (Some y) at_link =
+        adds at pre o d y refused h (link_available at y (at_link y refl)) held
 
     -- REPLACE_IF_EXISTS: the context that is there loses its link, whose reference is given, or dropped
-    replace_good : (old : Option ContextVariable) (granted refused : List Statement) (x : ℕ) (l : Link) → may_hold_context (state_of at) old ≡ false →
+    replace_good : (old : Option ContextVariable) (granted refused : List Statement) (x : ℕ) (l : Link) →
+        may_hold_context (state_of at) old ≡ false →
         PlacedAt at granted (put old (Some status.Null) (before at)) → PlacedAt at granted (put old (Some status.Held) (before at)) →
-        CanLink at x l → (y : Option ℕ) → ((z : ℕ) → y ≡ Some z → IsLinked at z) → GoodBehind at pre (set_there m.world a Replace old granted refused x l y)
+        CanLink at x l → (y : Option ℕ) → ((z : ℕ) → y ≡ Some z → IsLinked at z) →
+        GoodBehind at pre (set_there m.world a Replace old granted refused x l y)
     replace_good old granted refused x l h ok held can None at_link = takes_link old granted x l h ok can
     replace_good None granted refused x l h ok held can (Some y) at_link =
         let k = at_link y refl in
@@ -89,7 +94,8 @@ module _ {p : List Filter} {m : Moment} {a : ℕ} {s : Shadow} (at : IsAt p m a 
         (available_touch at store both.older y (link_available at y k)) held
 
     -- one effect where a test holds, and another where it doesn't
-    unless_good : (b : Bool) (bad good : Step) → GoodBehind at pre bad → (b ≡ false → GoodBehind at pre good) → GoodBehind at pre (if b then bad else good)
+    unless_good : (b : Bool) (bad good : Step) → GoodBehind at pre bad → (b ≡ false → GoodBehind at pre good) →
+        GoodBehind at pre (if b then bad else good)
     unless_good true bad good x y = x
     unless_good false bad good x y = y refl
 
@@ -98,37 +104,43 @@ module _ {p : List Filter} {m : Moment} {a : ℕ} {s : Shadow} (at : IsAt p m a 
   AtSet existing cs on c old granted refused = AtCall at (graph.fallible cs (fallible_call.SetContext on existing c old)) granted refused
 
   -- what it does where the context is held and the link known
-  set_effect : (existing : Existing) (cs : List Callback) (on : Anchor) (c : ContextVariable) (old : Option ContextVariable) (granted refused : List Statement) →
+  set_effect : (existing : Existing) (cs : List Callback) (on : Anchor) (c : ContextVariable) (old : Option ContextVariable)
+      (granted refused : List Statement) →
       AtSet existing cs on c old granted refused → (pre : List Event) → Opened at pre →
       (x : ℕ) (l : Link) → Has m.trace a (Context x) → l.filter ≡ own_filter at →
       GoodBehind at pre (set_by m.world a existing old granted refused (Some x) (Some l))
   set_effect Keep cs on c old granted refused k pre o x l has own =
       let free = (or_parts _ _ k.fine.r03).0 in
-      unless_good pre o (cannot_set m.world a x) (gives_nothing m.world a old refused) (set_there m.world a Keep old granted refused x l (linked_at m.world.store l))
+      unless_good pre o (cannot_set m.world a x) (gives_nothing m.world a old refused)
+      (set_there m.world a Keep old granted refused x l (linked_at m.world.store l))
       (nothing_given at pre o old refused free (k.fails _ refl false))
       (λ can. keep_good pre o old granted refused x l free (k.ok true) (k.fails _ refl true) (can_link at x l has own can)
       (linked_at m.world.store l) (found_link at l own))
   set_effect Replace cs on c old granted refused k pre o x l has own =
       let free = (or_parts _ _ k.fine.r03).0 in
-      unless_good pre o (cannot_set m.world a x) (gives_nothing m.world a old refused) (set_there m.world a Replace old granted refused x l (linked_at m.world.store l))
+      unless_good pre o (cannot_set m.world a x) (gives_nothing m.world a old refused)
+      (set_there m.world a Replace old granted refused x l (linked_at m.world.store l))
       (nothing_given at pre o old refused free (k.fails _ refl true))
       (λ can. replace_good pre o old granted refused x l free (k.ok false) (k.ok true) (can_link at x l has own can)
       (linked_at m.world.store l) (found_link at l own))
 
   -- the context is surely held, whatever becomes of one that exists
-  set_held : (existing : Existing) (cs : List Callback) (on : Anchor) (c : ContextVariable) (old : Option ContextVariable) (granted refused : List Statement) →
+  set_held : (existing : Existing) (cs : List Callback) (on : Anchor) (c : ContextVariable) (old : Option ContextVariable)
+      (granted refused : List Statement) →
       AtSet existing cs on c old granted refused → lacks_context (state_of at) (Some c) ≡ false
   set_held Keep cs on c old granted refused k = k.fine.r01
   set_held Replace cs on c old granted refused k = k.fine.r01
 
   -- and so is the operation whose file is the stream
-  set_data : (existing : Existing) (cs : List Callback) (c : ContextVariable) (old : Option ContextVariable) (granted refused : List Statement) →
+  set_data : (existing : Existing) (cs : List Callback) (c : ContextVariable) (old : Option ContextVariable)
+      (granted refused : List Statement) →
       AtSet existing cs anchor.Stream c old granted refused → lacks_operation (state_of at) (Some Data) ≡ false
   set_data Keep cs c old granted refused k = k.fine.r04
   set_data Replace cs c old granted refused k = k.fine.r04
 
   -- FltSetStreamContext and FltSetInstanceContext are good
-  pub set_good : (existing : Existing) (cs : List Callback) (on : Anchor) (c : ContextVariable) (old : Option ContextVariable) (granted refused : List Statement) →
+  pub set_good : (existing : Existing) (cs : List Callback) (on : Anchor) (c : ContextVariable) (old : Option ContextVariable)
+      (granted refused : List Statement) →
       AtSet existing cs on c old granted refused → Good p m (set_context m.world a on existing c old granted refused)
   set_good existing cs anchor.Instance c old granted refused k =
       let o = owned_context at c (set_held existing cs anchor.Instance c old granted refused k) in
@@ -148,5 +160,6 @@ module _ {p : List Filter} {m : Moment} {a : ℕ} {s : Shadow} (at : IsAt p m a 
       let l : Link = record { filter = (actor_at m.world a).filter; key = Stream (arrival_of m.world.store v).file } in
       let name = call.SetContext anchor.Stream existing in
       rw (context_is at c (Owns x) o.is, operation_is at Data (Owns v) d.is)
-      (set_effect existing cs anchor.Stream c old granted refused k (event.Call a name ∷ event.Use a (Context x) ∷ event.Use a (Visit v) ∷ [])
+      (set_effect existing cs anchor.Stream c old granted refused k
+      (event.Call a name ∷ event.Use a (Context x) ∷ event.Use a (Visit v) ∷ [])
       (opened_uses at name (Context x) (Visit v) k.clear refl has (has_owned_visit at Data d)) x l has refl)

@@ -10,7 +10,8 @@ use Rattle.flt_sound.proofs.points.Stored.{FitsQueue, IsItem, Stored}
 use Rattle.flt_sound.proofs.sums.Belonging.{BelongsItem, Mine}
 
 -- the store keeps its invariants with another queue of a filter
-pub queue_stored : (p : List Filter) (s : Store) (f : ℕ) (queue : List Entry) → Stored p s → Each (FitsQueue s.visits s.arrivals p f) queue →
+pub queue_stored : (p : List Filter) (s : Store) (f : ℕ) (queue : List Entry) → Stored p s →
+    Each (FitsQueue s.visits s.arrivals p f) queue →
     StoreChange p s (with_queue s f queue)
 queue_stored p s f queue k fits = record {
   visits = refl;
@@ -26,7 +27,8 @@ queue_stored p s f queue k fits = record {
 }
 
 -- the store keeps its invariants with other items
-pub items_stored : (p : List Filter) (s : Store) (items : List (Option Item)) → Stored p s → ((i : ℕ) → IsItem s.visits s.arrivals p (get_or items i None)) →
+pub items_stored : (p : List Filter) (s : Store) (items : List (Option Item)) → Stored p s →
+    ((i : ℕ) → IsItem s.visits s.arrivals p (get_or items i None)) →
     StoreChange p s (record s { items = items })
 items_stored p s items k fits = record {
   visits = refl;
@@ -42,5 +44,6 @@ items_stored p s items k fits = record {
 }
 
 -- contexts still belong to their filters where those of the new items do
-pub items_mine : (s : Store) (items : List (Option Item)) → Mine s → ((i : ℕ) → BelongsItem s.contexts (get_or items i None)) → Mine (record s { items = items })
+pub items_mine : (s : Store) (items : List (Option Item)) → Mine s → ((i : ℕ) → BelongsItem s.contexts (get_or items i None)) →
+    Mine (record s { items = items })
 items_mine s items k own = record { entries = k.entries; frames = k.frames; items = own; links = k.links }

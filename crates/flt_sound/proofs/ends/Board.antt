@@ -77,15 +77,18 @@ named : (f : Filter) (q : Place) (r : Routine) → IsRoutine f.callbacks q (posi
     IsRoutineAt f.callbacks q (routine_of f.callbacks r)
 named f q r h = by (nat_lt (routine_of f.callbacks r) (length f.callbacks)) h
   where
-    by : (b : Bool) → IsRoutine f.callbacks q (cond b (Some (routine_of f.callbacks r)) None) → IsRoutineAt f.callbacks q (routine_of f.callbacks r)
+    by : (b : Bool) → IsRoutine f.callbacks q (cond b (Some (routine_of f.callbacks r)) None) →
+        IsRoutineAt f.callbacks q (routine_of f.callbacks r)
     by true h = record { callback = h.0; there = h.1.0; place_is = ap place_for h.1.0 ∙ h.1.1 }
     by false h = absurd h
 
-module _ {p : List Filter} {m : Moment} {a : ℕ} (s : Shadow) (st : Statement) (rest : List Statement) (at : IsAt p m a (with_rest s (st ∷ rest))) where
+module _ {p : List Filter} {m : Moment} {a : ℕ} (s : Shadow) (st : Statement) (rest : List Statement)
+    (at : IsAt p m a (with_rest s (st ∷ rest))) where
   -- ---- statements that are no calls
 
   -- a read or write is good
-  act_good : (line : ℕ) (x : Action) → out-Statement st ≡ Statement-F.Act line x → AfterStep (act_step p m.trace m.world a rest x) (Good p m)
+  act_good : (line : ℕ) (x : Action) → out-Statement st ≡ Statement-F.Act line x →
+      AfterStep (act_step p m.trace m.world a rest x) (Good p m)
   act_good line x e = by x (let i = act_here (spot at) line x e in at_act at x i.0 i.1 rest (ap (λ y. remaining_of y rest true) e))
     where
       by : (x : Action) → AtAct at x rest → AfterStep (act_step p m.trace m.world a rest x) (Good p m)
@@ -97,7 +100,8 @@ module _ {p : List Filter} {m : Moment} {a : ℕ} (s : Shadow) (st : Statement) 
       by (action.ClearOperation o) k = tt
 
   -- the test of whether an operation is an IRP is good; the other tests are local steps
-  irp_good : (line : ℕ) (t : Test) (granted refused : List Statement) → out-Statement st ≡ Statement-F.If line (condition.Test t) granted refused →
+  irp_good : (line : ℕ) (t : Test) (granted refused : List Statement) →
+      out-Statement st ≡ Statement-F.If line (condition.Test t) granted refused →
       AfterStep (test_step p m.trace m.world a (granted ++ rest) (refused ++ rest) t) (Good p m)
   irp_good line (test.ContextIsSome c) granted refused e = tt
   irp_good line (test.OperationIsSome o) granted refused e = tt
@@ -158,11 +162,13 @@ module _ {p : List Filter} {m : Moment} {a : ℕ} (s : Shadow) (st : Statement) 
   fits_by place.Generic r h = tt
 
   -- each call that can fail is good
-  call_good : (c : FallibleCall) (x y : ℕ) (grant : Bool) (granted refused : List Statement) → here (spot at) ≡ instruction.Call (graph.fallible callbacks c) x y →
+  call_good : (c : FallibleCall) (x y : ℕ) (grant : Bool) (granted refused : List Statement) →
+      here (spot at) ≡ instruction.Call (graph.fallible callbacks c) x y →
       AtCall at (graph.fallible callbacks c) granted refused → Good p m (fallible_step p m.trace m.world a grant granted refused c)
   call_good (fallible_call.AllocateContext d) x y grant granted refused h k = allocate_good at callbacks d grant granted refused k
   call_good (fallible_call.GetContext on d) x y grant granted refused h k = get_good at callbacks on d granted refused k
-  call_good (fallible_call.SetContext on existing c d) x y grant granted refused h k = set_good at existing callbacks on c d granted refused k
+  call_good (fallible_call.SetContext on existing c d) x y grant granted refused h k =
+      set_good at existing callbacks on c d granted refused k
   call_good (fallible_call.DeleteContextOf on d) x y grant granted refused h k = delete_at_good at callbacks on d granted refused k
   call_good (fallible_call.InsertIo c) x y grant granted refused h k =
       let served = served_here (graph.fallible callbacks (fallible_call.InsertIo c)) x y h in
@@ -191,7 +197,8 @@ module _ {p : List Filter} {m : Moment} {a : ℕ} (s : Shadow) (st : Statement) 
 
   -- ---- each statement
 
-  if_good : (line : ℕ) (asked : Condition) (granted refused : List Statement) (grant : Bool) → out-Statement st ≡ Statement-F.If line asked granted refused →
+  if_good : (line : ℕ) (asked : Condition) (granted refused : List Statement) (grant : Bool) →
+      out-Statement st ≡ Statement-F.If line asked granted refused →
       AfterStep (if_step p m.trace m.world a grant (granted ++ rest) (refused ++ rest) asked) (Good p m)
   if_good line (condition.Test t) granted refused grant e = irp_good line t granted refused e
   if_good line (condition.Succeeds c) granted refused grant e = fallible_good line c granted refused grant e
@@ -200,7 +207,8 @@ module _ {p : List Filter} {m : Moment} {a : ℕ} (s : Shadow) (st : Statement) 
       AfterStep (statement_step p m.trace m.world a rest grant layer) (Good p m)
   statement_good (Statement-F.Act line x) grant e = act_good line x e
   statement_good (Statement-F.Call line c) grant e = plain_good line c e
-  statement_good (Statement-F.Return line status) grant e = returns_good at status (at_return at status (return_here (spot at) line status e))
+  statement_good (Statement-F.Return line status) grant e =
+      returns_good at status (at_return at status (return_here (spot at) line status e))
   statement_good (Statement-F.If line asked granted refused) grant e = if_good line asked granted refused grant e
   statement_good (Statement-F.Repeat line turns block) grant e = tt
 
@@ -217,7 +225,8 @@ list_good : {p : List Filter} {m : Moment} {a : ℕ} (s : Shadow) (list : List S
     AfterStep (list_step p m.trace m.world a list grant) (Good p m)
 list_good s [] true at = returns_good at None (at_end at (end_here (spot at)))
 list_good s [] false at = tt
-list_good {m = m} {a = a} s (st ∷ rest) grant at = first_good s st rest at (out-Statement st) grant refl (may_go m.world a grant (out-Statement st))
+list_good {m = m} {a = a} s (st ∷ rest) grant at =
+    first_good s st rest at (out-Statement st) grant refl (may_go m.world a grant (out-Statement st))
 
 -- an activation that has ended takes no step
 board_by : (p : List Filter) (m : Moment) (k : Kept p m) (a : ℕ) (grant : Bool) (s : Shadow) (list : List Statement) (ended : Bool) →
@@ -234,5 +243,6 @@ pub board_good : (p : List Filter) (m : Moment) → Kept p m → (a : ℕ) (gran
 board_good p m k a grant =
     let s = get_or k.shadows a no_one in
     let e : activation_at m.world a ≡ plain s = ap (λ l. get_or l a nobody) k.same ∙ get_or-map plain k.shadows a no_one in
-    board_by p m k a grant s (activation_at m.world a).rest (activation_at m.world a).ended refl (sym (ap (λ act. act.rest) e)) (sym (ap (λ act. act.ended) e))
+    board_by p m k a grant s (activation_at m.world a).rest (activation_at m.world a).ended refl (sym (ap (λ act. act.rest) e))
+    (sym (ap (λ act. act.ended) e))
     (λ on v h. owned_of k a v h)

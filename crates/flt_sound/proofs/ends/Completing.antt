@@ -80,7 +80,8 @@ pair_at cs kind e h =
     let four = and_parts (is_paired cs Cleanup) true three.1 in
     implied (has_pre cs kind) (has_post cs kind) (by kind one.0 two.0 three.0 four.0) h
   where
-    by : (kind : Operation) → is_paired cs Create ≡ true → is_paired cs Read ≡ true → is_paired cs Write ≡ true → is_paired cs Cleanup ≡ true →
+    by : (kind : Operation) → is_paired cs Create ≡ true → is_paired cs Read ≡ true → is_paired cs Write ≡ true →
+        is_paired cs Cleanup ≡ true →
         is_paired cs kind ≡ true
     by Create a b c d = a
     by Read a b c d = b
@@ -144,7 +145,8 @@ module _ {p : List Filter} {m : Moment} {a : ℕ} {s : Shadow} (at : IsAt p m a 
       may_answer p m.world m.trace a answer ≡ true → Opened at (event.Call a k ∷ event.Status a answer ∷ [])
   opened_status k answer clear pend legal =
       let after_call = m.trace ++ event.Call a k ∷ [] in
-      let keeps = keeps_on at after_call (event.Status a answer) (λ o. refl) (keeps_on at m.trace (event.Call a k) (λ o. refl) (λ o h. h)) in
+      let keeps = keeps_on at after_call (event.Status a answer) (λ o. refl)
+      (keeps_on at m.trace (event.Call a k) (λ o. refl) (λ o h. h)) in
       record {
         events = λ es f. event_called k clear pend (answered answer legal (f (after_call ++ event.Status a answer ∷ []) keeps));
         gains_none = λ b o. simp counts;
@@ -186,7 +188,8 @@ module _ {p : List Filter} {m : Moment} {a : ℕ} {s : Shadow} (at : IsAt p m a 
   settling_events (Some c) (Some x) v n t k = lost (k x (has_context at (context_place c) x n)) (settled v (none _))
 
   -- an answer that no callback returned is a hand-over to the filter manager
-  settled_hand : (d : OperationVariable) (v : ℕ) (c : Option ContextVariable) (x : Option ℕ) (answer : Answer) → operation_slot s d ≡ Owns v → Names at c x →
+  settled_hand : (d : OperationVariable) (v : ℕ) (c : Option ContextVariable) (x : Option ℕ) (answer : Answer) →
+      operation_slot s d ≡ Owns v → Names at c x →
       (is_some x ≡ true → makes_frame m.world.store v (way_of p m.world.store v answer) ≡ true) → is_returned answer ≡ false →
       HandOver at v x (settled_by m.world.store v x (way_of p m.world.store v answer)) (settling x v)
   settled_hand d v c x answer owns n framed unreturned =
@@ -217,7 +220,8 @@ module _ {p : List Filter} {m : Moment} {a : ℕ} {s : Shadow} (at : IsAt p m a 
       }
 
   -- completing a visit that a variable owns is good, where a context that goes with the status finds its frame
-  completed_good : (pre : List Event) (d : OperationVariable) (v : ℕ) (c : Option ContextVariable) (x : Option ℕ) (answer : Answer) (list : List Statement) →
+  completed_good : (pre : List Event) (d : OperationVariable) (v : ℕ) (c : Option ContextVariable) (x : Option ℕ)
+      (answer : Answer) (list : List Statement) →
       Opened at pre → operation_slot s d ≡ Owns v → Names at c x →
       (is_some x ≡ true → makes_frame m.world.store v (way_of p m.world.store v answer) ≡ true) → is_returned answer ≡ false →
       PlacedAt at list (put_operation (Some d) (Some Stale) (put_context c (Some Stale) (before at))) →
@@ -225,7 +229,8 @@ module _ {p : List Filter} {m : Moment} {a : ℕ} {s : Shadow} (at : IsAt p m a 
   completed_good pre d v c x answer list o owns n framed unreturned placed =
       let way = way_of p m.world.store v answer in
       rw (context_taken a (makes_frame m.world.store v way) x framed)
-      (hand_good at pre (settling x v) d v c x list (settled_by m.world.store v x way) o owns n (settled_hand d v c x answer owns n framed unreturned) placed)
+      (hand_good at pre (settling x v) d v c x list (settled_by m.world.store v x way) o owns n
+      (settled_hand d v c x answer owns n framed unreturned) placed)
 
   -- ---- FltCompletePendedPreOperation
 
@@ -235,7 +240,8 @@ module _ {p : List Filter} {m : Moment} {a : ℕ} {s : Shadow} (at : IsAt p m a 
   pre_stage (Removed o) v e h = ((was at).removed o v e).stage
   pre_stage Data v e h = by (own_place at) h (given_as at (Some v) (ap value_of e))
     where
-      by : (q : Place) → has_place places.CanceledOrDeferredPre q ≡ true → GivenAt at s.mode q (Some v) → (visit_at m.world.store v).stage ≡ stage.Pre
+      by : (q : Place) → has_place places.CanceledOrDeferredPre q ≡ true → GivenAt at s.mode q (Some v) →
+          (visit_at m.world.store v).stage ≡ stage.Pre
       by (place.Pre kind) h g = absurd (cc)
       by (place.Post kind) h g = absurd (cc)
       by place.Canceled h g = g.visit.stage
@@ -250,7 +256,8 @@ module _ {p : List Filter} {m : Moment} {a : ℕ} {s : Shadow} (at : IsAt p m a 
     canceled : (not (is_given_in_canceled (own_place at) (Some d)) || is_complete (word_of st)) ≡ true
     paired : ((setting at).all_registered || not (is_with_callback (word_of st))) ≡ true
 
-  handable : (d : OperationVariable) (st : Status) → is_handed_legally (setting at) (graph.plain (plain_call.CompletePendedPreOperation d st)) st ≡ true →
+  handable : (d : OperationVariable) (st : Status) →
+      is_handed_legally (setting at) (graph.plain (plain_call.CompletePendedPreOperation d st)) st ≡ true →
       IsHandable d st
   handable d st legal =
       let all = and_parts _ _ legal in
@@ -281,12 +288,14 @@ module _ {p : List Filter} {m : Moment} {a : ℕ} {s : Shadow} (at : IsAt p m a 
       rw (callbacks_there p (own_filter at) q.filter q.there) (paired_same q.filter.callbacks q.graph.callbacks q.lowered.callbacks h)
 
   -- the machine's test of the status follows
-  hand_legal : (d : OperationVariable) (v : ℕ) (st : Status) → operation_slot s d ≡ Owns v → has_place (complete_places (whose d)) (own_place at) ≡ true →
+  hand_legal : (d : OperationVariable) (v : ℕ) (st : Status) → operation_slot s d ≡ Owns v →
+      has_place (complete_places (whose d)) (own_place at) ≡ true →
       IsHandable d st → may_hand p m.world m.trace a (whose d) v st ≡ true
   hand_legal d v st e h k =
       let stage_is : same_stage (visit_at m.world.store v).stage stage.Pre ≡ true = rw (pre_stage d v e h) refl in
       let fits = canceled_fits (own_place at) d (word_of st) k.canceled in
-      let pairs = allowed (setting at).all_registered (are_paired (callbacks_at p (own_filter at))) (is_with_callback (word_of st)) own_paired k.paired in
+      let pairs = allowed (setting at).all_registered (are_paired (callbacks_at p (own_filter at)))
+      (is_with_callback (word_of st)) own_paired k.paired in
       and_from _ _ (and_from _ _ (and_from _ _ (and_from _ _ stage_is k.handed) k.completes) fits) pairs
 
   -- a context that is handed on finds its frame: the filter has a pre callback for the operation, so it has a post callback
@@ -301,10 +310,12 @@ module _ {p : List Filter} {m : Moment} {a : ℕ} {s : Shadow} (at : IsAt p m a 
       let asked : has_pre (callbacks_at p (own_filter at)) kind ≡ true =
       subst (λ f. has_pre (callbacks_at p f) kind ≡ true) own.filter_is (at.kept.stored.before v own.there stage_is).asked in
       let post : has_post_of p m.world.store v ≡ true =
-      subst (λ f. has_post (callbacks_at p f) kind ≡ true) (sym own.filter_is) (pair_at (callbacks_at p (own_filter at)) kind (own_paired all) asked) in
+      subst (λ f. has_post (callbacks_at p f) kind ≡ true) (sym own.filter_is)
+      (pair_at (callbacks_at p (own_filter at)) kind (own_paired all) asked) in
       frame_made at v (CompletesPre (whose d) v st) st c refl same own.there stage_is post (has_visit at (operation_place d) v owns)
 
-  complete_pre_by : (d : OperationVariable) (st : Status) (list : List Statement) → AtCall at (graph.plain (plain_call.CompletePendedPreOperation d st)) list list →
+  complete_pre_by : (d : OperationVariable) (st : Status) (list : List Statement) →
+      AtCall at (graph.plain (plain_call.CompletePendedPreOperation d st)) list list →
       (c : Option ContextVariable) → context_of st ≡ c → Good p m (complete_pre m.world a p d st list)
   complete_pre_by d st list k None same =
       let o = owned_operation at d k.fine.r04 in
@@ -327,25 +338,31 @@ module _ {p : List Filter} {m : Moment} {a : ℕ} {s : Shadow} (at : IsAt p m a 
       let status_event = event.Status a (CompletesPre (whose d) v st) in
       let here = in_place at (complete_places (whose d)) _ k.fine.r08 in
       let fits = handable d st (not-false _ k.fine.r06) in
-      let opened = opened_status (call.CompletePendedPreOperation (whose d)) (CompletesPre (whose d) v st) k.clear refl (hand_legal d v st o.is here fits) in
+      let opened = opened_status (call.CompletePendedPreOperation (whose d)) (CompletesPre (whose d) v st) k.clear refl
+      (hand_legal d v st o.is here fits) in
       let uses_visit = opened_more (call_event ∷ status_event ∷ []) (Visit v) opened (has_owned_visit at d o) in
-      let uses_both = opened_more (call_event ∷ status_event ∷ event.Use a (Visit v) ∷ []) (Context x) uses_visit (has_owned_context at c y) in
+      let uses_both = opened_more (call_event ∷ status_event ∷ event.Use a (Visit v) ∷ []) (Context x) uses_visit
+      (has_owned_context at c y) in
       rw (operation_is at d (Owns v) o.is, same, context_is at c (Owns x) y.is)
-      (completed_good (call_event ∷ status_event ∷ event.Use a (Visit v) ∷ event.Use a (Context x) ∷ []) d v (Some c) (Some x) (CompletesPre (whose d) v st) list
+      (completed_good (call_event ∷ status_event ∷ event.Use a (Visit v) ∷ event.Use a (Context x) ∷ []) d v (Some c) (Some x)
+      (CompletesPre (whose d) v st) list
       uses_both o.is y.is (λ h. handed_frame d v st c o.is here fits same) refl (rw same at (k.ok true)))
 
   -- FltCompletePendedPreOperation is good
-  pub complete_pre_good : (d : OperationVariable) (st : Status) (list : List Statement) → AtCall at (graph.plain (plain_call.CompletePendedPreOperation d st)) list list →
+  pub complete_pre_good : (d : OperationVariable) (st : Status) (list : List Statement) →
+      AtCall at (graph.plain (plain_call.CompletePendedPreOperation d st)) list list →
       Good p m (complete_pre m.world a p d st list)
   complete_pre_good d st list k = complete_pre_by d st list k (context_of st) refl
 
   -- ---- FltCompletePendedPostOperation
 
   -- the work item of a post callback was given a visit after the filters below
-  post_stage : (v : ℕ) → operation_slot s Data ≡ Owns v → has_place places.DeferredPost (own_place at) ≡ true → (visit_at m.world.store v).stage ≡ stage.Post
+  post_stage : (v : ℕ) → operation_slot s Data ≡ Owns v → has_place places.DeferredPost (own_place at) ≡ true →
+      (visit_at m.world.store v).stage ≡ stage.Post
   post_stage v e h = by (own_place at) h (given_as at (Some v) (ap value_of e))
     where
-      by : (q : Place) → has_place places.DeferredPost q ≡ true → GivenAt at s.mode q (Some v) → (visit_at m.world.store v).stage ≡ stage.Post
+      by : (q : Place) → has_place places.DeferredPost q ≡ true → GivenAt at s.mode q (Some v) →
+          (visit_at m.world.store v).stage ≡ stage.Post
       by (place.Pre kind) h g = absurd (cc)
       by (place.Post kind) h g = absurd (cc)
       by place.Canceled h g = absurd (cc)

@@ -46,7 +46,8 @@ all_append f [] ys h e = e
 all_append f (x ∷ xs) ys h e = let parts = and_parts (f x) (list_all f xs) h in and_from _ _ parts.0 (all_append f xs ys parts.1 e)
 
 -- events of two lists break nothing, where the first break nothing and then the others
-pub in_turn : {p : List Filter} {m : Moment} {a : ℕ} (t xs ys : List Event) → Events p m a t xs → Events p m a (t ++ xs) ys → Events p m a t (xs ++ ys)
+pub in_turn : {p : List Filter} {m : Moment} {a : ℕ} (t xs ys : List Event) → Events p m a t xs → Events p m a (t ++ xs) ys →
+    Events p m a t (xs ++ ys)
 in_turn {p} {m} {a} t xs ys e f = record {
   had = record { is = had_append t xs ys e.had.is f.had.is };
   leak = leak_append t xs ys e.leak f.leak;
@@ -257,7 +258,8 @@ module _ (a : ℕ) where
 
     -- the events but the last lose the visit where it is held and the context where a frame takes it, and settle the visit where it is
     pub front_does : (e : Ending) → ((y : ℕ) → e.context ≡ Some y → P a y) →
-        Does (front e) (λ y. when e.framed (in_some y e.context)) (λ u. when e.held (one_if e.visit u)) (λ u. when e.settled (one_if e.visit u))
+        Does (front e) (λ y. when e.framed (in_some y e.context)) (λ u. when e.held (one_if e.visit u))
+        (λ u. when e.settled (one_if e.visit u))
     front_does e touch =
         let back = both (both (lost_does e.held e.visit) (taken_does e.framed e.context touch)) (settled_does e.settled e.visit) in
         let all = both (answer_does e.status) (both (used_does e.context touch) back) in
@@ -272,7 +274,8 @@ module _ (a : ℕ) where
 
     -- so do all events of the end
     pub ending_does : (e : Ending) → ((y : ℕ) → e.context ≡ Some y → P a y) →
-        Does (ending e) (λ y. when e.framed (in_some y e.context)) (λ u. when e.held (one_if e.visit u)) (λ u. when e.settled (one_if e.visit u))
+        Does (ending e) (λ y. when e.framed (in_some y e.context)) (λ u. when e.held (one_if e.visit u))
+        (λ u. when e.settled (one_if e.visit u))
     ending_does e touch =
         let all = both (front_does e touch) end_does in
         record {
@@ -299,7 +302,8 @@ module _ (a : ℕ) where
         }
 
 -- owners change by the whole end as they change by its events about the visit
-pub ending_turned : (a : ℕ) (s new : Store) (e : Ending) → Turned a s new (lost_if a e.held e.visit ++ settled_if a e.settled e.visit) → Turned a s new (ending a e)
+pub ending_turned : (a : ℕ) (s new : Store) (e : Ending) →
+    Turned a s new (lost_if a e.held e.visit ++ settled_if a e.settled e.visit) → Turned a s new (ending a e)
 ending_turned a s new e t =
     let part = visit_does a (λ b x. Unit {0}) e in
     let whole = ending_does a (λ b x. Unit {0}) e (λ y h. tt) in

@@ -29,7 +29,8 @@ use Rattle.flt_sound.proofs.ends.Settling.{has_post_of}
 use Rattle.flt_sound.proofs.points.Stored.{given_is}
 
 -- a status that names a context asks for a frame, before the filters below and where a post callback is
-asks_frame : (post : Bool) (g : Stage) (returned : Bool) (st : Status) (c : ContextVariable) → context_of st ≡ Some c → g ≡ stage.Pre → post ≡ true →
+asks_frame : (post : Bool) (g : Stage) (returned : Bool) (st : Status) (c : ContextVariable) → context_of st ≡ Some c →
+    g ≡ stage.Pre → post ≡ true →
     asks_for_frame (way_by post g returned (Some st)) ≡ true
 asks_frame post g returned (status.WithCallback x) c e h i = rw (h, i) refl
 asks_frame post g returned (status.Synchronize x) c e h i = rw (h, i) refl
@@ -41,13 +42,15 @@ asks_frame post g returned status.FinishedProcessing c e h i = absurd (cc)
 asks_frame post g returned status.MoreProcessingRequired c e h i = absurd (cc)
 
 -- the context is lost whether the test of the frame is asked or not, since there is a frame where there is a context
-pub context_taken : (a : ℕ) (framed : Bool) (x : Option ℕ) → (is_some x ≡ true → framed ≡ true) → (if framed then loses_context a x else []) ≡ loses_context a x
+pub context_taken : (a : ℕ) (framed : Bool) (x : Option ℕ) → (is_some x ≡ true → framed ≡ true) →
+    (if framed then loses_context a x else []) ≡ loses_context a x
 context_taken a true x h = refl
 context_taken a false None h = refl
 context_taken a false (Some x) h = let bad : false ≡ true = h refl in absurd (cc)
 
 -- its reference too is taken over, whether the test is asked or not
-pub reference_taken : (framed : Bool) (x : Option ℕ) → (is_some x ≡ true → framed ≡ true) → (y : ℕ) → (if framed then in_some y x else 0) ≡ in_some y x
+pub reference_taken : (framed : Bool) (x : Option ℕ) → (is_some x ≡ true → framed ≡ true) → (y : ℕ) →
+    (if framed then in_some y x else 0) ≡ in_some y x
 reference_taken true x h y = refl
 reference_taken false None h y = refl
 reference_taken false (Some x) h y = let bad : false ≡ true = h refl in absurd (cc)
@@ -79,7 +82,8 @@ module _ {p : List Filter} {m : Moment} {a : ℕ} {s : Shadow} (at : IsAt p m a 
 
   -- an answer whose status names a context makes a frame for such a visit, where a post callback is
   pub frame_made : (v : ℕ) (answer : Answer) (st : Status) (c : ContextVariable) → given_by answer ≡ Some st → context_of st ≡ Some c →
-      v < length m.world.store.visits → (visit_at m.world.store v).stage ≡ stage.Pre → has_post_of p m.world.store v ≡ true → Has m.trace a (Visit v) →
+      v < length m.world.store.visits → (visit_at m.world.store v).stage ≡ stage.Pre → has_post_of p m.world.store v ≡ true →
+      Has m.trace a (Visit v) →
       makes_frame m.world.store v (way_of p m.world.store v answer) ≡ true
   frame_made v answer st c gives named there before post has =
       let asks = asks_frame (has_post_of p m.world.store v) (visit_at m.world.store v).stage (is_returned answer) st c named before post in

@@ -48,7 +48,8 @@ post_one kind (head.DeferredPost name) = refl
 post_one kind (head.Generic name) = refl
 
 -- the graphs and the callbacks of a filter have the same post callbacks
-pub post_same : (all cs : List Callback) (gs : List CallbackGraph) (kind : Operation) → AreGraphsOf all cs gs → abs.has_post gs kind ≡ has_post cs kind
+pub post_same : (all cs : List Callback) (gs : List CallbackGraph) (kind : Operation) → AreGraphsOf all cs gs →
+    abs.has_post gs kind ≡ has_post cs kind
 post_same all [] [] kind h = refl
 post_same all [] (g ∷ gs) kind h = absurd h
 post_same all (c ∷ cs) [] kind h = absurd h
@@ -87,7 +88,8 @@ module _ (all : List Callback) (whole : List CallbackGraph) (kind : Operation) w
 
   -- by whether the first callback is one
   some_by : (c : Callback) (g : CallbackGraph) (there : Bool) → g.place ≡ head_place c.head → abs.is_paired whole g ≡ true →
-      (there ≡ true → abs.has_post whole kind ≡ true) → (b : Bool) → is_pre_of kind c.head ≡ b → (b || there) ≡ true → abs.has_post whole kind ≡ true
+      (there ≡ true → abs.has_post whole kind ≡ true) → (b : Bool) → is_pre_of kind c.head ≡ b → (b || there) ≡ true →
+      abs.has_post whole kind ≡ true
   some_by c g there h e ih true same t = pre_post c.head (subst (λ at. abs.is_paired_at whole at ≡ true) h e) same
   some_by c g there h e ih false same t = ih t
 
@@ -110,4 +112,5 @@ pub paired_same : (cs : List Callback) (gs : List CallbackGraph) → AreGraphsOf
 paired_same cs gs h e = and_from _ _ (one Create) (and_from _ _ (one Read) (and_from _ _ (one Write) (and_from _ _ (one Cleanup) refl)))
   where
     one : (kind : Operation) → is_paired cs kind ≡ true
-    one kind = paired_by (has_pre cs kind) (has_post cs kind) (λ there. sym (post_same cs cs gs kind h) ∙ some_pre cs gs kind cs gs h e there)
+    one kind = paired_by (has_pre cs kind) (has_post cs kind)
+        (λ there. sym (post_same cs cs gs kind h) ∙ some_pre cs gs kind cs gs h e there)

@@ -54,7 +54,8 @@ use Rattle.flt_sound.proofs.points.Stored.{given_is}
 -- ---- sets and lists
 
 -- where no set of a list may be held, none at any place may
-none_passes : (sets : List StatusSet) (i : ℕ) → list_any (λ (s : StatusSet). s.held) sets ≡ false → (slice_index_or sets i null_alone).held ≡ false
+none_passes : (sets : List StatusSet) (i : ℕ) → list_any (λ (s : StatusSet). s.held) sets ≡ false →
+    (slice_index_or sets i null_alone).held ≡ false
 none_passes [] i e = refl
 none_passes (s ∷ sets) zero e = (or_parts s.held _ e).0
 none_passes (s ∷ sets) (suc i) e = none_passes sets i (or_parts s.held _ e).1
@@ -91,12 +92,14 @@ mode_by false true Irp Fast e h = absurd (cc)
 mode_by irp false Irp Fast e h = absurd (cc)
 
 -- so a mode that a row asks for is the activation's
-of_mode : (k : ModeSet) (mode : Mode) (wanted : Option Mode) → abs.is_of_mode k wanted ≡ true → has_mode k mode ≡ true → is_of_mode mode wanted ≡ true
+of_mode : (k : ModeSet) (mode : Mode) (wanted : Option Mode) → abs.is_of_mode k wanted ≡ true → has_mode k mode ≡ true →
+    is_of_mode mode wanted ≡ true
 of_mode k mode None e h = refl
 of_mode k mode (Some wanted) e h = mode_by k.irp k.fast mode wanted e h
 
 -- a status that a draining callback may not return isn't returned by one
-in_draining_by : (d : DrainingSet) (may draining : Bool) → (may || not d.yes) ≡ true → has_draining d draining ≡ true → (may || not draining) ≡ true
+in_draining_by : (d : DrainingSet) (may draining : Bool) → (may || not d.yes) ≡ true → has_draining d draining ≡ true →
+    (may || not draining) ≡ true
 in_draining_by d true draining e h = refl
 in_draining_by d false false e h = refl
 in_draining_by d false true e h = let no : not true ≡ true = ap not (sym h) ∙ e in absurd (cc)
@@ -104,12 +107,14 @@ in_draining_by d false true e h = let no : not true ≡ true = ap not (sym h) �
 -- a set that may be held is surely possessed only as held
 held_wanted : (k : StatusSet) (want : Possession) → k.held ≡ true → abs.is_possessed k want ≡ true → want ≡ possession.Held
 held_wanted k possession.Held h e = refl
-held_wanted k possession.GivenAway h e = let no : not true ≡ true = ap not (sym h) ∙ (and_parts (not k.null) _ (and_parts k.stale _ e).1).1 in absurd (cc)
+held_wanted k possession.GivenAway h e = let no : not true ≡ true = ap not (sym h)
+    ∙ (and_parts (not k.null) _ (and_parts k.stale _ e).1).1 in absurd (cc)
 
 -- a set that may be stale is surely possessed only as given away
 stale_wanted : (k : StatusSet) (want : Possession) → k.stale ≡ true → abs.is_possessed k want ≡ true → want ≡ possession.GivenAway
 stale_wanted k possession.GivenAway h e = refl
-stale_wanted k possession.Held h e = let no : not true ≡ true = ap not (sym h) ∙ (and_parts (not k.null) _ (and_parts k.held _ e).1).1 in absurd (cc)
+stale_wanted k possession.Held h e = let no : not true ≡ true = ap not (sym h)
+    ∙ (and_parts (not k.null) _ (and_parts k.held _ e).1).1 in absurd (cc)
 
 module _ {p : List Filter} {m : Moment} {a : ℕ} {s : Shadow} (at : IsAt p m a s) where
   -- no rule is broken at a return of the status, or at an end without one
@@ -129,7 +134,8 @@ module _ {p : List Filter} {m : Moment} {a : ℕ} {s : Shadow} (at : IsAt p m a 
   pub contexts_free : (st : Option Status) (c : Option ContextVariable) (x : Option ℕ) → AtReturn st → Names at c x → named_context st ≡ c →
       (y : ℕ) → own_all y (handed at c x) ≡ 0
   contexts_free st None None r n e y =
-      own_none y s.contexts (λ i. not_held (state_of at).contexts s.contexts i y (spot at).means.contexts (none_passes (state_of at).contexts i (rw e at r.r02)))
+      own_none y s.contexts (λ i. not_held (state_of at).contexts s.contexts i y (spot at).means.contexts
+      (none_passes (state_of at).contexts i (rw e at r.r02)))
   contexts_free st None (Some x) r n e y = absurd n
   contexts_free st (Some c) None r n e y = absurd n
   contexts_free st (Some c) (Some x) r n e y = own_none y (set s.contexts (context_place c) (Past x)) each
@@ -140,10 +146,15 @@ module _ {p : List Filter} {m : Moment} {a : ℕ} {s : Shadow} (at : IsAt p m a 
 
       each : (i : ℕ) → own y (get_or (set s.contexts (context_place c) (Past x)) i Unset) ≡ 0
       each i = elim (cases_eq i (context_place c)) [
-        | inl same ↦ rw (same, get_or-set_same s.contexts (context_place c) (Past x) Unset (owned_there s.contexts (context_place c) x n)) refl
+        | inl same ↦ rw (
+          same,
+          get_or-set_same s.contexts (context_place c) (Past x) Unset
+              (owned_there s.contexts (context_place c) x n),
+        ) refl
         | inr ne ↦ rw (get_or-set_other s.contexts (context_place c) i (Past x) Unset ne)
             (not_held (state_of at).contexts s.contexts i y (spot at).means.contexts
-            (rw (get_or-set_other (state_of at).contexts (context_place c) i null_alone null_alone ne) at (none_passes rest i (rw e at r.r02))))
+            (rw (get_or-set_other (state_of at).contexts (context_place c) i null_alone null_alone ne) at
+            (none_passes rest i (rw e at r.r02))))
       ]
 
   -- ---- R05: no operation is held but the one that was given, and that neither where the callback owes it
@@ -181,7 +192,8 @@ module _ {p : List Filter} {m : Moment} {a : ℕ} {s : Shadow} (at : IsAt p m a 
       ]
 
   -- a callback that doesn't answer for its operation has given it away, or was given none
-  silent_by : (q : Place) (slot : Slot) (holds : Bool) (u : ℕ) → answers q ≡ false → (owes_data q && holds) ≡ false → (holds ≡ false → own u slot ≡ 0) →
+  silent_by : (q : Place) (slot : Slot) (holds : Bool) (u : ℕ) → answers q ≡ false → (owes_data q && holds) ≡ false →
+      (holds ≡ false → own u slot ≡ 0) →
       GivenAt at s.mode q (value_of slot) → own u slot ≡ 0
   silent_by (place.Pre kind) slot holds u h e f g = absurd (cc)
   silent_by (place.Post kind) slot holds u h e f g = absurd (cc)
@@ -238,13 +250,15 @@ module _ {p : List Filter} {m : Moment} {a : ℕ} {s : Shadow} (at : IsAt p m a 
       }
 
   -- where `data` owns the operation, the row asks for one that is held
-  pub held_asked : (st : Status) → IsReturnable st → (v : ℕ) → operation_slot s Data ≡ Owns v → (status_row (word_of st)).data ≡ possession.Held
+  pub held_asked : (st : Status) → IsReturnable st → (v : ℕ) → operation_slot s Data ≡ Owns v →
+      (status_row (word_of st)).data ≡ possession.Held
   held_asked st k v e =
       let may = slot_has (state_of at).operations s.operations 4 (spot at).means.operations in
       held_wanted given_set _ (subst (λ slot. has_status given_set (status_of slot) ≡ true) e may) k.possessed
 
   -- where `data` is past the operation, the row asks for one that was given away
-  pub away_asked : (st : Status) → IsReturnable st → (v : ℕ) → operation_slot s Data ≡ Past v → (status_row (word_of st)).data ≡ possession.GivenAway
+  pub away_asked : (st : Status) → IsReturnable st → (v : ℕ) → operation_slot s Data ≡ Past v →
+      (status_row (word_of st)).data ≡ possession.GivenAway
   away_asked st k v e =
       let may = slot_has (state_of at).operations s.operations 4 (spot at).means.operations in
       stale_wanted given_set _ (subst (λ slot. has_status given_set (status_of slot) ≡ true) e may) k.possessed
@@ -270,7 +284,8 @@ module _ {p : List Filter} {m : Moment} {a : ℕ} {s : Shadow} (at : IsAt p m a 
       has_post (callbacks_at p (own_filter at)) (arrival_of m.world.store v).kind ≡ true
   has_post_by (place.Pre kind) v g h =
       let x = spot at in
-      let posts : has_post x.filter.callbacks kind ≡ true = sym (post_same x.filter.callbacks x.filter.callbacks x.graph.callbacks kind x.lowered.callbacks) ∙ h in
+      let posts : has_post x.filter.callbacks kind ≡ true =
+      sym (post_same x.filter.callbacks x.filter.callbacks x.graph.callbacks kind x.lowered.callbacks) ∙ h in
       rw (g.kind_is, callbacks_there p (own_filter at) x.filter x.there) posts
   has_post_by (place.Post kind) v g h = absurd (cc)
   has_post_by place.Canceled v g h = absurd (cc)
@@ -283,16 +298,20 @@ module _ {p : List Filter} {m : Moment} {a : ℕ} {s : Shadow} (at : IsAt p m a 
       (not (status_row (word_of st)).needs_post || has_post (callbacks_at p (own_filter at)) (arrival_of m.world.store v).kind) ≡ true
   post_is st v k e =
       let there : (setting at).registered ≡ true → has_post (callbacks_at p (own_filter at)) (arrival_of m.world.store v).kind ≡ true = λ h.
-      has_post_by (own_place at) v (given_as at (Some v) e) (subst (λ q. is_registered (spot at).graph.callbacks q ≡ true) (place_same (spot at)) h) in
+      has_post_by (own_place at) v (given_as at (Some v) e)
+      (subst (λ q. is_registered (spot at).graph.callbacks q ≡ true) (place_same (spot at)) h) in
       allowed (setting at).registered _ (status_row (word_of st)).needs_post there k.registered
 
   -- the status is legal on the machine, where the row asks for the operation as the activation has it
   pub answer_legal : (st : Status) (v : ℕ) → IsReturnable st → value_of (operation_slot s Data) ≡ Some v →
-      is_possessed (is_held m.trace a (Visit v)) (status_row (word_of st)).data ≡ true → may_answer p m.world m.trace a (Returned (Some st)) ≡ true
+      is_possessed (is_held m.trace a (Visit v)) (status_row (word_of st)).data ≡ true →
+      may_answer p m.world m.trace a (Returned (Some st)) ≡ true
   answer_legal st v k e possessed =
       let row = status_row (word_of st) in
-      let given_mode = (given_is m.world.store.visits m.world.store.arrivals (own_filter at) s.mode (own_place at) v (given_as at (Some v) e)).mode_is in
-      let mode : is_of_mode (arrival_of m.world.store v).mode row.mode ≡ true = rw given_mode (of_mode (state_of at).modes s.mode row.mode k.mode (spot at).means.mode) in
+      let given_mode = (given_is m.world.store.visits m.world.store.arrivals (own_filter at) s.mode (own_place at) v
+      (given_as at (Some v) e)).mode_is in
+      let mode : is_of_mode (arrival_of m.world.store v).mode row.mode ≡ true =
+      rw given_mode (of_mode (state_of at).modes s.mode row.mode k.mode (spot at).means.mode) in
       let drains : (row.in_draining || not (actor_at m.world a).draining) ≡ true =
       in_draining_by (state_of at).draining row.in_draining (actor_at m.world a).draining k.in_draining (spot at).means.draining in
       let value : get_or (activation_at m.world a).operations 4 None ≡ Some v = operation_is at Data (operation_slot s Data) refl ∙ e in

@@ -60,7 +60,8 @@ use Rattle.flt_sound.proofs.sums.Handovers.{lost_one}
 use Rattle.flt_sound.proofs.sums.Standing.{settle_ledger}
 
 -- a status that is returned settles its visit where its row asks for an operation that is held
-settles_held : (post : Bool) (g : Stage) (st : Status) → (status_row (word_of st)).data ≡ possession.Held → settles_visit (way_by post g true (Some st)) ≡ true
+settles_held : (post : Bool) (g : Stage) (st : Status) → (status_row (word_of st)).data ≡ possession.Held →
+    settles_visit (way_by post g true (Some st)) ≡ true
 settles_held true stage.Pre (status.WithCallback c) e = refl
 settles_held false stage.Pre (status.WithCallback c) e = refl
 settles_held true stage.Pre (status.Synchronize c) e = refl
@@ -81,7 +82,8 @@ settles_held post stage.Post status.FinishedProcessing e = refl
 settles_held post stage.Post status.MoreProcessingRequired e = absurd (cc)
 
 -- a status that is returned doesn't settle its visit where its row asks for an operation that was given away
-settles_no_more : (post : Bool) (g : Stage) (st : Status) → g ≡ (status_row (word_of st)).stage → (status_row (word_of st)).data ≡ possession.GivenAway →
+settles_no_more : (post : Bool) (g : Stage) (st : Status) → g ≡ (status_row (word_of st)).stage →
+    (status_row (word_of st)).data ≡ possession.GivenAway →
     settles_visit (way_by post g true (Some st)) ≡ false
 settles_no_more post g (status.WithCallback c) h e = absurd (cc)
 settles_no_more post g (status.Synchronize c) h e = absurd (cc)
@@ -99,7 +101,8 @@ unsettled_turned a s next_store u true e = absurd (cc)
 unsettled_turned a s next_store u false e = calm_turned a s s [] refl refl refl (λ v. simp counts) (λ v. simp counts)
 
 -- owners change by the visit's part of an end, where it is known whether the visit is held and settled
-turned_when : (a : ℕ) (s new : Store) (v : ℕ) (b held settled : Bool) → held ≡ b → settled ≡ b → Turned a s new (lost_if a b v ++ settled_if a b v) →
+turned_when : (a : ℕ) (s new : Store) (v : ℕ) (b held settled : Bool) → held ≡ b → settled ≡ b →
+    Turned a s new (lost_if a b v ++ settled_if a b v) →
     Turned a s new (lost_if a held v ++ settled_if a settled v)
 turned_when a s new v b held settled h e t = rw (h, e) t
 
@@ -157,11 +160,13 @@ module _ {p : List Filter} {m : Moment} {a : ℕ} {s : Shadow} (at : IsAt p m a 
     values : map value_of s.operations ≡ map value_of operations
     count : (u : ℕ) → when (is_held m.trace a (Visit v)) (one_if v u) + own_all u operations ≡ own_all u s.operations
     empty : (u : ℕ) → own_all u operations ≡ 0
-    turned : Turned a m.world.store (end_store st x v) (lost_if a (is_held m.trace a (Visit v)) v ++ settled_if a (settles_visit (way st v)) v)
+    turned : Turned a m.world.store (end_store st x v)
+        (lost_if a (is_held m.trace a (Visit v)) v ++ settled_if a (settles_visit (way st v)) v)
     framed : is_some x ≡ true → makes_frame m.world.store v (way st v) ≡ true
 
   -- references change by the loss of the context alone, and a frame has it
-  end_ledger : (st : Status) (c : Option ContextVariable) (x : Option ℕ) (v : ℕ) → Names at c x → value_of (operation_slot s Data) ≡ Some v →
+  end_ledger : (st : Status) (c : Option ContextVariable) (x : Option ℕ) (v : ℕ) → Names at c x →
+      value_of (operation_slot s Data) ≡ Some v →
       Ledger a m.world.store (end_store st x v) (ending a (end_of st x v))
   end_ledger st c x v n e =
       let own = given_visit at v e in
@@ -195,7 +200,8 @@ module _ {p : List Filter} {m : Moment} {a : ℕ} {s : Shadow} (at : IsAt p m a 
   settled_events false v t = none t
 
   -- no event of the end breaks anything
-  end_events : (st : Status) (c : Option ContextVariable) (x : Option ℕ) (v : ℕ) → AtReturn at (Some st) → context_of st ≡ c → Names at c x →
+  end_events : (st : Status) (c : Option ContextVariable) (x : Option ℕ) (v : ℕ) → AtReturn at (Some st) → context_of st ≡ c →
+      Names at c x →
       may_answer p m.world m.trace a (Returned (Some st)) ≡ true → (is_some x ≡ true → makes_frame m.world.store v (way st v) ≡ true) →
       Events p m a m.trace (ending a (end_of st x v))
   end_events st c x v r named n legal framed =
@@ -206,7 +212,8 @@ module _ {p : List Filter} {m : Moment} {a : ℕ} {s : Shadow} (at : IsAt p m a 
       let after_loss = after_use ++ lost_if a e.held v in
       let keeps1 = λ (o : Object) (h : Has m.trace a o). has_later m.trace (answer a st) a o (simp counts) h in
       let keeps2 = λ (o : Object) (h : Has m.trace a o). has_later after_answer (used a x) a o (loses-used a x o) (keeps1 o h) in
-      let keeps3 = λ (y : ℕ) (h : Has m.trace a (Context y)). has_later after_use (lost_if a e.held v) a (Context y) (loses-lost_if a e.held v y) (keeps2 (Context y) h) in
+      let keeps3 = λ (y : ℕ) (h : Has m.trace a (Context y)). has_later after_use (lost_if a e.held v) a (Context y)
+      (loses-lost_if a e.held v y) (keeps2 (Context y) h) in
       let even : (y : ℕ) → gains (m.trace ++ front a e) a (Context y) ≤ loses (m.trace ++ front a e) a (Context y) = λ y.
       omega (
         arith,
@@ -225,7 +232,8 @@ module _ {p : List Filter} {m : Moment} {a : ℕ} {s : Shadow} (at : IsAt p m a 
       (in_turn m.trace (answer a st) (used a x ++ given_back a e) (event_answered (Returned (Some st)) legal (none _))
       (in_turn after_answer (used a x) (given_back a e) (used_events c x n after_answer keeps1)
       (in_turn after_use (lost_if a e.held v ++ taken_if a e.framed x) (settled_if a e.settled v)
-      (in_turn after_use (lost_if a e.held v) (taken_if a e.framed x) (lost_events e.held v refl after_use (keeps2 (Visit v))) (taken_events e.framed c x n after_loss keeps3))
+      (in_turn after_use (lost_if a e.held v) (taken_if a e.framed x) (lost_events e.held v refl after_use (keeps2 (Visit v)))
+      (taken_events e.framed c x n after_loss keeps3))
       (settled_events e.settled v (after_use ++ (lost_if a e.held v ++ taken_if a e.framed x))))))
       (ended (no_locks at (Some st) r) even (none _))
 
@@ -288,13 +296,15 @@ module _ {p : List Filter} {m : Moment} {a : ℕ} {s : Shadow} (at : IsAt p m a 
       let has = has_visit at (operation_place Data) v owns in
       let held = held_where m.trace a (Visit v) has.holds in
       let asked = held_asked at st (returnable at st r) v owns in
-      let settles_it : settles_visit (way st v) ≡ true = settles_held (has_post_of p m.world.store v) (visit_at m.world.store v).stage st asked in
+      let settles_it : settles_visit (way st v) ≡ true =
+      settles_held (has_post_of p m.world.store v) (visit_at m.world.store v).stage st asked in
       let turned = settle_turned a m.world.store v x (way st v) (event.Lose a (Visit v) ∷ event.Settle v ∷ []) settles_it (at.owned v has)
       (λ u. simp counts) (λ u. simp (counts, of_actor-same) (omega arith)) (λ u. simp counts (omega arith)) in
       record {
         possessed = rw (held, asked) refl;
         values = sym (map-set_same value_of s.operations 4 (Past v) Unset (sym (ap value_of owns)));
-        count = λ u. rw held (let e = rw owns at (own_all-set u s.operations 4 (Past v) (owned_there s.operations 4 v owns)) in omega (arith, e));
+        count = λ u. rw held (let e = rw owns at (own_all-set u s.operations 4 (Past v) (owned_there s.operations 4 v owns)) in
+            omega (arith, e));
         empty = all_past at (Some st) r v;
         turned = turned_when a m.world.store (end_store st x v) v true _ _ held settles_it turned;
         framed = λ some. returned_frame st v c x r n same some owns;
@@ -327,8 +337,10 @@ module _ {p : List Filter} {m : Moment} {a : ℕ} {s : Shadow} (at : IsAt p m a 
   -- ---- a status, or none
 
   -- by what `data` is: it names a visit, so it owns it or is past it
-  answered_by : (st : Status) (c : Option ContextVariable) (x : Option ℕ) (v : ℕ) (slot : Slot) → AtReturn at (Some st) → context_of st ≡ c → Names at c x →
-      operation_slot s Data ≡ slot → value_of slot ≡ Some v → Good p m (ends p m.trace m.world a (end_store st x v) (front a (end_of st x v)))
+  answered_by : (st : Status) (c : Option ContextVariable) (x : Option ℕ) (v : ℕ) (slot : Slot) → AtReturn at (Some st) →
+      context_of st ≡ c → Names at c x →
+      operation_slot s Data ≡ slot → value_of slot ≡ Some v →
+      Good p m (ends p m.trace m.world a (end_store st x v) (front a (end_of st x v)))
   answered_by st c x v Unset r named n same e = absurd (cc)
   answered_by st c x v (Owns u) r named n same e =
       let q : u ≡ v = cc in
@@ -339,11 +351,13 @@ module _ {p : List Filter} {m : Moment} {a : ℕ} {s : Shadow} (at : IsAt p m a 
 
   -- a return of a callback that answers for its operation is good
   answers_good : (st : Status) (v : ℕ) (c : Option ContextVariable) → AtReturn at (Some st) → answers (own_place at) ≡ true →
-      value_of (operation_slot s Data) ≡ Some v → named_context (Some st) ≡ c → Good p m (returned p m.trace m.world a (Some st) true (Some v))
+      value_of (operation_slot s Data) ≡ Some v → named_context (Some st) ≡ c →
+      Good p m (returned p m.trace m.world a (Some st) true (Some v))
   answers_good st v None r h e same = rw (h, same) (answered_by st None None v (operation_slot s Data) r same tt refl e)
   answers_good st v (Some c) r h e same =
       let o = owned_context at c (rw same at r.r13) in
-      rw (h, same, context_is at c (Owns o.object) o.is) (answered_by st (Some c) (Some o.object) v (operation_slot s Data) r same o.is refl e)
+      rw (h, same, context_is at c (Owns o.object) o.is)
+      (answered_by st (Some c) (Some o.object) v (operation_slot s Data) r same o.is refl e)
 
   -- a callback that answers was given an operation
   given_there : (q : Place) (x : Option ℕ) → answers q ≡ true → GivenAt at s.mode q x → (v : ℕ) × (x ≡ Some v)
@@ -364,7 +378,8 @@ module _ {p : List Filter} {m : Moment} {a : ℕ} {s : Shadow} (at : IsAt p m a 
       let es = event.End a ∷ [] in
       row_good at new m.world.store es (record (activation_at m.world a) { rest = []; ended = true })
       (ap (λ (act : Activation). record act { rest = []; ended = true }) (activation_is at))
-      (ended (no_locks at st r) (λ y. omega (arith, contexts_at at y, contexts_free at st None None r tt none_named y)) (none _)) (λ on. absurd (cc))
+      (ended (no_locks at st r) (λ y. omega (arith, contexts_at at y, contexts_free at st None None r tt none_named y)) (none _))
+      (λ on. absurd (cc))
       (same_store at).change (λ u. simp counts (omega arith)) (λ y. simp counts (omega arith))
       (calm_of at (same_store at) es (λ v. simp counts) (λ v. simp counts)) (λ on u. none_held at st r u (silent_free at st r silent u))
       (quiet_ledger at es (λ y. simp counts) (λ y. simp counts)) tt
@@ -378,7 +393,8 @@ module _ {p : List Filter} {m : Moment} {a : ℕ} {s : Shadow} (at : IsAt p m a 
       rw (operation_is at Data (operation_slot s Data) refl, g.1) (answers_good st g.0 (named_context (Some st)) r h g.1 refl)
   returns_by None r false h = rw h (silent_good None r h refl)
   returns_by (Some st) r false h =
-      let no : true ≡ false = sym (stage_answers (own_place at) (status_row (word_of st)).stage (returnable at st r).stage) ∙ h in absurd (cc)
+      let no : true ≡ false = sym (stage_answers (own_place at) (status_row (word_of st)).stage (returnable at st r).stage) ∙ h in
+      absurd (cc)
 
   -- the end of an activation is good, with a status or without
   pub returns_good : (st : Option Status) → AtReturn at st → Good p m (returns p m.trace m.world a st)

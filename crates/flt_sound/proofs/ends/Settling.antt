@@ -49,7 +49,8 @@ after_frames true (Some status.MoreProcessingRequired) e = absurd (cc)
 after_frames false (Some status.MoreProcessingRequired) e = absurd (cc)
 
 -- at each stage a way asks for a frame only where a post callback is
-way_frames : (post : Bool) (at : Stage) (returned : Bool) (st : Option Status) → asks_for_frame (way_by post at returned st) ≡ true → post ≡ true
+way_frames : (post : Bool) (at : Stage) (returned : Bool) (st : Option Status) →
+    asks_for_frame (way_by post at returned st) ≡ true → post ≡ true
 way_frames post stage.Pre returned st e = before_frames post returned st e
 way_frames post stage.Post returned st e = absurd (after_frames returned st e)
 
@@ -100,7 +101,8 @@ lead_parts p s v x way k h = by (is_led s v)
     r = led (visit_at s v).filter x way (route_at s o)
 
     by : (b : Bool) → StoreChange p s (if b then with_route s o r else s)
-    by true = route_parts p s o r k (led_frames (FitsFrame p (arrival_at s o).kind) (visit_at s v).filter x way (route_at s o) (k.frames o) h)
+    by true = route_parts p s o r k (led_frames (FitsFrame p (arrival_at s o).kind) (visit_at s v).filter x way (route_at s o)
+        (k.frames o) h)
     by false = record { visits = refl; arrivals = refl; stored = k }
 
 -- the store keeps its invariants where the visit is settled

@@ -189,7 +189,8 @@ pub entered : (laws : Laws) (p : List Filter) → AreAccepted p → (f n : ℕ) 
 entered laws p ok f n c e q same t means =
     let there = filter_within p f n c e in
     let x = ok f no_filter there in
-    let number : n < length x.graph.callbacks = omega (arith, slice_get_within (callbacks_at p f) n c e, laws.count (filter_at p f) x.graph x.lowered) in
+    let number : n < length x.graph.callbacks =
+    omega (arith, slice_get_within (callbacks_at p f) n c e, laws.count (filter_at p f) x.graph x.lowered) in
     let r = x.covers.entries n number in
     let at : graph.place_at x.graph n ≡ q = (laws.each (filter_at p f) x.graph n c x.lowered e).place ∙ sym same in
     record {

@@ -47,7 +47,8 @@ none_past xs i x e =
     ]
 
 -- a filter with an entry that is found has a queue
-queue_there : (queues : List (List Entry)) (f : ℕ) (test : Entry → Bool) (e : Entry) → find test (get_or queues f []) ≡ Some e → f < length queues
+queue_there : (queues : List (List Entry)) (f : ℕ) (test : Entry → Bool) (e : Entry) → find test (get_or queues f []) ≡ Some e →
+    f < length queues
 queue_there queues f test e found =
     elim (cases_lt f (length queues)) [
       | inl there ↦ there
@@ -81,7 +82,8 @@ module _ (laws : Laws) (p : List Filter) (ok : AreAccepted p) (m : Moment) (k : 
   others f o = other_entries s o (queue_at s f)
 
   -- the entry's visit is given to the new activation
-  begins_entry : (f o : ℕ) (entry : Entry) → find (is_entry_of s o) (queue_at s f) ≡ Some entry → Begins p m k (with_queue s f (others f o)) (Some entry.visit)
+  begins_entry : (f o : ℕ) (entry : Entry) → find (is_entry_of s o) (queue_at s f) ≡ Some entry →
+      Begins p m k (with_queue s f (others f o)) (Some entry.visit)
   begins_entry f o entry e = record {
     owners = λ v. omega (
       arith,
@@ -103,7 +105,8 @@ module _ (laws : Laws) (p : List Filter) (ok : AreAccepted p) (m : Moment) (k : 
       (each_others (λ (e : Entry). Belongs s.contexts f e.context) (is_entry_of s o) (queue_at s f) (k.mine.entries f))
       (gifts-contexts a gift entry.context) (λ y. gifts-loses a gift entry.context a (Context y)) (gifts-frees a gift entry.context)
 
-  canceled_by_good : (f o : ℕ) (x : Option Entry) → find (is_entry_of s o) (queue_at s f) ≡ x → AfterStep (canceled_by p m.world f o x) (Good p m)
+  canceled_by_good : (f o : ℕ) (x : Option Entry) → find (is_entry_of s o) (queue_at s f) ≡ x →
+      AfterStep (canceled_by p m.world f o x) (Good p m)
   canceled_by_good f o None e = tt
   canceled_by_good f o (Some entry) e =
       let fits = each_find (FitsQueue s.visits s.arrivals p f) (is_entry_of s o) (queue_at s f) entry (k.stored.entries f) e in
@@ -111,7 +114,8 @@ module _ (laws : Laws) (p : List Filter) (ok : AreAccepted p) (m : Moment) (k : 
       let store = with_queue s f (others f o) in
       let gives : Gives p m k store f place.Canceled Irp (Some entry.visit) entry.context = record {
         grows = grows_self s.visits s.arrivals;
-        stored = (queue_stored p s f (others f o) k.stored (each_others (FitsQueue s.visits s.arrivals p f) (is_entry_of s o) (queue_at s f) (k.stored.entries f))).stored;
+        stored = (queue_stored p s f (others f o) k.stored
+            (each_others (FitsQueue s.visits s.arrivals p f) (is_entry_of s o) (queue_at s f) (k.stored.entries f))).stored;
         given = fits.given;
         begins = begins_entry f o entry e;
         ledger = entry_ledger f o entry e;
@@ -124,7 +128,8 @@ module _ (laws : Laws) (p : List Filter) (ok : AreAccepted p) (m : Moment) (k : 
   -- taking out an entry of an operation that is cancelled, or of a filter that is being detached, is good
   pub canceled_good : (f o : ℕ) → AfterStep (canceled p m.world f o) (Good p m)
   canceled_good f o =
-      if_good p m k ((route_at s o).cancelled || is_detaching (presence_at s f)) _ (canceled_by_good f o (find (is_entry_of s o) (queue_at s f)) refl)
+      if_good p m k ((route_at s o).cancelled || is_detaching (presence_at s f)) _
+      (canceled_by_good f o (find (is_entry_of s o) (queue_at s f)) refl)
 
   -- ---- work items
 
@@ -151,7 +156,8 @@ module _ (laws : Laws) (p : List Filter) (ok : AreAccepted p) (m : Moment) (k : 
       (gifts-frees a item.visit item.context)
 
   -- a work item's routine is entered with what the item was given
-  work_enters : (f : ℕ) (q : Place) (gift arg : Option ℕ) → is_routine q ≡ true → Given s.visits s.arrivals f Irp q gift → Enters q Irp false gift arg
+  work_enters : (f : ℕ) (q : Place) (gift arg : Option ℕ) → is_routine q ≡ true → Given s.visits s.arrivals f Irp q gift →
+      Enters q Irp false gift arg
   work_enters f (place.Pre kind) gift arg h g = absurd (cc)
   work_enters f (place.Post kind) gift arg h g = absurd (cc)
   work_enters f place.Canceled gift arg h g = absurd (cc)
@@ -172,7 +178,8 @@ module _ (laws : Laws) (p : List Filter) (ok : AreAccepted p) (m : Moment) (k : 
       let same : place_at cs item.routine ≡ head_place fits.callback.head = ap place_for fits.there in
       let gives : Gives p m k (without i) item.filter q Irp item.visit item.context = record {
         grows = grows_self s.visits s.arrivals;
-        stored = (items_stored p s (set s.items i None) k.stored (item_gone (IsItem s.visits s.arrivals p) s.items i tt k.stored.items)).stored;
+        stored = (items_stored p s (set s.items i None) k.stored
+            (item_gone (IsItem s.visits s.arrivals p) s.items i tt k.stored.items)).stored;
         given = fits.given;
         begins = begins_item i item e;
         ledger = item_ledger i item e;

@@ -63,7 +63,14 @@ own_operations v x =
     let two = Unset ∷ one in
     let three = Unset ∷ two in
     let four = Unset ∷ three in
-    omega (arith, sum_by-cons (own v) Unset four, sum_by-cons (own v) Unset three, sum_by-cons (own v) Unset two, sum_by-cons (own v) Unset one, sum_by-cons (own v) x [])
+    omega (
+      arith,
+      sum_by-cons (own v) Unset four,
+      sum_by-cons (own v) Unset three,
+      sum_by-cons (own v) Unset two,
+      sum_by-cons (own v) Unset one,
+      sum_by-cons (own v) x [],
+    )
 
 -- and so of nine
 own_contexts : (y : ℕ) (x : Slot) → own_all y (replicate 8 Unset ++ x ∷ []) ≡ own y x
@@ -73,14 +80,22 @@ own_contexts y x =
     let six = Unset ∷ five in
     let seven = Unset ∷ six in
     let eight = Unset ∷ seven in
-    omega (arith, sum_by-cons (own y) Unset eight, sum_by-cons (own y) Unset seven, sum_by-cons (own y) Unset six, sum_by-cons (own y) Unset five, own_operations y x)
+    omega (
+      arith,
+      sum_by-cons (own y) Unset eight,
+      sum_by-cons (own y) Unset seven,
+      sum_by-cons (own y) Unset six,
+      sum_by-cons (own y) Unset five,
+      own_operations y x,
+    )
 
 -- no variables own nothing
 no_slots : (v : ℕ) → own_all v [] ≡ 0
 no_slots v = own_none v [] (λ i. refl)
 
 -- no variable for operations taken out of the queue is set at the start
-removed_unset : (gift : Option ℕ) (o : RemovedVariable) (v : ℕ) → get_or (replicate 4 Unset ++ given gift ∷ []) (operation_place (Removed o)) Unset ≡ Owns v → ⊥
+removed_unset : (gift : Option ℕ) (o : RemovedVariable) (v : ℕ) →
+    get_or (replicate 4 Unset ++ given gift ∷ []) (operation_place (Removed o)) Unset ≡ Owns v → ⊥
 removed_unset gift O0 v e = absurd (cc)
 removed_unset gift O1 v e = absurd (cc)
 removed_unset gift O2 v e = absurd (cc)
@@ -97,9 +112,12 @@ module _ (p : List Filter) (m : Moment) (k : Kept p m) where
     pub settled : s.settled ≡ m.world.store.settled
 
   -- a change of the store is good, by events that gain, lose and settle nothing; `a` is any activation
-  pub stores_good : (s : Store) (a : ℕ) (es : List Event) → Grows m.world.store.visits m.world.store.arrivals s.visits s.arrivals → Stored p s →
-      Events p m a m.trace es → ((b : ℕ) (o : Object) → gains es b o ≡ 0) → ((b : ℕ) (o : Object) → loses es b o ≡ 0) → ((v : ℕ) → settles es v ≡ 0) →
-      SameVisits s → Ledger a m.world.store s es → CleanBy (Touch (record m.world { store = s }) m.trace) es → Good p m (stores m.world s es)
+  pub stores_good : (s : Store) (a : ℕ) (es : List Event) →
+      Grows m.world.store.visits m.world.store.arrivals s.visits s.arrivals → Stored p s →
+      Events p m a m.trace es → ((b : ℕ) (o : Object) → gains es b o ≡ 0) → ((b : ℕ) (o : Object) → loses es b o ≡ 0) →
+      ((v : ℕ) → settles es v ≡ 0) →
+      SameVisits s → Ledger a m.world.store s es → CleanBy (Touch (record m.world { store = s }) m.trace) es →
+      Good p m (stores m.world s es)
   stores_good s a es g stored e gain loss settle same ledger clean = record {
     had = e.had;
     leak = e.leak;
@@ -175,7 +193,8 @@ module _ (p : List Filter) (m : Moment) (k : Kept p m) where
     -- the new actor is at the new number
     new_actor : get_or (m.world.actors ++ actor ∷ []) next_one no_actor ≡ actor
     new_actor =
-        subst (λ i. get_or (m.world.actors ++ actor ∷ []) i no_actor ≡ actor) (k.long ∙ sym next_one_is) (get_or-append_seam m.world.actors actor [] no_actor)
+        subst (λ i. get_or (m.world.actors ++ actor ∷ []) i no_actor ≡ actor) (k.long ∙ sym next_one_is)
+        (get_or-append_seam m.world.actors actor [] no_actor)
 
     -- references are counted: the new activation has that of its context
     counted : Gives s actor.filter actor.place mode gift arg → (y : ℕ) →
@@ -208,7 +227,8 @@ module _ (p : List Filter) (m : Moment) (k : Kept p m) where
         (omega (arith, free, frees-append m.trace es y), subst (λ (x : Actor). IsOf s.contexts x.filter y) (sym new_actor) own)
 
     -- it stands at its first statement
-    stood : Gives s actor.filter actor.place mode gift arg → Placed p actor.filter actor.place body (situation actor.draining new) → Stood s.visits s.arrivals p actor new
+    stood : Gives s actor.filter actor.place mode gift arg →
+        Placed p actor.filter actor.place body (situation actor.draining new) → Stood s.visits s.arrivals p actor new
     stood g placed = record {
       placed = placed;
       given = rw (given_value gift) g.given;
@@ -218,7 +238,8 @@ module _ (p : List Filter) (m : Moment) (k : Kept p m) where
     }
 
     -- the start of an activation is good
-    pub starts_good : Placed p actor.filter actor.place body (situation actor.draining new) → Gives s actor.filter actor.place mode gift arg →
+    pub starts_good : Placed p actor.filter actor.place body (situation actor.draining new) →
+        Gives s actor.filter actor.place mode gift arg →
         Good p m (starts m.world s actor body gift arg)
     starts_good placed g =
         let n = length k.shadows in
@@ -244,7 +265,8 @@ module _ (p : List Filter) (m : Moment) (k : Kept p m) where
             long = omega (arith, length-append m.world.actors (actor ∷ []), length-append k.shadows (new ∷ []), k.long);
             each = λ b. elim (cases_eq b n) [
               | inl e ↦ rw (e, is_new, ← k.long, is_actor) (λ on. stood g placed)
-              | inr ne ↦ rw (other b ne, other_actor b ne) (λ on. stood_grows g.grows p (actor_at m.world b) (get_or k.shadows b no_one) (k.each b on))
+              | inr ne ↦ rw (other b ne, other_actor b ne)
+                  (λ on. stood_grows g.grows p (actor_at m.world b) (get_or k.shadows b no_one) (k.each b on))
             ];
             visits = λ b v. elim (cases_eq b n) [
               | inl e ↦ rw (e, is_new)
@@ -298,7 +320,13 @@ module _ (p : List Filter) (m : Moment) (k : Kept p m) where
                   ))
             ];
             stored = g.stored;
-            owners = λ v. omega (arith, sum_by_push (keeps_visit v) k.shadows new, own_operations v (given gift), k.owners v, g.begins.owners v);
+            owners = λ v. omega (
+              arith,
+              sum_by_push (keeps_visit v) k.shadows new,
+              own_operations v (given gift),
+              k.owners v,
+              g.begins.owners v,
+            );
             once = λ v. omega (arith, settles-append m.trace es v, gifts-settles next_one gift arg v, k.once v, g.begins.once v);
             idle = λ b. elim (cases_eq b n) [
               | inl e ↦ rw (e, is_new) (λ on. absurd (cc))
@@ -311,7 +339,8 @@ module _ (p : List Filter) (m : Moment) (k : Kept p m) where
             mine = g.ledger.mine;
             owns = λ b y. elim (cases_eq b n) [
               | inl e ↦ rw (e, is_new, ← k.long, is_actor)
-                  (λ has. own_of_given (λ y. IsOf s.contexts actor.filter y) arg (λ y e. subst (λ x. Belongs s.contexts actor.filter x) e g.belongs) y
+                  (λ has. own_of_given (λ y. IsOf s.contexts actor.filter y) arg
+                  (λ y e. subst (λ x. Belongs s.contexts actor.filter x) e g.belongs) y
                   (omega (arith, has, own_contexts y (given arg))))
               | inr ne ↦ rw (other b ne, other_actor b ne) (λ has. g.ledger.older (actor_at m.world b).filter y (k.owns b y has))
             ];
@@ -321,8 +350,10 @@ module _ (p : List Filter) (m : Moment) (k : Kept p m) where
 module _ (laws : Laws) (p : List Filter) (ok : AreAccepted p) (m : Moment) (k : Kept p m) where
   -- the start of an accepted filter's callback is good, on a store that gives what it is entered with
   pub entered_good : (store : Store) (f : ℕ) (q : Place) (draining : Bool) (gift arg : Option ℕ) (mode : Mode) (n : ℕ) (c : Callback) →
-      slice_get (callbacks_at p f) n ≡ Some c → q ≡ head_place c.head → Enters q mode draining gift arg → Gives p m k store f q mode gift arg →
+      slice_get (callbacks_at p f) n ≡ Some c → q ≡ head_place c.head → Enters q mode draining gift arg →
+      Gives p m k store f q mode gift arg →
       Good p m (starts m.world store (record { filter = f; place = q; draining = draining }) c.body gift arg)
   entered_good store f q draining gift arg mode n c there same e gives =
       starts_good p m k store (record { filter = f; place = q; draining = draining }) c.body gift arg mode
-      (entered laws p ok f n c there q same (situation draining (fresh c.body mode gift arg)) (enters q c.body mode draining gift arg e)) gives
+      (entered laws p ok f n c there q same (situation draining (fresh c.body mode gift arg))
+      (enters q c.body mode draining gift arg e)) gives

@@ -67,7 +67,8 @@ module _ (p : List Filter) (m : Moment) (k : Kept p m) where
 
   -- ---- a change of the store without events
 
-  change_good : (new : Store) → StoreChange p s new → new.queues ≡ s.queues → new.items ≡ s.items → new.settled ≡ s.settled → Ledger 0 s new [] →
+  change_good : (new : Store) → StoreChange p s new → new.queues ≡ s.queues → new.items ≡ s.items → new.settled ≡ s.settled →
+      Ledger 0 s new [] →
       Good p m (stores m.world new [])
   change_good new c q i t l =
       stores_good p m k new 0 [] (rw (c.visits, c.arrivals) (grows_self s.visits s.arrivals)) c.stored (none m.trace)
@@ -89,12 +90,14 @@ module _ (p : List Filter) (m : Moment) (k : Kept p m) where
       ]
 
   route_good : (o : ℕ) (r : Route) → r.frames ≡ (route_at s o).frames → Good p m (stores m.world (with_route s o r) [])
-  route_good o r e = change_good (with_route s o r) (route_parts p s o r k.stored (rw e (k.stored.frames o))) refl refl refl (route_ledger o r e)
+  route_good o r e = change_good (with_route s o r) (route_parts p s o r k.stored (rw e (k.stored.frames o))) refl refl refl
+      (route_ledger o r e)
 
   -- an operation's way past a filter without a pre callback for it is good
   pub skip_good : (o : ℕ) (kind : Operation) (q : Position) → AfterStep (skip_at p m.world o kind q) (Good p m)
   skip_good o kind (Down f) =
-      cond_good (nat_lt f (length p) && not (calls_pre p s f kind)) _ (route_good o (record (route_at s o) { position = Down (f + 1) }) refl)
+      cond_good (nat_lt f (length p) && not (calls_pre p s f kind)) _
+      (route_good o (record (route_at s o) { position = Down (f + 1) }) refl)
   skip_good o kind Visiting = tt
   skip_good o kind Up = tt
 
@@ -138,7 +141,10 @@ module _ (p : List Filter) (m : Moment) (k : Kept p m) where
         items = λ i. item_grows g p (item_at s i) (k.stored.items i);
         frames = λ o. elim (cases_eq o (length s.routes)) [
           | inl e ↦ rw (e, get_or-append_seam s.routes new_route [] no_route) tt
-          | inr ne ↦ rw (get_or-other s.routes new_route no_route o ne, get_or-other s.arrivals x no_arrival o (λ e. ne (e ∙ sym k.stored.paths))) (k.stored.frames o)
+          | inr ne ↦ rw (
+            get_or-other s.routes new_route no_route o ne,
+            get_or-other s.arrivals x no_arrival o (λ e. ne (e ∙ sym k.stored.paths)),
+          ) (k.stored.frames o)
         ];
         modes = λ o. elim (cases_eq o (length s.arrivals)) [
           | inl e ↦ rw (e, get_or-append_seam s.arrivals x [] no_arrival) h
@@ -160,14 +166,16 @@ module _ (p : List Filter) (m : Moment) (k : Kept p m) where
         items = k.mine.items;
         links = k.mine.links;
       } in
-      moved 0 s (with_arrival s x) [] refl mine (λ y. simp counts (omega (arith, sum_by_push (in_route y) s.routes new_route))) (λ y. simp counts)
+      moved 0 s (with_arrival s x) [] refl mine (λ y. simp counts (omega (arith, sum_by_push (in_route y) s.routes new_route)))
+      (λ y. simp counts)
 
   -- the arrival of an operation is good
   pub arrive_good : (kind : Operation) (mode : Mode) (file : ℕ) → AfterStep (arrive m.world kind mode file) (Good p m)
   arrive_good kind mode file = both_good (fits_mode kind mode) (nat_lt file 1024) _ (λ fits small.
       let x : Arrival = record { kind = kind; mode = mode; file = file } in
       stores_good p m k (with_arrival s x) 0 [] (grows_arrival s.visits s.arrivals x) (arrival_stored x fits) (none m.trace)
-      (λ b o. simp counts) (λ b o. simp counts) (λ v. simp counts) (record { visits = refl; queues = refl; items = refl; settled = refl }) (arrival_ledger x) tt)
+      (λ b o. simp counts) (λ b o. simp counts) (λ v. simp counts)
+      (record { visits = refl; queues = refl; items = refl; settled = refl }) (arrival_ledger x) tt)
 
   -- ---- a link goes, and its reference is dropped
 
@@ -179,7 +187,8 @@ module _ (p : List Filter) (m : Moment) (k : Kept p m) where
       by None e = absurd (cc)
       by (Some j) e = (j, refl)
 
-  unlink_by_good : (x : Option ℕ) → ((y : ℕ) → x ≡ Some y → (l : Link) × ((context_at s y).link ≡ Some l)) → AfterStep (unlink_by m.world x) (Good p m)
+  unlink_by_good : (x : Option ℕ) → ((y : ℕ) → x ≡ Some y → (l : Link) × ((context_at s y).link ≡ Some l)) →
+      AfterStep (unlink_by m.world x) (Good p m)
   unlink_by_good None h = tt
   unlink_by_good (Some x) h =
       let new = after_unlink s x None in
@@ -188,7 +197,8 @@ module _ (p : List Filter) (m : Moment) (k : Kept p m) where
       let stored : Stored p new =
       record { entries = old.entries; items = old.items; frames = old.frames; modes = old.modes; paths = old.paths; before = old.before } in
       stores_good p m k new 0 (freed_by_drop s x) (grows_self s.visits s.arrivals) stored (dropped m.trace s x)
-      (λ b o. gains-dropped s x b o) (λ b o. loses-dropped s x b o) (λ v. settles-dropped s x v) (record { visits = refl; queues = refl; items = refl; settled = refl })
+      (λ b o. gains-dropped s x b o) (λ b o. loses-dropped s x b o) (λ v. settles-dropped s x v)
+      (record { visits = refl; queues = refl; items = refl; settled = refl })
       (drops_link 0 s k.mine x l.0 (linked_refs k x l.0 l.1) l.1) (drop_clean (Touch (record m.world { store = new }) m.trace) s x)
 
   -- removing a link of a filter that is being detached is good

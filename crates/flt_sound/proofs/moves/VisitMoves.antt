@@ -58,14 +58,20 @@ last_sum y (f ∷ []) x e =
     let none : sum_by (in_frame y) [] ≡ 0 = refl in
     omega (arith, sum_by-cons (in_frame y) f [], ap (in_frame y) same, none)
 last_sum y (f ∷ g ∷ frames) x e =
-    omega (arith, sum_by-cons (in_frame y) f (g ∷ frames), sum_by-cons (in_frame y) f (without_last (g ∷ frames)), last_sum y (g ∷ frames) x e)
+    omega (
+      arith,
+      sum_by-cons (in_frame y) f (g ∷ frames),
+      sum_by-cons (in_frame y) f (without_last (g ∷ frames)),
+      last_sum y (g ∷ frames) x e,
+    )
 
 -- a visit that is added isn't settled, and the others are as they were
 open_visit : (settled : List Bool) (v : ℕ) →
     (if get_or (settled ++ false ∷ []) v true then 0 else 1) ≡ (if get_or settled v true then 0 else 1) + one_if (length settled) v
 open_visit settled v =
     elim (cases_eq v (length settled)) [
-      | inl e ↦ rw (e, get_or-append_seam settled false [] true, get_or_past settled (length settled) true (omega arith)) (omega (arith, one_if-same (length settled)))
+      | inl e ↦ rw (e, get_or-append_seam settled false [] true, get_or_past settled (length settled) true (omega arith))
+          (omega (arith, one_if-same (length settled)))
       | inr ne ↦ rw (get_or-other settled false true v ne) (omega (arith, one_if-other (length settled) v (λ e. ne (sym e))))
     ]
 
@@ -96,7 +102,8 @@ module _ (laws : Laws) (p : List Filter) (ok : AreAccepted p) (m : Moment) (k : 
   visiting o r x = with_visit (with_route s o r) x
 
   -- the store keeps its invariants with a new visit
-  visit_stored : (o : ℕ) (r : Route) (x : world.Visit) → (x.stage ≡ stage.Pre → IsBefore (s.visits ++ x ∷ []) s.arrivals p (length s.visits)) →
+  visit_stored : (o : ℕ) (r : Route) (x : world.Visit) →
+      (x.stage ≡ stage.Pre → IsBefore (s.visits ++ x ∷ []) s.arrivals p (length s.visits)) →
       Each (FitsRoute o) r.frames → Stored p (visiting o r x)
   visit_stored o r x first h =
       let g = grows_visit s.visits s.arrivals x in
@@ -156,18 +163,26 @@ module _ (laws : Laws) (p : List Filter) (ok : AreAccepted p) (m : Moment) (k : 
 
   -- references are those that they were: the frame's context goes to the new activation
   visit_ledger : (o : ℕ) (r : Route) (x : world.Visit) (arg : Option ℕ) → Each OwnFrame r.frames → o < length s.routes →
-      ((y : ℕ) → in_route y r + in_some y arg ≡ in_route y (route_at s o)) → Ledger a s (visiting o r x) (gifts a (Some (length s.visits)) arg)
+      ((y : ℕ) → in_route y r + in_some y arg ≡ in_route y (route_at s o)) →
+      Ledger a s (visiting o r x) (gifts a (Some (length s.visits)) arg)
   visit_ledger o r x arg own there sum =
       let kept = route_mine a s k.mine o r own in
       let mine : Mine (visiting o r x) = record { entries = kept.entries; frames = kept.frames; items = kept.items; links = kept.links } in
       let gift = Some (length s.visits) in
       moved a s (visiting o r x) (gifts a gift arg) refl mine
-      (λ y. omega (arith, sum_by-set (in_route y) s.routes o r no_route there, sum y, gifts-contexts a gift arg y, gifts-loses a gift arg a (Context y)))
+      (λ y. omega (
+        arith,
+        sum_by-set (in_route y) s.routes o r no_route there,
+        sum y,
+        gifts-contexts a gift arg y,
+        gifts-loses a gift arg a (Context y),
+      ))
       (gifts-frees a gift arg)
 
   -- ---- pre callbacks
 
-  pre_of_good : (o f : ℕ) → o < length s.routes → has_pre (callbacks_at p f) (arrival_at s o).kind ≡ true → Good p m (pre_of p m.world o (arrival_at s o).kind f)
+  pre_of_good : (o f : ℕ) → o < length s.routes → has_pre (callbacks_at p f) (arrival_at s o).kind ≡ true →
+      Good p m (pre_of p m.world o (arrival_at s o).kind f)
   pre_of_good o f there h =
       let kind = (arrival_at s o).kind in
       let mode = (arrival_at s o).mode in
@@ -221,15 +236,18 @@ module _ (laws : Laws) (p : List Filter) (ok : AreAccepted p) (m : Moment) (k : 
         belongs = t.own;
       } in
       rw c.body_is
-      (entered_good laws p ok m k (visiting o r x) frame.filter (place.Post kind) draining (Some (length s.visits)) frame.context mode c.number c.callback c.there
+      (entered_good laws p ok m k (visiting o r x) frame.filter (place.Post kind) draining
+      (Some (length s.visits)) frame.context mode c.number c.callback c.there
       (post_place kind c.callback.head c.passes) (k.stored.modes o) gives)
 
   -- an operation with a frame is there
-  frames_there : (o : ℕ) (x : Frame) (pick : List Frame → Option Frame) → pick [] ≡ None → pick (route_at s o).frames ≡ Some x → o < length s.routes
+  frames_there : (o : ℕ) (x : Frame) (pick : List Frame → Option Frame) → pick [] ≡ None → pick (route_at s o).frames ≡ Some x →
+      o < length s.routes
   frames_there o x pick none e =
       route_there s.routes o (λ h. let bad : None ≡ Some x = sym none ∙ (ap (λ (r : Route). pick r.frames) (sym h) ∙ e) in absurd (cc))
 
-  post_by_good : (o : ℕ) (x : Option Frame) → last_frame (route_at s o).frames ≡ x → AfterStep (post_by p m.world o (route_at s o) x) (Good p m)
+  post_by_good : (o : ℕ) (x : Option Frame) → last_frame (route_at s o).frames ≡ x →
+      AfterStep (post_by p m.world o (route_at s o) x) (Good p m)
   post_by_good o None e = tt
   post_by_good o (Some frame) e =
       let frames = (route_at s o).frames in
@@ -248,7 +266,8 @@ module _ (laws : Laws) (p : List Filter) (ok : AreAccepted p) (m : Moment) (k : 
   post_good o Visiting = tt
   post_good o Up = post_by_good o (last_frame (route_at s o).frames) refl
 
-  drain_by_good : (f o : ℕ) (x : Option Frame) → find (is_frame_of f) (route_at s o).frames ≡ x → AfterStep (drain_by p m.world f o x) (Good p m)
+  drain_by_good : (f o : ℕ) (x : Option Frame) → find (is_frame_of f) (route_at s o).frames ≡ x →
+      AfterStep (drain_by p m.world f o x) (Good p m)
   drain_by_good f o None e = tt
   drain_by_good f o (Some frame) e =
       let frames = (route_at s o).frames in

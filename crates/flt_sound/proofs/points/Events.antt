@@ -1,4 +1,5 @@
--- The events of one step of an activation, built one after another from the last to the first: none of them breaks V2, V5, V6, V7 or V8, each
+-- The events of one step of an activation, built one after another from the last to the first: none of them breaks V2, V5, V6,
+-- V7 or V8, each
 -- uses and loses what the activation has, and no other activation gains or loses. Each call, return and move names its events by these.
 -- Here p is the program, m the moment before the step, a the activation, t the trace so far, e an event, es those after it.
 use Rattle.std.proofs.Common.{◌≡◌, ◌≢◌, ℕ, ◌≤◌, Bool, true, false, List, [], ◌∷◌, ◌++◌, refl, arith}

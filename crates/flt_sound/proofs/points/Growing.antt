@@ -25,10 +25,16 @@ pub record Grows (visits : List world.Visit) (arrivals : List Arrival) (more : L
 
 -- nothing is appended
 pub grows_self : (visits : List world.Visit) (arrivals : List Arrival) → Grows visits arrivals visits arrivals
-grows_self visits arrivals = record { visits_stay = λ v h. refl; visits_long = omega arith; arrivals_stay = λ o h. refl; arrivals_long = omega arith }
+grows_self visits arrivals = record {
+  visits_stay = λ v h. refl;
+  visits_long = omega arith;
+  arrivals_stay = λ o h. refl;
+  arrivals_long = omega arith;
+}
 
 -- a visit is appended
-pub grows_visit : (visits : List world.Visit) (arrivals : List Arrival) (x : world.Visit) → Grows visits arrivals (visits ++ x ∷ []) arrivals
+pub grows_visit : (visits : List world.Visit) (arrivals : List Arrival) (x : world.Visit) →
+    Grows visits arrivals (visits ++ x ∷ []) arrivals
 grows_visit visits arrivals x =
     record {
       visits_stay = λ v h. get_or-append visits (x ∷ []) no_visit v h;
@@ -65,16 +71,27 @@ module _ {visits more : List world.Visit} {arrivals later : List Arrival} (g : G
 
   -- an operation that was given is one still
   given_grows : (f : ℕ) (at : Stage) (mode : Mode) (v : ℕ) → IsGiven visits arrivals f at mode v → IsGiven more later f at mode v
-  given_grows f at mode v h = record { visit = visit_grows f at v h.visit; mode_is = ap (λ (x : Arrival). x.mode) (arrival_same f at v h.visit) ∙ h.mode_is }
+  given_grows f at mode v h = record {
+    visit = visit_grows f at v h.visit;
+    mode_is = ap (λ (x : Arrival). x.mode) (arrival_same f at v h.visit) ∙ h.mode_is;
+  }
 
   -- what a callback was given it may be given still
   gift_grows : (f : ℕ) (mode : Mode) (q : Place) (x : Option ℕ) → Given visits arrivals f mode q x → Given more later f mode q x
   gift_grows f mode (place.Pre kind) None h = absurd h
   gift_grows f mode (place.Pre kind) (Some v) h =
-      record { given = given_grows f _ mode v h.given; kind_is = ap (λ (x : Arrival). x.kind) (arrival_same f _ v h.given.visit) ∙ h.kind_is }
+      record {
+        given = given_grows f _ mode v h.given;
+        kind_is = ap (λ (x : Arrival). x.kind) (arrival_same f _ v h.given.visit)
+            ∙ h.kind_is;
+      }
   gift_grows f mode (place.Post kind) None h = absurd h
   gift_grows f mode (place.Post kind) (Some v) h =
-      record { given = given_grows f _ mode v h.given; kind_is = ap (λ (x : Arrival). x.kind) (arrival_same f _ v h.given.visit) ∙ h.kind_is }
+      record {
+        given = given_grows f _ mode v h.given;
+        kind_is = ap (λ (x : Arrival). x.kind) (arrival_same f _ v h.given.visit)
+            ∙ h.kind_is;
+      }
   gift_grows f mode place.Canceled None h = absurd h
   gift_grows f mode place.Canceled (Some v) h = given_grows f _ mode v h
   gift_grows f mode place.DeferredPre None h = absurd h
@@ -85,17 +102,24 @@ module _ {visits more : List world.Visit} {arrivals later : List Arrival} (g : G
   gift_grows f mode place.Generic (Some v) h = absurd h
 
   -- the entries of a queue fit still
-  pub queue_grows : (p : List Filter) (f : ℕ) (queue : List Entry) → Each (FitsQueue visits arrivals p f) queue → Each (FitsQueue more later p f) queue
+  pub queue_grows : (p : List Filter) (f : ℕ) (queue : List Entry) → Each (FitsQueue visits arrivals p f) queue →
+      Each (FitsQueue more later p f) queue
   queue_grows p f [] h = tt
   queue_grows p f (e ∷ queue) h = (record { given = given_grows f _ _ e.visit h.0.given; served = h.0.served }, queue_grows p f queue h.1)
 
   -- a work item fits still
   pub item_grows : (p : List Filter) (i : Option Item) → IsItem visits arrivals p i → IsItem more later p i
   item_grows p None h = tt
-  item_grows p (Some i) h = record { given = gift_grows i.filter _ _ i.visit h.given; callback = h.callback; there = h.there; is_work = h.is_work }
+  item_grows p (Some i) h = record {
+    given = gift_grows i.filter _ _ i.visit h.given;
+    callback = h.callback;
+    there = h.there;
+    is_work = h.is_work;
+  }
 
   -- a visit that was there, before the filters below, has its callback still
-  pub before_grows : (p : List Filter) → ((v : ℕ) → v < length visits → (visit_in visits arrivals v).stage ≡ stage.Pre → IsBefore visits arrivals p v) →
+  pub before_grows : (p : List Filter) →
+      ((v : ℕ) → v < length visits → (visit_in visits arrivals v).stage ≡ stage.Pre → IsBefore visits arrivals p v) →
       (v : ℕ) → v < length visits → (visit_in more later v).stage ≡ stage.Pre → IsBefore more later p v
   before_grows p h v there e =
       let same = g.visits_stay v there in

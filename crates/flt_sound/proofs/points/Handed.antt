@@ -1,4 +1,5 @@
--- A context that goes with an operation: a status, an insert or a deferred work item may name a context variable, whose object is handed over.
+-- A context that goes with an operation: a status, an insert or a deferred work item may name a context variable, whose object
+-- is handed over.
 -- The variable keeps the number and no longer owns it. Here at says that an activation a with shadow s runs at a moment m, c is the
 -- variable that may be named, x the context that is.
 use Rattle.std.proofs.Common.{◌≡◌, ℕ, ◌+◌, List, length, map, Option, Some, None, ap, sym, subst, refl, arith}
@@ -34,10 +35,12 @@ module _ {p : List Filter} {m : Moment} {a : ℕ} {s : Shadow} (at : IsAt p m a 
   names_has None None n y e = absurd (cc)
   names_has None (Some x) n y e = absurd n
   names_has (Some c) None n y e = absurd n
-  names_has (Some c) (Some x) n y e = let same : x ≡ y = cc in subst (λ x. Has m.trace a (Context x)) same (has_context at (context_place c) x n)
+  names_has (Some c) (Some x) n y e = let same : x ≡ y = cc in
+      subst (λ x. Has m.trace a (Context x)) same (has_context at (context_place c) x n)
 
   -- a context that it has is its filter's own
-  pub named_own : (x : Option ℕ) → ((y : ℕ) → x ≡ Some y → Has m.trace a (Context y)) → Belongs m.world.store.contexts (actor_at m.world a).filter x
+  pub named_own : (x : Option ℕ) → ((y : ℕ) → x ≡ Some y → Has m.trace a (Context y)) →
+      Belongs m.world.store.contexts (actor_at m.world a).filter x
   named_own None h = tt
   named_own (Some y) h = at.kept.owns a y (held_one at.kept a y (h y refl))
 
@@ -61,7 +64,8 @@ module _ {p : List Filter} {m : Moment} {a : ℕ} {s : Shadow} (at : IsAt p m a 
   handed_wide (Some c) (Some x) = length-set s.contexts (context_place c) (Past x)
 
   -- the variables own the context once less
-  pub handed_count : (c : Option ContextVariable) (x : Option ℕ) → Names c x → (y : ℕ) → own_all y (handed c x) + in_some y x ≡ own_all y s.contexts
+  pub handed_count : (c : Option ContextVariable) (x : Option ℕ) → Names c x → (y : ℕ) →
+      own_all y (handed c x) + in_some y x ≡ own_all y s.contexts
   handed_count None None h y = omega arith
   handed_count None (Some x) h y = absurd h
   handed_count (Some c) None h y = absurd h
@@ -76,4 +80,5 @@ module _ {p : List Filter} {m : Moment} {a : ℕ} {s : Shadow} (at : IsAt p m a 
   handed_situation None (Some x) h t e = absurd h
   handed_situation (Some c) None h t e = absurd h
   handed_situation (Some c) (Some x) h t e =
-      rw (map-set status_of s.contexts (context_place c) (Past x)) (ap (λ (l : List Status). record t { contexts = slice_set l (context_place c) Stale }) e)
+      rw (map-set status_of s.contexts (context_place c) (Past x))
+      (ap (λ (l : List Status). record t { contexts = slice_set l (context_place c) Stale }) e)

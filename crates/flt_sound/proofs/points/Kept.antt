@@ -154,7 +154,8 @@ module _ (p : List Filter) (m : Moment) (a : ℕ) (old new : Shadow) (s : Store)
     there = there_if q.kept.shadows a old q.is q.on
 
     -- an object's balance with each activation, where this one's changes by what the events gain and lose
-    balance_after : (o : Object) (count : Shadow → ℕ) → ((b : ℕ) → gains m.trace b o ≡ loses m.trace b o + count (shadow_at q.kept.shadows b)) →
+    balance_after : (o : Object) (count : Shadow → ℕ) →
+        ((b : ℕ) → gains m.trace b o ≡ loses m.trace b o + count (shadow_at q.kept.shadows b)) →
         gains es a o + count old ≡ loses es a o + count new →
         (b : ℕ) → gains (m.trace ++ es) b o ≡ loses (m.trace ++ es) b o + count (shadow_at (set q.kept.shadows a new) b)
     balance_after o count before change =
@@ -172,18 +173,21 @@ module _ (p : List Filter) (m : Moment) (a : ℕ) (old new : Shadow) (s : Store)
           shadows = set k.shadows a new;
           same = ap (λ l. set l a act) k.same ∙ (ap (λ x. set (map plain k.shadows) a x) r.plain_is ∙ sym (map-set plain k.shadows a new));
           long = rw (length-set k.shadows a new) k.long;
-          each = at_set (λ b (o : Shadow). o.ended ≡ false → Stood s.visits s.arrivals p (actor_at m.world b) o) k.shadows a new no_one there
+          each = at_set (λ b (o : Shadow). o.ended ≡ false →
+              Stood s.visits s.arrivals p (actor_at m.world b) o) k.shadows a new no_one there
               (rw (r.store.visits, r.store.arrivals) r.stood)
               (λ b ne. rw (r.store.visits, r.store.arrivals) (k.each b));
           visits = λ b v. balance_after (Visit v) (keeps_visit v) (λ b. k.visits b v) (r.change.visits v) b;
           contexts = λ b x. balance_after (Context x) (keeps_context x) (λ b. k.contexts b x) (r.change.contexts x) b;
           stored = r.store.stored;
           owners = λ v.
-              let change : gains es a (Visit v) + own_all v (shadow_at k.shadows a).operations ≡ loses es a (Visit v) + own_all v new.operations =
+              let change : gains es a (Visit v) + own_all v (shadow_at k.shadows a).operations ≡ loses es a
+              (Visit v) + own_all v new.operations =
               rw q.is (r.change.visits v) in
               owners_after a k.shadows new m.world.store s es v there (k.owners v) change r.turned.turns;
           once = λ v. rw r.store.visits (simp counts (omega (arith, k.once v, r.turned.once v)));
-          idle = at_set (λ b (o : Shadow). o.ended ≡ true → (v : ℕ) → own_all v o.operations ≡ 0) k.shadows a new no_one there r.idle (λ b ne. k.idle b);
+          idle = at_set (λ b (o : Shadow). o.ended ≡ true → (v : ℕ) →
+              own_all v o.operations ≡ 0) k.shadows a new no_one there r.idle (λ b ne. k.idle b);
           settled_long = r.turned.long ∙ (k.settled_long ∙ ap length (sym r.store.visits));
           seats = r.turned.seats ∙ k.seats;
           count = λ x.
@@ -191,7 +195,8 @@ module _ (p : List Filter) (m : Moment) (a : ℕ) (old new : Shadow) (s : Store)
               omega (arith, sum, k.count x, r.ledger.refs x, r.change.contexts x);
           freed = λ x. simp counts (omega (arith, k.freed x, r.ledger.freed x));
           mine = r.ledger.mine;
-          owns = λ b x. at_set (λ b (o : Shadow). 1 ≤ own_all x o.contexts → IsOf s.contexts (actor_at m.world b).filter x) k.shadows a new no_one there
+          owns = λ b x. at_set (λ b (o : Shadow). 1 ≤ own_all x o.contexts →
+              IsOf s.contexts (actor_at m.world b).filter x) k.shadows a new no_one there
               (λ has. elim (cases_lt 0 (own_all x old.contexts)) [
                 | inl had ↦ r.ledger.older (actor_at m.world a).filter x (k.owns a x (rw q.is (omega (arith, had))))
                 | inr none ↦ r.gained x (omega (arith, r.change.contexts x, none, has))
@@ -239,7 +244,8 @@ refs_of {p} {m} k a x one =
     omega (arith, one, k.count x, get_or-le-sum_by (keeps_context x) k.shadows a no_one there)
 
 -- a context that an activation has is owned by one of its variables
-pub held_one : {p : List Filter} {m : Moment} (k : Kept p m) (a x : ℕ) → Has m.trace a (Context x) → 1 ≤ own_all x (shadow_at k.shadows a).contexts
+pub held_one : {p : List Filter} {m : Moment} (k : Kept p m) (a x : ℕ) → Has m.trace a (Context x) →
+    1 ≤ own_all x (shadow_at k.shadows a).contexts
 held_one {p} {m} k a x h = omega (arith, h.holds, k.contexts a x)
 
 -- a context that is linked has a reference: the link's

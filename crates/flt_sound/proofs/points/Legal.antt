@@ -39,7 +39,8 @@ level_same : (f : Filter) (level : Level) (locks : List HeldLock) →
     level_with (kind_at (map (λ (l : Lock). l.kind) f.locks)) level locks ≡ level_with (kind_of_lock f) level locks
 level_same f level [] = refl
 level_same f level (h ∷ locks) =
-    let one : kind_at (map (λ (l : Lock). l.kind) f.locks) h.lock ≡ kind_of_lock f h.lock = slice_get-map (λ (l : Lock). l.kind) f.locks (place_of h.lock) in
+    let one : kind_at (map (λ (l : Lock). l.kind) f.locks) h.lock ≡ kind_of_lock f h.lock =
+    slice_get-map (λ (l : Lock). l.kind) f.locks (place_of h.lock) in
     ap (λ k. level_with (kind_at (map (λ (l : Lock). l.kind) f.locks)) (greater_level level (raised_by k)) locks) one
     ∙ level_same f (greater_level level (raised_by (kind_of_lock f h.lock))) locks
 
@@ -54,7 +55,8 @@ pub callbacks_there : (p : List Filter) (f : ℕ) (x : Filter) → slice_get p f
 callbacks_there p f x e = ap (λ (f : Filter). f.callbacks) (filter_there p f x e)
 
 -- a callback that may be draining makes no call but those that clean up
-draining_fits : (may may_not : Bool) (draining ok : Bool) → has_draining (record { yes = may; no = may_not }) draining ≡ true → (may && not ok) ≡ false →
+draining_fits : (may may_not : Bool) (draining ok : Bool) → has_draining (record { yes = may; no = may_not }) draining ≡ true →
+    (may && not ok) ≡ false →
     (not draining || ok) ≡ true
 draining_fits may may_not false ok h e = refl
 draining_fits true may_not true ok h e = not-false ok e
@@ -93,5 +95,6 @@ module _ {p : List Filter} {m : Moment} {a : ℕ} {s : Shadow} (at : IsAt p m a 
       record {
         low = rw (locks, ← level_is q) (ap not f.r07);
         in_place = and_from _ _ (subst (λ l. has_place (row c.call).places l ≡ true) (place_same q) (not-false _ r08.0))
-            (draining_fits q.state.draining.yes q.state.draining.no (actor_at m.world a).draining (is_legal_in_draining c.call) q.means.draining r08.1);
+            (draining_fits q.state.draining.yes q.state.draining.no (actor_at m.world a).draining
+            (is_legal_in_draining c.call) q.means.draining r08.1);
       }

@@ -1,4 +1,5 @@
--- Local steps: an activation chooses by a test, takes a turn or leaves a repetition, sets a number or clears a variable. They have no events,
+-- Local steps: an activation chooses by a test, takes a turn or leaves a repetition, sets a number or clears a variable. They
+-- have no events,
 -- and nothing but the activation changes: it goes on at a point of its callback, owning what it owned (`quiet`), since R03 lets it clear no
 -- variable that may hold something. Here p is the program, m a moment, a an activation, s its shadow, st its first statement.
 use Rattle.std.proofs.Common.{◌≡◌, ℕ, zero, suc, Bool, true, false, List, [], ◌∷◌, ◌++◌, Option, Some, None, ap, sym, subst, refl, ◌∙◌, arith}
@@ -94,7 +95,8 @@ module _ {p : List Filter} {m : Moment} {a : ℕ} where
         });
       }
 
-module _ {p : List Filter} {m : Moment} {a : ℕ} (s : Shadow) (st : Statement) (rest : List Statement) (at : IsAt p m a (with_rest s (st ∷ rest))) where
+module _ {p : List Filter} {m : Moment} {a : ℕ} (s : Shadow) (st : Statement) (rest : List Statement)
+    (at : IsAt p m a (with_rest s (st ∷ rest))) where
   abbrev draining : Bool
   draining = (actor_at m.world a).draining
 
@@ -130,25 +132,31 @@ module _ {p : List Filter} {m : Moment} {a : ℕ} (s : Shadow) (st : Statement) 
       (agrees_by (some_same (context_slot s c)) (rw (get_or-map value_of s.contexts (context_place c) Unset) at e))
   test_finds (test.OperationIsSome o) b e =
       rw (get_or-map status_of s.operations (operation_place (Removed o)) Unset)
-      (agrees_by (some_same (operation_slot s (Removed o))) (rw (get_or-map value_of s.operations (operation_place (Removed o)) Unset) at e))
+      (agrees_by (some_same (operation_slot s (Removed o)))
+      (rw (get_or-map value_of s.operations (operation_place (Removed o)) Unset) at e))
   test_finds (test.Equal n x) b e = refl
   test_finds (test.Less n x) b e = refl
   test_finds test.IsDraining b e = agrees_by refl e
   test_finds test.IsIrp b e = absurd (cc)
 
-  -- a test, where what it asks can be told
-  test_good : (line : ℕ) (t : Test) (granted refused : List Statement) → out-Statement st ≡ Statement-F.If line (condition.Test t) granted refused →
+  -- a test, where what it asks is known
+  test_good : (line : ℕ) (t : Test) (granted refused : List Statement) →
+      out-Statement st ≡ Statement-F.If line (condition.Test t) granted refused →
       (o : Option Bool) → holds_test draining (plain old) t ≡ o →
-      AfterStep (option_map (moved_on p m.trace m.world a) (option_map (λ b. goes_on_to ((if b then granted else refused) ++ rest) (plain old)) o)) (Good p m)
+      AfterStep (option_map (moved_on p m.trace m.world a)
+      (option_map (λ b. goes_on_to ((if b then granted else refused) ++ rest) (plain old)) o)) (Good p m)
   test_good line t granted refused e None h = tt
   test_good line t granted refused e (Some b) h =
       let i = if_here (spot at) line (condition.Test t) granted refused e in
-      onward (instruction.Test t i.0 i.1.0) i.1.1 b true (test_finds t b h) ((if b then granted else refused) ++ rest) (ap (λ x. remaining_of x rest b) e) refl
+      onward (instruction.Test t i.0 i.1.0) i.1.1 b true (test_finds t b h) ((if b then granted else refused) ++ rest)
+      (ap (λ x. remaining_of x rest b) e) refl
 
   -- a choice: by a test it is a local step, by a call it isn't
-  if_good : (line : ℕ) (asked : Condition) (granted refused : List Statement) → out-Statement st ≡ Statement-F.If line asked granted refused →
+  if_good : (line : ℕ) (asked : Condition) (granted refused : List Statement) →
+      out-Statement st ≡ Statement-F.If line asked granted refused →
       AfterStep (option_map (moved_on p m.trace m.world a)
-      (option_map (λ b. goes_on_to ((if b then granted else refused) ++ rest) (plain old)) (holds_condition draining (plain old) asked))) (Good p m)
+      (option_map (λ b. goes_on_to ((if b then granted else refused) ++ rest) (plain old))
+      (holds_condition draining (plain old) asked))) (Good p m)
   if_good line (condition.Test t) granted refused e = test_good line t granted refused e (holds_test draining (plain old) t) refl
   if_good line (condition.Succeeds c) granted refused e = tt
 
@@ -162,7 +170,8 @@ module _ {p : List Filter} {m : Moment} {a : ℕ} (s : Shadow) (st : Statement) 
       onward (instruction.Repeat i.0 i.1.0 i.1.1.0) i.1.1.1 false true refl rest (ap (λ x. remaining_of x rest false) e) refl
   turns_good line (suc turns) block e =
       let i = repeat_here (spot at) line (suc turns) block e in
-      onward (instruction.Repeat i.0 i.1.0 i.1.1.0) i.1.1.1 true true refl (block ++ tree.Repeat line turns block ∷ rest) (ap (λ x. remaining_of x rest true) e)
+      onward (instruction.Repeat i.0 i.1.0 i.1.1.0) i.1.1.1 true true refl (block ++ tree.Repeat line turns block ∷ rest)
+      (ap (λ x. remaining_of x rest true) e)
       refl
 
   -- ---- actions
@@ -185,7 +194,8 @@ module _ {p : List Filter} {m : Moment} {a : ℕ} (s : Shadow) (st : Statement) 
         wide = length-set s.contexts (context_place c) Unset ∙ was.wide;
         broad = was.broad;
       })
-      (λ x. own_all-cleared x s.contexts (context_place c) Unset (not_held q.state.contexts s.contexts (context_place c) x q.means.contexts f.r03) refl)
+      (λ x. own_all-cleared x s.contexts (context_place c) Unset
+      (not_held q.state.contexts s.contexts (context_place c) x q.means.contexts f.r03) refl)
       (λ v. refl)
 
   -- a variable of a removed operation that holds nothing is cleared
@@ -197,12 +207,15 @@ module _ {p : List Filter} {m : Moment} {a : ℕ} (s : Shadow) (st : Statement) 
       let f : Fine (breaks (setting_here q) q.state (instruction.Act (action.ClearOperation o) i.0)) =
       fine q (instruction.Act (action.ClearOperation o) i.0) i.1 in
       let new = put_operation (with_rest s rest) (Removed o) Unset in
-      let placed = goes_on q (instruction.Act (action.ClearOperation o) i.0) i.1 true true refl rest (ap (λ x. remaining_of x rest true) e) in
-      quiet old new (goes_on_to rest (with_operation_in (plain old) (Removed o) None)) at refl (sym (plain-put_operation (with_rest s rest) (Removed o) Unset))
+      let placed = goes_on q (instruction.Act (action.ClearOperation o) i.0) i.1 true true refl rest
+      (ap (λ x. remaining_of x rest true) e) in
+      quiet old new (goes_on_to rest (with_operation_in (plain old) (Removed o) None)) at refl
+      (sym (plain-put_operation (with_rest s rest) (Removed o) Unset))
       (λ on. record {
         placed = rw (map-set status_of s.operations (operation_place (Removed o)) Unset) placed;
         given = rw (data_stays s.operations o Unset) was.given;
-        removed = λ r v h. was.removed r v (owned_before s.operations (operation_place (Removed o)) (operation_place (Removed r)) Unset v h (λ h. absurd (cc)));
+        removed = λ r v h. was.removed r v (owned_before s.operations (operation_place (Removed o))
+            (operation_place (Removed r)) Unset v h (λ h. absurd (cc)));
         wide = was.wide;
         broad = length-set s.operations (operation_place (Removed o)) Unset ∙ was.broad;
       })
@@ -215,7 +228,8 @@ module _ {p : List Filter} {m : Moment} {a : ℕ} (s : Shadow) (st : Statement) 
       Good p m (moved_on p m.trace m.world a (goes_on_to rest (with_number (plain old) n (expression_value (plain old) x))))
   set_number line n x e =
       let i = act_here (spot at) line (action.SetNumber n x) e in
-      let placed = goes_on (spot at) (instruction.Act (action.SetNumber n x) i.0) i.1 true true refl rest (ap (λ x. remaining_of x rest true) e) in
+      let placed = goes_on (spot at) (instruction.Act (action.SetNumber n x) i.0) i.1 true true refl rest
+      (ap (λ x. remaining_of x rest true) e) in
       quiet old (record (with_rest s rest) { numbers = set s.numbers (number_place n) (expression_value (plain old) x) })
       (goes_on_to rest (with_number (plain old) n (expression_value (plain old) x))) at refl refl
       (λ on. record { placed = placed; given = was.given; removed = was.removed; wide = was.wide; broad = was.broad })
@@ -244,14 +258,17 @@ module _ {p : List Filter} {m : Moment} {a : ℕ} (s : Shadow) (st : Statement) 
 
 -- what remains, if anything
 list_good : {p : List Filter} {m : Moment} {a : ℕ} (s : Shadow) (list : List Statement) → IsAt p m a (with_rest s list) →
-    AfterStep (option_map (moved_on p m.trace m.world a) (local_step (actor_at m.world a).draining (plain (with_rest s list)) list)) (Good p m)
+    AfterStep (option_map (moved_on p m.trace m.world a)
+    (local_step (actor_at m.world a).draining (plain (with_rest s list)) list)) (Good p m)
 list_good s [] at = tt
 list_good s (st ∷ rest) at = statement_good s st rest at (out-Statement st) refl
 
 -- an activation that runs, and one that has ended
-local_by : (p : List Filter) (m : Moment) (k : Kept p m) (a : ℕ) (s : Shadow) (ended : Bool) → get_or k.shadows a no_one ≡ s → s.ended ≡ ended →
+local_by : (p : List Filter) (m : Moment) (k : Kept p m) (a : ℕ) (s : Shadow) (ended : Bool) → get_or k.shadows a no_one ≡ s →
+    s.ended ≡ ended →
     (ended ≡ false → (v : ℕ) → Has m.trace a (Visit v) → is_settled m.world.store v ≡ false) →
-    AfterStep (if ended then None else option_map (moved_on p m.trace m.world a) (local_step (actor_at m.world a).draining (plain s) s.rest)) (Good p m)
+    AfterStep (if ended then None else option_map (moved_on p m.trace m.world a)
+    (local_step (actor_at m.world a).draining (plain s) s.rest)) (Good p m)
 local_by p m k a s true e on owned = tt
 local_by p m k a s false e on owned = list_good s s.rest (record { kept = k; is = e; on = on; owned = owned refl })
 

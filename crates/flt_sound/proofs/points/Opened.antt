@@ -1,6 +1,7 @@
 -- What stands before a call's effect: the Call itself and the uses of what it names (`Opened`). These events neither gain nor lose, so the
 -- effect may be shown as if it stood alone. With it `given_good`, the step of all calls that give something to an output, or NULL.
--- Here at says that an activation a with shadow s runs at a moment m; pre are such events, es those of the effect, k is a call, o an object.
+-- Here at says that an activation a with shadow s runs at a moment m; pre are such events, es those of the effect, k is a call,
+-- o an object.
 use Rattle.std.proofs.Common.{append_assoc, ◌≡◌, ℕ, ◌+◌, true, false, List, [], ◌∷◌, ◌++◌, Option, Some, None, ap, subst, refl, ◌∙◌, arith}
 use Rattle.std.proofs.Math.ListN.{set}
 use Rattle.std.proofs.lemmas.List.{length-set}
@@ -71,7 +72,8 @@ module _ {p : List Filter} {m : Moment} {a : ℕ} {s : Shadow} (at : IsAt p m a 
   then_use : (pre : List Event) (o : Object) → Opened pre → Has m.trace a o → Opened (pre ++ event.Use a o ∷ [])
   then_use pre o k has = record {
     events = λ es f. rw append_assoc
-        (k.events (event.Use a o ∷ es) (λ t keeps. uses (keeps o has) (f (t ++ event.Use a o ∷ []) (keeps_on t (event.Use a o) (λ q. refl) keeps))));
+        (k.events (event.Use a o ∷ es) (λ t keeps. uses (keeps o has)
+        (f (t ++ event.Use a o ∷ []) (keeps_on t (event.Use a o) (λ q. refl) keeps))));
     gains_none = λ b q. simp counts (omega (arith, k.gains_none b q));
     loses_none = λ b q. simp counts (omega (arith, k.loses_none b q));
     settles_none = λ v. simp counts (omega (arith, k.settles_none v));
@@ -87,19 +89,24 @@ module _ {p : List Filter} {m : Moment} {a : ℕ} {s : Shadow} (at : IsAt p m a 
   opened_use k o c h has = then_use (event.Call a k ∷ []) o (opened_call k c h) has
 
   -- a call that uses two
-  pub opened_uses : (k : Call) (o q : Object) → Cleared p m a k → may_pend p m.world m.trace a k ≡ true → Has m.trace a o → Has m.trace a q →
+  pub opened_uses : (k : Call) (o q : Object) → Cleared p m a k → may_pend p m.world m.trace a k ≡ true → Has m.trace a o →
+      Has m.trace a q →
       Opened (event.Call a k ∷ event.Use a o ∷ event.Use a q ∷ [])
   opened_uses k o q c h first second = then_use (event.Call a k ∷ event.Use a o ∷ []) q (opened_use k o c h first) second
 
   -- ---- an effect behind them
 
   -- the second part's equations, behind such events
-  pub behind : (pre es : List Event) (store : Store) → Opened pre → Turned a m.world.store store es → Turned a m.world.store store (pre ++ es)
-  behind pre es store o t = turned_behind a m.world.store store pre es (λ v. o.gains_none a (Visit v)) (λ v. o.loses_none a (Visit v)) o.settles_none t
+  pub behind : (pre es : List Event) (store : Store) → Opened pre → Turned a m.world.store store es →
+      Turned a m.world.store store (pre ++ es)
+  behind pre es store o t = turned_behind a m.world.store store pre es (λ v. o.gains_none a (Visit v))
+      (λ v. o.loses_none a (Visit v)) o.settles_none t
 
   -- the third part's ledger, behind such events
-  pub ledger_after : (pre es : List Event) (store : Store) → Opened pre → Ledger a m.world.store store es → Ledger a m.world.store store (pre ++ es)
-  ledger_after pre es store o l = ledger_behind a m.world.store store pre es (λ x. o.gains_none a (Context x)) (λ x. o.loses_none a (Context x)) o.frees_none l
+  pub ledger_after : (pre es : List Event) (store : Store) → Opened pre → Ledger a m.world.store store es →
+      Ledger a m.world.store store (pre ++ es)
+  ledger_after pre es store o l = ledger_behind a m.world.store store pre es (λ x. o.gains_none a (Context x))
+      (λ x. o.loses_none a (Context x)) o.frees_none l
 
   -- what is touched may be touched, behind such events
   pub clean_after : (pre es : List Event) (store : Store) → Opened pre → Ledger a m.world.store store es → CleanBy (Touched at store) es →
@@ -111,12 +118,16 @@ module _ {p : List Filter} {m : Moment} {a : ℕ} {s : Shadow} (at : IsAt p m a 
   -- a step that gives something to an output, or nothing, where one is wanted, is good
   pub given_good : (pre es : List Event) (old : Option ContextVariable) (x : Slot) (list : List Statement) (store : Store) → Opened pre →
       ((t : List Event) → Events p m a t es) →
-      StoreChange p m.world.store store → Turned a m.world.store store es → Ledger a m.world.store store es → CleanBy (Touched at store) es →
+      StoreChange p m.world.store store → Turned a m.world.store store es → Ledger a m.world.store store es →
+      CleanBy (Touched at store) es →
       ((o : Object) → loses es a o ≡ 0) → ((v : ℕ) → gains es a (Visit v) ≡ 0) →
       ((y : ℕ) → own_all y (put_old s old x).contexts ≡ gains es a (Context y) + own_all y s.contexts) →
       PlacedAt at list (put old (Some (status_of x)) (before at)) →
       Good p m (record {
-        world = record m.world { activations = set m.world.activations a (with_old (onward m.world a list) old (value_of x)); store = store };
+        world = record m.world {
+          activations = set m.world.activations a (with_old (onward m.world a list) old (value_of x));
+          store = store;
+        };
         events = pre ++ es;
       })
   given_good pre es old x list store o f c turned ledger clean loss gain owns placed =
@@ -124,7 +135,8 @@ module _ {p : List Filter} {m : Moment} {a : ℕ} {s : Shadow} (at : IsAt p m a 
       (ap (λ act. with_old act old (value_of x)) (onward_is at list) ∙ plain-put_old (with_rest s list) old x)
       (o.events es (λ t k. f t)) (stood old placed) c
       (λ v. simp counts (rw (operations old) (omega (arith, o.gains_none a (Visit v), o.loses_none a (Visit v), loss (Visit v), gain v))))
-      (λ y. simp counts (let h = owns y in rw (contexts old) (omega (arith, o.gains_none a (Context y), o.loses_none a (Context y), loss (Context y), h))))
+      (λ y. simp counts (let h = owns y in
+      rw (contexts old) (omega (arith, o.gains_none a (Context y), o.loses_none a (Context y), loss (Context y), h))))
       (behind pre es store o turned) (running at (put_old (with_rest s list) old x) (going old)) (ledger_after pre es store o ledger)
       (clean_after pre es store o ledger clean)
     where
@@ -140,7 +152,8 @@ module _ {p : List Filter} {m : Moment} {a : ℕ} {s : Shadow} (at : IsAt p m a 
       contexts None = refl
       contexts (Some d) = refl
 
-      stood : (old : Option ContextVariable) → PlacedAt at list (put old (Some (status_of x)) (before at)) → (put_old (with_rest s list) old x).ended ≡ false →
+      stood : (old : Option ContextVariable) → PlacedAt at list (put old (Some (status_of x)) (before at)) →
+          (put_old (with_rest s list) old x).ended ≡ false →
           StoodAt p m a (put_old (with_rest s list) old x)
       stood None placed = stood_contexts at (with_rest s list) refl refl refl placed
       stood (Some d) placed =

@@ -62,7 +62,8 @@ pub record Laws : Type 0 where
       Means x t → may_come_out (instruction_at g k p) t outcome ≡ true →
       Reaches (side next outcome) (successor (instruction_at g k p) outcome) (leaves (instruction_at g k p) outcome gives t)
   -- what an instruction names is there
-  pub served : (f : Filter) (g : Graph) (k n : ℕ) → IsWellFormed f → IsLowered f g → IsInstructionServed f.callbacks (place_at g k) (instruction_at g k n)
+  pub served : (f : Filter) (g : Graph) (k n : ℕ) → IsWellFormed f → IsLowered f g →
+      IsInstructionServed f.callbacks (place_at g k) (instruction_at g k n)
   -- a state that is computed to be below another means less
   pub below : (a b : State) → IsTrue (is_below a b) → IsBelow a b
 
@@ -186,7 +187,8 @@ module _ {p : List Filter} {f : ℕ} {place : Place} {rest : List Statement} {t 
   pub fine : (i : Instruction) → here ≡ i → Fine (breaks setting_here q.state i)
   fine i e =
       let steps = q.covers.steps q.number q.point q.state callback_there point_there q.reached in
-      let none : first_broken setting_here q.state here ≡ None = none_broken (first_broken setting_here q.state here) (leads_to q.state here) steps.0 steps.1 in
+      let none : first_broken setting_here q.state here ≡ None =
+      none_broken (first_broken setting_here q.state here) (leads_to q.state here) steps.0 steps.1 in
       fine_of (breaks setting_here q.state i) (subst (λ j. first_broken setting_here q.state j ≡ None) e none)
 
 -- ---- where it goes on
@@ -223,7 +225,8 @@ module _ {p : List Filter} {f : ℕ} {place : Place} {rest : List Statement} {t 
         means = (q.laws.below n.state l.0 l.2).situations u r.1;
       }
 
-  led : (next : Successors) (outcome : Bool) → IsLed q.cert q.number next.first → IsLed q.cert q.number next.second → IsLed q.cert q.number (side next outcome)
+  led : (next : Successors) (outcome : Bool) → IsLed q.cert q.number next.first → IsLed q.cert q.number next.second →
+      IsLed q.cert q.number (side next outcome)
   led next true a b = a
   led next false a b = b
 
@@ -239,16 +242,19 @@ module _ {p : List Filter} {f : ℕ} {place : Place} {rest : List Statement} {t 
       subst (λ o. StandsAt q.callback.body (successor (here q) outcome) o) r
       (q.laws.next q.filter.callbacks q.callback (callback_at q.graph q.number) q.point rest outcome graph_of q.stands) in
       subst (λ j. Placed p f place list (leaves j outcome gives t)) e
-      (led_on (side steps.0 outcome) (successor (here q) outcome) list (leaves (here q) outcome gives t) reaches (led steps.0 outcome steps.2 steps.3) stands)
+      (led_on (side steps.0 outcome) (successor (here q) outcome) list (leaves (here q) outcome gives t) reaches
+      (led steps.0 outcome steps.2 steps.3) stands)
 
 -- ---- the instruction at the point is that of the first statement
 
 module _ {p : List Filter} {f : ℕ} {place : Place} {t : Situation} where
   -- where nothing remains, the point is the end
   pub end_here : (q : Placed p f place [] t) → here q ≡ instruction.End
-  end_here q = ap (λ (x : Point). x.instruction) (q.laws.first q.filter.callbacks q.callback (callback_at q.graph q.number) q.point [] (graph_of q) q.stands)
+  end_here q = ap (λ (x : Point). x.instruction)
+      (q.laws.first q.filter.callbacks q.callback (callback_at q.graph q.number) q.point [] (graph_of q) q.stands)
 
-module _ {p : List Filter} {f : ℕ} {place : Place} {s : Statement} {rest : List Statement} {t : Situation} (q : Placed p f place (s ∷ rest) t) where
+module _ {p : List Filter} {f : ℕ} {place : Place} {s : Statement} {rest : List Statement} {t : Situation}
+    (q : Placed p f place (s ∷ rest) t) where
   -- the point's instruction is that of a statement of the text, of which this layer is left
   record FirstHere (layer : Statement-F Statement) : Type 0 where
     text : Statement-F Statement
@@ -271,7 +277,8 @@ module _ {p : List Filter} {f : ℕ} {place : Place} {s : Statement} {rest : Lis
   act_here line a e = let h = first_here (Statement-F.Act line a) e in (h.after, same_there h (Statement-F.Act line a) h.left)
 
   -- a plain call's point is that call, which goes on to one point
-  pub call_here : (line : ℕ) (c : PlainCall) → out-Statement s ≡ Statement-F.Call line c → (after : ℕ) × (here q ≡ instruction.Call (plain c) after after)
+  pub call_here : (line : ℕ) (c : PlainCall) → out-Statement s ≡ Statement-F.Call line c → (after : ℕ)
+      × (here q ≡ instruction.Call (plain c) after after)
   call_here line c e = let h = first_here (Statement-F.Call line c) e in (h.after, same_there h (Statement-F.Call line c) h.left)
 
   -- a return's point is that return
@@ -279,7 +286,8 @@ module _ {p : List Filter} {f : ℕ} {place : Place} {s : Statement} {rest : Lis
   return_here line st e = let h = first_here (Statement-F.Return line st) e in same_there h (Statement-F.Return line st) h.left
 
   -- a choice's point is its test, or its call that can fail
-  pub if_here : (line : ℕ) (asked : Condition) (granted refused : List Statement) → out-Statement s ≡ Statement-F.If line asked granted refused →
+  pub if_here : (line : ℕ) (asked : Condition) (granted refused : List Statement) →
+      out-Statement s ≡ Statement-F.If line asked granted refused →
       (a : ℕ) × ((b : ℕ) × (here q ≡ choice q.filter.callbacks asked a b))
   if_here line asked granted refused e =
       let h = first_here (Statement-F.If line asked granted refused) e in

@@ -1,5 +1,7 @@
--- What an activation finds at its point: where a call, an action or a test goes on, with the rules that it keeps (`AtCall`, `AtAct`, `AtTest`),
--- and what the variables that it names hold. The row of a call, and nothing else of the graph or the certificate, is what a call's proof sees.
+-- What an activation finds at its point: where a call, an action or a test goes on, with the rules that it keeps (`AtCall`,
+-- `AtAct`, `AtTest`),
+-- and what the variables that it names hold. The row of a call, and nothing else of the graph or the certificate, is what a
+-- call's proof sees.
 -- Here at says that an activation a with shadow s runs at a moment m; list, granted, refused are what remains; x is a slot or an object.
 use Rattle.std.proofs.Common.{◌≡◌, ℕ, Bool, true, false, List, map, Some, ap, sym, subst, refl, ◌∙◌}
 use Rattle.std.specs.Prelude.{slice_set, if◌then◌else◌}
@@ -38,7 +40,8 @@ use Rattle.flt_sound.proofs.points.Stored.{Given, given_is}
 
 -- where a context variable is set, the situation has the status of what it gets
 pub situation-put_context : (d : Bool) (s : Shadow) (c : ContextVariable) (x : Slot) →
-    record (situation d s) { contexts = slice_set (map status_of s.contexts) (context_place c) (status_of x) } ≡ situation d (put_context s c x)
+    record (situation d s) { contexts = slice_set (map status_of s.contexts) (context_place c) (status_of x) } ≡ situation d
+    (put_context s c x)
 situation-put_context d s c x = rw (map-set status_of s.contexts (context_place c) x) refl
 
 -- what is released or handed over keeps its number
@@ -94,7 +97,8 @@ module _ {p : List Filter} {m : Moment} {a : ℕ} {s : Shadow} (at : IsAt p m a 
         clear = cleared at inv x y e;
         fine = fine (spot at) i e;
         ok = λ gives. goes_on (spot at) i e true gives refl granted g;
-        fails = λ f h gives. subst (λ o. PlacedAt refused (failed inv o gives before)) h (goes_on (spot at) i e false gives (ap can_fail h) refused r);
+        fails = λ f h gives. subst (λ o. PlacedAt refused (failed inv o gives before)) h
+            (goes_on (spot at) i e false gives (ap can_fail h) refused r);
       }
 
   -- an action at the point, and where it goes on
@@ -103,7 +107,8 @@ module _ {p : List Filter} {m : Moment} {a : ℕ} {s : Shadow} (at : IsAt p m a 
     pub ok : PlacedAt list (acted x before)
 
   -- an action that is the point's instruction
-  pub at_act : (x : Action) (n : ℕ) → here (spot at) ≡ instruction.Act x n → (list : List Statement) → remaining s.rest true ≡ Some list → AtAct x list
+  pub at_act : (x : Action) (n : ℕ) → here (spot at) ≡ instruction.Act x n → (list : List Statement) →
+      remaining s.rest true ≡ Some list → AtAct x list
   at_act x n e list r = record {
     fine = fine (spot at) (instruction.Act x n) e;
     ok = goes_on (spot at) (instruction.Act x n) e true true refl list r;
@@ -148,5 +153,6 @@ module _ {p : List Filter} {m : Moment} {a : ℕ} {s : Shadow} (at : IsAt p m a 
   pub given_mode : (v : ℕ) → operation_slot s Data ≡ Owns v → (arrival_of m.world.store v).mode ≡ s.mode
   given_mode v e =
       (given_is m.world.store.visits m.world.store.arrivals (actor_at m.world a).filter s.mode (actor_at m.world a).place v
-      (subst (λ x. Given m.world.store.visits m.world.store.arrivals (actor_at m.world a).filter s.mode (actor_at m.world a).place x) (ap value_of e)
+      (subst (λ x. Given m.world.store.visits m.world.store.arrivals (actor_at m.world a).filter s.mode
+      (actor_at m.world a).place x) (ap value_of e)
       was.given)).mode_is

@@ -36,11 +36,15 @@ module _ {p : List Filter} {m : Moment} {a : ℕ} {s : Shadow} (at : IsAt p m a 
 
   -- a context that has a reference wasn't freed
   pub alive_fresh : (x : ℕ) → 1 ≤ (context_at m.world.store x).references → frees m.trace x ≡ 0
-  alive_fresh x h = not_freed (frees m.trace x) (context_at m.world.store x).references x (length m.world.store.contexts) (at.kept.freed x) h
+  alive_fresh x h = not_freed (frees m.trace x) (context_at m.world.store x).references x (length m.world.store.contexts)
+      (at.kept.freed x) h
 
   -- a context that it has may be touched
   pub held_touch : (store : Store) → Older m.world.store.contexts store.contexts → (x : ℕ) → Has m.trace a (Context x) → Touched store a x
-  held_touch store older x h = (alive_fresh x (held_refs x h), older (actor_at m.world a).filter x (at.kept.owns a x (held_one at.kept a x h)))
+  held_touch store older x h = (
+    alive_fresh x (held_refs x h),
+    older (actor_at m.world a).filter x (at.kept.owns a x (held_one at.kept a x h)),
+  )
 
   -- events that gain as they lose and free nothing, in a store that is the same
   pub quiet_ledger : (es : List Event) → ((x : ℕ) → gains es a (Context x) ≡ loses es a (Context x)) → ((x : ℕ) → frees es x ≡ 0) →
@@ -50,7 +54,8 @@ module _ {p : List Filter} {m : Moment} {a : ℕ} {s : Shadow} (at : IsAt p m a 
   -- ---- the store stays
 
   -- a store in which all that `Stored` looks at is the same
-  pub same_parts : (store : Store) → store.visits ≡ m.world.store.visits → store.arrivals ≡ m.world.store.arrivals → store.queues ≡ m.world.store.queues →
+  pub same_parts : (store : Store) → store.visits ≡ m.world.store.visits → store.arrivals ≡ m.world.store.arrivals →
+      store.queues ≡ m.world.store.queues →
       store.items ≡ m.world.store.items → store.routes ≡ m.world.store.routes → StoreChange p m.world.store store
   same_parts store v r q i o = record {
     visits = v;
@@ -73,12 +78,14 @@ module _ {p : List Filter} {m : Moment} {a : ℕ} {s : Shadow} (at : IsAt p m a 
     pub settled : store.settled ≡ m.world.store.settled
 
   -- such a store, by its parts
-  pub same_calm : (store : Store) → store.visits ≡ m.world.store.visits → store.arrivals ≡ m.world.store.arrivals → store.queues ≡ m.world.store.queues →
+  pub same_calm : (store : Store) → store.visits ≡ m.world.store.visits → store.arrivals ≡ m.world.store.arrivals →
+      store.queues ≡ m.world.store.queues →
       store.items ≡ m.world.store.items → store.routes ≡ m.world.store.routes → store.settled ≡ m.world.store.settled → CalmStore store
   same_calm store v r q i o t = record { change = same_parts store v r q i o; queues = q; items = i; settled = t }
 
   -- events that gain as they lose and settle nothing, in such a store
-  pub calm_of : {store : Store} → CalmStore store → (es : List Event) → ((v : ℕ) → gains es a (Visit v) ≡ loses es a (Visit v)) → ((v : ℕ) → settles es v ≡ 0) →
+  pub calm_of : {store : Store} → CalmStore store → (es : List Event) → ((v : ℕ) → gains es a (Visit v) ≡ loses es a (Visit v)) →
+      ((v : ℕ) → settles es v ≡ 0) →
       Turned a m.world.store store es
   calm_of {store} c es h g = calm_turned a m.world.store store es c.queues c.items c.settled h g
 
@@ -135,7 +142,8 @@ module _ {p : List Filter} {m : Moment} {a : ℕ} {s : Shadow} (at : IsAt p m a 
         low = events.low;
         disciplined = events.disciplined;
         in_place = events.in_place;
-        clean = clean_from (record m.world { activations = set m.world.activations a act; store = store }) m.trace m.trace es (λ x. refl) clean;
+        clean = clean_from (record m.world { activations = set m.world.activations a act; store = store }) m.trace m.trace es
+            (λ x. refl) clean;
         kept = kept_after p m a s new store es act at (record {
           stood = stood;
           store = c;

@@ -1,5 +1,6 @@
 -- What fits the visits and arrivals of a moment: what a callback was given, what stands in queues, work items and frames, and where an
--- activation stands. All of it is told of the two lists `visits` and `arrivals`, which steps of activations leave as they are and moves only
+-- activation stands. All of it speaks of the two lists `visits` and `arrivals`, which steps of activations leave as they are
+-- and moves only
 -- append to: so none of it has to be shown again for a call. Here f is a filter, v a visit, o an operation, p the program.
 use Rattle.std.proofs.Common.{◌≡◌, ℕ, ◌<◌, Bool, true, false, List, length, Option, Some, None}
 use Rattle.std.specs.Prelude.{slice_get}

@@ -47,7 +47,8 @@ bodies = (
       (fine.choice tt
       (fine.block (fine.go_on
       (fine.choice refl
-      (fine.block (fine.go_on (fine.choice refl (fine.block fine.empty) fine.no_else) (fine.go_on fine.return fine.empty))) fine.no_else) fine.empty)) fine.no_else)
+      (fine.block (fine.go_on (fine.choice refl (fine.block fine.empty) fine.no_else) (fine.go_on fine.return fine.empty)))
+      fine.no_else) fine.empty)) fine.no_else)
       (fine.go_on fine.return fine.empty),
   (
     tt,
@@ -60,7 +61,8 @@ bodies = (
       (
         refl,
         fine.go_on (releases Arg)
-            (fine.go_on (fine.choice refl (fine.block (fine.go_on (releases C0) (fine.go_on (fine.call tt) fine.empty))) fine.no_else) fine.empty),
+            (fine.go_on (fine.choice refl (fine.block (fine.go_on (releases C0) (fine.go_on (fine.call tt) fine.empty)))
+            fine.no_else) fine.empty),
         (tt, fine.go_on (releases Arg) (fine.go_on (fine.call tt) fine.empty), tt),
       ),
     ),
@@ -105,10 +107,12 @@ well_formed = record {
 -- ---- its graph
 
 code_out : (cs : List Callback) (s : Statement) (at after : ℕ) →
-    statement_code cs s at after ≡ code_step cs (map-Statement Statement (Statement × Code) (λ y. (y, statement_code cs y)) (out-Statement s)) at after
+    statement_code cs s at after ≡ code_step cs
+    (map-Statement Statement (Statement × Code) (λ y. (y, statement_code cs y)) (out-Statement s)) at after
 unfolding statement_code
 code_out cs s at after =
-    ap (λ (code : Code). code at after) (ap (para-Statement Code (code_step cs)) (sym (roll-out-Statement s)) ∙ para-roll-Statement Code (code_step cs) (out-Statement s))
+    ap (λ (code : Code). code at after)
+    (ap (para-Statement Code (code_step cs)) (sym (roll-out-Statement s)) ∙ para-roll-Statement Code (code_step cs) (out-Statement s))
 
 graph_is : graph_of worked ≡ worked_graph
 unfolding computed block_code
@@ -147,18 +151,24 @@ none_differs = refl
 
 faultless : IsFaultless worked_graph certificate
 faultless = record {
-  counts = record { callbacks = lit≤ tt; points = λ c low. not_true (differs worked_graph certificate c) (below_holds 5 (λ c. not (differs worked_graph certificate c)) none_differs c low) };
+  counts = record {
+    callbacks = lit≤ tt;
+    points = λ c low. not_true (differs worked_graph certificate c)
+        (below_holds 5 (λ c. not (differs worked_graph certificate c)) none_differs c low);
+  };
   points = λ c low p within.
       is_none_none (point_fault worked_graph certificate c p)
       (below_holds (points_at worked_graph c) (λ p. is_none (point_fault worked_graph certificate c p))
-      (below_holds 5 (λ c. all_below (points_at worked_graph c) (λ p. is_none (point_fault worked_graph certificate c p))) no_faults c low) p within);
+      (below_holds 5 (λ c. all_below (points_at worked_graph c) (λ p. is_none (point_fault worked_graph certificate c p)))
+      no_faults c low) p within);
 }
 
 is_certificate_there : IsTrue (is_certificate certificate)
 is_certificate_there = refl
 
 -- from the laws of the crates that make graphs and check certificates
-pub worked_accepted : ((f : Filter) → IsLowered f (graph_of f)) → ((g : Graph) (k : Certificate) → IsTrue (is_certificate k) → IsFaultless g k → Covers g k) → IsAccepted worked
+pub worked_accepted : ((f : Filter) → IsLowered f (graph_of f)) →
+    ((g : Graph) (k : Certificate) → IsTrue (is_certificate k) → IsFaultless g k → Covers g k) → IsAccepted worked
 worked_accepted have cover = record {
   graph = worked_graph;
   cert = certificate;

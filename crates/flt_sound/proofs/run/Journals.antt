@@ -29,7 +29,8 @@ accepted_put f (g ∷ rest) one all =
 -- accepted filters are accepted in the order of their altitudes
 pub accepted_by_altitude : (fs : List Filter) → AreAccepted fs → AreAccepted (by_altitude fs)
 accepted_by_altitude [] all = all
-accepted_by_altitude (f ∷ fs) all = accepted_put f (by_altitude fs) (accepted_first f fs all) (accepted_by_altitude fs (accepted_rest f fs all))
+accepted_by_altitude (f ∷ fs) all =
+    accepted_put f (by_altitude fs) (accepted_first f fs all) (accepted_by_altitude fs (accepted_rest f fs all))
 
 none_broken : (b : Option Break) (v : Violation) → b ≡ None → option_map (λ (b : Break). b.violation) b ≡ Some v → ⊥
 none_broken None v e h = cc
@@ -39,4 +40,5 @@ none_broken (Some b) v e h = cc
 pub never_broken : AcceptedRunsBreakNothing → (filters : List Filter) (entries : List JournalEntry) (v : Violation) (n : ℕ) →
     AreAccepted filters → IsBrokenAt filters entries v n → ⊥
 never_broken theorem filters entries v n ok h =
-    none_broken (breaks (by_altitude filters) h.transitions) v (theorem (by_altitude filters) h.transitions (accepted_by_altitude filters ok)) h.broken
+    none_broken (breaks (by_altitude filters) h.transitions) v
+    (theorem (by_altitude filters) h.transitions (accepted_by_altitude filters ok)) h.broken

@@ -66,7 +66,12 @@ opens p = record {
   seats = length-map p (λ _. []);
   count = λ x. omega (arith, no_lines x p);
   freed = λ x. omega (arith, frees-nil x, made_none x);
-  mine = record { entries = λ f. empty_queues (λ (e : Entry). Belongs [] f e.context) p f; frames = λ o. tt; items = λ i. tt; links = λ x l e. absurd (cc) };
+  mine = record {
+    entries = λ f. empty_queues (λ (e : Entry). Belongs [] f e.context) p f;
+    frames = λ o. tt;
+    items = λ i. tt;
+    links = λ x l e. absurd (cc);
+  };
   owns = λ a x h. absurd (omega (arith, h, own_all-nil x));
 }
 

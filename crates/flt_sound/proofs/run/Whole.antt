@@ -1,4 +1,5 @@
--- No run of accepted filters breaks anything. A good step keeps each of the eight violations' tests (V3 and V4 follow from the invariant after
+-- No run of accepted filters breaks anything. A good step keeps each of the eight violations' tests (V3 and V4 follow from the
+-- invariant after
 -- the step alone; that locks exclude is a law of all steps), so nothing is broken there, and the invariant goes on to the next step: by the
 -- length of the run, the theorem.
 -- Here p is the program, m a moment, s a step, t a trace, e, es events, xs the transitions of a run.
@@ -117,7 +118,8 @@ module _ (laws : Laws) (locks : Excluding) (p : List Filter) (ok : AreAccepted p
   -- a run from a moment of the invariant, where locks exclude, breaks nothing
   none_from : (xs : List Transition) (m : Moment) (n : ℕ) → Kept p m → IsTrue (locks_exclude m.world) → breaks_from p m n xs ≡ None
   none_from [] m n k h = refl
-  none_from (x ∷ xs) m n k h = on_one m x (next p m x) refl (step_good laws p ok m k x) h (n + 1) (λ s. breaks_from p (after m s) (n + 1) xs)
+  none_from (x ∷ xs) m n k h = on_one m x (next p m x) refl (step_good laws p ok m k x) h (n + 1)
+      (λ s. breaks_from p (after m s) (n + 1) xs)
       (λ s k h. none_from xs (after m s) (n + 1) k h)
 
   -- a run from the start breaks nothing

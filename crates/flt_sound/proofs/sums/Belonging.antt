@@ -55,7 +55,8 @@ pub mine_on : (s : Store) (cs : List world.Context) → Older s.contexts cs → 
 mine_on s cs older k links = record {
   entries = λ f. each_map (λ (e : Entry). Belongs s.contexts f e.context) (λ (e : Entry). Belongs cs f e.context) (queue_at s f)
       (λ e b. belongs_on s.contexts cs older f e.context b) (k.entries f);
-  frames = λ o. each_map (λ (r : Frame). Belongs s.contexts r.filter r.context) (λ (r : Frame). Belongs cs r.filter r.context) (route_at s o).frames
+  frames = λ o. each_map (λ (r : Frame). Belongs s.contexts r.filter r.context) (λ (r : Frame). Belongs cs r.filter r.context)
+      (route_at s o).frames
       (λ r b. belongs_on s.contexts cs older r.filter r.context b) (k.frames o);
   items = λ i. item_on s.contexts cs older (item_at s i) (k.items i);
   links = links;

@@ -43,7 +43,8 @@ queue_push v queues f e h =
     omega (arith, change, in_queue-push v (get_or queues f []) e)
 
 -- the first entry leaves a queue: the others have its visit once less
-pub queue_pop : (v : ℕ) (queues : List (List Entry)) (f : ℕ) (e : Entry) (queue : List Entry) → f < length queues → get_or queues f [] ≡ e ∷ queue →
+pub queue_pop : (v : ℕ) (queues : List (List Entry)) (f : ℕ) (e : Entry) (queue : List Entry) → f < length queues →
+    get_or queues f [] ≡ e ∷ queue →
     sum_by (in_queue v) (set queues f queue) + one_if e.visit v ≡ sum_by (in_queue v) queues
 queue_pop v queues f e queue h same =
     let change = rw same at (sum_by-set (in_queue v) queues f queue [] h) in
@@ -85,7 +86,8 @@ queue_others v test queue e h = others_sum (λ (e : Entry). one_if e.visit v) te
 -- ---- work items
 
 -- a work item is queued: it has its visit
-pub item_push : (v : ℕ) (items : List (Option Item)) (i : Item) → sum_by (in_item v) (items ++ Some i ∷ []) ≡ sum_by (in_item v) items + in_some v i.visit
+pub item_push : (v : ℕ) (items : List (Option Item)) (i : Item) →
+    sum_by (in_item v) (items ++ Some i ∷ []) ≡ sum_by (in_item v) items + in_some v i.visit
 item_push v items i = sum_by_push (in_item v) items (Some i)
 
 -- a work item starts: its visit stands with it no more

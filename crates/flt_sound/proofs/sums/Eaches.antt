@@ -25,7 +25,8 @@ within l i d h =
     ]
 
 -- where one element is set, what holds of it and of each other element holds of each
-pub at_set : {X : Type 0} (Q : ℕ → X → Type 0) (l : List X) (i : ℕ) (x d : X) → i < length l → Q i x → ((j : ℕ) → j ≢ i → Q j (get_or l j d)) →
+pub at_set : {X : Type 0} (Q : ℕ → X → Type 0) (l : List X) (i : ℕ) (x d : X) → i < length l → Q i x →
+    ((j : ℕ) → j ≢ i → Q j (get_or l j d)) →
     (j : ℕ) → Q j (get_or (set l i x) j d)
 at_set Q l i x d there e h j =
     elim (cases_eq j i) [
@@ -55,7 +56,8 @@ pub each_set : {X : Type 0} (P : ℕ → X → Type 0) (lists : List (List X)) (
 each_set P lists f l h e = kept_by_set (λ g l. Each (P g) l) lists f l [] h e
 
 -- the same of the frames of one of the routes
-pub route_set : (P : ℕ → Frame → Type 0) (routes : List Route) (o : ℕ) (r : Route) → ((q : ℕ) → Each (P q) (get_or routes q no_route).frames) →
+pub route_set : (P : ℕ → Frame → Type 0) (routes : List Route) (o : ℕ) (r : Route) →
+    ((q : ℕ) → Each (P q) (get_or routes q no_route).frames) →
     Each (P o) r.frames → (q : ℕ) → Each (P q) (get_or (set routes o r) q no_route).frames
 route_set P routes o r h e = kept_by_set (λ q (r : Route). Each (P q) r.frames) routes o r no_route h e
 
@@ -79,10 +81,12 @@ each_drop P (suc n) [] h = tt
 each_drop P (suc n) (x ∷ xs) h = each_drop P n xs h.1
 
 -- what holds of each holds of all but the first that passes a test
-pub each_others : {X : Type 0} (P : X → Type 0) (test : X → Bool) (xs : List X) → Each P xs → Each P (before_first test xs ++ after_first test xs)
+pub each_others : {X : Type 0} (P : X → Type 0) (test : X → Bool) (xs : List X) → Each P xs →
+    Each P (before_first test xs ++ after_first test xs)
 each_others P test xs h = each_append P (before_first test xs) (after_first test xs) (each_take P _ xs h) (each_drop P _ xs h)
 
-find_by : {X : Type 0} (P : X → Type 0) (x y : X) (o : Option X) (b : Bool) → P x → (o ≡ Some y → P y) → (if b then Some x else o) ≡ Some y → P y
+find_by : {X : Type 0} (P : X → Type 0) (x y : X) (o : Option X) (b : Bool) → P x → (o ≡ Some y → P y) →
+    (if b then Some x else o) ≡ Some y → P y
 find_by P x y o true h f e = let same : x ≡ y = cc in subst P same h
 find_by P x y o false h f e = f e
 

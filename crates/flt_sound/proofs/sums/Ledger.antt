@@ -29,10 +29,12 @@ not_freed f n m k e h = omega (arith, e, alive_few n h, made_few m k)
 pub record Ledger (a : ℕ) (s new : Store) (es : List Event) : Type 0 where
   -- a context's count changes by what variables gain and lose and by what stands elsewhere
   pub refs : (x : ℕ) →
-      ((context_at new x).references + loses es a (Context x)) + elsewhere x s ≡ ((context_at s x).references + gains es a (Context x)) + elsewhere x new
+      ((context_at new x).references + loses es a (Context x)) + elsewhere x s ≡
+      ((context_at s x).references + gains es a (Context x)) + elsewhere x new
   -- what is freed was alive, and what is made is alive
   pub freed : (x : ℕ) →
-      frees es x + (alive (context_at new x).references + made x (length s.contexts)) ≡ alive (context_at s x).references + made x (length new.contexts)
+      frees es x + (alive (context_at new x).references + made x (length s.contexts)) ≡ alive (context_at s x).references + made x
+      (length new.contexts)
   -- contexts stay whose they were
   pub older : Older s.contexts new.contexts
   -- and what stands with a filter is its own
@@ -41,7 +43,8 @@ pub record Ledger (a : ℕ) (s new : Store) (es : List Event) : Type 0 where
 -- one step after another, with events that gain, lose and free together what both do
 pub chain : {a : ℕ} {s mid new : Store} {es fs : List Event} → Ledger a s mid es → Ledger a mid new fs → (gs : List Event) →
     ((x : ℕ) →
-    gains gs a (Context x) + (loses es a (Context x) + loses fs a (Context x)) ≡ loses gs a (Context x) + (gains es a (Context x) + gains fs a (Context x))) →
+    gains gs a (Context x) + (loses es a (Context x) + loses fs a (Context x)) ≡ loses gs a (Context x) +
+    (gains es a (Context x) + gains fs a (Context x))) →
     ((x : ℕ) → frees gs x ≡ frees es x + frees fs x) → Ledger a s new gs
 chain l k gs h f = record {
   refs = λ x. omega (arith, l.refs x, k.refs x, h x);
@@ -63,7 +66,8 @@ still a s new es k c q r i h f = record {
 
 -- contexts stay as they are, and references go between variables and queues, frames and items
 pub moved : (a : ℕ) (s new : Store) (es : List Event) → new.contexts ≡ s.contexts → Mine new →
-    ((x : ℕ) → loses es a (Context x) + standing x s ≡ gains es a (Context x) + standing x new) → ((x : ℕ) → frees es x ≡ 0) → Ledger a s new es
+    ((x : ℕ) → loses es a (Context x) + standing x s ≡ gains es a (Context x) + standing x new) → ((x : ℕ) → frees es x ≡ 0) →
+    Ledger a s new es
 moved a s new es c k h f = record {
   refs = λ x. rw c (omega (arith, h x));
   freed = λ x. rw c (omega (arith, f x));

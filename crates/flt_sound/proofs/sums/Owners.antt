@@ -27,7 +27,8 @@ pub owners_after : (a : ℕ) (shadows : List Shadow) (new : Shadow) (s store : S
     gains es a (Visit v) + own_all v (get_or shadows a no_one).operations ≡ loses es a (Visit v) + own_all v new.operations →
     Turns a s store es →
     sum_by (keeps_visit v) (set shadows a new) + (queued v store + working v store) ≡ unsettled v store
-owners_after a shadows new s store es v there before change turn = omega (arith, sum_by-set (keeps_visit v) shadows a new no_one there, before, change, turn v)
+owners_after a shadows new s store es v there before change turn =
+    omega (arith, sum_by-set (keeps_visit v) shadows a new no_one there, before, change, turn v)
 
 -- ---- the machine's own count of owners, by the trace
 
@@ -47,7 +48,8 @@ holding_by t v a (suc zero) false b few idle = rw (held_where t a (Visit v) (ome
 holding_by t v a (suc (suc n)) false b few idle = absurd (omega arith)
 
 -- the machine counts an activation as what its variables own
-holding_same : (t : List Event) (v a : ℕ) (s : Shadow) → IsCounted t v a s → own_all v s.operations ≤ 1 → holding t v a (plain s) ≡ own_all v s.operations
+holding_same : (t : List Event) (v a : ℕ) (s : Shadow) → IsCounted t v a s → own_all v s.operations ≤ 1 →
+    holding t v a (plain s) ≡ own_all v s.operations
 unfolding holding
 holding_same t v a s c few = holding_by t v a (own_all v s.operations) s.ended c.balance few c.idle
 
@@ -78,7 +80,8 @@ visit_owned w t v shadows same c sum =
     λ b. let e : b ≡ 0 + b = omega arith in subst (λ k. IsCounted t v k (get_or shadows b no_one)) e (c b) in
     owned_by _ (is_settled w.store v) (rw same (omega (arith, sum, holders_same t v 0 shadows from_first (few (is_settled w.store v) sum))))
   where
-    few : (b : Bool) → sum_by (keeps_visit v) shadows + (queued v w.store + working v w.store) ≡ (if b then 0 else 1) → sum_by (keeps_visit v) shadows ≤ 1
+    few : (b : Bool) → sum_by (keeps_visit v) shadows + (queued v w.store + working v w.store) ≡ (if b then 0 else 1) →
+        sum_by (keeps_visit v) shadows ≤ 1
     few true e = omega arith
     few false e = omega arith
 

@@ -75,7 +75,8 @@ module _ (s : Store) (y : ℕ) (c : world.Context) (there : y < length s.context
       ((x : ℕ) →
       (of_actor y x c.references + loses es a (Context x)) + of_actor y x (linked (context_at s y).link) ≡
       (of_actor y x (context_at s y).references + gains es a (Context x)) + of_actor y x (linked c.link)) →
-      ((x : ℕ) → frees es x + of_actor y x (alive c.references) ≡ of_actor y x (alive (context_at s y).references)) → Ledger a s (with_context s y c) es
+      ((x : ℕ) → frees es x + of_actor y x (alive c.references) ≡ of_actor y x (alive (context_at s y).references)) →
+      Ledger a s (with_context s y c) es
   change_one a es k link h f = record {
     refs = λ x.
         let references = put_field (λ (c : world.Context). c.references) s.contexts y x c there in
@@ -127,7 +128,8 @@ module _ (a : ℕ) (s : Store) (k : Mine s) where
       let r = (context_at s y).references in
       let n = if is_freed (context_at s y) then 0 else r + 1 in
       let v : n ≡ r + 1 = counted r r h refl in
-      change_one s y (record (context_at s y) { references = n }) (there_if s.contexts y h) refl a (event.Gain a (Context y) ∷ []) k (λ l e. k.links y l e)
+      change_one s y (record (context_at s y) { references = n }) (there_if s.contexts y h) refl a
+      (event.Gain a (Context y) ∷ []) k (λ l e. k.links y l e)
       (λ x. simp (counts, of_actor-same) (omega (arith, ap (λ k. of_actor y x k) v, of_actor-more y x r)))
       (λ x. simp counts
       (omega (arith, ap (λ k. of_actor y x k) (alive_few n (omega (arith, v))), ap (λ k. of_actor y x k) (alive_few r h))))
@@ -140,7 +142,13 @@ module _ (a : ℕ) (s : Store) (k : Mine s) where
       let c = record (context_at s y) { references = r - 1 } in
       change_one s y c (there_if s.contexts y h) refl a (event.Lose a (Context y) ∷ freed_by_drop s y) k (λ l e. k.links y l e)
       (λ x. simp (counts, of_actor-same)
-      (omega (arith, ap (λ k. of_actor y x k) v, of_actor-more y x (r - 1), gains-dropped s y a (Context x), loses-dropped s y a (Context x))))
+      (omega (
+        arith,
+        ap (λ k. of_actor y x k) v,
+        of_actor-more y x (r - 1),
+        gains-dropped s y a (Context x),
+        loses-dropped s y a (Context x),
+      )))
       (λ x. simp counts (omega (arith, drop_frees y r x h)))
 
   -- a link's reference goes to a variable
@@ -165,7 +173,8 @@ module _ (a : ℕ) (s : Store) (k : Mine s) where
       (λ x. simp counts (omega arith))
 
   -- a context gets another value
-  pub values : (y value : ℕ) (es : List Event) → 1 ≤ (context_at s y).references → ((x : ℕ) → gains es a (Context x) ≡ loses es a (Context x)) →
+  pub values : (y value : ℕ) (es : List Event) → 1 ≤ (context_at s y).references →
+      ((x : ℕ) → gains es a (Context x) ≡ loses es a (Context x)) →
       ((x : ℕ) → frees es x ≡ 0) → Ledger a s (with_context s y (record (context_at s y) { value = value })) es
   values y value es h g f =
       change_one s y (record (context_at s y) { value = value }) (there_if s.contexts y h) refl a es k (λ l e. k.links y l e)
@@ -184,7 +193,13 @@ drops_link a s k y l h e =
     let same : (context_at mid y).references ≡ (context_at s y).references = ap (λ (c : world.Context). c.references) set_there in
     chain first (lets_go a mid first.mine y (omega (arith, same, h))) (freed_by_drop s y)
     (λ x. simp (counts, of_actor-same)
-    (omega (arith, gains-dropped s y a (Context x), loses-dropped s y a (Context x), gains-dropped mid y a (Context x), loses-dropped mid y a (Context x))))
+    (omega (
+      arith,
+      gains-dropped s y a (Context x),
+      loses-dropped s y a (Context x),
+      gains-dropped mid y a (Context x),
+      loses-dropped mid y a (Context x),
+    )))
     (λ x. simp counts (omega (arith, ap (λ r. frees (drop_by y r) x) same)))
 
 -- a link takes a reference of its own

@@ -29,7 +29,8 @@ slot_has [] [] i h = refl
 slot_has [] (x ∷ slots) i h = absurd (cc)
 slot_has (s ∷ sets) [] i h = absurd (cc)
 slot_has (s ∷ sets) (x ∷ slots) zero h = (and_parts (has_status s (status_of x)) (have_statuses sets (map status_of slots)) h).0
-slot_has (s ∷ sets) (x ∷ slots) (suc i) h = slot_has sets slots i (and_parts (has_status s (status_of x)) (have_statuses sets (map status_of slots)) h).1
+slot_has (s ∷ sets) (x ∷ slots) (suc i) h =
+    slot_has sets slots i (and_parts (has_status s (status_of x)) (have_statuses sets (map status_of slots)) h).1
 
 -- the variable owns an object
 pub record IsOwned (slot : Slot) : Type 0 where
@@ -98,14 +99,16 @@ own_all-put x slots i y a h = omega (arith, own_all-set x slots i y h)
 -- ---- one variable changes, and the others stay
 
 -- a change of a removed operation's variable leaves `data` as it was
-pub data_stays : (ops : List Slot) (o : RemovedVariable) (x : Slot) → get_or (set ops (operation_place (Removed o)) x) 4 Unset ≡ get_or ops 4 Unset
+pub data_stays : (ops : List Slot) (o : RemovedVariable) (x : Slot) →
+    get_or (set ops (operation_place (Removed o)) x) 4 Unset ≡ get_or ops 4 Unset
 data_stays ops O0 x = get_or-set_other ops 0 4 x Unset (λ e. absurd (omega arith))
 data_stays ops O1 x = get_or-set_other ops 1 4 x Unset (λ e. absurd (omega arith))
 data_stays ops O2 x = get_or-set_other ops 2 4 x Unset (λ e. absurd (omega arith))
 data_stays ops O3 x = get_or-set_other ops 3 4 x Unset (λ e. absurd (omega arith))
 
 -- what a variable owns after a change of one is what was put, or what it owned before
-pub owned_before : (ops : List Slot) (i j : ℕ) (x : Slot) (v : ℕ) → get_or (set ops i x) j Unset ≡ Owns v → (x ≡ Owns v → ⊥) → get_or ops j Unset ≡ Owns v
+pub owned_before : (ops : List Slot) (i j : ℕ) (x : Slot) (v : ℕ) → get_or (set ops i x) j Unset ≡ Owns v → (x ≡ Owns v → ⊥) →
+    get_or ops j Unset ≡ Owns v
 owned_before ops i j x v e other =
     elim (cases_eq j i) [
       | inl h ↦ elim (cases_lt i (length ops)) [

@@ -46,7 +46,8 @@ module _ (a : ℕ) (s : Store) (k : Mine s) where
 
   -- a visit leaves a queue, of which the others stay, and the context that it may have goes to a variable
   pub leaves_queue : (f : ℕ) (e : Entry) (queue : List Entry) (es : List Event) → f < length s.queues →
-      ((x : ℕ) → in_line x queue + in_some x e.context ≡ in_line x (queue_at s f)) → Each (λ (e : Entry). Belongs s.contexts f e.context) queue →
+      ((x : ℕ) → in_line x queue + in_some x e.context ≡ in_line x (queue_at s f)) →
+      Each (λ (e : Entry). Belongs s.contexts f e.context) queue →
       ((x : ℕ) → gains es a (Context x) ≡ in_some x e.context) → ((x : ℕ) → loses es a (Context x) ≡ 0) → ((x : ℕ) → frees es x ≡ 0) →
       Ledger a s (with_queue s f queue) es
   leaves_queue f e queue es h sum b g l r =
@@ -56,7 +57,8 @@ module _ (a : ℕ) (s : Store) (k : Mine s) where
   -- ---- frames
 
   -- an operation that is led on has a frame more where the way asks for one, with the context
-  led_sum : (y f : ℕ) (x : Option ℕ) (way : Way) (r : Route) → in_route y (led f x way r) ≡ in_route y r + (if asks_for_frame way then in_some y x else 0)
+  led_sum : (y f : ℕ) (x : Option ℕ) (way : Way) (r : Route) →
+      in_route y (led f x way r) ≡ in_route y r + (if asks_for_frame way then in_some y x else 0)
   led_sum y f x Passes r = omega arith
   led_sum y f x Frames r = sum_by_push (in_frame y) r.frames (record { filter = f; context = x })
   led_sum y f x (Ends outcome) r = omega arith
@@ -68,7 +70,8 @@ module _ (a : ℕ) (s : Store) (k : Mine s) where
 
   led_each : (f : ℕ) (x : Option ℕ) (way : Way) (r : Route) → OwnFrames r.frames → Belongs s.contexts f x → OwnFrames (led f x way r).frames
   led_each f x Passes r h b = h
-  led_each f x Frames r h b = each_push (λ (r : Frame). Belongs s.contexts r.filter r.context) r.frames (record { filter = f; context = x }) h b
+  led_each f x Frames r h b = each_push (λ (r : Frame). Belongs s.contexts r.filter r.context) r.frames
+      (record { filter = f; context = x }) h b
   led_each f x (Ends outcome) r h b = h
   led_each f x Rises r h b = h
   led_each f x Stays r h b = h
@@ -104,7 +107,8 @@ module _ (a : ℕ) (s : Store) (k : Mine s) where
   stays_asks Stays b n e = refl
 
   lead_ledger : (o f : ℕ) (x : Option ℕ) (way : Way) (es : List Event) → o < length s.routes → Belongs s.contexts f x → (b : Bool) →
-      LostTo x (asks_for_frame way && b) es → ((y : ℕ) → frees es y ≡ 0) → Ledger a s (if b then with_route s o (led f x way (route_at s o)) else s) es
+      LostTo x (asks_for_frame way && b) es → ((y : ℕ) → frees es y ≡ 0) →
+      Ledger a s (if b then with_route s o (led f x way (route_at s o)) else s) es
   lead_ledger o f x way es there own true l r =
       let route = led f x way (route_at s o) in
       moved a s (with_route s o route) es refl (route_mine o route (led_each f x way (route_at s o) (k.frames o) own))
@@ -129,7 +133,8 @@ module _ (a : ℕ) (s : Store) (k : Mine s) where
   -- a visit is settled and its operation led on: the context that the answer may name goes to the frame, where one is made
   pub settle_ledger : (u : ℕ) (x : Option ℕ) (way : Way) (es : List Event) → (visit_at s u).operation < length s.routes →
       Belongs s.contexts (visit_at s u).filter x →
-      ((y : ℕ) → loses es a (Context y) ≡ gains es a (Context y) + (if makes_frame s u way then in_some y x else 0)) → ((y : ℕ) → frees es y ≡ 0) →
+      ((y : ℕ) → loses es a (Context y) ≡ gains es a (Context y) + (if makes_frame s u way then in_some y x else 0)) →
+      ((y : ℕ) → frees es y ≡ 0) →
       Ledger a s (settled_by s u x way) es
   settle_ledger u x way es there own l r =
       let visit = visit_at s u in

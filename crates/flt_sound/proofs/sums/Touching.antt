@@ -106,7 +106,8 @@ module _ (P : ℕ → ℕ → Type 0) where
   given_clean a (Some y) h = (h y refl, tt)
 
   -- a context that may be there is lost, before such a list
-  pub lost_clean : (a : ℕ) (x : Option ℕ) (es : List Event) → ((y : ℕ) → x ≡ Some y → P a y) → CleanBy P es → CleanBy P (loses_context a x ++ es)
+  pub lost_clean : (a : ℕ) (x : Option ℕ) (es : List Event) → ((y : ℕ) → x ≡ Some y → P a y) → CleanBy P es →
+      CleanBy P (loses_context a x ++ es)
   lost_clean a None es h c = c
   lost_clean a (Some y) es h c = (h y refl, c)
 
@@ -173,7 +174,8 @@ own_of w b x h = equal _ _ h.owner
     equal m n e = grind (arith, nat_tests)
 
 module _ (w : World) (start : List Event) where
-  touched : (t : List Event) (b x : ℕ) → frees t x ≡ frees start x → Touch w start b x → (is_live t (Context x) && is_own w b (Context x)) ≡ true
+  touched : (t : List Event) (b x : ℕ) → frees t x ≡ frees start x → Touch w start b x →
+      (is_live t (Context x) && is_own w b (Context x)) ≡ true
   touched t b x same h = and_from _ _ (live_of t x (same ∙ h.0)) (own_of w b x h.1)
 
   clean_one : (t : List Event) (e : Event) → ((x : ℕ) → frees t x ≡ frees start x) → TouchedBy (Touch w start) e → is_clean w t e ≡ true

@@ -21,7 +21,8 @@ use Rattle.flt_sound.proofs.sums.Handovers.{lost_visit, lost_gains, lost_settles
 -- what a step's events gain the activation, against what they lose it, what stands in queues and items, and what is unsettled
 abbrev pub Turns : ℕ → Store → Store → List Event → Type 0
 Turns a s new es =
-    (v : ℕ) → gains es a (Visit v) + ((queued v new + working v new) + unsettled v s) ≡ loses es a (Visit v) + ((queued v s + working v s) + unsettled v new)
+    (v : ℕ) → gains es a (Visit v) + ((queued v new + working v new) + unsettled v s) ≡ loses es a (Visit v) +
+    ((queued v s + working v s) + unsettled v new)
 
 -- all that the second invariant asks of a step of an activation
 pub record Turned (a : ℕ) (s new : Store) (es : List Event) : Type 0 where
@@ -89,7 +90,8 @@ module _ (a : ℕ) where
   defer_turned s i u e = record {
     turns = λ v.
         let one : in_some v i.visit ≡ one_if u v = ap (in_some v) e in
-        simp (counts, of_actor-same) (omega (arith, item_push v s.items i, one, lost_visit a i.context v, lost_gains a i.context a (Visit v)));
+        simp (counts, of_actor-same) (omega
+        (arith, item_push v s.items i, one, lost_visit a i.context v, lost_gains a i.context a (Visit v)));
     once = λ v. simp counts (omega (arith, lost_settles a i.context v));
     seats = refl;
     long = refl;
@@ -124,7 +126,8 @@ module _ (a : ℕ) where
   led_only s u x way = by (is_led s u)
     where
       by : (b : Bool) →
-          IsLedOnly s (if b then with_route s (visit_at s u).operation (led (visit_at s u).filter x way (route_at s (visit_at s u).operation)) else s)
+          IsLedOnly s (if b then with_route s (visit_at s u).operation
+          (led (visit_at s u).filter x way (route_at s (visit_at s u).operation)) else s)
       by true = record { queues = refl; items = refl; settled = refl }
       by false = record { queues = refl; items = refl; settled = refl }
 

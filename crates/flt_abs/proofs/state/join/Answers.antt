@@ -19,7 +19,8 @@ returns-clause-meaning c =
     let P : State → Type 0 = λ s. IsTrue (is_proper s) in
     let left : IsTrue (is_proper c.args.a.now) = subst P c.a.view_is c.a.invariant in
     let right : IsTrue (is_proper c.args.b.now) = subst P c.b.view_is c.b.invariant in
-    let same : state_of c.unite.new.into c.unite-2.new.into c.union.result c.union-2.result c.copied.result ≡ join_of c.args.a.now c.args.b.now = cc in
+    let same : state_of c.unite.new.into c.unite-2.new.into c.union.result c.union-2.result c.copied.result
+    ≡ join_of c.args.a.now c.args.b.now = cc in
     let Q : State → Type 0 = λ s. IsJoin c.args.a.now c.args.b.now s in
     let inside : c.a.inside.locks ≡ c.b.inside.locks = c.is_same.ensures.meaning.0 (search rules) in
     let locks : c.args.a.now.locks ≡ c.args.b.now.locks = cc in

@@ -10,9 +10,12 @@ walks-preserved g c =
     record {
       room = inv.room;
       columns = subst (λ k. Columns c.args.graph.now (c.walks.callback + 1) k) (sym c.in_ok-push.ensures.ok)
-          (one_more c.args.graph.now c.walks.callback c.walks.callbacks c.in_ok-walk_callback.field-0 inv.columns c.in_ok-walk_callback.ensures.column);
-      before = before_more g.row.CALLBACK c.walks.callback c.args.ticks.now c.walks.ticks c.walk_callback.new.ticks inv.before c.walk_callback.ensures.other;
-      after = after_more g.row.CALLBACK c.walks.callback c.args.ticks.now c.walks.ticks c.walk_callback.new.ticks inv.before inv.after c.walk_callback.ensures.count c.walk_callback.ensures.other;
+          (one_more c.args.graph.now c.walks.callback c.walks.callbacks c.in_ok-walk_callback.field-0 inv.columns
+          c.in_ok-walk_callback.ensures.column);
+      before = before_more g.row.CALLBACK c.walks.callback c.args.ticks.now c.walks.ticks c.walk_callback.new.ticks inv.before
+          c.walk_callback.ensures.other;
+      after = after_more g.row.CALLBACK c.walks.callback c.args.ticks.now c.walks.ticks c.walk_callback.new.ticks inv.before
+          inv.after c.walk_callback.ensures.count c.walk_callback.ensures.other;
     }
 
 pub returns-clause-covers : goal.returns-clause-covers

@@ -8,7 +8,8 @@ loop-number-preserved c =
     let i = c.loop-number.number in
     let read : spec.point i c.loop-number.lines ≡ Ok (c.in_ok-point.point, c.point.new.lines) = cc (c.in_ok-point.ensures) in
     let pushed : c.push.new.self ≡ c.loop-number.found ++ c.in_ok-point.point ∷ [] = cc (c.in_ok-push.ensures.ok) in
-    let step = points_step c.args.count i c.loop-number.found c.in_ok-point.point c.loop-number.lines c.point.new.lines c.loop-number-test.true c.loop-number.invariant.count read in
+    let step = points_step c.args.count i c.loop-number.found c.in_ok-point.point c.loop-number.lines c.point.new.lines
+    c.loop-number-test.true c.loop-number.invariant.count read in
     let count : length c.loop-number.found ≡ i = c.loop-number.invariant.count in
     record {
       count = rw (pushed, length-append, count) refl;

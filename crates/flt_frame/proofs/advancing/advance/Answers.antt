@@ -8,7 +8,8 @@ use Rattle.flt_frame.specs.declared.frame.Frame.{Frame}
 pub returns-in-Some-clause-advance : goal.returns-in-Some-clause-advance
 returns-in-Some-clause-advance c = λ p made.
     subst (λ (x : Frame). IsAdvanceOn (callbacks_at p x.filter) c.advance_on.result) (sym c.advance_on.ensures.frame)
-    (c.advance_on.ensures.advance (filter_at p c.args.frame.filter) (loaded_at p c.args.loaded.now.graphs c.args.frame.filter c.in-Some.graph.now made (sym c.in-Some.ensures.value)))
+    (c.advance_on.ensures.advance (filter_at p c.args.frame.filter)
+    (loaded_at p c.args.loaded.now.graphs c.args.frame.filter c.in-Some.graph.now made (sym c.in-Some.ensures.value)))
 
 pub returns-in-None-clause-advance : goal.returns-in-None-clause-advance
 returns-in-None-clause-advance c = λ p made. stays p c.args.loaded.now.graphs c.args.frame made (sym c.in-None.ensures.value)

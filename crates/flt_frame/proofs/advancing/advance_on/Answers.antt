@@ -19,11 +19,13 @@ loop-steps-preserved c =
     } in
     let after = c.loop-steps.advanced.after in
     let is : stepped c.args.frame.draining (instruction_at c.args.graph.now after.callback after.point) after ≡ Some c.in-Some.after =
-    ap (λ (x : Frame). stepped x.draining (instruction_at c.args.graph.now after.callback after.point) after) (sym c.loop-steps.invariant.frame) ∙ sym c.in-Some.ensures in
+    ap (λ (x : Frame). stepped x.draining (instruction_at c.args.graph.now after.callback after.point) after)
+    (sym c.loop-steps.invariant.frame) ∙ sym c.in-Some.ensures in
     record {
       frame = c.loop-steps.invariant.frame;
       steps = refl;
-      way = λ f loaded. goes_further laws f c.args.graph.now loaded c.args.frame c.loop-steps.steps after (c.loop-steps.invariant.way f loaded) c.in-Some.after is;
+      way = λ f loaded. goes_further laws f c.args.graph.now loaded c.args.frame c.loop-steps.steps after
+          (c.loop-steps.invariant.way f loaded) c.in-Some.after is;
     }
 
 pub returns-in_default-clause-advance : goal.returns-in_default-clause-advance
@@ -38,8 +40,10 @@ returns-in_default-clause-advance c =
     } in
     let after = c.loop-steps.advanced.after in
     let is : stepped c.args.frame.draining (instruction_at c.args.graph.now after.callback after.point) after ≡ None =
-    ap (λ (x : Frame). stepped x.draining (instruction_at c.args.graph.now after.callback after.point) after) (sym c.loop-steps.invariant.frame) ∙ sym c.further.ensures ∙ c.in_default.is in
-    λ f loaded. put_together f.callbacks c.loop-steps.advanced c.args.frame c.loop-steps.steps c.loop-steps.invariant.frame c.loop-steps.invariant.steps
+    ap (λ (x : Frame). stepped x.draining (instruction_at c.args.graph.now after.callback after.point) after)
+    (sym c.loop-steps.invariant.frame) ∙ sym c.further.ensures ∙ c.in_default.is in
+    λ f loaded. put_together f.callbacks c.loop-steps.advanced c.args.frame c.loop-steps.steps c.loop-steps.invariant.frame
+    c.loop-steps.invariant.steps
     (ends laws f c.args.graph.now loaded c.args.frame c.loop-steps.steps after (c.loop-steps.invariant.way f loaded) is)
 
 pub returns-clause-advance : goal.returns-clause-advance
@@ -53,5 +57,7 @@ returns-clause-advance c =
       nested = c.lists_have_turns.ensures.nested;
     } in
     let most : max_cost ≤ c.loop-steps.steps = omega arith in
-    λ f loaded. put_together f.callbacks c.loop-steps.advanced c.args.frame c.loop-steps.steps c.loop-steps.invariant.frame c.loop-steps.invariant.steps
-    (runs_out laws f c.args.graph.now loaded c.args.frame c.loop-steps.steps c.loop-steps.advanced.after (c.loop-steps.invariant.way f loaded) most)
+    λ f loaded. put_together f.callbacks c.loop-steps.advanced c.args.frame c.loop-steps.steps c.loop-steps.invariant.frame
+    c.loop-steps.invariant.steps
+    (runs_out laws f c.args.graph.now loaded c.args.frame c.loop-steps.steps c.loop-steps.advanced.after
+    (c.loop-steps.invariant.way f loaded) most)

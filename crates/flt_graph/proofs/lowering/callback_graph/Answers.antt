@@ -7,4 +7,5 @@ use Rattle.flt_graph.specs.declared.graph.Point.{Point}
 pub returns : goal.returns
 returns c =
     graph_made c.args.callbacks.now c.args.callback.now (record { place = c.place.result; points = c.push.new.self }) c.place.ensures
-    (c.in_ok-push.ensures.ok ∙ ap (λ (l : List Point). l ++ end_of c.args.callback.now ∷ []) (simp (c.new-found.ensures, c.total.ensures, c.as_slice-body.ensures) at c.in_ok-add_block.ensures.points))
+    (c.in_ok-push.ensures.ok ∙ ap (λ (l : List Point). l ++ end_of c.args.callback.now ∷ [])
+    (simp (c.new-found.ensures, c.total.ensures, c.as_slice-body.ensures) at c.in_ok-add_block.ensures.points))

@@ -6,7 +6,8 @@ use Rattle.flt_model.proofs.reader.entries.Given as goal
 abbrev pub invariant-loop-number : goal.invariant-loop-number
 invariant-loop-number g l = record {
   count : length l.found ≡ l.number;
-  read : entries_from (most_entries - l.number) l.found (g.R.Source.coming l.reader) ≡ entries_from most_entries [] (g.R.Source.coming l.fn.reader);
+  read : entries_from (most_entries - l.number) l.found (g.R.Source.coming l.reader) ≡ entries_from most_entries []
+      (g.R.Source.coming l.fn.reader);
   fine : g.R.Source.failures l.reader ≡ g.R.Source.failures l.fn.reader;
   reads : g.R.Source.reads l.reader ≤ g.R.Source.reads l.fn.reader + 36 * l.number;
 }

@@ -6,4 +6,8 @@ use Rattle.flt_sound.specs.Worked.{worked}
 pub returns : goal.returns
 returns c =
     let one = worked_accepted c.filters_have_graphs.ensures c.covering_is_faultless.ensures.covers in
-    record { accepted = one; clean = λ transitions. c.accepted_runs_break_nothing.ensures (worked ∷ []) transitions (alone_accepted worked one) }
+    record {
+      accepted = one;
+      clean = λ transitions. c.accepted_runs_break_nothing.ensures (worked ∷ []) transitions
+          (alone_accepted worked one);
+    }

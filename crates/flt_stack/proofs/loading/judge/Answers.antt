@@ -5,5 +5,7 @@ pub returns-in-Err-check-clause-accepts : goal.returns-in-Err-check-clause-accep
 returns-in-Err-check-clause-accepts c f x =
     let written = c.in-Ok-read.ensures.read x.certificate x.certified x.written in
     let fine = c.spelled_is_well_formed.ensures c.args.text.now f x.spelled in
-    let accepted = c.in-Err-check.ensures.accepted.1 (covered_again c.one_graph_at_most.ensures _ _ f c.in_ok-graph.graph _ x (c.in-Ok.ensures.read f x.spelled) written fine c.in_ok-graph.ensures) in
+    let accepted = c.in-Err-check.ensures.accepted.1
+    (covered_again c.one_graph_at_most.ensures _ _ f c.in_ok-graph.graph _ x
+    (c.in-Ok.ensures.read f x.spelled) written fine c.in_ok-graph.ensures) in
     cc

@@ -5,7 +5,8 @@ use Rattle.flt_steps.proofs.board.if_step.Goals as goal
 
 pub returns-in-Test : goal.returns-in-Test
 returns-in-Test c =
-    tested c.args.stack.now c.args.world.now c.test_step.new.world c.args.a c.args.grant c.args.events.now.items c.test_step.new.events.items
+    tested c.args.stack.now c.args.world.now c.test_step.new.world c.args.a c.args.grant c.args.events.now.items
+    c.test_step.new.events.items
     c.test_step.result (c.args.to.granted.now ++ later c.args.world.now c.args.a) (c.args.to.refused.now ++ later c.args.world.now c.args.a)
     c.args.condition.now c.in-Test.test c.in-Test.is c.test_step.ensures
 

@@ -4,5 +4,6 @@ use Rattle.flt_abs.proofs.state.Abs.set_context.Goals as goal
 
 pub invariant_of-self : goal.invariant_of-self
 invariant_of-self c =
-    proper_contexts (state_of c.self.inside.contexts c.self.inside.operations c.self.inside.modes c.self.inside.draining c.self.inside.locks)
+    proper_contexts (state_of c.self.inside.contexts c.self.inside.operations c.self.inside.modes c.self.inside.draining
+    c.self.inside.locks)
     c.place.result c.args.statuses c.self.invariant c.requires

@@ -10,4 +10,5 @@ invariant_of-result c =
 pub returns-then-self-lt-MAX_REPEATS : goal.returns-then-self-lt-MAX_REPEATS
 returns-then-self-lt-MAX_REPEATS c =
     let less : c.self.inside.used < 4 = omega arith in
-    one_within c.args.turn c.self.inside.turns c.with_first.result c.self.inside.used c.args.self.now c.self.invariant less c.with_first.ensures c.self.view_is
+    one_within c.args.turn c.self.inside.turns c.with_first.result c.self.inside.used c.args.self.now c.self.invariant less
+    c.with_first.ensures c.self.view_is

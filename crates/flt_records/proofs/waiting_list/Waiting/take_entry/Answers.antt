@@ -13,7 +13,9 @@ invariant_of-self c =
     let was = c.in-Some-take_entry.ensures in
     let found = was.0 ∙ ap Some (sym c.entry.view_is) in
     let less : (v : ℕ) → in_queue v c.in-Some.queue.now ≡ one_if entry.visit v + in_queue v c.take_entry.new.self =
-    λ v. in_without v (is_of c.args.visits.now) c.in-Some.queue.now entry found ∙ ap (λ (l : List Entry). one_if entry.visit v + in_queue v l) (sym was.1) in
-    let counted = entry_counted c.self.inside.queues.items c.self.inside.items.items c.self.inside.counts c.take.new.self c.self.invariant c.args.filter at.0 c.in-Some.queue.now c.take_entry.new.self (at.1 []) entry less in
+    λ v. in_without v (is_of c.args.visits.now) c.in-Some.queue.now entry found
+    ∙ ap (λ (l : List Entry). one_if entry.visit v + in_queue v l) (sym was.1) in
+    let counted = entry_counted c.self.inside.queues.items c.self.inside.items.items c.self.inside.counts c.take.new.self
+    c.self.invariant c.args.filter at.0 c.in-Some.queue.now c.take_entry.new.self (at.1 []) entry less in
     entry_taken c.self.inside.queues.items c.self.inside.items.items c.self.inside.counts c.take.new.self c.self.invariant
     c.args.filter at.0 c.in-Some.queue.now c.take_entry.new.self (at.1 []) entry less (c.take.ensures counted)

@@ -9,6 +9,9 @@ invariant_of-self c =
     let at = c.in-Some.ensures.item.3 in
     let entry : Entry = record { visit = c.entry.inside.visit; context = c.entry.inside.context } in
     let first = c.in-Some-take_first.ensures ∙ ap (λ (x : Entry). x ∷ c.take_first.new.self) (sym c.entry.view_is) in
-    let counted = entry_counted c.self.inside.queues.items c.self.inside.items.items c.self.inside.counts c.take.new.self c.self.invariant c.args.filter at.0 c.in-Some.queue.now c.take_first.new.self (at.1 []) entry (λ v. ap (in_queue v) first ∙ in_cons v entry c.take_first.new.self) in
+    let counted = entry_counted c.self.inside.queues.items c.self.inside.items.items c.self.inside.counts c.take.new.self
+    c.self.invariant c.args.filter at.0 c.in-Some.queue.now c.take_first.new.self (at.1 []) entry
+    (λ v. ap (in_queue v) first ∙ in_cons v entry c.take_first.new.self) in
     entry_taken c.self.inside.queues.items c.self.inside.items.items c.self.inside.counts c.take.new.self c.self.invariant
-    c.args.filter at.0 c.in-Some.queue.now c.take_first.new.self (at.1 []) entry (λ v. ap (in_queue v) first ∙ in_cons v entry c.take_first.new.self) (c.take.ensures counted)
+    c.args.filter at.0 c.in-Some.queue.now c.take_first.new.self (at.1 []) entry
+    (λ v. ap (in_queue v) first ∙ in_cons v entry c.take_first.new.self) (c.take.ensures counted)

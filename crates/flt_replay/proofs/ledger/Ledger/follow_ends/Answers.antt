@@ -12,6 +12,9 @@ loop-event-preserved c =
     let events = c.args.events.now in
     let i = c.loop-event.event-index in
     let d = Call 0 AllocateContext in
-    let both = halted_both (take i events) (get_or events i d ∷ []) c.args.self.now c.loop-event.self c.follow_end.new.self c.args.touched.now.items c.loop-event.touched.items c.follow_end.new.touched.items
+    let both = halted_both (take i events)
+    (get_or events i d ∷ []) c.args.self.now c.loop-event.self c.follow_end.new.self c.args.touched.now.items
+    c.loop-event.touched.items c.follow_end.new.touched.items
     c.loop-event.invariant c.in_ok-follow_end.ensures in
-    subst (λ (es : List Event). Halted es c.args.self.now c.follow_end.new.self c.args.touched.now.items c.follow_end.new.touched.items) (sym (take_at_read events i d c.loop-event-test.true).1) both
+    subst (λ (es : List Event). Halted es c.args.self.now c.follow_end.new.self c.args.touched.now.items
+    c.follow_end.new.touched.items) (sym (take_at_read events i d c.loop-event-test.true).1) both

@@ -8,5 +8,6 @@ use Rattle.flt_replay.proofs.ledger.Ledger.free.Goals as goal
 pub returns : goal.returns
 returns c = λ t was.
     let old : Tally = the_view c.self.inside in
-    let notes : Tally → Type 0 = λ before. Tells t before → IsCounted before → Noted t (Free c.args.context) before (record old { freed = c.add.new.self }) was was in
+    let notes : Tally → Type 0 = λ before. Tells t before → IsCounted before →
+    Noted t (Free c.args.context) before (record old { freed = c.add.new.self }) was was in
     subst notes c.self.view_is (λ k counted. freed_context t old was k counted c.args.context c.add.new.self c.in_ok-add.ensures.ok)

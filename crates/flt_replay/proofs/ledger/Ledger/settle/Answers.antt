@@ -8,5 +8,7 @@ use Rattle.flt_replay.proofs.ledger.Ledger.settle.Goals as goal
 pub returns : goal.returns
 returns c = λ t.
     let old : Tally = the_view c.self.inside in
-    let notes : Tally → Type 0 = λ was. Tells t was → IsCounted was → Noted t (Settle c.args.visit) was (record old { settled = c.add.new.self }) c.args.touched.now.items c.push.new.self.items in
-    subst notes c.self.view_is (λ k counted. settled_visit t old c.args.touched.now.items k counted c.args.visit c.push.new.self.items c.in_ok-push.ensures.items c.add.new.self c.in_ok-add.ensures.ok)
+    let notes : Tally → Type 0 = λ was. Tells t was → IsCounted was →
+    Noted t (Settle c.args.visit) was (record old { settled = c.add.new.self }) c.args.touched.now.items c.push.new.self.items in
+    subst notes c.self.view_is (λ k counted. settled_visit t old c.args.touched.now.items k counted c.args.visit
+    c.push.new.self.items c.in_ok-push.ensures.items c.add.new.self c.in_ok-add.ensures.ok)

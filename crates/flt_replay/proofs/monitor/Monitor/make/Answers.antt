@@ -5,14 +5,16 @@ use Rattle.flt_replay.proofs.monitor.Monitor.make.Goals as goal
 
 pub returns-then-not-branch : goal.returns-then-not-branch
 returns-then-not-branch c m at =
-    not_made _ m c.args.next c.args.self.now c.args.self.now c.make.new.world c.make.new.events.items c.in_ok-make.field-0 at (rw c.new-events.ensures.items at c.in_ok-make.ensures) (search rules)
+    not_made _ m c.args.next c.args.self.now c.args.self.now c.make.new.world c.make.new.events.items c.in_ok-make.field-0 at
+    (rw c.new-events.ensures.items at c.in_ok-make.ensures) (search rules)
 
 pub returns : goal.returns
 returns c =
     let stay : StayExclusive = record { opening = c.locks_stay_exclusive.ensures.opening; steps = c.locks_stay_exclusive.ensures.steps } in
     in_other_words _ _ c.judged.result
     (λ course judges m at.
-    made c.args.stack.now m c.args.next c.args.self.now c.judged.new.self c.make.new.world c.make.new.events.items c.in_ok-make.field-0 course stay at
+    made c.args.stack.now m c.args.next c.args.self.now c.judged.new.self c.make.new.world c.make.new.events.items
+    c.in_ok-make.field-0 course stay at
     (rw c.new-events.ensures.items at c.in_ok-make.ensures) c.if-not-branch.false
     (λ s follows rule. judges c.args.stack.now m (Make c.args.next) s at.counts (rw c.as_slice.ensures.value follows) rule))
     c.judged.ensures

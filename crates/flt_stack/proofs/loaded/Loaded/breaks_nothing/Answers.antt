@@ -7,4 +7,5 @@ use Rattle.flt_stack.proofs.loaded.Loaded.breaks_nothing.Goals as goal
 pub returns : goal.returns
 returns c transitions =
     subst (λ filters. breaks filters transitions ≡ None) c.self.view_is
-    (∥∥₁_elim c.self.invariant (clean_once (breaks _ transitions)) (λ kept. c.accepted_runs_break_nothing.ensures _ transitions kept.accepted))
+    (∥∥₁_elim c.self.invariant (clean_once (breaks _ transitions))
+    (λ kept. c.accepted_runs_break_nothing.ensures _ transitions kept.accepted))

@@ -6,7 +6,8 @@ use Rattle.flt_syntax.proofs.names.Names.number.Goals as goal
 
 pub returns-clause-number : goal.returns-clause-number
 returns-clause-number c =
-    c.get_index_of.ensures.index ∙ number_of c.args.name.now c.self.inside.set.keys ∙ ap (position (bytes_eq c.args.name.now)) c.self.view_is
+    c.get_index_of.ensures.index ∙ number_of c.args.name.now c.self.inside.set.keys
+    ∙ ap (position (bytes_eq c.args.name.now)) c.self.view_is
 
 pub returns-clause-once : goal.returns-clause-once
 returns-clause-once c =

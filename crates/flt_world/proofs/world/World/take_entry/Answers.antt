@@ -23,7 +23,8 @@ returns c =
       };
     } in
     let tells = rw (← c.self.view_is) at c.in_ok-visits.ensures in
-    let same = c.same_tests_find_the_same.ensures.law (is_of c.in_ok-visits.visits.items) (is_entry_of world.store c.args.operation) (queue_at world.store c.args.filter) tells in
+    let same = c.same_tests_find_the_same.ensures.law (is_of c.in_ok-visits.visits.items)
+    (is_entry_of world.store c.args.operation) (queue_at world.store c.args.filter) tells in
     let taken = rw c.as_slice.ensures.value at c.take_entry.ensures in
     rw (← c.self.view_is)
     (taken_out world c.args.filter c.args.operation c.in_ok-visits.visits.items c.take_entry.result c.take_entry.new.self same taken)
