@@ -1,8 +1,10 @@
 -- The line of a command: what is read of it, and that no other command has it.
-use Rattle.std.proofs.Common.{◌≡◌, ◌<◌, ◌^◌, ℕ, Bool, true, false, [], ◌∷◌, ◌++◌, refl, sym, ap, arith, ◌∙◌, get_or}
-use Rattle.std.specs.Prelude.{◌==◌, Option, Some, None, Result, Ok, Err, codes}
-use Rattle.std.proofs.lemmas.Bool.{and_parts, eq-eqb, ltb-true}
-use Rattle.flt_model.specs.JournalText.{IsMove, IsNumber, move_line, number_text}
+use Rattle.std.proofs.Common.{◌≡◌, ◌<◌, ◌-◌, ◌^◌, ℕ, true, [], ◌∷◌, ◌++◌, length, take, drop, refl, sym, ap, arith, ◌∙◌, get_or}
+use Rattle.std.specs.Prelude.{nat_lt, Some, None, Result, Ok, Err}
+use Rattle.std.specs.Result.{result_ok}
+use Rattle.std.proofs.lemmas.Bool.{and_parts, ltb-true}
+use Rattle.std.proofs.lemmas.List.{take_rest}
+use Rattle.flt_model.specs.JournalText.{IsMove, move_line}
 use Rattle.flt_model.specs.JournalTextReading.{Counts}
 use Rattle.flt_model.specs.LineParts.{IsReadAs}
 use Rattle.flt_model.specs.Moves.{fits_mode}
@@ -17,33 +19,26 @@ use Rattle.flt_script.specs.declared.command.Command.TheVariants.{Arrive, Cancel
 
 -- ---- the first byte of a line
 
+some_byte : (b : ℕ) (text : Text) → b ∷ text ≡ [] → ⊥
+some_byte b text e = cc
+
 -- a line isn't empty
 pub line_some : (command : Command) (text : Text) → command_line command ++ text ≡ [] → ⊥
-line_some (Arrive operation mode file) text e = let same : 97 ≡ 0 = ap (λ t. get_or t 0 0) e in omega arith
-line_some (Cancel serial) text e = let same : 99 ≡ 0 = ap (λ t. get_or t 0 0) e in omega arith
-line_some (Detach altitude) text e = let same : 100 ≡ 0 = ap (λ t. get_or t 0 0) e in omega arith
-line_some (Refuse choice) text e = let same : 114 ≡ 0 = ap (λ t. get_or t 0 0) e in omega arith
+line_some (Arrive operation mode file) text e = some_byte 97 _ e
+line_some (Cancel serial) text e = some_byte 99 _ e
+line_some (Detach altitude) text e = some_byte 100 _ e
+line_some (Refuse choice) text e = some_byte 114 _ e
 
--- "refuse" alone begins with its first byte
-data Begins (b : ℕ) (others : Text) (behind : Text) : Command → Type 0 where
-  refuses : (choice : ℕ) → (b == 114) ≡ true → others ≡ codes "efuse " ++ (number_text choice 10 ++ behind) → Begins b others behind (Refuse choice)
-  moves_on : (command : Command) (made : Move) → (b == 114) ≡ false → command_of made ≡ Some command → b ∷ others ≡ move_line made ++ behind → (is_command command ≡ true → IsMove made) → Begins b others behind command
-
-begins : (b : ℕ) (others behind : Text) (command : Command) → b ∷ others ≡ command_line command ++ behind → Begins b others behind command
-begins b others behind (Arrive operation mode file) e =
-    let first : b ≡ 97 = ap (λ t. get_or t 0 0) e in
-    moves_on (Arrive operation mode file) (moves.Arrive operation mode file) (rw first refl) refl e
-    (λ h. let parts = and_parts (fits_mode operation mode) _ h in let small : file < 1024 = ltb-true file 1024 parts.1 in omega arith)
-begins b others behind (Cancel serial) e =
-    let first : b ≡ 99 = ap (λ t. get_or t 0 0) e in
-    moves_on (Cancel serial) (moves.Cancel serial) (rw first refl) refl e (λ h. let small : serial < 65536 = ltb-true serial 65536 h in omega arith)
-begins b others behind (Detach altitude) e =
-    let first : b ≡ 100 = ap (λ t. get_or t 0 0) e in
-    moves_on (Detach altitude) (moves.Detach altitude) (rw first refl) refl e (λ h. ltb-true altitude (2 ^ 32) h)
-begins b others behind (Refuse choice) e =
-    let first : b ≡ 114 = ap (λ t. get_or t 0 0) e in
-    let same : b ∷ others ≡ 114 ∷ (codes "efuse " ++ (number_text choice 10 ++ behind)) = e in
-    refuses choice (rw first refl) cc
+-- a line that begins otherwise than "refuse" is a move's
+made_of : (b : ℕ) (others behind : Text) (command : Command) → (b ≡ 114 → ⊥) → b ∷ others ≡ command_line command ++ behind → is_command command ≡ true →
+    (made : Move) × (command_of made ≡ Some command) × (b ∷ others ≡ move_line made ++ behind) × IsMove made
+made_of b others behind (Arrive operation mode file) other e h =
+    let parts = and_parts (fits_mode operation mode) (nat_lt file 1024) h in
+    let small : file < 1024 = ltb-true file 1024 parts.1 in
+    (moves.Arrive operation mode file, refl, e, omega arith)
+made_of b others behind (Cancel serial) other e h = let small : serial < 65536 = ltb-true serial 65536 h in (moves.Cancel serial, refl, e, omega arith)
+made_of b others behind (Detach altitude) other e h = (moves.Detach altitude, refl, e, ltb-true altitude (2 ^ 32) h)
+made_of b others behind (Refuse choice) other e h = absurd (other (ap (λ t. get_or t 0 0) e))
 
 -- ---- what is read of a line
 
@@ -53,44 +48,25 @@ never_failed (Ok found) fine value behind left h = (ap Ok h.0, h.1)
 never_failed (Err Wrong) fine value behind left h = absurd h
 never_failed (Err Failed) fine value behind left h = absurd (fine refl)
 
--- behind its first byte the line of a refusal is read
-pub reads_refusal : (b : ℕ) (others : Text) (r : Result ℕ Stop) (left : Text) → (b == 114) ≡ true → Counts r 0 0 →
-    ((n : ℕ) → IsNumber n → (behind : Text) → others ≡ codes "efuse " ++ (number_text n 10 ++ behind) → IsReadAs n behind r left) →
-    (command : Command) → is_command command ≡ true → (behind : Text) → b ∷ others ≡ command_line command ++ behind →
-    (choice : ℕ) × (command ≡ Refuse choice) × (r ≡ Ok choice) × (left ≡ behind)
-reads_refusal b others r left first fine reads command good behind e = go command good (begins b others behind command e)
-  where
-    go : (command : Command) → is_command command ≡ true → Begins b others behind command → (choice : ℕ) × (command ≡ Refuse choice) × (r ≡ Ok choice) × (left ≡ behind)
-    go _ good (refuses choice is same) =
-        let small : choice < 2 ^ 32 = ltb-true choice (2 ^ 32) good in
-        let read = never_failed r fine choice behind left (reads choice small behind same) in
-        (choice, refl, read.0, read.1)
-    go _ good (moves_on command made is kind same number) = cc
+-- the first byte of a text, and the others
+parts_of : (text : Text) → (text ≡ [] → ⊥) → get_or text 0 0 ∷ take (length text - 1) (drop 1 text) ≡ text
+parts_of [] some = absurd (some refl)
+parts_of (b ∷ text) some = ap (λ z. b ∷ z) (take_rest (b ∷ text) 1)
 
 -- behind its first byte the line of a move is read
-pub reads_made : (b : ℕ) (others : Text) (r : Result Move Stop) (left : Text) → (b == 114) ≡ false → Counts r 0 0 →
-    ((made : Move) → IsMove made → (behind : Text) → b ∷ others ≡ move_line made ++ behind → IsReadAs made behind r left) →
-    (command : Command) → is_command command ≡ true → (behind : Text) → b ∷ others ≡ command_line command ++ behind →
+pub reads_made : (text left : Text) (r : Result Move Stop) → (get_or text 0 0 ≡ 114 → ⊥) → Counts r 0 0 →
+    ((made : Move) → IsMove made → (behind : Text) → get_or text 0 0 ∷ take (length text - 1) (drop 1 text) ≡ move_line made ++ behind → IsReadAs made behind r left) →
+    (command : Command) → is_command command ≡ true → (behind : Text) → text ≡ command_line command ++ behind →
     (made : Move) × (command_of made ≡ Some command) × (r ≡ Ok made) × (left ≡ behind)
-reads_made b others r left first fine reads command good behind e = go command good (begins b others behind command e)
-  where
-    go : (command : Command) → is_command command ≡ true → Begins b others behind command → (made : Move) × (command_of made ≡ Some command) × (r ≡ Ok made) × (left ≡ behind)
-    go _ good (refuses choice is same) = cc
-    go _ good (moves_on command made is kind same number) =
-        let read = never_failed r fine made behind left (reads made (number good) behind same) in
-        (made, kind, read.0, read.1)
+reads_made text left r other fine reads command good behind e =
+    let parts = parts_of text (λ none. line_some command behind (sym e ∙ none)) in
+    let made = made_of (get_or text 0 0) (take (length text - 1) (drop 1 text)) behind command other (parts ∙ e) good in
+    let read = never_failed r fine made.0 behind left (reads made.0 made.3 behind made.2) in
+    (made.0, made.1, read.0, read.1)
 
--- a command that is a move has its line
-pub line_of_move : (made : Move) (command : Command) → command_of made ≡ Some command → command_line command ≡ move_line made
-line_of_move (moves.Arrive operation mode file) command e = let same : command ≡ Arrive operation mode file = cc in ap command_line same
-line_of_move (moves.Cancel serial) command e = let same : command ≡ Cancel serial = cc in ap command_line same
-line_of_move (moves.Detach altitude) command e = let same : command ≡ Detach altitude = cc in ap command_line same
-line_of_move (moves.Pre serial) command e = cc
-line_of_move (moves.Skip serial) command e = cc
-line_of_move (moves.Lower serial) command e = cc
-line_of_move (moves.Post serial) command e = cc
-line_of_move (moves.Canceled altitude serial) command e = cc
-line_of_move (moves.Work item) command e = cc
-line_of_move (moves.Drain altitude serial) command e = cc
-line_of_move (moves.Unlink altitude key) command e = cc
-line_of_move (moves.Detached altitude) command e = cc
+-- a move that was read is the one
+pub made_is : (r : Result Move Stop) (made found : Move) → r ≡ Ok made → result_ok r ≡ Some found → found ≡ made
+made_is r made found e h = let same : Some found ≡ Some made = sym h ∙ ap result_ok e in cc
+
+pub made_none : (r : Result Move Stop) (made : Move) → r ≡ Ok made → result_ok r ≡ None → ⊥
+made_none r made e h = let same : None ≡ Some made = sym h ∙ ap result_ok e in cc

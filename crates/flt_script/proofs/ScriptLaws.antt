@@ -1,14 +1,24 @@
 -- Scripts: where a reader stands in a text, line by line, and what it finds there.
-use Rattle.std.proofs.Common.{◌≡◌, ◌≢◌, ◌+◌, ◌<◌, ◌≤◌, ℕ, suc, Bool, true, false, List, [], ◌∷◌, ◌++◌, length, refl, sym, ap, arith, ◌∙◌, append_assoc, append-nil, length-append}
-use Rattle.std.specs.Prelude.{◌&&◌, Option, Some, None}
-use Rattle.std.specs.List.{flat_map, list_all}
-use Rattle.std.proofs.lemmas.Bool.{and_parts, and_from}
+use Rattle.std.proofs.Common.{◌≡◌, ◌≢◌, ◌+◌, ◌<◌, ◌≤◌, ℕ, true, false, List, [], ◌∷◌, ◌++◌, length, refl, sym, ap, arith, ◌∙◌, append_assoc, append-nil, length-append}
+use Rattle.std.specs.Prelude.{◌||◌, ◌==◌, Option, Some, None}
+use Rattle.std.specs.List.{list_all, list_any}
+use Rattle.std.proofs.lemmas.Bool.{and_parts, and_from, eqb-true}
 use Rattle.std.proofs.lemmas.Grind.{flat_map-append}
+use Rattle.std.proofs.lemmas.List.{nil_from_length}
 use Rattle.flt_tree.specs.declared.filter.Filter.{Filter}
+use Rattle.flt_tree.specs.declared.tree.Tree.{Tree}
+use Rattle.flt_model.specs.Program.{filters_of}
 use Rattle.flt_model.specs.Streams.{Text}
-use Rattle.flt_script.specs.ScriptText.{Commands, is_command, may_follow, are_commands, is_script, command_line, spelling, IsFirstFault}
+use Rattle.flt_script.specs.ScriptText.{Commands, is_command, is_loaded, may_follow, are_commands, is_script, command_line, spelling, IsFirstFault}
 use Rattle.flt_script.specs.declared.command.Command.{Command}
 use Rattle.flt_script.proofs.CommandLaws.{line_some}
+
+-- ---- filters of a stack
+
+-- the altitudes of trees are those of their filters
+pub loaded_of : (trees : List Tree) (altitude : ℕ) → list_any (λ (t : Tree). t.filter.altitude == altitude) trees ≡ is_loaded (filters_of trees) altitude
+loaded_of [] altitude = refl
+loaded_of (tree ∷ trees) altitude = ap (λ z. (tree.filter.altitude == altitude) || z) (loaded_of trees altitude)
 
 -- ---- commands in order
 
@@ -104,6 +114,13 @@ one_line filters text found left command new at line follows finds = record {
             record { more = more; parts = parts ∙ ap (λ z. found ++ z ∷ more) (sym same) ∙ sym (append_assoc found (command ∷ []) more); rest = read.1 }
 
 -- ---- where reading ends
+
+pub some_left : (left : Text) → (length left == 0) ≡ false → left ≢ []
+some_left [] h e = cc
+some_left (b ∷ left) h e = cc
+
+pub none_left : (left : Text) → (length left == 0) ≡ true → left ≡ []
+none_left left h = nil_from_length left (eqb-true (length left) 0 h)
 
 -- at the end of the text, the commands found are those that it spells
 pub only_script : (filters : List Filter) (text : Text) (found : Commands) → Reached filters text found [] → (commands : Commands) → is_script filters commands ≡ true → text ≡ spelling commands → found ≡ commands

@@ -40,12 +40,16 @@ fn is_command(command: Command) -> bool
     }
 }
 
+fn has_altitude(trees: &[Tree], altitude: u64) -> bool
+    ensures { result ≡ list_any (λ tree. tree.filter.altitude == altitude) trees.now }
+{
+    trees.iter().any(|tree| tree.filter.altitude == altitude)
+}
+
 fn is_loaded(trees: &[Tree], altitude: u32) -> bool
     ensures { result ≡ spec.is_loaded (filters_of trees.now) altitude }
 {
-    trees
-        .iter()
-        .any(|tree| tree.filter.altitude == altitude as u64)
+    has_altitude(trees, altitude as u64)
 }
 
 fn detaches(command: &Command, altitude: u32) -> bool
