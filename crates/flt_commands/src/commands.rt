@@ -106,8 +106,9 @@ fn report<O: Sink, E: Sink>(
     }
 }
 
-/// Runs the command of a program's words.
-fn run_words<I: Inputs, O: Sink, E: Sink>(
+/// Runs the command of a program's words, its own name left out, and answers the exit status: 0 for yes, 1 for no, and 2
+/// where there is no answer. What it says goes to `out`, why there is no answer to `err`.
+pub fn command<I: Inputs, O: Sink, E: Sink>(
     alloc: Global,
     words: &[String],
     inputs: &I,
@@ -119,7 +120,9 @@ fn run_words<I: Inputs, O: Sink, E: Sink>(
     ensures fine { OnOk result ((O.failures out.new ≡ O.failures out.old) × (E.failures err.new ≡ E.failures err.old)) }
     ensures memory { IfErr result (λ e. e ≡ CommandFault.OutOfMemory → (out.new ≡ out.old) × (err.new ≡ err.old)) }
     ensures quiet { IfOk result (λ status. status ≢ 2 → err.new ≡ err.old) }
+    ensures clean { IfOk result (λ status. status ≡ 0 → YesIsClean (I.gives inputs.now) (asked (map string_bytes words.now))) }
 {
+    covered_texts_break_nothing();
     match read_words(alloc, words)? {
         Request::Usage(text) => {
             put_all(err, text.as_bytes())?;
@@ -138,24 +141,4 @@ fn run_words<I: Inputs, O: Sink, E: Sink>(
             report(alloc, said, out, err)
         }
     }
-}
-
-/// Runs the command of a program's words, its own name left out, and answers the exit status: 0 for yes, 1 for no, and 2
-/// where there is no answer. What it says goes to `out`, why there is no answer to `err`.
-pub fn command<I: Inputs, O: Sink, E: Sink>(
-    alloc: Global,
-    words: &[String],
-    inputs: &I,
-    out: &mut O,
-    err: &mut E,
-) -> Result<u8, CommandFault>
-    ensures prints { IfOk result (λ status. (bytes : List ℕ) × spec.Prints (I.gives inputs.now) (map string_bytes words.now) bytes status × Appends (O.taken out.old) (O.taken out.new) bytes) }
-    ensures write { IfErr result (λ e. e ≡ CommandFault.Write → (O.failures out.new ≢ O.failures out.old) ⊎ (E.failures err.new ≢ E.failures err.old)) }
-    ensures fine { OnOk result ((O.failures out.new ≡ O.failures out.old) × (E.failures err.new ≡ E.failures err.old)) }
-    ensures memory { IfErr result (λ e. e ≡ CommandFault.OutOfMemory → (out.new ≡ out.old) × (err.new ≡ err.old)) }
-    ensures quiet { IfOk result (λ status. status ≢ 2 → err.new ≡ err.old) }
-    ensures clean { IfOk result (λ status. status ≡ 0 → YesIsClean (I.gives inputs.now) (asked (map string_bytes words.now))) }
-{
-    covered_texts_break_nothing();
-    run_words(alloc, words, inputs, out, err)
 }

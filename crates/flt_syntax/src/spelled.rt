@@ -7,7 +7,6 @@ ghost use Rattle.flt_tree.specs.Names.{Text};
 ghost use Rattle.flt_tree.specs.declared.filter.Filter.{Filter};
 
 /// What a text spells is what the reading definition reads of it. It does nothing: its clauses are the law.
-#[tactic(auto, using(crate::proofs::CompleteFiles::is_found, crate::proofs::SoundFiles::is_spelled))]
 pub fn spelled_is_read()
     ensures read { (text : Text) (f : Filter) → Spells text f → filter_of text ≡ Ok f }
     ensures spelled { (text : Text) (f : Filter) → filter_of text ≡ Ok f → Spells text f }
