@@ -1,7 +1,8 @@
 -- Lists in padded places.
-use Rattle.std.proofs.Common.{◌≡◌, ℕ, ◌+◌, ◌-◌, ◌<◌, ◌≤◌, true, nat_lt, List, [], ◌∷◌, length, take, drop, replicate, Some, refl, sym, ap, ◌∙◌, arith}
+use Rattle.std.proofs.Common.{◌≡◌, ℕ, suc, ◌+◌, ◌-◌, ◌<◌, ◌≤◌, true, nat_lt, List, [], ◌∷◌, ◌++◌, length, take, drop, replicate, Some, append_assoc, length-append, refl, sym, ap, ◌∙◌, arith}
 use Rattle.std.proofs.lemmas.Bool.{lt-ltb}
-use Rattle.std.proofs.Math.Seq.{take-append_seam}
+use Rattle.std.proofs.Math.Seq.{take-append_seam, set-append_seam}
+use Rattle.std.proofs.Math.ListN.{set}
 use Rattle.flt_graph.specs.declared.turns.Turn.{Turn}
 use Rattle.flt_frame.specs.Padded.{padded, IsPadded}
 use Rattle.flt_frame.specs.Turns.{no_turn, without_first, with_turn}
@@ -12,6 +13,24 @@ pub holds : (A : Type 0) (places : ℕ) (blank : A) (xs cells : List A) (used : 
 holds A places blank xs cells used most is counts =
     let seen : take used cells ≡ xs = rw (counts, is) (take-append_seam xs (replicate (places - length xs) blank)) in
     (record { within = omega arith; counted = rw seen (sym counts); filled = rw seen (sym is) }, seen)
+
+-- one more behind a list
+pub one_after : (A : Type 0) (places : ℕ) (blank x : A) (cells : List A) (used : ℕ) → IsPadded A places blank cells used → used < places →
+    IsPadded A places blank (set cells used x) (used + 1) × (take (used + 1) (set cells used x) ≡ take used cells ++ x ∷ [])
+one_after A places blank x cells used p less =
+    let xs : List A = take used cells in
+    let counted : length xs ≡ used = p.counted in
+    let room : places - length xs ≡ suc (places - suc (length xs)) = omega arith in
+    let long : length (xs ++ x ∷ []) ≡ length xs + 1 = length-append xs (x ∷ []) in
+    let left : places - length (xs ++ x ∷ []) ≡ places - suc (length xs) = omega arith in
+    let blanks : List A = replicate (places - suc (length xs)) blank in
+    let before : cells ≡ xs ++ blank ∷ blanks = sym p.filled ∙ ap (λ (n : ℕ). xs ++ replicate n blank) room in
+    let is : set cells used x ≡ padded places blank (xs ++ x ∷ []) =
+    ap (λ (l : List A). set l used x) before ∙ ap (λ (n : ℕ). set (xs ++ blank ∷ blanks) n x) (sym counted) ∙ set-append_seam xs blank blanks x ∙
+    sym (append_assoc xs (x ∷ []) blanks) ∙ ap (λ (n : ℕ). (xs ++ x ∷ []) ++ replicate n blank) (sym left) in
+    let most : length (xs ++ x ∷ []) ≤ places = omega arith in
+    let counts : used + 1 ≡ length (xs ++ x ∷ []) = omega arith in
+    holds A places blank (xs ++ x ∷ []) (set cells used x) (used + 1) most is counts
 
 -- ---- turns
 

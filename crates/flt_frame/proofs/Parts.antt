@@ -1,14 +1,16 @@
 -- What the tests of a standing's parts say.
-use Rattle.std.proofs.Common.{◌≡◌, ℕ, Bool, ◌==◌, List, Option, Some, None, refl, ap, sym, ◌∙◌, eqb}
+use Rattle.std.proofs.Math.Seq.{take-length}
+use Rattle.std.proofs.Common.{◌≡◌, ℕ, ◌-◌, ◌≤◌, arith, Bool, true, false, not, ◌&&◌, ◌==◌, List, [], ◌∷◌, length, take, drop, get_or, subst, Option, Some, None, refl, ap, sym, ◌∙◌, eqb}
 use Rattle.std.specs.Bool.{Decides}
 use Rattle.std.specs.Cmp.Lexicographic.{pointwise}
 use Rattle.std.specs.Option.{option_eq}
 use Rattle.std.proofs.lemmas.Bool.Decides.{Decides-eqb, Decides-and, Decides-like}
+use Rattle.std.proofs.lemmas.Bool.{or_parts, and_parts}
 use Rattle.std.proofs.lemmas.Option.{same_Some}
 use Rattle.std.proofs.lemmas.Slice.Eq.{slice_eq-Decides}
 use Rattle.flt_graph.specs.declared.turns.Turn.{Turn}
 use Rattle.flt_rules.specs.Call.{lock_at, place_of}
-use Rattle.flt_rules.specs.Held.{same_lock, same_access, same_held}
+use Rattle.flt_rules.specs.Held.{same_lock, same_access, same_held, holds_lock, without_last}
 use Rattle.flt_rules.specs.declared.call.LockNumber.{LockNumber}
 use Rattle.flt_rules.specs.declared.call.LockNumber.TheVariants.{L0, L1, L2, L3, L4, L5, L6, L7}
 use Rattle.flt_rules.specs.declared.held.Access.{Access}
@@ -77,3 +79,39 @@ numbers_decide xs ys r e = slice_eq-Decides Decides-eqb xs ys r e
 
 pub options_decide : (xs ys : List (Option ℕ)) (r : Bool) → r ≡ pointwise (option_eq eqb) xs ys → Decides r (xs ≡ ys)
 options_decide xs ys r e = slice_eq-Decides option_decides xs ys r e
+
+-- ---- locks that are given up
+
+-- where the lock isn't among some, none of them goes
+none_goes : (l : LockNumber) (hs : List HeldLock) → holds_lock l hs ≡ false → without_last l hs ≡ hs
+none_goes l [] e = refl
+none_goes l (h ∷ hs) e =
+    let parts = or_parts (same_lock l h.lock) (holds_lock l hs) e in
+    let other : same_lock l h.lock ≡ false = parts.0 in
+    rw other (ap (λ (ks : List HeldLock). h ∷ ks) (none_goes l hs parts.1))
+
+-- the last entry of the lock goes
+pub last_goes : (l : LockNumber) (h : HeldLock) (hs : List HeldLock) → (same_lock l h.lock && not (holds_lock l hs)) ≡ true →
+    without_last l (h ∷ hs) ≡ without_last l hs
+last_goes l h hs e = rw e (sym (none_goes l hs (by (holds_lock l hs) (and_parts (same_lock l h.lock) (not (holds_lock l hs)) e).1)))
+  where
+    by : (b : Bool) → not b ≡ true → b ≡ false
+    by true e = absurd (cc)
+    by false e = refl
+
+-- any other stays
+pub other_stays : (l : LockNumber) (h : HeldLock) (hs : List HeldLock) → (same_lock l h.lock && not (holds_lock l hs)) ≡ false →
+    without_last l (h ∷ hs) ≡ h ∷ without_last l hs
+other_stays l h hs e = rw e refl
+
+-- the first of some goes, where it is the lock's last entry
+pub first_goes : (l : LockNumber) (hs : List HeldLock) (d : HeldLock) → 1 ≤ length hs →
+    (same_lock l (get_or hs 0 d).lock && not (holds_lock l (take (length hs - 1) (drop 1 hs)))) ≡ true →
+    without_last l (take (length hs - 1) (drop 1 hs)) ≡ without_last l hs
+first_goes l [] d some e = absurd (omega arith)
+first_goes l (h ∷ hs) d some e =
+    let counted : length (h ∷ hs) - 1 ≡ length hs = omega arith in
+    let whole : take (length (h ∷ hs) - 1) hs ≡ hs = ap (λ (n : ℕ). take n hs) counted ∙ take-length hs in
+    let goes : (same_lock l h.lock && not (holds_lock l hs)) ≡ true =
+    subst (λ (ks : List HeldLock). (same_lock l h.lock && not (holds_lock l ks)) ≡ true) whole e in
+    ap (λ (ks : List HeldLock). without_last l ks) whole ∙ sym (last_goes l h hs goes)

@@ -1,6 +1,6 @@
 //! The locks that an activation holds.
 
-ghost use Rattle.std.specs.Prelude.{◌≡◌, ◌↔◌, [], IsTrue};
+ghost use Rattle.std.specs.Prelude.{◌≡◌, ◌↔◌, ◌+◌, ◌<◌, ◌≤◌, [], ◌∷◌, ◌++◌, ◌&&◌, not, length, IsTrue};
 ghost use Rattle.std.specs.Cmp.Lexicographic.{pointwise};
 ghost use Rattle.flt_rules.specs.Held as rules;
 
@@ -51,6 +51,36 @@ fn are_same(left: &[HeldLock], right: &[HeldLock]) -> bool
     }
 }
 
+/// Whether the lock is among some, in either way.
+fn holds_lock(lock: LockNumber, locks: &[HeldLock]) -> bool
+    ensures { result ≡ rules.holds_lock lock locks.now }
+{
+    locks.iter().any(|held| lock.is_same(held.lock))
+}
+
+/// Whether a lock's last entry is the first of some.
+fn is_last(lock: LockNumber, first: HeldLock, rest: &[HeldLock]) -> bool
+    ensures { result ≡ (rules.same_lock lock first.lock && not (rules.holds_lock lock rest.now)) }
+{
+    lock.is_same(first.lock) && !holds_lock(lock, rest)
+}
+
+/// Adds locks to some, without the last entry of one.
+#[tactic(auto, using(crate::proofs::Parts::last_goes, crate::proofs::Parts::other_stays))]
+fn keep(kept: &mut HeldLocks, lock: LockNumber, locks: &[HeldLock])
+    requires { length kept.old + length locks.now ≤ 8 }
+    ensures { kept.new ≡ kept.old ++ rules.without_last lock locks.now }
+{
+    let [first, rest @ ..] = locks else {
+        return;
+    };
+    if is_last(lock, *first, rest) {
+        return keep(kept, lock, rest);
+    }
+    kept.take(*first);
+    keep(kept, lock, rest);
+}
+
 impl HeldLocks {
     /// No lock.
     pub(crate) fn none() -> HeldLocks
@@ -64,9 +94,29 @@ impl HeldLocks {
 
     /// The locks, the oldest first.
     pub fn as_slice(&self) -> &[HeldLock]
-        ensures { result.now ≡ self.now }
+        ensures value { result.now ≡ self.now }
+        ensures few { length self.now ≤ 8 }
     {
         &self.locks[..self.used]
+    }
+
+    /// Takes a lock, as the latest.
+    pub fn take(&mut self, lock: HeldLock)
+        requires { length self.old < 8 }
+        ensures { self.new ≡ self.old ++ lock ∷ [] }
+    {
+        self.locks[self.used] = lock;
+        self.used += 1;
+    }
+
+    /// Gives a lock up: its last entry goes, however the lock is held.
+    pub fn give_up(&mut self, lock: LockNumber)
+        ensures { self.new ≡ rules.without_last lock self.old }
+    {
+        let locks = *self;
+        let mut kept = HeldLocks::none();
+        keep(&mut kept, lock, locks.as_slice());
+        *self = kept;
     }
 
     pub(crate) fn is_same(&self, other: &HeldLocks) -> bool

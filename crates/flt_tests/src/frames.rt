@@ -8,6 +8,7 @@ use std::alloc::Global;
 use std::test::Fail;
 
 /// A callback of one filter, and what is expected of its local steps from the entry on.
+#[derive(Clone, Copy)]
 struct Case {
     text: &'static str,
     callback: usize,
@@ -72,7 +73,7 @@ const CASES: [Case; 5] = [
 const STOPS_IN_A_TURN: &str =
     "filter a altitude 100\npre read {\nrepeat 2 {\nrepeat 3 {\nn0 = n0 - 1\nif irp data {\n}\n}\n}\nreturn NO_CALLBACK\n}\n";
 
-fn loaded(alloc: Global, text: &str) -> Result<Loaded, Fail> {
+fn filter_of(alloc: Global, text: &str) -> Result<Loaded, Fail> {
     let tree = parse(alloc, text.as_bytes())?;
     let mut graphs = Items::new(alloc);
     graphs.push(lower(alloc, &tree)?)?;
@@ -88,11 +89,11 @@ fn frame(standing: Standing, draining: bool) -> Frame {
     }
 }
 
-/// Each case from its callback's entry: the last callback of the text.
+/// Each case, from its callback's entry.
 #[test]
 fn steps_lead_to_the_next_seen_one(rt: HostRuntime) -> Result<(), Fail> {
     for case in CASES {
-        let loaded = loaded(rt.alloc(), case.text)?;
+        let loaded = filter_of(rt.alloc(), case.text)?;
         let standing = Standing::starting(case.callback, Some(5), None);
         let advanced = advance(&loaded, frame(standing, case.draining));
         assert!(rt; advanced.steps == case.steps);
@@ -107,7 +108,7 @@ fn steps_lead_to_the_next_seen_one(rt: HostRuntime) -> Result<(), Fail> {
 /// A frame that stops in the turns of two repeats goes on where each seen test leads: the turns that are left go with it.
 #[test]
 fn turns_go_with_a_standing(rt: HostRuntime) -> Result<(), Fail> {
-    let loaded = loaded(rt.alloc(), STOPS_IN_A_TURN)?;
+    let loaded = filter_of(rt.alloc(), STOPS_IN_A_TURN)?;
     let mut standing = Standing::starting(0, Some(5), None);
     for steps in [3, 2, 2, 4, 2, 2] {
         let advanced = advance(&loaded, frame(standing, false));
@@ -121,5 +122,6 @@ fn turns_go_with_a_standing(rt: HostRuntime) -> Result<(), Fail> {
     assert!(rt; advanced.after.point == 4);
     let [n0, _, _, _, _, _, _, _] = advanced.after.numbers;
     assert!(rt; n0 == 18_446_744_073_709_551_610);
+    assert!(rt; !advanced.after.is_same(&standing));
     Ok(())
 }
