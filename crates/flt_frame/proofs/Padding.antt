@@ -26,7 +26,8 @@ one_after A places blank x cells used p less =
     let blanks : List A = replicate (places - suc (length xs)) blank in
     let before : cells ≡ xs ++ blank ∷ blanks = sym p.filled ∙ ap (λ (n : ℕ). xs ++ replicate n blank) room in
     let is : set cells used x ≡ padded places blank (xs ++ x ∷ []) =
-    ap (λ (l : List A). set l used x) before ∙ ap (λ (n : ℕ). set (xs ++ blank ∷ blanks) n x) (sym counted) ∙ set-append_seam xs blank blanks x ∙
+    ap (λ (l : List A). set l used x) before ∙ ap (λ (n : ℕ). set (xs ++ blank ∷ blanks) n x) (sym counted)
+    ∙ set-append_seam xs blank blanks x ∙
     sym (append_assoc xs (x ∷ []) blanks) ∙ ap (λ (n : ℕ). (xs ++ x ∷ []) ++ replicate n blank) (sym left) in
     let most : length (xs ++ x ∷ []) ≤ places = omega arith in
     let counts : used + 1 ≡ length (xs ++ x ∷ []) = omega arith in

@@ -7,4 +7,5 @@ use Rattle.flt_frame.specs.HeldLocks.{no_lock}
 pub returns-then-is_last : goal.returns-then-is_last
 returns-then-is_last t c =
     c.keep.ensures ∙
-    ap (λ (hs : List HeldLock). c.args.kept.now ++ hs) (first_goes c.args.lock c.args.locks.now no_lock c.in-len1-up.len_at_least (sym c.is_last.ensures ∙ c.if-is_last.true))
+    ap (λ (hs : List HeldLock). c.args.kept.now ++ hs)
+    (first_goes c.args.lock c.args.locks.now no_lock c.in-len1-up.len_at_least (sym c.is_last.ensures ∙ c.if-is_last.true))

@@ -7,4 +7,5 @@ use Rattle.flt_frame.proofs.held_locks.HeldLocks.is_same.Goals as goal
 pub returns : goal.returns
 returns c =
     locks_decide c.args.self.now c.args.other.now c.are_same.result
-    (let is : c.are_same.result ≡ pointwise same_held c.args.self.now c.args.other.now = rw (← c.as_slice.ensures.value, ← c.as_slice-2.ensures.value) c.are_same.ensures in is)
+    (let is : c.are_same.result ≡ pointwise same_held c.args.self.now c.args.other.now =
+    rw (← c.as_slice.ensures.value, ← c.as_slice-2.ensures.value) c.are_same.ensures in is)
