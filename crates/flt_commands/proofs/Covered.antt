@@ -1,8 +1,7 @@
 -- What is covered breaks nothing, and an exit status 0 says that something is covered.
-use Rattle.std.proofs.Common.{◌≡◌, ◌≢◌, ℕ, zero, suc, List, [], ◌∷◌, Option, Some, None, Result, Ok, Err, take, drop, sym, arith}
+use Rattle.std.proofs.Common.{◌≡◌, ℕ, zero, suc, List, [], ◌∷◌, Option, Some, Result, Ok, Err, take, drop, sym, arith}
 use Rattle.std.proofs.Math.Path.{subst}
-use Rattle.flt_syntax.specs.Spelling.{Spells, SpellsAtMostOne, SpelledIsWellFormed}
-use Rattle.flt_tree.specs.declared.filter.Filter.{Filter}
+use Rattle.flt_syntax.specs.Spelling.{SpellsAtMostOne, SpelledIsWellFormed}
 use Rattle.flt_graph.specs.declared.graph.Graph.{Graph}
 use Rattle.flt_cert.specs.Format.{Certificate}
 use Rattle.flt_check.specs.Covering.{Covers}
@@ -11,9 +10,9 @@ use Rattle.flt_commands.specs.Analyse.{IsAnalysed}
 use Rattle.flt_commands.specs.Answer.{status_of}
 use Rattle.flt_commands.specs.Check.{HasPoints, IsAnswer, IsChecked}
 use Rattle.flt_commands.specs.Clean.{BreaksNothing, IsClean, YesIsClean}
-use Rattle.flt_commands.specs.Commands.{IsSaid, IsSaidOf, IsReported, PrintsFor, names_of}
-use Rattle.flt_commands.specs.Inputs.{AreGiven, Giving, Says, unread, given, Text}
-use Rattle.flt_commands.specs.Words.{Asked, Check, Analyse, Replay}
+use Rattle.flt_commands.specs.Commands.{IsSaid, IsSaidOf, IsReported}
+use Rattle.flt_commands.specs.Inputs.{Giving, given, Text}
+use Rattle.flt_commands.specs.Words.{Asked, Check, Analyse, Replay, asked}
 use Rattle.flt_commands.specs.declared.answer.Answer.{Answer}
 use Rattle.flt_commands.specs.declared.answer.Answer.TheVariants.{Accepted, Refused, Certificate as Written, Judged}
 use Rattle.flt_commands.specs.declared.commands.CommandFault.{CommandFault}
@@ -68,13 +67,10 @@ module _ (law : Law) where
   of_said gives request (Err f) bytes said reported = absurd (omega (arith, reported.1.1))
   of_said gives request (Ok answer) bytes (given texts result there said) reported = (texts, there, said_is_clean request texts answer said (sym reported.1))
 
-  -- where the words and what is read for them print something with the status 0, the text breaks nothing
-  pub yes_is_clean : (gives : Giving) (request : Option Asked) (bytes : List ℕ) → PrintsFor gives request bytes 0 → YesIsClean gives request
-  yes_is_clean gives (Some request) bytes prints = of_said gives request prints.0 bytes prints.1 prints.2
-  yes_is_clean gives None bytes prints = absurd (omega (arith, prints.1))
-
-  -- the same of a command's result
-  pub clean_of : (gives : Giving) (request : Option Asked) (result : Result ℕ CommandFault) (P : ℕ → List ℕ → Type 0)
-      → IfOk result (λ status. (bytes : List ℕ) × PrintsFor gives request bytes status × P status bytes) → IfOk result (λ status. status ≡ 0 → YesIsClean gives request)
-  clean_of gives request (Ok status) P prints = λ good. yes_is_clean gives request prints.0 (subst (λ n. PrintsFor gives request prints.0 n) good prints.1)
-  clean_of gives request (Err f) P prints = tt
+  -- where what the words ask for is said, and reported with the status 0, the text breaks nothing
+  pub clean_of : (gives : Giving) (words : List (List ℕ)) (request : Asked) (said : Result Answer Failure) (result : Result ℕ CommandFault) (P : ℕ → List ℕ → Type 0)
+      → Some request ≡ asked words → IsSaid gives request said → IfOk result (λ status. (bytes : List ℕ) × IsReported said bytes status × P status bytes)
+      → IfOk result (λ status. status ≡ 0 → YesIsClean gives (asked words))
+  clean_of gives words request said (Ok status) P asks is (bytes, reported, rest) =
+      λ good. rw (← asks) (of_said gives request said bytes is (subst (λ n. IsReported said bytes n) good reported))
+  clean_of gives words request said (Err f) P asks is reported = tt

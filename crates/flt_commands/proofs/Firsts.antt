@@ -1,12 +1,10 @@
 -- The first of several: what holds of those before it, and where it stands.
-use Rattle.std.proofs.Common.{◌≡◌, ◌≢◌, ◌==◌, ℕ, zero, suc, ◌+◌, ◌<◌, ◌≤◌, Bool, true, false, ◌&&◌, ◌||◌, List, [], ◌∷◌, ◌++◌, Some, Err, Bor, Vec, Global, length, get_or, take, drop, map, refl, sym, ap, ◌∙◌, arith, count_by, cond, eqb-true, eq-eqb, slice_get}
-use Rattle.std.proofs.lemmas.List.{take-append-drop, drop_more, map-append, map_more, map_push, length-take-le, length-map, take_all}
+use Rattle.std.proofs.Common.{◌≡◌, ℕ, ◌+◌, ◌<◌, ◌≤◌, Bool, true, false, ◌&&◌, ◌||◌, List, [], ◌∷◌, ◌++◌, Some, Err, Bor, Vec, Global, length, get_or, take, drop, map, refl, sym, ap, ◌∙◌, arith, count_by, cond}
+use Rattle.std.proofs.lemmas.List.{take-append-drop, drop_more, map-append, map_more, map_push, length-take-le, length-map}
 use Rattle.std.proofs.lemmas.List.Folds.{list_any-append}
-use Rattle.std.proofs.lemmas.List.Quantifiers.{all_pairs_push}
 use Rattle.std.proofs.lemmas.List.Sums.{sum_by-cons, sum_by_push}
 use Rattle.std.proofs.lemmas.Slice.Zip.{all_zipped_more}
 use Rattle.std.specs.List.{list_any}
-use Rattle.flt_model.specs.Program.{HasDistinctAltitudes}
 use Rattle.flt_replay.specs.Judging.{filters_of}
 use Rattle.flt_syntax.specs.File.{filter_of}
 use Rattle.flt_syntax.specs.Spelling.{Spells}

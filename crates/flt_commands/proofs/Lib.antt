@@ -6,6 +6,5 @@ pub mod OneCheck
 pub mod OnePlace
 pub mod OneReading
 pub mod OneVerdict
-pub mod Outputs
 pub mod Readings
 pub mod Requests

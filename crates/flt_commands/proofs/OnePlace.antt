@@ -1,5 +1,5 @@
 -- Two places in a list, and two lists that a relation leads to from one.
-use Rattle.std.proofs.Common.{◌≡◌, List, [], ◌∷◌, ◌++◌, refl, sym}
+use Rattle.std.proofs.Common.{◌≡◌, List, [], ◌∷◌, ◌++◌, refl}
 use Rattle.std.specs.List.{AllZip}
 
 -- of two places, each with what stands before it, they are one, or one stands before the other

@@ -1,5 +1,5 @@
 -- Of some bytes `replay` says one thing at most.
-use Rattle.std.proofs.Common.{◌≡◌, ◌≢◌, ◌<◌, ◌≤◌, ℕ, List, [], ◌∷◌, ◌++◌, Some, Result, Ok, Err, length, length-append, get_or, slice_get, refl, sym, ap, ◌∙◌, subst, arith}
+use Rattle.std.proofs.Common.{◌≡◌, ◌≢◌, ◌<◌, ℕ, List, [], ◌∷◌, ◌++◌, Some, Result, Ok, Err, length, length-append, get_or, slice_get, refl, sym, ap, ◌∙◌, subst, arith}
 use Rattle.std.proofs.Math.ListN.{get_or-append}
 use Rattle.std.proofs.Math.Seq.{get_or-append_seam}
 use Rattle.std.proofs.lemmas.Option.{get_or_from_slice_get, slice_get_within}
@@ -17,7 +17,7 @@ use Rattle.flt_commands.specs.Inputs.{Text}
 use Rattle.flt_commands.specs.Replay.{AreSpelled, IsFailure, IsReplayed, IsSyntaxFault, IsVerdict, Judges}
 use Rattle.flt_commands.specs.Single.{AreSame, SaysOne, seen, told}
 use Rattle.flt_commands.specs.declared.answer.Answer.{Answer}
-use Rattle.flt_commands.specs.declared.answer.Answer.TheVariants.{Accepted, Refused, Certificate as Written, Judged}
+use Rattle.flt_commands.specs.declared.answer.Answer.TheVariants.{Judged}
 use Rattle.flt_commands.specs.declared.failure.Failure.{Failure}
 use Rattle.flt_commands.specs.declared.failure.Failure.TheVariants.{TooManyFiles, FileSyntax, JournalLine, Altitude, OutOfMemory}
 
@@ -52,7 +52,7 @@ all_distinct filters n a distinct = not_distinct a.before a.after a.filter (subs
 module _ (one : SpellsAtMostOne) (read : (text : Text) (f : Filter) → Spells text f → filter_of text ≡ Ok f)
     (spelled : (a b : Entries) → IsJournal a → IsJournal b → spelling a ≡ spelling b → a ≡ b)
     (first : (text : Text) (line : ℕ) (left : Text) (other_line : ℕ) (other_left : Text) → IsFirstFault text line left → IsFirstFault text other_line other_left →
-        (line ≡ other_line) × (left ≡ other_left))
+    (line ≡ other_line) × (left ≡ other_left))
     (none : (entries : Entries) (line : ℕ) (left : Text) → IsJournal entries → ¬ IsFirstFault (spelling entries) line left) where
   -- ---- the texts
 

@@ -1,4 +1,4 @@
-use Rattle.std.proofs.Common.{◌≡◌, Err, List, ◌∷◌, ℕ, Bor, Vec, Global, map, take, drop, length, ◌-◌, refl, sym, ap, ◌∙◌, rules}
+use Rattle.std.proofs.Common.{◌≡◌, Err, List, ◌∷◌, ℕ, Bor, map, refl, rules}
 use Rattle.std.proofs.lemmas.List.{take_rest}
 use Rattle.flt_commands.specs.Inputs.{unread}
 use Rattle.flt_commands.proofs.Readings.{says_of_journal}
