@@ -7,6 +7,8 @@ mod certificates;
 #[cfg(test)]
 mod contexts;
 #[cfg(test)]
+mod findings;
+#[cfg(test)]
 mod journals;
 #[cfg(test)]
 mod lists;

@@ -1,0 +1,5 @@
+pub mod About
+pub mod Faults
+pub mod Findings
+pub mod Subjects
+pub mod Told

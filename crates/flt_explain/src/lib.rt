@@ -1,0 +1,19 @@
+//! All that is wrong with a text: where the analyser stops at the first broken rule, the walk here takes what the rule asks for as
+//! given and goes on. It exports `findings` for a text, and `faults` for a point and a state.
+#![tactic(auto)]
+
+mod about;
+mod faults;
+mod finding;
+mod findings;
+mod locks;
+mod operands;
+mod sets;
+mod sight;
+mod tell;
+mod walk;
+mod writes;
+
+pub use faults::faults;
+pub use finding::{Fault, Finding, Subject};
+pub use findings::findings;
