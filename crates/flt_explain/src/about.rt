@@ -7,7 +7,6 @@ ghost use Rattle.flt_abs.specs.Breaks as breaks;
 ghost use Rattle.flt_explain.specs.About as spec;
 
 use crate::finding::Subject;
-use crate::sets::{FAST, HELD, STALE, YES};
 use flt_abs::{Abs, Modes, Statuses};
 use flt_graph::{
     Action, ContextVariable, Instruction, Invocation, LockNumber, OperationVariable, Place, Status,
@@ -17,6 +16,15 @@ use flt_rules::{
     Mode, Need, Possession, Row, Rule, StatusRow, is_legal_in_draining, row, status_row,
 };
 use flt_tree::named_context;
+
+/// The bits of digits: held and stale of a variable, fast I/O, draining.
+const HELD: u8 = 2;
+
+const STALE: u8 = 4;
+
+const FAST: u8 = 2;
+
+const YES: u8 = 2;
 
 /// Whether a variable of contexts is the one that is named.
 pub(crate) fn is_context(named: Option<ContextVariable>, variable: ContextVariable) -> bool

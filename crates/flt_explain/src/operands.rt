@@ -4,9 +4,6 @@ use crate::finding::Subject;
 use flt_graph::{ContextVariable, OperationVariable, RemovedVariable};
 use flt_rules::LockNumber;
 
-/// How many operands have a set in a state: the variables, mode and draining.
-pub(crate) const SETS: usize = 16;
-
 pub(crate) const OPERANDS: [Subject; 24] = [
     Subject::Context(ContextVariable::C0),
     Subject::Context(ContextVariable::C1),

@@ -2,115 +2,141 @@
 
 use crate::about::set_at;
 use crate::finding::{Fault, Subject};
-use crate::operands::{OPERANDS, SETS};
+use crate::mending::{mended, mended_draining, mended_modes};
+use crate::operands::OPERANDS;
 use crate::writes::writes;
 use flt_abs::{Abs, CONTEXTS, Draining, Modes, OPERATIONS, Statuses};
 use flt_graph::Instruction;
-use flt_rules::Rule;
 
-/// The bits of a variable's digit.
-const NULL: u8 = 1;
-
-pub(crate) const HELD: u8 = 2;
-
-pub(crate) const STALE: u8 = 4;
-
-/// The bits of the mode's digit.
-pub(crate) const IRP: u8 = 1;
-
-pub(crate) const FAST: u8 = 2;
-
-/// The bits of the digit of draining.
-const NO: u8 = 1;
-
-pub(crate) const YES: u8 = 2;
-
-const WHOLE: u8 = 7;
-
-/// What may be so of each variable, of the mode and of draining, as the digits that a certificate writes, in the order of the
-/// operands. 0 is the empty set: all that was possible broke a rule, and nothing is told of it until it is written again.
+/// What may be so of each variable, of the mode and of draining. Of an empty set all that was possible broke a rule; nothing more is told
+/// of its subject, until it is written or a way joins in that has one.
 #[derive(Clone, Copy)]
 pub(crate) struct Sets {
-    digits: [u8; SETS],
+    contexts: [Statuses; CONTEXTS],
+    operations: [Statuses; OPERATIONS],
+    modes: Modes,
+    draining: Draining,
 }
 
-/// The statuses of a digit; all where it is 0.
-fn statuses(digit: u8) -> Statuses {
-    match Statuses::from_digit(digit) {
-        Some(set) if digit != 0 => set,
-        _ => Statuses::from_digit(7).unwrap(),
+fn no_statuses() -> Statuses {
+    Statuses::from_digit(0).unwrap()
+}
+
+fn no_modes() -> Modes {
+    Modes::from_digit(0).unwrap()
+}
+
+fn no_draining() -> Draining {
+    Draining::from_digit(0).unwrap()
+}
+
+fn either_statuses(a: Statuses, b: Statuses) -> Statuses {
+    Statuses::from_digit(a.digit() | b.digit()).unwrap_or(a)
+}
+
+fn either_modes(a: Modes, b: Modes) -> Modes {
+    Modes::from_digit(a.digit() | b.digit()).unwrap_or(a)
+}
+
+fn either_draining(a: Draining, b: Draining) -> Draining {
+    Draining::from_digit(a.digit() | b.digit()).unwrap_or(a)
+}
+
+/// The set, or all statuses in place of none.
+fn or_all(set: Statuses) -> Statuses {
+    if set.digit() == 0 {
+        Statuses::from_digit(7).unwrap()
+    } else {
+        set
     }
 }
 
-/// The modes of a digit; both where it is 0.
-fn modes(digit: u8) -> Modes {
-    match Modes::from_digit(digit) {
-        Some(set) if digit != 0 => set,
-        _ => Modes::from_digit(3).unwrap(),
+/// The set, or both modes in place of none.
+fn or_both(modes: Modes) -> Modes {
+    if modes.digit() == 0 {
+        Modes::from_digit(3).unwrap()
+    } else {
+        modes
     }
 }
 
-/// The answers to the draining test of a digit; both where it is 0.
-fn draining(digit: u8) -> Draining {
-    match Draining::from_digit(digit) {
-        Some(set) if digit != 0 => set,
-        _ => Draining::from_digit(3).unwrap(),
+/// The set, or both answers in place of none.
+fn or_either(draining: Draining) -> Draining {
+    if draining.digit() == 0 {
+        Draining::from_digit(3).unwrap()
+    } else {
+        draining
     }
 }
 
-/// What of a subject's digit the rule of a fault allows.
-fn allowed(fault: Fault) -> u8 {
-    match (fault.rule, fault.subject) {
-        (Rule::R01 | Rule::R04 | Rule::R13, _) => HELD,
-        (Rule::R02 | Rule::R03 | Rule::R05, _) => NULL | STALE,
-        (Rule::R06, Subject::Mode) => IRP,
-        (Rule::R08, Subject::Draining) => NO,
-        _ => WHOLE,
-    }
+fn are_same(a: &[Statuses], b: &[Statuses]) -> bool {
+    a.iter().zip(b).all(|(x, y)| x.digit() == y.digit())
 }
 
 impl Sets {
     /// The sets of a state.
     pub(crate) fn of(state: &Abs) -> Sets {
-        let mut digits = [0; SETS];
+        let mut contexts = [no_statuses(); CONTEXTS];
         for place in 0..CONTEXTS {
-            digits[place] = set_at(state.contexts(), place).digit();
+            contexts[place] = set_at(state.contexts(), place);
         }
+        let mut operations = [no_statuses(); OPERATIONS];
         for place in 0..OPERATIONS {
-            digits[CONTEXTS + place] = set_at(state.operations(), place).digit();
+            operations[place] = set_at(state.operations(), place);
         }
-        digits[14] = state.modes().digit();
-        digits[15] = state.draining().digit();
-        Sets { digits }
-    }
-
-    /// The digit of a subject; `WHOLE` for one that has no set.
-    fn digit(&self, subject: Subject) -> u8 {
-        let place = subject.place();
-        if place < SETS {
-            self.digits[place]
-        } else {
-            WHOLE
+        Sets {
+            contexts,
+            operations,
+            modes: state.modes(),
+            draining: state.draining(),
         }
     }
 
-    fn keep(&mut self, subject: Subject, bits: u8) {
-        let place = subject.place();
-        if place < SETS {
-            self.digits[place] &= bits;
-        }
-    }
-
-    /// Whether something is told of a subject.
+    /// Whether something is told of a subject: its set isn't empty, or it has none.
     pub(crate) fn tells(&self, subject: Subject) -> bool {
-        self.digit(subject) != 0
+        match subject {
+            Subject::Context(variable) => self.contexts[variable.place()].digit() != 0,
+            Subject::Operation(variable) => self.operations[variable.place()].digit() != 0,
+            Subject::Mode => self.modes.digit() != 0,
+            Subject::Draining => self.draining.digit() != 0,
+            Subject::Lock(_) | Subject::Call | Subject::Status => true,
+        }
+    }
+
+    /// Empties the set of a subject.
+    fn empty(&mut self, subject: Subject) {
+        match subject {
+            Subject::Context(variable) => self.contexts[variable.place()] = no_statuses(),
+            Subject::Operation(variable) => self.operations[variable.place()] = no_statuses(),
+            Subject::Mode => self.modes = no_modes(),
+            Subject::Draining => self.draining = no_draining(),
+            Subject::Lock(_) | Subject::Call | Subject::Status => {}
+        }
+    }
+
+    /// Takes out what breaks the rule of a fault.
+    fn mend(&mut self, fault: Fault) {
+        let rule = fault.rule;
+        match fault.subject {
+            Subject::Context(variable) => {
+                let place = variable.place();
+                self.contexts[place] = mended(self.contexts[place], rule);
+            }
+            Subject::Operation(variable) => {
+                let place = variable.place();
+                self.operations[place] = mended(self.operations[place], rule);
+            }
+            Subject::Mode => self.modes = mended_modes(self.modes),
+            Subject::Draining => self.draining = mended_draining(self.draining),
+            Subject::Lock(_) | Subject::Call | Subject::Status => {}
+        }
     }
 
     /// The sets without what breaks the rules of these faults.
     pub(crate) fn mended(&self, faults: &[Fault]) -> Sets {
         let mut sets = *self;
         for fault in faults {
-            sets.keep(fault.subject, allowed(*fault));
+            sets.mend(*fault);
         }
         sets
     }
@@ -120,7 +146,7 @@ impl Sets {
         let mut sets = *self;
         for subject in OPERANDS {
             if !before.tells(subject) && !writes(instruction, granted, subject) {
-                sets.keep(subject, 0);
+                sets.empty(subject);
             }
         }
         sets
@@ -128,58 +154,44 @@ impl Sets {
 
     /// What is in one of both.
     pub(crate) fn union(&self, other: &Sets) -> Sets {
-        let mut sets = *self;
-        for place in 0..SETS {
-            sets.digits[place] |= other.digits[place];
+        let mut contexts = self.contexts;
+        for place in 0..CONTEXTS {
+            contexts[place] = either_statuses(contexts[place], other.contexts[place]);
         }
-        sets
+        let mut operations = self.operations;
+        for place in 0..OPERATIONS {
+            operations[place] = either_statuses(operations[place], other.operations[place]);
+        }
+        Sets {
+            contexts,
+            operations,
+            modes: either_modes(self.modes, other.modes),
+            draining: either_draining(self.draining, other.draining),
+        }
     }
 
     pub(crate) fn is_same(&self, other: &Sets) -> bool {
-        self.digits.as_slice() == other.digits.as_slice()
+        are_same(&self.contexts, &other.contexts)
+            && are_same(&self.operations, &other.operations)
+            && self.modes.digit() == other.modes.digit()
+            && self.draining.digit() == other.draining.digit()
     }
 
-    /// The state with these sets, and all in place of an empty one, and with the locks of a state.
+    /// The state with these sets, all in place of an empty one, and with the locks of a state.
     pub(crate) fn with_locks_of(&self, state: &Abs) -> Option<Abs> {
-        let [
-            c0,
-            c1,
-            c2,
-            c3,
-            c4,
-            c5,
-            c6,
-            c7,
-            arg,
-            o0,
-            o1,
-            o2,
-            o3,
-            data,
-            mode,
-            drains,
-        ] = self.digits;
+        let mut contexts = self.contexts;
+        for place in 0..CONTEXTS {
+            contexts[place] = or_all(contexts[place]);
+        }
+        let mut operations = self.operations;
+        for place in 0..OPERATIONS {
+            operations[place] = or_all(operations[place]);
+        }
         state.with_sets(
-            [
-                statuses(c0),
-                statuses(c1),
-                statuses(c2),
-                statuses(c3),
-                statuses(c4),
-                statuses(c5),
-                statuses(c6),
-                statuses(c7),
-                statuses(arg),
-            ],
-            [
-                statuses(o0),
-                statuses(o1),
-                statuses(o2),
-                statuses(o3),
-                statuses(data),
-            ],
-            modes(mode),
-            draining(drains),
+            contexts,
+            operations,
+            or_both(self.modes),
+            or_either(self.draining),
         )
     }
 }
