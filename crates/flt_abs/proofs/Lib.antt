@@ -1,6 +1,7 @@
-pub mod LockLaws
+pub mod LockLemmas
 pub mod Monotone
 pub mod Order
 pub mod Outcomes
+pub mod Registrations
 pub mod SetLemmas
 pub mod Stays

@@ -3,12 +3,11 @@ use Rattle.std.proofs.Common.{◌≡◌, ℕ, zero, suc, Bool, true, false, List
 use Rattle.std.proofs.Math.ListN.{set}
 use Rattle.std.specs.Prelude.{not, ◌||◌, ◌&&◌, if◌then◌else◌, find}
 use Rattle.std.specs.List.{list_all}
-use Rattle.std.specs.Str.{bytes_eq}
 use Rattle.std.proofs.lemmas.Bool.{and_parts, and_from}
-use Rattle.std.proofs.lemmas.Slice.Eq.{bytes_eq-Decides}
 use Rattle.std.proofs.lemmas.Option.{none-some}
-use Rattle.flt_rules.specs.Call.{place_of, is_legal_in_draining}
+use Rattle.flt_rules.specs.Call.{is_legal_in_draining}
 use Rattle.flt_rules.specs.Columns.{has_place}
+use Rattle.flt_rules.specs.Held.{holds_lock, is_latest, same_locks}
 use Rattle.flt_rules.specs.Table.{row}
 use Rattle.flt_rules.specs.Status.{status_row}
 use Rattle.flt_rules.specs.declared.call.LockNumber.{LockNumber}
@@ -39,7 +38,7 @@ use Rattle.flt_graph.specs.declared.instruction.Instruction.TheVariants as instr
 use Rattle.flt_graph.specs.declared.instruction.Invocation.{Invocation}
 use Rattle.flt_abs.specs.Breaks.{is_empty, lacks_context, lacks_operation, may_hold_context, may_hold_operation, is_mode_alone, action_breaks, test_breaks, hands_illegally, is_need_held, is_need_handed_over, is_need_output, is_need_latest, is_need_not_held, releases_wrong_lock, takes_held_lock, row_breaks, is_possessed, is_of_mode, fits_setting, fits_state, returns_illegally, contexts_without, is_any_held, owes_data, return_breaks, breaks, first_broken, rules}
 use Rattle.flt_abs.specs.Sets.{StatusSet, ModeSet, null_alone, is_held, is_stale, statuses_within, modes_within, drainings_within, without_null, is_possible, is_mode_possible}
-use Rattle.flt_abs.specs.Locks.{holds_lock, is_latest}
+use Rattle.flt_abs.specs.LockLaws.{same_locks_decides}
 use Rattle.flt_abs.specs.Setting.{setting_of}
 use Rattle.flt_abs.specs.State.{Null, Held, Stale, State, is_below, is_proper, all_within}
 use Rattle.flt_abs.specs.Step.{changed, set_context, set_operation, changed_locks, set_locks, after_call, after_action, where_true, where_false, at, after_failure, leads_to, unless_broken, transfer, IsSuccessorBelow, AreBelow, IsOutcomeBelow}
@@ -181,15 +180,15 @@ pub record Below (x y : State) : Type 0 where
 
 below_parts : (x y : State) → is_below x y ≡ true → Below x y
 below_parts x y h =
-    let locks = and_parts (bytes_eq x.locks y.locks) _ h in
+    let locks = and_parts (same_locks x.locks y.locks) _ h in
     let modes = and_parts (modes_within x.modes y.modes) _ locks.1 in
     let draining = and_parts (drainings_within x.draining y.draining) _ modes.1 in
     let lists = and_parts (all_within x.contexts y.contexts) _ draining.1 in
-    record { locks = (bytes_eq-Decides x.locks y.locks).0 locks.0; modes = modes.0; draining = draining.0; contexts = lists.0; operations = lists.1 }
+    record { locks = (same_locks_decides x.locks y.locks).0 locks.0; modes = modes.0; draining = draining.0; contexts = lists.0; operations = lists.1 }
 
 from_below : (x y : State) → Below x y → is_below x y ≡ true
 from_below x y b =
-    and_from _ _ ((bytes_eq-Decides x.locks y.locks).1 b.locks)
+    and_from _ _ ((same_locks_decides x.locks y.locks).1 b.locks)
     (and_from _ _ b.modes (and_from _ _ b.draining (and_from _ _ b.contexts b.operations)))
 
 context_within : (x y : State) (c : ContextVariable) → Below x y → statuses_within (context_in x c) (context_in y c) ≡ true
@@ -233,11 +232,11 @@ grows-test s x y t r b p = λ e. e
 
 -- the locks are the same, so what reads them alone is
 releases : (x y : State) (l : Option LockNumber) → Below x y → releases_wrong_lock x l ≡ true → releases_wrong_lock y l ≡ true
-releases x y (Some l) b h = ap (λ k. not (is_latest (place_of l) k)) (sym b.locks) ∙ h
+releases x y (Some l) b h = ap (λ k. not (is_latest l k)) (sym b.locks) ∙ h
 releases x y None b h = h
 
 takes : (x y : State) (l : Option LockNumber) → Below x y → takes_held_lock x l ≡ true → takes_held_lock y l ≡ true
-takes x y (Some l) b h = ap (λ k. holds_lock (place_of l) k) (sym b.locks) ∙ h
+takes x y (Some l) b h = ap (λ k. holds_lock l k) (sym b.locks) ∙ h
 takes x y None b h = h
 
 drained : (x y : State) → Below x y → x.draining.yes ≡ true → y.draining.yes ≡ true

@@ -3,13 +3,14 @@ use Rattle.std.proofs.Common.{◌≡◌, ◌↔◌, ◌<◌, ◌≤◌, ℕ, zer
 use Rattle.std.proofs.Math.ListN.{set}
 use Rattle.std.specs.Prelude.{not, ◌||◌}
 use Rattle.std.specs.List.{list_all}
-use Rattle.std.specs.Str.{bytes_eq}
 use Rattle.std.proofs.lemmas.Bool.{and_parts, and_from, eqb-true, eq-eqb}
-use Rattle.std.proofs.lemmas.Slice.Eq.{bytes_eq-Decides}
+use Rattle.flt_rules.specs.Held.{same_locks}
+use Rattle.flt_rules.specs.declared.held.HeldLock.{HeldLock}
 use Rattle.flt_rules.specs.declared.place.Mode.{Mode}
 use Rattle.flt_rules.specs.declared.place.Mode.TheVariants.{Irp, Fast}
 use Rattle.flt_abs.specs.Sets.{StatusSet, ModeSet, DrainingSet, either_status, statuses_within, modes_within, drainings_within, is_possible, is_mode_possible, is_draining_possible}
 use Rattle.flt_abs.specs.State.{Status, Null, Held, Stale, Situation, State, IsBelow, IsJoin, has_status, has_mode, has_draining, have_statuses, is_proper, is_below, all_within, either_all, join_of}
+use Rattle.flt_abs.specs.LockLaws.{same_locks_decides}
 use Rattle.flt_abs.specs.Locks.{are_locks}
 
 -- ---- one set
@@ -115,11 +116,11 @@ more_not_within (x ∷ xs) (y ∷ ys) h e = absurd (omega arith)
 
 pub below_means : (a b : State) → is_below a b ≡ true → IsBelow a b
 below_means a b h =
-    let locks = and_parts (bytes_eq a.locks b.locks) _ h in
+    let locks = and_parts (same_locks a.locks b.locks) _ h in
     let modes = and_parts (modes_within a.modes b.modes) _ locks.1 in
     let draining = and_parts (drainings_within a.draining b.draining) _ modes.1 in
     let lists = and_parts (all_within a.contexts b.contexts) _ draining.1 in
-    let same : a.locks ≡ b.locks = (bytes_eq-Decides a.locks b.locks).0 locks.0 in
+    let same : a.locks ≡ b.locks = (same_locks_decides a.locks b.locks).0 locks.0 in
     record {
       situations = λ t m. record {
         contexts = all_hold a.contexts b.contexts t.contexts lists.0 m.contexts;
@@ -159,7 +160,7 @@ below_from a b p h =
     let contexts = have_some_statuses a.contexts parts.contexts in
     let operations = have_some_statuses a.operations parts.operations in
     let at : List Status → List Status → Mode → Bool → Situation = λ c o m d. record { contexts = c; operations = o; mode = m; draining = d; locks = a.locks } in
-    and_from _ _ ((bytes_eq-Decides a.locks b.locks).1 h.locks)
+    and_from _ _ ((same_locks_decides a.locks b.locks).1 h.locks)
     (and_from _ _ (mode_within_from _ _ (λ x e. (h.situations (at (map some_status a.contexts) (map some_status a.operations) x draining.0)
     (record { contexts = contexts; operations = operations; mode = e; draining = draining.1; locks = refl })).mode))
     (and_from _ _ (draining_within_from _ _ (λ x e. (h.situations (at (map some_status a.contexts) (map some_status a.operations) mode.0 x)
@@ -219,32 +220,32 @@ all_union_within (a ∷ xs) (b ∷ ys) (d ∷ zs) h e =
     let right = and_parts (statuses_within b d) (all_within ys zs) e in
     and_from _ _ (union_within a b d left.0 right.0) (all_union_within xs ys zs left.1 right.1)
 
-same_places : (xs ys : List ℕ) → xs ≡ ys → bytes_eq xs ys ≡ true
-same_places xs ys h = (bytes_eq-Decides xs ys).1 h
+locks_same : (xs ys : List HeldLock) → xs ≡ ys → same_locks xs ys ≡ true
+locks_same xs ys h = (same_locks_decides xs ys).1 h
 
 join_left : (a b : State) → Proper a → Proper b → is_below a (join_of a b) ≡ true
 join_left a b p q =
-    and_from _ _ (same_places a.locks a.locks refl)
+    and_from _ _ (locks_same a.locks a.locks refl)
     (and_from _ _ (and_from _ _ (implies_or_left a.modes.irp b.modes.irp) (implies_or_left a.modes.fast b.modes.fast))
     (and_from _ _ (and_from _ _ (implies_or_left a.draining.no b.draining.no) (implies_or_left a.draining.yes b.draining.yes))
     (and_from _ _ (all_within_left a.contexts b.contexts (p.nine ∙ sym q.nine)) (all_within_left a.operations b.operations (p.five ∙ sym q.five)))))
 
 join_right : (a b : State) → Proper a → Proper b → a.locks ≡ b.locks → is_below b (join_of a b) ≡ true
 join_right a b p q same =
-    and_from _ _ (same_places b.locks a.locks (sym same))
+    and_from _ _ (locks_same b.locks a.locks (sym same))
     (and_from _ _ (and_from _ _ (implies_or_right a.modes.irp b.modes.irp) (implies_or_right a.modes.fast b.modes.fast))
     (and_from _ _ (and_from _ _ (implies_or_right a.draining.no b.draining.no) (implies_or_right a.draining.yes b.draining.yes))
     (and_from _ _ (all_within_right a.contexts b.contexts (p.nine ∙ sym q.nine)) (all_within_right a.operations b.operations (p.five ∙ sym q.five)))))
 
 pub join_within : (a b d : State) → is_below a d ≡ true → is_below b d ≡ true → is_below (join_of a b) d ≡ true
 join_within a b d h e =
-    let locks = and_parts (bytes_eq a.locks d.locks) _ h in
+    let locks = and_parts (same_locks a.locks d.locks) _ h in
     let modes = and_parts (modes_within a.modes d.modes) _ locks.1 in
     let draining = and_parts (drainings_within a.draining d.draining) _ modes.1 in
     let lists = and_parts (all_within a.contexts d.contexts) _ draining.1 in
     let irp = and_parts (not a.modes.irp || d.modes.irp) _ modes.0 in
     let no = and_parts (not a.draining.no || d.draining.no) _ draining.0 in
-    let locks-2 = and_parts (bytes_eq b.locks d.locks) _ e in
+    let locks-2 = and_parts (same_locks b.locks d.locks) _ e in
     let modes-2 = and_parts (modes_within b.modes d.modes) _ locks-2.1 in
     let draining-2 = and_parts (drainings_within b.draining d.draining) _ modes-2.1 in
     let lists-2 = and_parts (all_within b.contexts d.contexts) _ draining-2.1 in
@@ -348,19 +349,19 @@ same_sets (a ∷ xs) (b ∷ ys) h e =
     let rest = same_sets xs ys left.1 right.1 in
     cc
 
-abbrev state_with : List StatusSet → List StatusSet → Bool → Bool → Bool → Bool → List ℕ → State
+abbrev state_with : List StatusSet → List StatusSet → Bool → Bool → Bool → Bool → List HeldLock → State
 state_with contexts operations irp fast unset set locks =
     record { contexts = contexts; operations = operations; modes = record { irp = irp; fast = fast }; draining = record { no = unset; yes = set }; locks = locks }
 
 pub below_same : (a b : State) → is_below a b ≡ true → is_below b a ≡ true → a ≡ b
 below_same a b h e =
-    let locks = and_parts (bytes_eq a.locks b.locks) _ h in
+    let locks = and_parts (same_locks a.locks b.locks) _ h in
     let modes = and_parts (modes_within a.modes b.modes) _ locks.1 in
     let draining = and_parts (drainings_within a.draining b.draining) _ modes.1 in
     let lists = and_parts (all_within a.contexts b.contexts) _ draining.1 in
     let irp = and_parts (not a.modes.irp || b.modes.irp) _ modes.0 in
     let no = and_parts (not a.draining.no || b.draining.no) _ draining.0 in
-    let locks-2 = and_parts (bytes_eq b.locks a.locks) _ e in
+    let locks-2 = and_parts (same_locks b.locks a.locks) _ e in
     let modes-2 = and_parts (modes_within b.modes a.modes) _ locks-2.1 in
     let draining-2 = and_parts (drainings_within b.draining a.draining) _ modes-2.1 in
     let lists-2 = and_parts (all_within b.contexts a.contexts) _ draining-2.1 in
@@ -372,7 +373,7 @@ below_same a b h e =
     let same_fast = same_from a.modes.fast b.modes.fast irp.1 irp-2.1 in
     let same_no = same_from a.draining.no b.draining.no no.0 no-2.0 in
     let same_yes = same_from a.draining.yes b.draining.yes no.1 no-2.1 in
-    let same_locks : a.locks ≡ b.locks = (bytes_eq-Decides a.locks b.locks).0 locks.0 in
+    let one_list : a.locks ≡ b.locks = (same_locks_decides a.locks b.locks).0 locks.0 in
     let made : state_with a.contexts a.operations a.modes.irp a.modes.fast a.draining.no a.draining.yes a.locks
     ≡ state_with b.contexts b.operations b.modes.irp b.modes.fast b.draining.no b.draining.yes b.locks = cc in
     made
@@ -415,28 +416,28 @@ sets_themselves (a ∷ xs) = and_from _ _ (set_itself a) (sets_themselves xs)
 
 pub below_itself : (a : State) → is_below a a ≡ true
 below_itself a =
-    and_from _ _ (same_places a.locks a.locks refl)
+    and_from _ _ (locks_same a.locks a.locks refl)
     (and_from _ _ (and_from _ _ (implies_itself a.modes.irp) (implies_itself a.modes.fast))
     (and_from _ _ (and_from _ _ (implies_itself a.draining.no) (implies_itself a.draining.yes))
     (and_from _ _ (sets_themselves a.contexts) (sets_themselves a.operations))))
 
 pub below_chain : (a b c : State) → is_below a b ≡ true → is_below b c ≡ true → is_below a c ≡ true
 below_chain a b c h e =
-    let locks = and_parts (bytes_eq a.locks b.locks) _ h in
+    let locks = and_parts (same_locks a.locks b.locks) _ h in
     let modes = and_parts (modes_within a.modes b.modes) _ locks.1 in
     let draining = and_parts (drainings_within a.draining b.draining) _ modes.1 in
     let lists = and_parts (all_within a.contexts b.contexts) _ draining.1 in
     let irp = and_parts (not a.modes.irp || b.modes.irp) _ modes.0 in
     let no = and_parts (not a.draining.no || b.draining.no) _ draining.0 in
-    let locks-2 = and_parts (bytes_eq b.locks c.locks) _ e in
+    let locks-2 = and_parts (same_locks b.locks c.locks) _ e in
     let modes-2 = and_parts (modes_within b.modes c.modes) _ locks-2.1 in
     let draining-2 = and_parts (drainings_within b.draining c.draining) _ modes-2.1 in
     let lists-2 = and_parts (all_within b.contexts c.contexts) _ draining-2.1 in
     let irp-2 = and_parts (not b.modes.irp || c.modes.irp) _ modes-2.0 in
     let no-2 = and_parts (not b.draining.no || c.draining.no) _ draining-2.0 in
-    let first : a.locks ≡ b.locks = (bytes_eq-Decides a.locks b.locks).0 locks.0 in
-    let second : b.locks ≡ c.locks = (bytes_eq-Decides b.locks c.locks).0 locks-2.0 in
-    and_from _ _ (same_places a.locks c.locks (first ∙ second))
+    let first : a.locks ≡ b.locks = (same_locks_decides a.locks b.locks).0 locks.0 in
+    let second : b.locks ≡ c.locks = (same_locks_decides b.locks c.locks).0 locks-2.0 in
+    and_from _ _ (locks_same a.locks c.locks (first ∙ second))
     (and_from _ _ (and_from _ _ (chain a.modes.irp b.modes.irp c.modes.irp irp.0 irp-2.0) (chain a.modes.fast b.modes.fast c.modes.fast irp.1 irp-2.1))
     (and_from _ _ (and_from _ _ (chain a.draining.no b.draining.no c.draining.no no.0 no-2.0) (chain a.draining.yes b.draining.yes c.draining.yes no.1 no-2.1))
     (and_from _ _ (sets_chain a.contexts b.contexts c.contexts lists.0 lists-2.0) (sets_chain a.operations b.operations c.operations lists.1 lists-2.1))))

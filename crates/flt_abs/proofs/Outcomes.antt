@@ -95,7 +95,7 @@ operation_change_means (Some d) becomes.NullOrHeld false x t m = put_operation_m
 locks_change_means : (v : Option LockNumber) (change : LockChange) (x : State) (t : Situation) → Means x t → Means (set_locks v change x) (put_locks v change t)
 locks_change_means None change x t m = m
 locks_change_means (Some l) change x t m =
-    record { contexts = m.contexts; operations = m.operations; mode = m.mode; draining = m.draining; locks = ap (λ places. changed_locks places l change) m.locks }
+    record { contexts = m.contexts; operations = m.operations; mode = m.mode; draining = m.draining; locks = ap (λ locks. changed_locks locks l change) m.locks }
 
 called_means : (c : Invocation) (e : Effects) (gives : Bool) (x : State) (t : Situation) → Means x t → Means (after_call c e x) (called c e gives t)
 called_means c e gives x t m =

@@ -1,11 +1,13 @@
 -- Which rules an instruction breaks in a state: the call table, the table of statuses and the rules of the other
 -- statements, read on what may be so. Source: the driver kit's pages on each call and on the callback statuses; where
 -- they leave a choice the rule is this project's own.
-use Rattle.std.specs.Prelude.{ℕ, Bool, true, false, not, ◌&&◌, ◌||◌, List, [], ◌∷◌, Option, Some, None, find, slice_set, take, is_none}
+use Rattle.std.specs.Prelude.{Bool, true, false, not, ◌&&◌, ◌||◌, List, [], ◌∷◌, Option, Some, None, find, slice_set, take, is_none}
 use Rattle.std.specs.List.{list_any}
-use Rattle.flt_rules.specs.Call.{is_legal_in_draining, place_of}
+use Rattle.flt_rules.specs.Call.{is_legal_in_draining}
 use Rattle.flt_rules.specs.Columns.{has_place}
+use Rattle.flt_rules.specs.Held.{holds_lock, is_latest}
 use Rattle.flt_rules.specs.Place.{is_above, answers, fits_stage, is_pre_create}
+use Rattle.flt_rules.specs.Status as statuses
 use Rattle.flt_rules.specs.Status.{status_row, is_complete, is_with_callback}
 use Rattle.flt_rules.specs.Table.{row}
 use Rattle.flt_rules.specs.declared.call.LockNumber.{LockNumber}
@@ -14,6 +16,7 @@ use Rattle.flt_rules.specs.declared.columns.LockNeed.TheVariants as lock
 use Rattle.flt_rules.specs.declared.columns.Need.{Need}
 use Rattle.flt_rules.specs.declared.columns.Need.TheVariants as need
 use Rattle.flt_rules.specs.declared.columns.Row.{Row}
+use Rattle.flt_rules.specs.declared.held.HeldLock.{HeldLock}
 use Rattle.flt_rules.specs.declared.place.Mode.{Mode}
 use Rattle.flt_rules.specs.declared.place.Mode.TheVariants.{Irp, Fast}
 use Rattle.flt_rules.specs.declared.place.Place.{Place}
@@ -21,7 +24,6 @@ use Rattle.flt_rules.specs.declared.place.Place.TheVariants as place
 use Rattle.flt_rules.specs.declared.rule.Rule.{Rule}
 use Rattle.flt_rules.specs.declared.rule.Rule.TheVariants.{R01, R02, R03, R04, R05, R06, R07, R08, R09, R10, R11, R13, R15}
 use Rattle.flt_rules.specs.declared.status.Possession.{Possession}
-use Rattle.flt_rules.specs.declared.status.Possession.TheVariants as possession
 use Rattle.flt_rules.specs.declared.status.StatusRow.{StatusRow}
 use Rattle.flt_tree.specs.Filter.{word_of, completes_pending, named_context}
 use Rattle.flt_tree.specs.Variable.{context_place}
@@ -36,13 +38,12 @@ use Rattle.flt_tree.specs.declared.variable.OperationVariable.TheVariants.{Remov
 use Rattle.flt_graph.specs.declared.instruction.Instruction.{Instruction}
 use Rattle.flt_graph.specs.declared.instruction.Instruction.TheVariants as instruction
 use Rattle.flt_graph.specs.declared.instruction.Invocation.{Invocation}
-use Rattle.flt_abs.specs.Locks.{holds_lock, is_latest}
 use Rattle.flt_abs.specs.Sets.{StatusSet, ModeSet, null_alone, is_held, is_stale}
 use Rattle.flt_abs.specs.State.{State}
 use Rattle.flt_abs.specs.Variables.{context_in, operation_in}
 use Rattle.flt_abs.specs.declared.setting.Setting.{Setting}
 
-abbrev pub is_empty : List ℕ → Bool
+abbrev pub is_empty : List HeldLock → Bool
 is_empty [] = true
 is_empty (x ∷ xs) = false
 
@@ -134,11 +135,11 @@ is_need_not_held lock.NotHeld = true
 is_need_not_held _ = false
 
 abbrev pub releases_wrong_lock : State → Option LockNumber → Bool
-releases_wrong_lock x (Some l) = not (is_latest (place_of l) x.locks)
+releases_wrong_lock x (Some l) = not (is_latest l x.locks)
 releases_wrong_lock x None = false
 
 abbrev pub takes_held_lock : State → Option LockNumber → Bool
-takes_held_lock x (Some l) = holds_lock (place_of l) x.locks
+takes_held_lock x (Some l) = holds_lock l x.locks
 takes_held_lock x None = false
 
 -- a call, by its row of the call table
@@ -160,14 +161,13 @@ call_breaks s x c = row_breaks (row c.call) s x c
 
 -- ---- returns and ends
 
--- surely held, or surely given away
+-- surely held, or surely given away, as a row asks
 abbrev pub is_possessed : StatusSet → Possession → Bool
-is_possessed s possession.Held = is_held s
-is_possessed s possession.GivenAway = is_stale s
+is_possessed s = statuses.is_possessed (is_held s) (is_stale s)
 
+-- surely of the mode that a row asks for
 abbrev pub is_of_mode : ModeSet → Option Mode → Bool
-is_of_mode s (Some m) = is_mode_alone s m
-is_of_mode s None = true
+is_of_mode s = statuses.is_of_mode (is_mode_alone s)
 
 -- a callback may return the status of a row at all
 abbrev pub fits_setting : StatusRow → Setting → Bool

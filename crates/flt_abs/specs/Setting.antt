@@ -1,9 +1,11 @@
 -- Where a point stands, and at which level it is reached.
-use Rattle.std.specs.Prelude.{ℕ, Bool, true, false, List, [], ◌∷◌, slice_get}
+use Rattle.std.specs.Prelude.{ℕ, Bool, true, false, List, Option, slice_get}
 use Rattle.std.specs.List.{list_any, list_all}
-use Rattle.flt_rules.specs.Place.{entry_level, raised_by, greater_level, same_operation}
+use Rattle.flt_rules.specs.Call.{place_of}
+use Rattle.flt_rules.specs.Held.{level_with}
+use Rattle.flt_rules.specs.Place.{entry_level, same_operation}
 use Rattle.flt_rules.specs.declared.call.LockKind.{LockKind}
-use Rattle.flt_rules.specs.declared.place.Level.{Level}
+use Rattle.flt_rules.specs.declared.call.LockNumber.{LockNumber}
 use Rattle.flt_rules.specs.declared.place.Operation.{Operation}
 use Rattle.flt_rules.specs.declared.place.Place.{Place}
 use Rattle.flt_rules.specs.declared.place.Place.TheVariants.{Pre, Post}
@@ -41,21 +43,16 @@ is_paired cs c = is_paired_at cs c.place
 abbrev pub are_paired : List CallbackGraph → Bool
 are_paired cs = list_all (is_paired cs) cs
 
--- the level to which the lock of a place raises
-abbrev pub raised_at : List LockKind → ℕ → Level
-raised_at kinds place = raised_by (slice_get kinds place)
-
--- the greatest of a level and those of the held locks
-abbrev pub level_with : List LockKind → Level → List ℕ → Level
-level_with kinds level [] = level
-level_with kinds level (place ∷ places) = level_with kinds (greater_level level (raised_at kinds place)) places
+-- the kind of a declared lock
+abbrev pub kind_at : List LockKind → LockNumber → Option LockKind
+kind_at kinds l = slice_get kinds (place_of l)
 
 abbrev pub setting_of : Graph → ℕ → State → Setting
 setting_of g callback x =
     let here = place_at g callback in
     record {
       place = here;
-      level = level_with g.locks (entry_level here) x.locks;
+      level = level_with (kind_at g.locks) (entry_level here) x.locks;
       registered = is_registered g.callbacks here;
       all_registered = are_paired g.callbacks;
     }

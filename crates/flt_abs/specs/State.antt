@@ -1,7 +1,8 @@
 -- Abstract states, and the situations that they mean. This project's own definitions.
-use Rattle.std.specs.Prelude.{◌≡◌, ◌==◌, ℕ, Bool, true, false, ◌&&◌, List, [], ◌∷◌, length}
+use Rattle.std.specs.Prelude.{◌≡◌, ◌==◌, Bool, true, false, ◌&&◌, List, [], ◌∷◌, length}
 use Rattle.std.specs.List.{list_all}
-use Rattle.std.specs.Str.{bytes_eq}
+use Rattle.flt_rules.specs.Held.{same_locks}
+use Rattle.flt_rules.specs.declared.held.HeldLock.{HeldLock}
 use Rattle.flt_rules.specs.declared.place.Mode.{Mode}
 use Rattle.flt_rules.specs.declared.place.Mode.TheVariants.{Irp, Fast}
 use Rattle.flt_abs.specs.Locks.{are_locks}
@@ -21,19 +22,19 @@ pub record Situation : Type 0 where
   pub operations : List Status
   pub mode : Mode
   pub draining : Bool
-  pub locks : List ℕ
+  pub locks : List HeldLock
 
 -- ---- states
 
--- for c0 to c7 and arg, and for o0 to o3 and data, what may be so of it; the locks by their places
+-- for c0 to c7 and arg, and for o0 to o3 and data, what may be so of it; and the locks that are held, the oldest first
 pub record State : Type 0 where
   pub contexts : List StatusSet
   pub operations : List StatusSet
   pub modes : ModeSet
   pub draining : DrainingSet
-  pub locks : List ℕ
+  pub locks : List HeldLock
 
-abbrev pub state_of : List StatusSet → List StatusSet → ModeSet → DrainingSet → List ℕ → State
+abbrev pub state_of : List StatusSet → List StatusSet → ModeSet → DrainingSet → List HeldLock → State
 state_of contexts operations modes draining locks =
     record { contexts = contexts; operations = operations; modes = modes; draining = draining; locks = locks }
 
@@ -69,7 +70,7 @@ pub record Means (s : State) (t : Situation) : Type 0 where
   pub locks : s.locks ≡ t.locks
 
 -- there is a set for each of nine variables of contexts and five of operations, none of them empty, so the state
--- means some situation; and the locks are locks, none of them twice
+-- means some situation; and no lock is held twice
 abbrev pub is_proper : State → Bool
 is_proper s =
     (length s.contexts == 9) && ((length s.operations == 5) && (list_all is_possible s.contexts
@@ -77,7 +78,7 @@ is_proper s =
 
 -- ---- their order
 
--- each situation of the first is one of the second, and both hold the same locks
+-- each situation of the first is one of the second, and both hold the same locks in the same way
 pub record IsBelow (a b : State) : Type 0 where
   pub situations : (t : Situation) → Means a t → Means b t
   pub locks : a.locks ≡ b.locks
@@ -92,7 +93,7 @@ all_within (a ∷ xs) (b ∷ ys) = statuses_within a b && all_within xs ys
 -- the same order, by computing
 abbrev pub is_below : State → State → Bool
 is_below a b =
-    bytes_eq a.locks b.locks && (modes_within a.modes b.modes && (drainings_within a.draining b.draining
+    same_locks a.locks b.locks && (modes_within a.modes b.modes && (drainings_within a.draining b.draining
     && (all_within a.contexts b.contexts && all_within a.operations b.operations)))
 
 -- ---- their join

@@ -1,6 +1,6 @@
 -- What an instruction makes of a state, and where it leads. Numbers aren't traced.
 use Rattle.std.specs.Prelude.{◌≡◌, ℕ, List, ◌++◌, [], ◌∷◌, if◌then◌else◌, Option, Some, None, Result, Ok, Err, IsTrue}
-use Rattle.flt_rules.specs.Call.{place_of}
+use Rattle.flt_rules.specs.Held.{held, holds_lock, without_last}
 use Rattle.flt_rules.specs.Table.{row}
 use Rattle.flt_rules.specs.declared.call.LockNumber.{LockNumber}
 use Rattle.flt_rules.specs.declared.columns.Change.{Change}
@@ -8,6 +8,7 @@ use Rattle.flt_rules.specs.declared.columns.Change.TheVariants as becomes
 use Rattle.flt_rules.specs.declared.columns.Effects.{Effects}
 use Rattle.flt_rules.specs.declared.columns.LockChange.{LockChange}
 use Rattle.flt_rules.specs.declared.columns.LockChange.TheVariants as list
+use Rattle.flt_rules.specs.declared.held.HeldLock.{HeldLock}
 use Rattle.flt_rules.specs.declared.rule.Rule.{Rule}
 use Rattle.flt_tree.specs.declared.filter.Action.{Action}
 use Rattle.flt_tree.specs.declared.filter.Action.TheVariants as action
@@ -22,7 +23,6 @@ use Rattle.flt_graph.specs.declared.instruction.Instruction.{Instruction}
 use Rattle.flt_graph.specs.declared.instruction.Instruction.TheVariants as instruction
 use Rattle.flt_graph.specs.declared.instruction.Invocation.{Invocation}
 use Rattle.flt_abs.specs.Breaks.{first_broken}
-use Rattle.flt_abs.specs.Locks.{holds_lock, without_latest}
 use Rattle.flt_abs.specs.Sets.{StatusSet, null_alone, held_alone, stale_alone, null_or_held, without_null, is_possible, irp_alone, fast_alone, no_alone, yes_alone}
 use Rattle.flt_abs.specs.Setting.{setting_of}
 use Rattle.flt_abs.specs.State.{State, is_below}
@@ -49,10 +49,10 @@ set_operation (Some d) (Some s) x = with_operation x d s
 set_operation _ _ x = x
 
 -- a lock that is held already isn't added again
-abbrev pub changed_locks : List ℕ → LockNumber → LockChange → List ℕ
+abbrev pub changed_locks : List HeldLock → LockNumber → LockChange → List HeldLock
 changed_locks locks l list.Stays = locks
-changed_locks locks l list.Taken = if holds_lock (place_of l) locks then locks else locks ++ place_of l ∷ []
-changed_locks locks l list.Released = without_latest locks
+changed_locks locks l (list.Taken access) = if holds_lock l locks then locks else locks ++ held l access ∷ []
+changed_locks locks l list.Released = without_last l locks
 
 abbrev pub set_locks : Option LockNumber → LockChange → State → State
 set_locks (Some l) change x = record x { locks = changed_locks x.locks l change }

@@ -19,7 +19,7 @@ pub use outcome::transfer_follows_situations;
 pub use past::{breaks_rule, leads_past};
 pub use sets::{Draining, Modes, Statuses};
 /// No call answers it: the definitions of the rules speak of it.
-pub use setting::Setting;
+pub use setting::{Setting, graphs_are_registered_alike};
 pub use state::{
     Abs, CONTEXTS, LocksDiffer, OPERATIONS, is_partial_order, join, joins_are_least, leq,
 };

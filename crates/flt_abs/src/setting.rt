@@ -1,11 +1,17 @@
 //! What the rules of a point read besides its variables: where it stands and at which level.
 
-ghost use Rattle.std.specs.Prelude.{◌≡◌};
+ghost use Rattle.std.specs.Prelude.{◌≡◌, List};
 ghost use Rattle.flt_abs.specs.Setting as spec;
+ghost use Rattle.flt_rules.specs.Held as held_spec;
+ghost use Rattle.flt_rules.specs.declared.place.Operation.{Operation};
+ghost use Rattle.flt_tree.specs.Registered as registered;
+ghost use Rattle.flt_tree.specs.declared.filter.Callback.{Callback};
+ghost use Rattle.flt_graph.specs.Lowering.{AreGraphsOf};
+ghost use Rattle.flt_graph.specs.declared.graph.CallbackGraph.{CallbackGraph};
 
 use crate::state::Abs;
-use flt_graph::{CallbackGraph, Graph, LockKind, Operation, Place};
-use flt_rules::{Level, entry_level, raised_by};
+use flt_graph::{CallbackGraph, Graph, LockKind, LockNumber, Operation, Place};
+use flt_rules::{HeldLock, Level, entry_level, raised_by};
 
 /// Where a point stands.
 #[derive(Clone, Copy)]
@@ -59,19 +65,19 @@ fn are_paired(callbacks: &[CallbackGraph]) -> bool
     callbacks.iter().all(|c| is_paired(callbacks, c))
 }
 
-/// The level to which the lock of a place raises.
-fn raised_at(kinds: &[LockKind], place: u8) -> Level
-    ensures { result ≡ spec.raised_at kinds.now place }
+/// The kind of a declared lock.
+fn kind_at(kinds: &[LockKind], lock: LockNumber) -> Option<LockKind>
+    ensures { result ≡ spec.kind_at kinds.now lock }
 {
-    raised_by(kinds.get(usize::from(place)).copied())
+    kinds.get(usize::from(lock.place())).copied()
 }
 
-fn level_with(kinds: &[LockKind], locks: &[u8], entry: Level) -> Level
-    ensures { result ≡ spec.level_with kinds.now entry locks.now }
+fn level_with(kinds: &[LockKind], locks: &[HeldLock], entry: Level) -> Level
+    ensures { result ≡ held_spec.level_with (spec.kind_at kinds.now) entry locks.now }
 {
     let mut level = entry;
-    for place in locks {
-        level = level.max(raised_at(kinds, *place));
+    for held in locks {
+        level = level.max(raised_by(kind_at(kinds, held.lock)));
     }
     level
 }
@@ -93,3 +99,10 @@ pub(crate) fn setting_of(graph: &Graph, callback: usize, state: &Abs) -> Setting
         all_registered: are_paired(callbacks),
     }
 }
+
+/// A filter's graphs are registered as its callbacks are. It does nothing: its clauses are the law.
+#[tactic(auto, using(crate::proofs::Registrations::posts_agree, crate::proofs::Registrations::pairs_agree))]
+pub fn graphs_are_registered_alike()
+    ensures posts { (all cs : List Callback) (gs : List CallbackGraph) (kind : Operation) → AreGraphsOf all cs gs → spec.has_post gs kind ≡ registered.has_post cs kind }
+    ensures pairs { (cs : List Callback) (gs : List CallbackGraph) → AreGraphsOf cs cs gs → spec.are_paired gs ≡ registered.are_paired cs }
+{}

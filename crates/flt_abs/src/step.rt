@@ -73,12 +73,12 @@ fn changed_locks(locks: &LockList, lock: LockNumber, change: LockChange) -> Lock
     let mut next = locks.copied();
     match change {
         LockChange::Stays => {}
-        LockChange::Taken => {
+        LockChange::Taken(access) => {
             if !locks.contains(lock) {
-                next.take(lock);
+                next.take(lock, access);
             }
         }
-        LockChange::Released => next.release_latest(),
+        LockChange::Released => next.release(lock),
     }
     next
 }

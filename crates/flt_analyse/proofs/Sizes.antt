@@ -3,9 +3,9 @@ use Rattle.std.proofs.Common.{◌≡◌, ◌≤◌, ◌+◌, ◌*◌, ℕ, Bool,
 use Rattle.std.specs.Prelude.{not, ◌||◌, ◌&&◌, ◌==◌, ◌⊎◌}
 use Rattle.std.proofs.Common.{inl, inr}
 use Rattle.std.specs.List.{list_all}
-use Rattle.std.specs.Str.{bytes_eq}
+use Rattle.flt_rules.specs.Held.{same_locks}
 use Rattle.std.proofs.lemmas.Bool.{and_parts, and_cases, eqb-true, true≢false}
-use Rattle.std.proofs.lemmas.Slice.Eq.{bytes_eq-Decides}
+use Rattle.flt_abs.specs.LockLaws.{same_locks_decides}
 use Rattle.flt_abs.specs.Sets.{StatusSet, statuses_within, modes_within, drainings_within, either_status, is_possible, is_mode_possible, is_draining_possible}
 use Rattle.flt_abs.specs.State.{State, is_below, is_proper, all_within, either_all, join_of}
 
@@ -232,12 +232,12 @@ grows_modes x y p q h = by_side (and_cases (modes_within y.modes x.modes) _ h)
     by_side (inl e) = grows_by x y (inr (inr (inl (two_more x.modes.irp x.modes.fast y.modes.irp y.modes.fast e))))
     by_side (inr e) = grows_draining x y p q e
 
-pub join_grows : (x y : State) → is_proper x ≡ true → is_proper y ≡ true → bytes_eq x.locks y.locks ≡ true → is_below y x ≡ false → size x + 1 ≤ size (join_of x y)
+pub join_grows : (x y : State) → is_proper x ≡ true → is_proper y ≡ true → same_locks x.locks y.locks ≡ true → is_below y x ≡ false → size x + 1 ≤ size (join_of x y)
 join_grows x y p q e h =
-    let same : bytes_eq y.locks x.locks ≡ true = (bytes_eq-Decides y.locks x.locks).1 (sym ((bytes_eq-Decides x.locks y.locks).0 e)) in
-    by_side same (and_cases (bytes_eq y.locks x.locks) _ h)
+    let same : same_locks y.locks x.locks ≡ true = (same_locks_decides y.locks x.locks).1 (sym ((same_locks_decides x.locks y.locks).0 e)) in
+    by_side same (and_cases (same_locks y.locks x.locks) _ h)
   where
-    by_side : bytes_eq y.locks x.locks ≡ true → ((bytes_eq y.locks x.locks ≡ false) ⊎
+    by_side : same_locks y.locks x.locks ≡ true → ((same_locks y.locks x.locks ≡ false) ⊎
         ((modes_within y.modes x.modes && (drainings_within y.draining x.draining && (all_within y.contexts x.contexts && all_within y.operations x.operations))) ≡ false)) →
         size x + 1 ≤ size (join_of x y)
     by_side same (inl k) = absurd (true≢false (sym same ∙ k))

@@ -3,10 +3,10 @@ use Rattle.std.proofs.Common.{◌≡◌, ◌<◌, ◌≤◌, ◌+◌, ◌-◌, �
 use Rattle.std.proofs.Math.Path.{subst}
 use Rattle.std.proofs.Math.ListN.{get_or-eq_default}
 use Rattle.std.specs.Prelude.{◌⊎◌, if◌then◌else◌}
-use Rattle.std.specs.Str.{bytes_eq}
+use Rattle.flt_rules.specs.Held.{same_locks}
 use Rattle.std.proofs.lemmas.Bool.{and_parts, cases_eq, ltb-true, ltb-false, true≢false}
 use Rattle.std.proofs.lemmas.List.{get_or-set_same, get_or-set_other, length-set}
-use Rattle.std.proofs.lemmas.Slice.Eq.{bytes_eq-Decides}
+use Rattle.flt_abs.specs.LockLaws.{same_locks_decides}
 use Rattle.std.proofs.lemmas.Option.{none-some, same_Some}
 use Rattle.flt_rules.specs.declared.rule.Rule.{Rule}
 use Rattle.flt_rules.specs.declared.rule.Rule.TheVariants.{R12, R14}
@@ -183,7 +183,7 @@ pub left_some : (x : State) → is_proper x ≡ true → left (Some x) ≤ 30
 unfolding left
 left_some x p = let a = size_least x p in omega arith
 
-less_join : (x y : State) → is_proper x ≡ true → is_proper (join_of y x) ≡ true → is_proper y ≡ true → bytes_eq y.locks x.locks ≡ true → is_below x y ≡ false → left (Some (join_of y x)) + 1 ≤ left (Some y)
+less_join : (x y : State) → is_proper x ≡ true → is_proper (join_of y x) ≡ true → is_proper y ≡ true → same_locks y.locks x.locks ≡ true → is_below x y ≡ false → left (Some (join_of y x)) + 1 ≤ left (Some y)
 unfolding left
 less_join x y p j q e h = let a = join_grows y x q p e h in let b = size_most (join_of y x) j in omega arith
 
@@ -200,13 +200,13 @@ lead_at laws w next (Some y) e h k all good =
     let proper : is_proper y ≡ true = all next.point y e in
     either_way (Leading w (Some next)) (is_below next.state y) (Ok w) _
     (λ s. record { kept = kept_same laws w; led = (y, e, s); below = λ ys b one. b })
-    (λ s. either_way (Leading w (Some next)) (bytes_eq y.locks next.state.locks) (Ok (arrived w next.point (join_of y next.state))) (Err R12)
+    (λ s. either_way (Leading w (Some next)) (same_locks y.locks next.state.locks) (Ok (arrived w next.point (join_of y next.state))) (Err R12)
     (λ t. joined proper s t) (λ t. λ ys count b one. parted t ys b one))
   where
-    joined : is_proper y ≡ true → is_below next.state y ≡ false → bytes_eq y.locks next.state.locks ≡ true → Reached w (arrived w next.point (join_of y next.state)) (Some next)
+    joined : is_proper y ≡ true → is_below next.state y ≡ false → same_locks y.locks next.state.locks ≡ true → Reached w (arrived w next.point (join_of y next.state)) (Some next)
     joined proper s t =
         let both = laws.proper y next.state proper in
-        let same : y.locks ≡ next.state.locks = (bytes_eq-Decides y.locks next.state.locks).0 t in
+        let same : y.locks ≡ next.state.locks = (same_locks_decides y.locks next.state.locks).0 t in
         let above = laws.left y next.state proper good in
         let less = less_join next.state y good both proper t s in
         record {
@@ -221,14 +221,14 @@ lead_at laws w next (Some y) e h k all good =
               below_arrived laws w next.point (join_of y next.state) ys h b (mine.0, mine.1, laws.least y next.state mine.0 mine.2 own);
         }
 
-    parted : bytes_eq y.locks next.state.locks ≡ false → (ys : List Point) → Below w ys → IsLedIn ys (Some next) → ⊥
+    parted : same_locks y.locks next.state.locks ≡ false → (ys : List Point) → Below w ys → IsLedIn ys (Some next) → ⊥
     parted t ys b one =
         let mine = b next.point y e in
         let there : one.0 ≡ mine.0 = same_Some one.0 mine.0 (sym one.1 ∙ mine.1) in
-        let first : y.locks ≡ mine.0.locks = (bytes_eq-Decides y.locks mine.0.locks).0 (and_parts (bytes_eq y.locks mine.0.locks) _ mine.2).0 in
-        let second : next.state.locks ≡ one.0.locks = (bytes_eq-Decides next.state.locks one.0.locks).0 (and_parts (bytes_eq next.state.locks one.0.locks) _ one.2).0 in
+        let first : y.locks ≡ mine.0.locks = (same_locks_decides y.locks mine.0.locks).0 (and_parts (same_locks y.locks mine.0.locks) _ mine.2).0 in
+        let second : next.state.locks ≡ one.0.locks = (same_locks_decides next.state.locks one.0.locks).0 (and_parts (same_locks next.state.locks one.0.locks) _ one.2).0 in
         let same : y.locks ≡ next.state.locks = first ∙ (sym (ap (λ (i : State). i.locks) there) ∙ sym second) in
-        true≢false (sym ((bytes_eq-Decides y.locks next.state.locks).1 same) ∙ t)
+        true≢false (sym ((same_locks_decides y.locks next.state.locks).1 same) ∙ t)
 
 pub lead : Laws → (w : Walk) (s : Option Successor) → length w.points ≤ length w.pending → AllProper w → ProperNext s → Leading w s (reach w s)
 lead laws w None k all good = record { kept = kept_same laws w; led = tt; below = λ ys b one. b }

@@ -1,7 +1,7 @@
 -- The walk over the points of a callback, and the order in which it goes. The order decides only which fault is named. This
 -- project's own definitions.
 use Rattle.std.specs.Prelude.{◌≡◌, ℕ, zero, suc, ◌<◌, true, false, List, [], ◌∷◌, length, if◌then◌else◌, nat_lt, Option, Some, None, Result, Ok, Err, slice_set, slice_index_or}
-use Rattle.std.specs.Str.{bytes_eq}
+use Rattle.flt_rules.specs.Held.{same_locks}
 use Rattle.flt_rules.specs.declared.rule.Rule.{Rule}
 use Rattle.flt_rules.specs.declared.rule.Rule.TheVariants.{R12, R14}
 use Rattle.flt_graph.specs.Graph.{place_at, points_at, line_at}
@@ -27,7 +27,7 @@ abbrev pub reach_at : Walk → Successor → Option State → Result Walk Rule
 reach_at w next None = Ok (arrived w next.point next.state)
 reach_at w next (Some y) =
     if is_below next.state y then Ok w
-    else (if bytes_eq y.locks next.state.locks then Ok (arrived w next.point (join_of y next.state)) else Err R12)
+    else (if same_locks y.locks next.state.locks then Ok (arrived w next.point (join_of y next.state)) else Err R12)
 
 -- a point that isn't there is never covered
 abbrev pub reach : Walk → Option Successor → Result Walk Rule

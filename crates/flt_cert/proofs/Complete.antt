@@ -5,10 +5,14 @@ use Rattle.std.specs.List.{list_all}
 use Rattle.std.specs.Str.{bytes_eq}
 use Rattle.std.proofs.lemmas.Bool.{and_parts, and_from, and_right, lt-ltb, ltb-true, ne_eqb, not_from_false}
 use Rattle.std.proofs.lemmas.List.Folds.{list_all-append}
+use Rattle.flt_rules.specs.Call.{place_of}
+use Rattle.flt_rules.specs.declared.held.Access.{Access}
+use Rattle.flt_rules.specs.declared.held.Access.TheVariants.{Exclusive, Shared}
+use Rattle.flt_rules.specs.declared.held.HeldLock.{HeldLock}
 use Rattle.flt_abs.specs.Sets.{StatusSet, status_bits, mode_bits, draining_bits}
 use Rattle.flt_abs.specs.State.{State}
 use Rattle.flt_cert.specs.Text.{Text, lines_of, decimal}
-use Rattle.flt_cert.specs.Format.{Point, Certificate, is_point, is_callback, is_certificate, digits, more_places, places_text, state_text, point_text, point_line, callback_line, last_line, point_lines, one_callback, callback_lines, lines_for, joined, spelling}
+use Rattle.flt_cert.specs.Format.{Point, Certificate, is_point, is_callback, is_certificate, digits, access_text, lock_text, more_locks, locks_text, state_text, point_text, point_line, callback_line, last_line, point_lines, one_callback, callback_lines, lines_for, joined, spelling}
 use Rattle.flt_cert.specs.Reading.{Place, and_then, line, point, points_from, points, callback, callbacks_from, closed, is_last, first, certificate, start}
 use Rattle.flt_cert.proofs.FieldLaws.{point_again, head_again}
 
@@ -67,19 +71,26 @@ plain_digits : (sets : List StatusSet) → plain (digits sets) ≡ true
 plain_digits [] = refl
 plain_digits (s ∷ sets) = and_from _ _ (above (status_bits s)) (plain_digits sets)
 
-plain_places : (places : List ℕ) → plain (places_text places) ≡ true
-plain_places [] = refl
-plain_places (p ∷ places) = and_from _ _ (above p) (others places)
+plain_lock : (h : HeldLock) → plain (lock_text h) ≡ true
+plain_lock h = and_from _ _ (above (place_of h.lock)) (of_access h.access)
   where
-    others : (places : List ℕ) → plain (more_places places) ≡ true
+    of_access : (a : Access) → plain (access_text a) ≡ true
+    of_access Exclusive = refl
+    of_access Shared = refl
+
+plain_locks : (locks : List HeldLock) → plain (locks_text locks) ≡ true
+plain_locks [] = refl
+plain_locks (h ∷ locks) = plain_both (lock_text h) (more_locks locks) (plain_lock h) (others locks)
+  where
+    others : (locks : List HeldLock) → plain (more_locks locks) ≡ true
     others [] = refl
-    others (p ∷ places) = and_from _ _ (above p) (others places)
+    others (k ∷ locks) = plain_both (lock_text k) (more_locks locks) (plain_lock k) (others locks)
 
 plain_state : (s : State) → plain (state_text s) ≡ true
 plain_state s =
-    plain_both (digits s.contexts) (32 ∷ (digits s.operations ++ 32 ∷ (48 + mode_bits s.modes) ∷ 32 ∷ (48 + draining_bits s.draining) ∷ 32 ∷ places_text s.locks)) (plain_digits s.contexts)
-    (plain_both (digits s.operations) (32 ∷ (48 + mode_bits s.modes) ∷ 32 ∷ (48 + draining_bits s.draining) ∷ 32 ∷ places_text s.locks) (plain_digits s.operations)
-    (and_from _ _ (above (mode_bits s.modes)) (and_from _ _ (above (draining_bits s.draining)) (plain_places s.locks))))
+    plain_both (digits s.contexts) (32 ∷ (digits s.operations ++ 32 ∷ (48 + mode_bits s.modes) ∷ 32 ∷ (48 + draining_bits s.draining) ∷ 32 ∷ locks_text s.locks)) (plain_digits s.contexts)
+    (plain_both (digits s.operations) (32 ∷ (48 + mode_bits s.modes) ∷ 32 ∷ (48 + draining_bits s.draining) ∷ 32 ∷ locks_text s.locks) (plain_digits s.operations)
+    (and_from _ _ (above (mode_bits s.modes)) (and_from _ _ (above (draining_bits s.draining)) (plain_locks s.locks))))
 
 plain_point : (point : Point) → plain (point_text point) ≡ true
 plain_point None = refl

@@ -1,25 +1,35 @@
 -- What is read from a line is spelled so, and what is spelled so is read.
-use Rattle.std.proofs.Common.{◌≡◌, ◌<◌, ◌≤◌, ◌+◌, ◌-◌, ◌*◌, ◌/◌, ◌%◌, ℕ, suc, Bool, true, false, List, [], ◌∷◌, ◌++◌, length, take, drop, refl, sym, ap, subst, arith, ◌∙◌, append_assoc, append-nil, length-drop, get_or}
+use Rattle.std.proofs.Common.{◌≡◌, ◌<◌, ◌≤◌, ◌+◌, ◌-◌, ◌*◌, ◌/◌, ◌%◌, ℕ, zero, suc, Bool, true, false, List, [], ◌∷◌, ◌++◌, length, take, drop, refl, sym, ap, subst, arith, ◌∙◌, append_assoc, append-nil, length-drop, get_or}
 use Rattle.std.specs.Prelude.{not, ◌==◌, ◌&&◌, ◌||◌, nat_lt, if◌then◌else◌, Option, Some, None, codes}
 use Rattle.std.specs.List.{list_all}
 use Rattle.std.specs.Str.{bytes_eq}
-use Rattle.std.proofs.lemmas.Bool.{and_parts, and_from, or_parts, or_from, eqb-true, eqb-false, eq-eqb, ne_eqb, ltb-true, lt-ltb, le-ltb, not-true, agree_below, agree_below_at}
+use Rattle.std.proofs.lemmas.Bool.{and_parts, and_from, or_parts, or_from, eqb-true, eqb-false, eq-eqb, ne_eqb, ltb-true, ltb-false, lt-ltb, le-ltb, not-true, agree_below, agree_below_at}
 use Rattle.std.proofs.lemmas.Slice.Eq.{bytes_eq-Decides}
 use Rattle.std.proofs.Math.Seq.{take-length}
 use Rattle.std.proofs.lemmas.List.{take-append-drop}
-use Rattle.flt_abs.specs.Locks.{holds_lock, are_locks}
+use Rattle.flt_rules.specs.Call.{place_of, lock_at}
+use Rattle.flt_rules.specs.Held.{held, same_lock, holds_lock}
+use Rattle.flt_rules.specs.declared.call.LockNumber.{LockNumber}
+use Rattle.flt_rules.specs.declared.held.Access.{Access}
+use Rattle.flt_rules.specs.declared.held.Access.TheVariants.{Exclusive, Shared}
+use Rattle.flt_rules.specs.declared.held.HeldLock.{HeldLock}
+use Rattle.flt_abs.specs.Locks.{are_locks}
+use Rattle.flt_abs.specs.LockLaws.{lock_at-place_of, place_of-lock_at, turned, eight_at_most}
 use Rattle.flt_abs.specs.Sets.{StatusSet, ModeSet, DrainingSet, status_bits, mode_bits, draining_bits, is_possible, is_mode_possible, is_draining_possible}
 use Rattle.flt_abs.specs.SetLaws.{status_bits-statuses, mode_bits-modes, draining_bits-draining}
 use Rattle.flt_abs.specs.State.{State, state_of, is_proper}
 use Rattle.flt_cert.specs.Text.{Text, decimal, after, count_of, leading, digit_of, ◌>>=◌}
-use Rattle.flt_cert.specs.Format.{Point, is_point, digits, more_places, places_text, state_text, point_text, point_line, callback_line}
-use Rattle.flt_cert.specs.Reading.{status_of, sets_from, front_of, byte_at, modes_of, draining_of, blank, lock_of, with_lock, places_at, locks_of, made, state_at, point_of, head_of}
+use Rattle.flt_cert.specs.Format.{Point, is_point, digits, access_text, lock_text, more_locks, locks_text, state_text, point_text, point_line, callback_line}
+use Rattle.flt_cert.specs.Reading.{status_of, sets_from, front_of, byte_at, modes_of, draining_of, blank, lock_of, access_at, with_lock, locks_from, locks_of, made, state_at, point_of, head_of}
 
 -- ---- steps that may fail
 
 some_bind : {A B : Type 0} {y : B} (o : Option A) (f : A → Option B) → (o >>= f) ≡ Some y → (x : A) × (o ≡ Some x) × (f x ≡ Some y)
 some_bind None f h = cc
 some_bind (Some x) f h = (x, refl, h)
+
+some_inside : {A : Type 0} {x y : A} → Some x ≡ Some y → x ≡ y
+some_inside h = cc
 
 bind_again : {A B : Type 0} {r : Option B} (o : Option A) (f : A → Option B) (x : A) → o ≡ Some x → f x ≡ r → (o >>= f) ≡ r
 bind_again o f x e h = rw e h
@@ -163,117 +173,159 @@ draining_again s h = go s.no s.yes h
 
 -- ---- locks
 
-lock_takes : (found more : List ℕ) (b : ℕ) → with_lock found b ≡ Some more → (p : ℕ) × (b ≡ 48 + p) × (more ≡ found ++ p ∷ [])
-lock_takes found more b h =
-    let one = some_bind (lock_of found b) (λ p. Some (found ++ p ∷ [])) h in
-    let both = chosen _ one.1 in
-    let range = and_parts (nat_lt 47 b) _ both.0 in
-    let low = ltb-true 47 b range.0 in
-    let same : b - 48 ≡ one.0 = both.1 in
-    let list : found ++ one.0 ∷ [] ≡ more = cc in
-    (one.0, omega arith, sym list)
+lock_takes : (found : List HeldLock) (b : ℕ) (l : LockNumber) → lock_of found b ≡ Some l → b ≡ 48 + place_of l
+lock_takes found b l h = by_low (nat_lt b 48) refl h
+  where
+    by_low : (low : Bool) → nat_lt b 48 ≡ low → (if low then None else (lock_at (b - 48) >>= λ k. if holds_lock k found then None else Some k)) ≡ Some l → b ≡ 48 + place_of l
+    by_low true e h = cc
+    by_low false e h =
+        let one = some_bind (lock_at (b - 48)) (λ k. if holds_lock k found then None else Some k) h in
+        let same : one.0 ≡ l = otherwise (holds_lock one.0 found) one.2 in
+        let place : place_of l ≡ b - 48 = ap place_of (sym same) ∙ place_of-lock_at (b - 48) one.0 one.1 in
+        let most : 48 ≤ b = ltb-false b 48 e in
+        omega arith
 
-turned : (p q : ℕ) → (p == q) ≡ false → (q == p) ≡ false
-turned p q h = ne_eqb q p (λ e. eqb-false p q h (sym e))
+lock_again : (found : List HeldLock) (l : LockNumber) → holds_lock l found ≡ false → lock_of found (48 + place_of l) ≡ Some l
+lock_again found l new =
+    let less : 48 + place_of l - 48 ≡ place_of l = omega arith in
+    rw (le-ltb (48 + place_of l) 48 (omega arith), less, lock_at-place_of l, new) refl
 
-apart : (x p : ℕ) (found after : List ℕ) → holds_lock x (found ++ p ∷ after) ≡ false → (p == x) ≡ false
-apart x p [] after h = (or_parts (p == x) (holds_lock x after) h).0
-apart x p (q ∷ found) after h = apart x p found after (or_parts (q == x) (holds_lock x (found ++ p ∷ after)) h).1
+access_takes : (text : Text) → text ≡ access_text (access_at text).0 ++ (access_at text).1
+access_takes [] = refl
+access_takes (b ∷ text) = by_s (b == 115) refl
+  where
+    by_s : (x : Bool) → (b == 115) ≡ x →
+        b ∷ text ≡ access_text (if x then (Shared, text) else (Exclusive, b ∷ text)).0 ++ (if x then (Shared, text) else (Exclusive, b ∷ text)).1
+    by_s true e = ap (λ c. c ∷ text) (eqb-true b 115 e)
+    by_s false e = refl
 
-middle : (found : List ℕ) (p : ℕ) (after : List ℕ) → are_locks (found ++ p ∷ after) ≡ true → (p < 8) × (holds_lock p found ≡ false)
-middle [] p after h = (ltb-true p 8 (and_parts (nat_lt p 8) _ h).0, refl)
-middle (q ∷ found) p after h =
-    let here = and_parts (nat_lt q 8) _ h in
-    let rest = and_parts (not (holds_lock q (found ++ p ∷ after))) (are_locks (found ++ p ∷ after)) here.1 in
-    let inner = middle found p after rest.1 in
-    (inner.0, or_from _ _ (turned p q (apart q p found after (not-true _ rest.0))) inner.1)
+-- a text that doesn't begin with "s" follows the lock before it
+access_again : (a : Access) (text : Text) → access_at text ≡ (Exclusive, text) → access_at (access_text a ++ text) ≡ (a, text)
+access_again Exclusive text h = h
+access_again Shared text h = refl
 
-lock_again : (found : List ℕ) (p : ℕ) → p < 8 → holds_lock p found ≡ false → with_lock found (48 + p) ≡ Some (found ++ p ∷ [])
-lock_again found p low new =
-    let less : 48 + p - 48 ≡ p = omega arith in
-    let tests : (nat_lt 47 (48 + p) && (nat_lt (48 + p) 56 && not (holds_lock (48 + p - 48) found))) ≡ true =
-    and_from _ _ (lt-ltb 47 (48 + p) (omega arith)) (and_from _ _ (lt-ltb (48 + p) 56 (omega arith)) (rw (less, new) refl)) in
-    bind_again (lock_of found (48 + p)) (λ q. Some (found ++ q ∷ [])) p (rw (tests, less) refl) refl
+with_takes : (found : List HeldLock) (text : Text) (more : List HeldLock × Text) → with_lock found text ≡ Some more →
+    (h : HeldLock) × (more.0 ≡ found ++ h ∷ []) × (text ≡ lock_text h ++ more.1)
+with_takes found text more h =
+    let digit = some_bind (byte_at text) _ h in
+    let one = some_bind (lock_of found digit.0.0) _ digit.2 in
+    let access = access_at digit.0.1 in
+    let whole : (found ++ held one.0 access.0 ∷ [], access.1) ≡ more = some_inside one.2 in
+    let list : more.0 ≡ found ++ held one.0 access.0 ∷ [] = ap (λ (x : List HeldLock × Text). x.0) (sym whole) in
+    let rest : access.1 ≡ more.1 = ap (λ (x : List HeldLock × Text). x.1) whole in
+    let first : text ≡ digit.0.0 ∷ digit.0.1 = byte_takes text digit.0.1 digit.0.0 digit.1 in
+    let byte : digit.0.0 ≡ 48 + place_of one.0 = lock_takes found digit.0.0 one.0 one.1 in
+    let behind : digit.0.1 ≡ access_text access.0 ++ access.1 = access_takes digit.0.1 in
+    let same : digit.0.0 ∷ digit.0.1 ≡ (48 + place_of one.0) ∷ (access_text access.0 ++ access.1) = ap (λ b. b ∷ digit.0.1) byte ∙ ap (λ t. (48 + place_of one.0) ∷ t) behind in
+    (held one.0 access.0, list, first ∙ same ∙ ap (λ t. lock_text (held one.0 access.0) ++ t) rest)
 
-Placed : List ℕ → Text → List ℕ → Type 0
-Placed found text places = (p : ℕ) × (more : List ℕ) × (places ≡ found ++ p ∷ more) × (text ≡ (48 + p) ∷ (more_places more ++ 10 ∷ []))
+with_again : (found : List HeldLock) (h : HeldLock) (text : Text) → holds_lock h.lock found ≡ false → access_at text ≡ (Exclusive, text) →
+    with_lock found (lock_text h ++ text) ≡ Some (found ++ h ∷ [], text)
+with_again found h text new first =
+    bind_again (lock_of found (48 + place_of h.lock))
+    (λ l. Some (found ++ held l (access_at (access_text h.access ++ text)).0 ∷ [], (access_at (access_text h.access ++ text)).1)) h.lock
+    (lock_again found h.lock new)
+    (ap (λ (x : Access × Text). Some (found ++ held h.lock x.0 ∷ [], x.1)) (access_again h.access text first))
+
+-- a lock that stands before others in a list isn't among those before it
+before : (found : List HeldLock) (h : HeldLock) (after : List HeldLock) → are_locks (found ++ h ∷ after) ≡ true → holds_lock h.lock found ≡ false
+before [] h after e = refl
+before (k ∷ found) h after e =
+    let parts = and_parts (not (holds_lock k.lock (found ++ h ∷ after))) (are_locks (found ++ h ∷ after)) e in
+    or_from _ _ (turned k.lock h.lock (apart k.lock found (not-true _ parts.0))) (before found h after parts.1)
+  where
+    apart : (q : LockNumber) (found : List HeldLock) → holds_lock q (found ++ h ∷ after) ≡ false → same_lock q h.lock ≡ false
+    apart q [] e = (or_parts (same_lock q h.lock) (holds_lock q after) e).0
+    apart q (r ∷ found) e = apart q found (or_parts (same_lock q r.lock) (holds_lock q (found ++ h ∷ after)) e).1
+
+Listed : List HeldLock → Text → List HeldLock → Type 0
+Listed found text locks = (h : HeldLock) × (more : List HeldLock) × (locks ≡ found ++ h ∷ more) × (text ≡ lock_text h ++ (more_locks more ++ 10 ∷ []))
 
 no_more : (text : Text) → (length text == 0) ≡ true → text ≡ []
 no_more [] h = refl
 no_more (b ∷ text) h = absurd (omega (arith, eqb-true _ _ h))
 
-places_take : (text : Text) (found places : List ℕ) → places_at found text ≡ Some places → Placed found text places
-unfolding Placed
-places_take [] found places h = cc
-places_take (b ∷ []) found places h = cc
-places_take (b ∷ c ∷ text) found places h =
-    let one = some_bind (with_lock found b) (λ more. if c == 44 then places_at more text else (if c == 10 && length text == 0 then Some more else None)) h in
-    go one.0 (lock_takes found one.0 b one.1) (c == 44) refl one.2 (λ more g. places_take text more places g)
+from_takes : (left : ℕ) (found : List HeldLock) (text : Text) (locks : List HeldLock) → locks_from left found text ≡ Some locks → Listed found text locks
+unfolding Listed
+from_takes zero found text locks h = cc
+from_takes (suc left) found text locks h =
+    let one = some_bind (with_lock found text) _ h in
+    let next = some_bind (byte_at one.0.1) _ one.2 in
+    let behind : one.0.1 ≡ next.0.0 ∷ next.0.1 = byte_takes one.0.1 next.0.1 next.0.0 next.1 in
+    by_comma one.0.0 one.0.1 (with_takes found text one.0 one.1) next.0.0 next.0.1 behind (next.0.0 == 44) refl next.2
+    (λ g. from_takes left one.0.0 next.0.1 locks g)
   where
-    go : (more : List ℕ) → (p : ℕ) × (b ≡ 48 + p) × (more ≡ found ++ p ∷ []) → (x : Bool) → (c == 44) ≡ x →
-        (if x then places_at more text else (if c == 10 && length text == 0 then Some more else None)) ≡ Some places →
-        ((more : List ℕ) → places_at more text ≡ Some places → Placed more text places) → Placed found (b ∷ c ∷ text) places
-    go more first true e h rest =
-        let comma : c ≡ 44 = eqb-true c 44 e in
-        let others = rest more h in
-        let list : places ≡ (found ++ first.0 ∷ []) ++ others.0 ∷ others.1 = others.2 ∙ ap (λ z. z ++ others.0 ∷ others.1) first.2 in
-        let byte : b ≡ 48 + first.0 = first.1 in
-        let tail : text ≡ (48 + others.0) ∷ (more_places others.1 ++ 10 ∷ []) = others.3 in
-        let whole : b ∷ c ∷ text ≡ (48 + first.0) ∷ 44 ∷ (48 + others.0) ∷ (more_places others.1 ++ 10 ∷ []) = cc in
-        (first.0, others.0 ∷ others.1, list ∙ append_assoc found (first.0 ∷ []) (others.0 ∷ others.1), whole)
-    go more first false e h rest =
-        let both = chosen (c == 10 && length text == 0) h in
-        let parts = and_parts (c == 10) (length text == 0) both.0 in
-        let ten : c ≡ 10 = eqb-true c 10 parts.0 in
-        let nothing : text ≡ [] = no_more text parts.1 in
-        let byte : b ≡ 48 + first.0 = first.1 in
-        let whole : b ∷ c ∷ text ≡ (48 + first.0) ∷ 10 ∷ [] = cc in
-        (first.0, [], sym both.1 ∙ first.2, whole)
+    by_comma : (more : List HeldLock) (after : Text) → (h : HeldLock) × (more ≡ found ++ h ∷ []) × (text ≡ lock_text h ++ after) →
+        (b : ℕ) (rest : Text) → after ≡ b ∷ rest → (x : Bool) → (b == 44) ≡ x →
+        (if x then locks_from left more rest else (if b == 10 && length rest == 0 then Some more else None)) ≡ Some locks →
+        (locks_from left more rest ≡ Some locks → Listed more rest locks) → Listed found text locks
+    by_comma more after first b rest behind true e h others =
+        let comma : b ≡ 44 = eqb-true b 44 e in
+        let later = others h in
+        let list : locks ≡ (found ++ first.0 ∷ []) ++ later.0 ∷ later.1 = later.2 ∙ ap (λ z. z ++ later.0 ∷ later.1) first.1 in
+        let tail : rest ≡ lock_text later.0 ++ (more_locks later.1 ++ 10 ∷ []) = later.3 in
+        let grouped : (lock_text later.0 ++ more_locks later.1) ++ 10 ∷ [] ≡ lock_text later.0 ++ (more_locks later.1 ++ 10 ∷ []) =
+        append_assoc (lock_text later.0) (more_locks later.1) (10 ∷ []) in
+        let end : after ≡ 44 ∷ ((lock_text later.0 ++ more_locks later.1) ++ 10 ∷ []) = behind ∙ ap (λ c. c ∷ rest) comma ∙ ap (λ t. 44 ∷ t) (tail ∙ sym grouped) in
+        (first.0, later.0 ∷ later.1, list ∙ append_assoc found (first.0 ∷ []) (later.0 ∷ later.1), first.2 ∙ ap (λ t. lock_text first.0 ++ t) end)
+    by_comma more after first b rest behind false e h others =
+        let both = chosen (b == 10 && length rest == 0) h in
+        let parts = and_parts (b == 10) (length rest == 0) both.0 in
+        let ten : b ≡ 10 = eqb-true b 10 parts.0 in
+        let nothing : rest ≡ [] = no_more rest parts.1 in
+        let end : after ≡ 10 ∷ [] = behind ∙ ap (λ c. c ∷ rest) ten ∙ ap (λ t. 10 ∷ t) nothing in
+        (first.0, [], sym both.1 ∙ first.1, first.2 ∙ ap (λ t. lock_text first.0 ++ t) end)
 
-places_again : (more : List ℕ) (found : List ℕ) (p : ℕ) → are_locks (found ++ p ∷ more) ≡ true →
-    places_at found ((48 + p) ∷ (more_places more ++ 10 ∷ [])) ≡ Some (found ++ p ∷ more)
-places_again [] found p h =
-    let one = middle found p [] h in
-    bind_again (with_lock found (48 + p)) (λ some. if 10 == 44 then places_at some [] else (if 10 == 10 && length {A = ℕ} [] == 0 then Some some else None)) (found ++ p ∷ []) (lock_again found p one.0 one.1) refl
-places_again (q ∷ more) found p h =
-    let one = middle found p (q ∷ more) h in
-    let grouped : (found ++ p ∷ []) ++ q ∷ more ≡ found ++ p ∷ q ∷ more = append_assoc found (p ∷ []) (q ∷ more) in
-    let text : Text = (48 + q) ∷ (more_places more ++ 10 ∷ []) in
-    bind_again (with_lock found (48 + p)) (λ some. if 44 == 44 then places_at some text else (if 44 == 10 && length text == 0 then Some some else None)) (found ++ p ∷ []) (lock_again found p one.0 one.1)
-    (places_again more (found ++ p ∷ []) q (rw grouped h) ∙ ap (λ z. Some z) grouped)
+from_again : (left : ℕ) (found : List HeldLock) (h : HeldLock) (more : List HeldLock) → length more < left → are_locks (found ++ h ∷ more) ≡ true →
+    locks_from left found (lock_text h ++ (more_locks more ++ 10 ∷ [])) ≡ Some (found ++ h ∷ more)
+from_again zero found h more few e = absurd (omega arith)
+from_again (suc left) found h [] few e =
+    bind_again (with_lock found (lock_text h ++ 10 ∷ [])) _ (found ++ h ∷ [], 10 ∷ []) (with_again found h (10 ∷ []) (before found h [] e) refl) refl
+from_again (suc left) found h (k ∷ more) few e =
+    let listed : (found ++ h ∷ []) ++ k ∷ more ≡ found ++ h ∷ k ∷ more = append_assoc found (h ∷ []) (k ∷ more) in
+    let grouped : (lock_text k ++ more_locks more) ++ 10 ∷ [] ≡ lock_text k ++ (more_locks more ++ 10 ∷ []) = append_assoc (lock_text k) (more_locks more) (10 ∷ []) in
+    let rest : Text = (lock_text k ++ more_locks more) ++ 10 ∷ [] in
+    let others : locks_from left (found ++ h ∷ []) rest ≡ Some (found ++ h ∷ k ∷ more) =
+    ap (λ t. locks_from left (found ++ h ∷ []) t) grouped ∙ from_again left (found ++ h ∷ []) k more (omega arith) (rw listed e) ∙ ap (λ z. Some z) listed in
+    bind_again (with_lock found (lock_text h ++ 44 ∷ rest)) _ (found ++ h ∷ [], 44 ∷ rest) (with_again found h (44 ∷ rest) (before found h (k ∷ more) e) refl) others
 
-placed_parts : (text : Text) (places : List ℕ) → Placed [] text places → (p : ℕ) × (more : List ℕ) × (places ≡ p ∷ more) × (text ≡ (48 + p) ∷ (more_places more ++ 10 ∷ []))
-unfolding Placed
-placed_parts text places h = h
+listed_parts : (text : Text) (locks : List HeldLock) → Listed [] text locks → (h : HeldLock) × (more : List HeldLock) × (locks ≡ h ∷ more) × (text ≡ lock_text h ++ (more_locks more ++ 10 ∷ []))
+unfolding Listed
+listed_parts text locks h = h
 
-locks_take : (text : Text) (places : List ℕ) → locks_of text ≡ Some places → text ≡ places_text places ++ 10 ∷ []
+locks_take : (text : Text) (locks : List HeldLock) → locks_of text ≡ Some locks → text ≡ locks_text locks ++ 10 ∷ []
 unfolding locks_of
-locks_take text places h = go (bytes_eq text (45 ∷ 10 ∷ [])) refl h
+locks_take text locks h = go (bytes_eq text (45 ∷ 10 ∷ [])) refl h
   where
-    go : (x : Bool) → bytes_eq text (45 ∷ 10 ∷ []) ≡ x → (if x then Some [] else places_at [] text) ≡ Some places → text ≡ places_text places ++ 10 ∷ []
+    go : (x : Bool) → bytes_eq text (45 ∷ 10 ∷ []) ≡ x → (if x then Some [] else locks_from 8 [] text) ≡ Some locks → text ≡ locks_text locks ++ 10 ∷ []
     go true e h =
         let same : text ≡ 45 ∷ 10 ∷ [] = (bytes_eq-Decides text (45 ∷ 10 ∷ [])).0 e in
-        let none : [] ≡ places = cc in
+        let none : [] ≡ locks = cc in
         rw (← none) same
-    go false e h = let some = placed_parts text places (places_take text [] places h) in rw some.2 some.3
+    go false e h =
+        let some = listed_parts text locks (from_takes 8 [] text locks h) in
+        some.3 ∙ sym (append_assoc (lock_text some.0) (more_locks some.1) (10 ∷ [])) ∙ ap (λ ls. locks_text ls ++ 10 ∷ []) (sym some.2)
 
-locks_again : (places : List ℕ) → are_locks places ≡ true → locks_of (places_text places ++ 10 ∷ []) ≡ Some places
+locks_again : (locks : List HeldLock) → are_locks locks ≡ true → locks_of (locks_text locks ++ 10 ∷ []) ≡ Some locks
 unfolding locks_of
 locks_again [] h = refl
-locks_again (p ∷ places) h =
-    let other : (48 + p == 45) ≡ false = ne_eqb (48 + p) 45 (λ e. omega arith) in
-    rw other (places_again places [] p h)
+locks_again (k ∷ locks) h =
+    let other : (48 + place_of k.lock == 45) ≡ false = ne_eqb (48 + place_of k.lock) 45 (λ e. omega arith) in
+    let grouped : (lock_text k ++ more_locks locks) ++ 10 ∷ [] ≡ lock_text k ++ (more_locks locks ++ 10 ∷ []) = append_assoc (lock_text k) (more_locks locks) (10 ∷ []) in
+    let few : suc (length locks) ≤ 8 = eight_at_most (k ∷ locks) h in
+    rw other (ap (λ t. locks_from 8 [] t) grouped ∙ from_again 8 [] k locks (omega arith) h)
 
 -- ---- steps as the code makes them
 
 pub rest_of : (text : Text) → take (length text - 1) (drop 1 text) ≡ drop 1 text
 rest_of text = rw (← length-drop 1 text) (take-length (drop 1 text))
 
-pub place_step : (found more : List ℕ) (text : Text) → 1 ≤ length text → 1 ≤ length (drop 1 text) → get_or (drop 1 text) 0 0 ≡ 44 →
-    with_lock found (get_or text 0 0) ≡ Some more → places_at found text ≡ places_at more (drop 1 (drop 1 text))
-place_step found more [] h k e lock = absurd (omega arith)
-place_step found more (b ∷ []) h k e lock = absurd (omega arith)
-place_step found more (b ∷ c ∷ text) h k e lock = rw (lock, e) refl
+-- one lock is read, and then what may still come
+pub locks_step : (left : ℕ) (found : List HeldLock) (text : Text) → 1 ≤ left → locks_from left found text ≡
+    (with_lock found text >>= λ more. byte_at more.1 >>= λ b.
+    (if b.0 == 44 then locks_from (left - 1) more.0 b.1 else (if b.0 == 10 && length b.1 == 0 then Some more.0 else None)))
+locks_step zero found text h = absurd (omega arith)
+locks_step (suc left) found text h = let less : suc left - 1 ≡ left = omega arith in rw less refl
 
 -- ---- a state
 
@@ -314,14 +366,14 @@ state_takes text s h =
     let y1 : j.0 ≡ k.0.0 ∷ k.0.1 = byte_takes j.0 k.0.1 k.0.0 k.1 in
     let y2 : k.0.0 ≡ 48 + draining_bits l.0 = draining_takes k.0.0 l.0 l.1 in
     let y3 : k.0.1 ≡ 32 ∷ m.0 = blank_takes k.0.1 m.0 m.1 in
-    let y4 : m.0 ≡ places_text n.0 ++ 10 ∷ [] = locks_take m.0 n.0 n.1 in
+    let y4 : m.0 ≡ locks_text n.0 ++ 10 ∷ [] = locks_take m.0 n.0 n.1 in
     spelled text s b.0 e.0 i.0 l.0 n.0 a.0.0 a.0.1 c.0 d.0.0 d.0.1 f.0 g.0.1 j.0 k.0.1 m.0 g.0.0 k.0.0 o.0 o.1 x1 x2 x3 x4 x5 x6 x7 x8 x9 y1 y2 y3 y4
   where
-    spelled : (text : Text) (s : State) (contexts operations : List StatusSet) (some : ModeSet) (answers : DrainingSet) (places : List ℕ)
-        (t1 t2 t3 t4 t5 t6 t7 t8 t9 t10 : Text) (u v : ℕ) → is_proper (state_of contexts operations some answers places) ≡ true → state_of contexts operations some answers places ≡ s →
+    spelled : (text : Text) (s : State) (contexts operations : List StatusSet) (some : ModeSet) (answers : DrainingSet) (locks : List HeldLock)
+        (t1 t2 t3 t4 t5 t6 t7 t8 t9 t10 : Text) (u v : ℕ) → is_proper (state_of contexts operations some answers locks) ≡ true → state_of contexts operations some answers locks ≡ s →
         text ≡ t1 ++ t2 → t1 ≡ digits contexts → t2 ≡ 32 ∷ t3 → t3 ≡ t4 ++ t5 → t4 ≡ digits operations → t5 ≡ 32 ∷ t6 → t6 ≡ u ∷ t7 → u ≡ 48 + mode_bits some →
-        t7 ≡ 32 ∷ t8 → t8 ≡ v ∷ t9 → v ≡ 48 + draining_bits answers → t9 ≡ 32 ∷ t10 → t10 ≡ places_text places ++ 10 ∷ [] → (text ≡ state_text s ++ 10 ∷ []) × (is_proper s ≡ true)
-    spelled text s contexts operations some answers places t1 t2 t3 t4 t5 t6 t7 t8 t9 t10 u v q o x1 x2 x3 x4 x5 x6 x7 x8 x9 y1 y2 y3 y4 =
+        t7 ≡ 32 ∷ t8 → t8 ≡ v ∷ t9 → v ≡ 48 + draining_bits answers → t9 ≡ 32 ∷ t10 → t10 ≡ locks_text locks ++ 10 ∷ [] → (text ≡ state_text s ++ 10 ∷ []) × (is_proper s ≡ true)
+    spelled text s contexts operations some answers locks t1 t2 t3 t4 t5 t6 t7 t8 t9 t10 u v q o x1 x2 x3 x4 x5 x6 x7 x8 x9 y1 y2 y3 y4 =
         (rw (x1, x2, x3, x4, x5, x6, x7, x8, x9, y1, y2, y3, y4, ← o) (simp append_assoc), rw (← o) q)
 
 -- ---- whole lines
@@ -477,7 +529,7 @@ state_again s h =
     let operations = and_parts (list_all is_possible s.operations) _ contexts.1 in
     let some = and_parts (is_mode_possible s.modes) _ operations.1 in
     let answers = and_parts (is_draining_possible s.draining) (are_locks s.locks) some.1 in
-    let end : Text = places_text s.locks ++ 10 ∷ [] in
+    let end : Text = locks_text s.locks ++ 10 ∷ [] in
     let fourth : Text = (48 + draining_bits s.draining) ∷ 32 ∷ end in
     let third : Text = (48 + mode_bits s.modes) ∷ 32 ∷ fourth in
     let second : Text = digits s.operations ++ 32 ∷ third in
@@ -510,7 +562,7 @@ point_again p point h =
         (if bytes_eq (point_text point ++ 10 ∷ []) (33 ∷ 10 ∷ []) then Some None else (state_at (point_text point ++ 10 ∷ []) >>= λ s. Some (Some s))) ≡ Some point
     go None h = refl
     go (Some s) h =
-        let others : Text = 32 ∷ (digits s.operations ++ 32 ∷ (48 + mode_bits s.modes) ∷ 32 ∷ (48 + draining_bits s.draining) ∷ 32 ∷ places_text s.locks) in
+        let others : Text = 32 ∷ (digits s.operations ++ 32 ∷ (48 + mode_bits s.modes) ∷ 32 ∷ (48 + draining_bits s.draining) ∷ 32 ∷ locks_text s.locks) in
         let grouped : state_text s ++ 10 ∷ [] ≡ digits s.contexts ++ (others ++ 10 ∷ []) = append_assoc (digits s.contexts) others (10 ∷ []) in
         let other : bytes_eq (state_text s ++ 10 ∷ []) (33 ∷ 10 ∷ []) ≡ false =
         ap (λ t. bytes_eq t (33 ∷ 10 ∷ [])) grouped ∙ begins s.contexts (others ++ 10 ∷ []) (and_parts (length s.contexts == 9) _ h).0 in

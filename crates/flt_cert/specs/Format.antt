@@ -2,6 +2,10 @@
 use Rattle.std.specs.Prelude.{◌≡◌, ℕ, suc, ◌+◌, Bool, true, ◌&&◌, nat_lt, List, [], ◌∷◌, ◌++◌, length, map, codes, Option, Some, None, IsTrue}
 use Rattle.std.specs.List.{list_all, flat_map}
 use Rattle.std.specs.Prelude.{take}
+use Rattle.flt_rules.specs.Call.{place_of}
+use Rattle.flt_rules.specs.declared.held.Access.{Access}
+use Rattle.flt_rules.specs.declared.held.Access.TheVariants.{Exclusive, Shared}
+use Rattle.flt_rules.specs.declared.held.HeldLock.{HeldLock}
 use Rattle.flt_abs.specs.Sets.{StatusSet, status_bits, mode_bits, draining_bits}
 use Rattle.flt_abs.specs.State.{State, is_proper}
 use Rattle.flt_cert.specs.Text.{Text, lines_of, decimal}
@@ -35,20 +39,29 @@ is_certificate callbacks = nat_lt 0 (length callbacks) && (nat_lt (length callba
 abbrev pub digits : List StatusSet → Text
 digits = map (λ s. 48 + status_bits s)
 
--- the locks after the first, each behind a comma
-abbrev pub more_places : List ℕ → Text
-more_places [] = []
-more_places (p ∷ places) = 44 ∷ (48 + p) ∷ more_places places
+-- a shared lock has "s" behind its place
+abbrev pub access_text : Access → Text
+access_text Exclusive = []
+access_text Shared = 115 ∷ []
 
--- the places of the locks, the oldest first, or "-"
-abbrev pub places_text : List ℕ → Text
-places_text [] = 45 ∷ []
-places_text (p ∷ places) = (48 + p) ∷ more_places places
+-- the place of a lock, and how it is held
+abbrev pub lock_text : HeldLock → Text
+lock_text h = (48 + place_of h.lock) ∷ access_text h.access
+
+-- the locks after the first, each behind a comma
+abbrev pub more_locks : List HeldLock → Text
+more_locks [] = []
+more_locks (h ∷ locks) = 44 ∷ (lock_text h ++ more_locks locks)
+
+-- the locks, the oldest first, or "-"
+abbrev pub locks_text : List HeldLock → Text
+locks_text [] = 45 ∷ []
+locks_text (h ∷ locks) = lock_text h ++ more_locks locks
 
 -- the five fields of a state
 abbrev pub state_text : State → Text
 state_text s =
-    digits s.contexts ++ 32 ∷ (digits s.operations ++ 32 ∷ (48 + mode_bits s.modes) ∷ 32 ∷ (48 + draining_bits s.draining) ∷ 32 ∷ places_text s.locks)
+    digits s.contexts ++ 32 ∷ (digits s.operations ++ 32 ∷ (48 + mode_bits s.modes) ∷ 32 ∷ (48 + draining_bits s.draining) ∷ 32 ∷ locks_text s.locks)
 
 -- the same, or "!" where the point isn't reached
 abbrev pub point_text : Point → Text

@@ -1,7 +1,12 @@
 -- Reading a certificate line by line, with the first line that isn't as asked.
 use Rattle.std.specs.Prelude.{◌≡◌, ℕ, zero, suc, ◌+◌, ◌-◌, Bool, ◌&&◌, ◌==◌, not, nat_lt, if◌then◌else◌, List, [], ◌∷◌, ◌++◌, length, take, drop, codes, Option, Some, None, Result, Ok, Err}
 use Rattle.std.specs.Str.{bytes_eq}
-use Rattle.flt_abs.specs.Locks.{holds_lock}
+use Rattle.flt_rules.specs.Call.{lock_at}
+use Rattle.flt_rules.specs.Held.{held, holds_lock}
+use Rattle.flt_rules.specs.declared.call.LockNumber.{LockNumber}
+use Rattle.flt_rules.specs.declared.held.Access.{Access}
+use Rattle.flt_rules.specs.declared.held.Access.TheVariants.{Exclusive, Shared}
+use Rattle.flt_rules.specs.declared.held.HeldLock.{HeldLock}
 use Rattle.flt_abs.specs.Sets.{StatusSet, ModeSet, DrainingSet, statuses, modes, draining}
 use Rattle.flt_abs.specs.State.{State, state_of, is_proper}
 use Rattle.flt_cert.specs.declared.fault.CertFault.{CertFault}
@@ -40,24 +45,30 @@ byte_at (b ∷ text) = Some (b, text)
 abbrev pub blank : Text → Option Text
 blank = after (32 ∷ [])
 
--- the place of a lock that isn't among those found
-abbrev pub lock_of : List ℕ → ℕ → Option ℕ
-lock_of found b = if nat_lt 47 b && (nat_lt b 56 && not (holds_lock (b - 48) found)) then Some (b - 48) else None
+-- the lock with this digit, if it isn't among those found
+abbrev pub lock_of : List HeldLock → ℕ → Option LockNumber
+lock_of found b = if nat_lt b 48 then None else (lock_at (b - 48) >>= λ l. if holds_lock l found then None else Some l)
 
--- the places found with one more
-abbrev pub with_lock : List ℕ → ℕ → Option (List ℕ)
-with_lock found b = lock_of found b >>= λ p. Some (found ++ p ∷ [])
+-- how a lock is held, by what stands behind its digit, and what follows: shared by "s"
+abbrev pub access_at : Text → Access × Text
+access_at [] = (Exclusive, [])
+access_at (b ∷ text) = if b == 115 then (Shared, text) else (Exclusive, b ∷ text)
 
--- the places of locks up to LF, behind what was found
-abbrev pub places_at : List ℕ → Text → Option (List ℕ)
-places_at found [] = None
-places_at found (b ∷ []) = None
-places_at found (b ∷ c ∷ text) =
-    with_lock found b >>= λ more. if c == 44 then places_at more text else (if c == 10 && length text == 0 then Some more else None)
+-- the locks found with one more, and what follows it
+abbrev pub with_lock : List HeldLock → Text → Option (List HeldLock × Text)
+with_lock found text =
+    byte_at text >>= λ digit. lock_of found digit.0 >>= λ l. Some (found ++ held l (access_at digit.1).0 ∷ [], (access_at digit.1).1)
 
--- the last field
-unfoldable pub locks_of : Text → Option (List ℕ)
-locks_of text = if bytes_eq text (45 ∷ 10 ∷ []) then Some [] else places_at [] text
+-- as many locks as may still come, up to LF, behind what was found
+abbrev pub locks_from : ℕ → List HeldLock → Text → Option (List HeldLock)
+locks_from zero found text = None
+locks_from (suc left) found text =
+    with_lock found text >>= λ more. byte_at more.1 >>= λ b.
+    (if b.0 == 44 then locks_from left more.0 b.1 else (if b.0 == 10 && length b.1 == 0 then Some more.0 else None))
+
+-- the last field: eight locks at most, or none
+unfoldable pub locks_of : Text → Option (List HeldLock)
+locks_of text = if bytes_eq text (45 ∷ 10 ∷ []) then Some [] else locks_from 8 [] text
 
 -- a state, if it is one
 abbrev pub made : State → Option State

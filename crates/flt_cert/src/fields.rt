@@ -1,15 +1,16 @@
 //! What stands in one line.
 
-ghost use Rattle.std.specs.Prelude.{◌≡◌, ◌<◌, ◌≤◌, [], length, Some, None, IsTrue, IsFalse, IfSome};
+ghost use Rattle.std.specs.Prelude.{◌≡◌, ◌<◌, ◌≤◌, [], length, false, Some, None, IsTrue, IsFalse, IfSome};
 ghost use Rattle.std.specs.Option.{option_copied, option_map};
 ghost use Rattle.std.specs.Str.{bytes_eq};
 ghost use Rattle.flt_abs.specs.State.{state_of};
+ghost use Rattle.flt_rules.specs.Held.{holds_lock};
 ghost use Rattle.flt_cert.specs.Format.{last_line};
 ghost use Rattle.flt_cert.specs.Reading as spec;
 ghost use Rattle.flt_cert.specs.Text as text_spec;
 
 use flt_abs::{Abs, CONTEXTS, Draining, LockList, Modes, OPERATIONS, Statuses};
-use flt_rules::LockNumber;
+use flt_rules::{Access, LockNumber};
 use std::alloc::Global;
 
 const LAST_LINE: &[u8] = b"end\n";
@@ -17,6 +18,9 @@ const LAST_LINE: &[u8] = b"end\n";
 const FIRST_LINE: &[u8] = b"fltcert 1\n";
 
 const CALLBACK: &[u8] = b"callback ";
+
+/// How many locks a filter has at most.
+const MAX_LOCKS: usize = 8;
 
 /// What follows `front` at the front of a text.
 fn after<'a>(front: &[u8], text: &'a [u8]) -> Option<&'a [u8]>
@@ -118,33 +122,54 @@ fn byte_at(text: &[u8]) -> Option<(u8, &[u8])>
     }
 }
 
-/// The locks, with the one of this digit as the latest.
-fn with_lock(mut locks: LockList, digit: u8) -> Option<LockList>
-    ensures { result ≡ spec.with_lock locks digit }
+/// The lock of a digit, if it isn't among those found.
+fn lock_of(found: &LockList, digit: u8) -> Option<LockNumber>
+    ensures value { result ≡ spec.lock_of found.now digit }
+    ensures unheld { IfSome result (λ l. holds_lock l found.now ≡ false) }
 {
     let place = digit.checked_sub(b'0')?;
     let lock = LockNumber::at(place as usize)?;
-    if locks.contains(lock) {
-        return None;
+    if found.contains(lock) {
+        None
+    } else {
+        Some(lock)
     }
-    locks.take(lock);
-    Some(locks)
 }
 
-fn places_at(locks: LockList, text: &[u8]) -> Option<LockList>
-    ensures { result ≡ spec.places_at locks text.now }
+/// How a lock is held, by what stands behind its digit, and what follows.
+fn access_at(text: &[u8]) -> (Access, &[u8])
+    ensures { (result.0, result.1.now) ≡ spec.access_at text.now }
 {
-    let [digit, after @ ..] = text else {
-        return None;
-    };
-    let locks = with_lock(locks, *digit)?;
-    let [next, after @ ..] = after else {
-        return None;
-    };
-    if *next == b',' {
-        return places_at(locks, after);
+    match text {
+        [b's', after @ ..] => (Access::Shared, after),
+        _ => (Access::Exclusive, text),
     }
-    if *next == b'\n' && after.is_empty() {
+}
+
+/// The locks with one more, and what follows it.
+fn with_lock(mut locks: LockList, text: &[u8]) -> Option<(LockList, &[u8])>
+    ensures { option_map (λ x. (x.0, x.1.now)) result ≡ spec.with_lock locks text.now }
+{
+    let (digit, text) = byte_at(text)?;
+    let lock = lock_of(&locks, digit)?;
+    let (access, text) = access_at(text);
+    locks.take(lock, access);
+    Some((locks, text))
+}
+
+/// The locks up to the end of the line, behind those that were found, if so many may still come.
+fn locks_from(left: usize, found: LockList, text: &[u8]) -> Option<LockList>
+    ensures { result ≡ spec.locks_from left found text.now }
+{
+    if left == 0 {
+        return None;
+    }
+    let (locks, text) = with_lock(found, text)?;
+    let (next, text) = byte_at(text)?;
+    if next == b',' {
+        return locks_from(left - 1, locks, text);
+    }
+    if next == b'\n' && text.is_empty() {
         Some(locks)
     } else {
         None
@@ -159,7 +184,7 @@ fn locks_of(alloc: Global, text: &[u8]) -> Option<LockList>
     if text == b"-\n".as_slice() {
         Some(none)
     } else {
-        places_at(none, text)
+        locks_from(MAX_LOCKS, none, text)
     }
 }
 

@@ -1,12 +1,12 @@
 //! The text of certificates.
 
-ghost use Rattle.std.specs.Prelude.{◌≡◌, ◌<◌, ◌+◌, [], ◌∷◌, ◌++◌, length, IfOk, OnOk, IsTrue};
-ghost use Rattle.flt_abs.specs.Locks.{are_locks};
+ghost use Rattle.std.specs.Prelude.{◌≡◌, ◌<◌, ◌+◌, [], ◌∷◌, ◌++◌, length, IfOk, OnOk};
 ghost use Rattle.flt_cert.specs.Format as format;
 ghost use Rattle.flt_cert.specs.Text.{decimal};
 
 use crate::cert::Cert;
 use flt_abs::{Abs, Statuses};
+use flt_rules::{Access, HeldLock};
 use std::alloc::{AllocError, Global};
 
 fn push_number(out: &mut Vec<u8>, number: usize) -> Result<(), AllocError>
@@ -51,25 +51,38 @@ fn push_digit(out: &mut Vec<u8>, digit: u8) -> Result<(), AllocError>
     Ok(())
 }
 
-fn push_places(out: &mut Vec<u8>, places: &[u8]) -> Result<(), AllocError>
-    requires { IsTrue (are_locks places.now) }
-    ensures { OnOk result (out.new.items ≡ out.old.items ++ format.places_text places.now) }
+#[tactic(auto, using(flt_abs::specs::LockLaws::place_low))]
+fn push_lock(out: &mut Vec<u8>, held: HeldLock) -> Result<(), AllocError>
+    ensures { OnOk result (out.new.items ≡ out.old.items ++ format.lock_text held) }
 {
-    let [oldest, others @ ..] = places else {
+    out.push(b'0' + held.lock.place())?;
+    match held.access {
+        Access::Exclusive => Ok(()),
+        Access::Shared => {
+            out.push(b's')?;
+            Ok(())
+        }
+    }
+}
+
+fn push_locks(out: &mut Vec<u8>, locks: &[HeldLock]) -> Result<(), AllocError>
+    ensures { OnOk result (out.new.items ≡ out.old.items ++ format.locks_text locks.now) }
+{
+    let [oldest, others @ ..] = locks else {
         out.push(b'-')?;
         return Ok(());
     };
-    out.push(b'0' + *oldest)?;
-    push_more_places(out, others)
+    push_lock(out, *oldest)?;
+    push_more_locks(out, others)
 }
 
-fn push_more_places(out: &mut Vec<u8>, places: &[u8]) -> Result<(), AllocError>
-    requires { IsTrue (are_locks places.now) }
-    ensures { OnOk result (out.new.items ≡ out.old.items ++ format.more_places places.now) }
+fn push_more_locks(out: &mut Vec<u8>, locks: &[HeldLock]) -> Result<(), AllocError>
+    ensures { OnOk result (out.new.items ≡ out.old.items ++ format.more_locks locks.now) }
 {
-    if let [place, others @ ..] = places {
-        out.extend_from_slice(&[b',', b'0' + *place])?;
-        push_more_places(out, others)?;
+    if let [held, others @ ..] = locks {
+        out.push(b',')?;
+        push_lock(out, *held)?;
+        push_more_locks(out, others)?;
     }
     Ok(())
 }
@@ -81,7 +94,7 @@ fn push_state(out: &mut Vec<u8>, state: &Abs) -> Result<(), AllocError>
     push_field(out, state.operations())?;
     push_digit(out, state.modes().digit())?;
     push_digit(out, state.draining().digit())?;
-    push_places(out, state.locks().as_slice())?;
+    push_locks(out, state.locks().as_slice())?;
     Ok(())
 }
 

@@ -2,7 +2,7 @@
 use Rattle.std.proofs.Common.{◌≡◌, ℕ, zero, suc, ◌<◌, ◌≤◌, Bool, true, false, [], ◌∷◌, length, Option, Some, None, Result, Ok, Err, refl, sym, ap, ◌∙◌, nat_lt, arith}
 use Rattle.std.specs.Prelude.{not, ◌==◌, if◌then◌else◌}
 use Rattle.std.specs.List.{list_all}
-use Rattle.std.specs.Str.{bytes_eq}
+use Rattle.flt_rules.specs.Held.{same_locks}
 use Rattle.std.proofs.lemmas.Bool.{and_parts, eqb-true, eq-eqb, leb-false, lt-leb, or_parts, not-false, true≢false, false≢true, ltb-true}
 use Rattle.flt_rules.specs.Rule.{number}
 use Rattle.flt_rules.specs.declared.rule.Rule.{Rule}
@@ -50,13 +50,13 @@ by_lead true false e h = cc
 by_lead false c e h = cc
 
 leads : (x : State) (o : Option State) → lead_fault x o ≡ None → (y : State) × (o ≡ Some y) × (is_below x y ≡ true)
-leads x (Some y) e = (y, refl, lead_by (bytes_eq x.locks y.locks) (is_below x y) e)
+leads x (Some y) e = (y, refl, lead_by (same_locks x.locks y.locks) (is_below x y) e)
 leads x None e = absurd (none-some R14 (sym e))
 
 led : (x y : State) (o : Option State) → o ≡ Some y → is_below x y ≡ true → lead_fault x o ≡ None
 led x y (Some z) e h =
     let same : is_below x z ≡ true = cc in
-    by_lead (bytes_eq x.locks z.locks) (is_below x z) (and_parts _ _ same).0 same
+    by_lead (same_locks x.locks z.locks) (is_below x z) (and_parts _ _ same).0 same
 led x y None e h = absurd (none-some y e)
 
 is_led : (k : Certificate) (callback : ℕ) (o : Option Successor) → successor_fault k callback o ≡ None → IsLed k callback o

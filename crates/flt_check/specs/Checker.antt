@@ -1,6 +1,6 @@
 -- What is wrong with a certificate of a text that it doesn't cover, and where first. This project's own definitions.
 use Rattle.std.specs.Prelude.{◌≡◌, ℕ, ◌-◌, ◌<◌, ◌≤◌, ◌⊎◌, Bool, true, false, not, ◌||◌, ◌==◌, if◌then◌else◌, nat_lt, nat_le, length, [], Option, Some, None, Result, Ok, Err, slice_index_or}
-use Rattle.std.specs.Str.{bytes_eq}
+use Rattle.flt_rules.specs.Held.{same_locks}
 use Rattle.flt_rules.specs.Rule.{number}
 use Rattle.flt_rules.specs.declared.place.Place.{Place}
 use Rattle.flt_rules.specs.declared.rule.Rule.{Rule}
@@ -21,7 +21,7 @@ use Rattle.flt_check.specs.declared.checker.Refusal.{Refusal}
 -- a state that leads to a point: it must be reached, with the same locks, and with a state that isn't below
 abbrev pub lead_fault : State → Option State → Option Rule
 lead_fault x None = Some R14
-lead_fault x (Some y) = if not (bytes_eq x.locks y.locks) then Some R12 else (if not (is_below x y) then Some R14 else None)
+lead_fault x (Some y) = if not (same_locks x.locks y.locks) then Some R12 else (if not (is_below x y) then Some R14 else None)
 
 abbrev pub successor_fault : Certificate → ℕ → Option Successor → Option Rule
 successor_fault k callback (Some next) = lead_fault next.state (state_at k callback next.point)

@@ -65,6 +65,7 @@ module _ (cs : List Callback) (locks : List Lock) (queue : Bool) (from : Head) (
   plain_served (plain_call.ReferenceContext d e) = tt
   plain_served (plain_call.ReleaseContext d) = tt
   plain_served (plain_call.AcquireLock k l) = tt
+  plain_served (plain_call.AcquirePushLockShared l) = tt
   plain_served (plain_call.ReleaseLock k l) = tt
   plain_served (plain_call.CompletePendedPreOperation d st) = tt
   plain_served plain_call.CompletePendedPostOperation = tt

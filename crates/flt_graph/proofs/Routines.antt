@@ -11,11 +11,11 @@ use Rattle.flt_rules.specs.declared.place.Place.TheVariants as place
 use Rattle.flt_tree.specs.Filter.{head_place, is_named}
 use Rattle.flt_tree.specs.Declarations.{has_routine, is_declared, AreNewCallbacks, may_be_pre, may_be_post, runs_deferred, runs_generic, has_deferred, has_generic}
 use Rattle.flt_tree.specs.Names.{Text}
+use Rattle.flt_tree.specs.Registered.{routine_at}
 use Rattle.flt_tree.specs.declared.filter.Callback.{Callback}
 use Rattle.flt_tree.specs.declared.filter.Head.{Head}
 use Rattle.flt_tree.specs.declared.filter.Head.TheVariants.{Pre, Post, Canceled, DeferredPre, DeferredPost, Generic}
 use Rattle.flt_tree.specs.declared.filter.Routine.{Routine}
-use Rattle.flt_graph.specs.Instruction.{routine_at}
 use Rattle.flt_graph.specs.Served.{IsRoutine, IsDeferred}
 
 -- ---- names

@@ -1,15 +1,15 @@
 -- Calls with their operands by what they are to the call. This project's own form of the call pages.
-use Rattle.std.specs.Prelude.{ℕ, List, Option, Some, None, position}
+use Rattle.std.specs.Prelude.{List, Some, None}
 use Rattle.flt_rules.specs.declared.call.Call.{Call}
 use Rattle.flt_rules.specs.declared.call.Call.TheVariants as call
-use Rattle.flt_tree.specs.Filter.{context_of, is_named}
+use Rattle.flt_tree.specs.Filter.{context_of}
+use Rattle.flt_tree.specs.Registered.{routine_at}
 use Rattle.flt_tree.specs.Variable.{whose}
 use Rattle.flt_tree.specs.declared.filter.Callback.{Callback}
 use Rattle.flt_tree.specs.declared.filter.FallibleCall.{FallibleCall}
 use Rattle.flt_tree.specs.declared.filter.FallibleCall.TheVariants as fallible_call
 use Rattle.flt_tree.specs.declared.filter.PlainCall.{PlainCall}
 use Rattle.flt_tree.specs.declared.filter.PlainCall.TheVariants as plain_call
-use Rattle.flt_tree.specs.declared.filter.Routine.{Routine}
 use Rattle.flt_tree.specs.declared.variable.OperationVariable.TheVariants as operation
 use Rattle.flt_graph.specs.declared.instruction.Invocation.{Invocation}
 
@@ -22,14 +22,11 @@ plain (plain_call.DeleteContext c) = record (bare call.DeleteContext) { context 
 plain (plain_call.ReferenceContext c d) = record (bare call.ReferenceContext) { context = Some c; output = Some d }
 plain (plain_call.ReleaseContext c) = record (bare call.ReleaseContext) { context = Some c }
 plain (plain_call.AcquireLock k l) = record (bare (call.AcquireLock k)) { lock = Some l }
+plain (plain_call.AcquirePushLockShared l) = record (bare call.AcquirePushLockShared) { lock = Some l }
 plain (plain_call.ReleaseLock k l) = record (bare (call.ReleaseLock k)) { lock = Some l }
 plain (plain_call.CompletePendedPreOperation d st) =
     record (bare (call.CompletePendedPreOperation (whose d))) { operation = Some d; context = context_of st; status = Some st }
 plain plain_call.CompletePendedPostOperation = record (bare call.CompletePendedPostOperation) { operation = Some operation.Data }
-
--- the callback that is the routine of a name, from 0
-abbrev pub routine_at : List Callback → Routine → Option ℕ
-routine_at callbacks r = position (λ c. is_named r.name c.head) callbacks
 
 abbrev pub fallible : List Callback → FallibleCall → Invocation
 fallible cs (fallible_call.AllocateContext d) = record (bare call.AllocateContext) { output = Some d }

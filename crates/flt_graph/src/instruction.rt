@@ -2,6 +2,7 @@
 
 ghost use Rattle.std.specs.Prelude.{◌≡◌};
 ghost use Rattle.flt_graph.specs.Instruction as spec;
+ghost use Rattle.flt_tree.specs.Registered as registered;
 
 use flt_rules::{Call, LockNumber};
 use flt_tree::{
@@ -79,6 +80,10 @@ pub fn plain(call: PlainCall) -> Invocation
             lock: Some(lock),
             ..bare(Call::AcquireLock(kind))
         },
+        PlainCall::AcquirePushLockShared(lock) => Invocation {
+            lock: Some(lock),
+            ..bare(Call::AcquirePushLockShared)
+        },
         PlainCall::ReleaseLock(kind, lock) => Invocation {
             lock: Some(lock),
             ..bare(Call::ReleaseLock(kind))
@@ -98,7 +103,7 @@ pub fn plain(call: PlainCall) -> Invocation
 
 /// The callback that is the routine of a name, from 0.
 fn routine_at(callbacks: &[Callback], routine: &Routine) -> Option<usize>
-    ensures { result ≡ spec.routine_at callbacks.now routine.now }
+    ensures { result ≡ registered.routine_at callbacks.now routine.now }
 {
     callbacks
         .iter()

@@ -3,6 +3,7 @@
 -- A call that can fail goes on by the first list where it succeeds, by the second otherwise; outputs that it doesn't give
 -- become NULL.
 use Rattle.std.specs.Prelude.{ℕ, Bool, not, ◌||◌, if◌then◌else◌, List, [], ◌∷◌, ◌++◌, length, Option, Some, None, is_some}
+use Rattle.flt_rules.specs.Held.{held, holds_lock, without_last}
 use Rattle.flt_rules.specs.declared.call.Anchor.{Anchor}
 use Rattle.flt_rules.specs.declared.call.Anchor.TheVariants as anchor
 use Rattle.flt_rules.specs.declared.call.Call.TheVariants as call
@@ -10,6 +11,8 @@ use Rattle.flt_rules.specs.declared.call.Existing.{Existing}
 use Rattle.flt_rules.specs.declared.call.Existing.TheVariants.{Keep, Replace}
 use Rattle.flt_rules.specs.declared.call.LockKind.{LockKind}
 use Rattle.flt_rules.specs.declared.call.LockNumber.{LockNumber}
+use Rattle.flt_rules.specs.declared.held.Access.{Access}
+use Rattle.flt_rules.specs.declared.held.Access.TheVariants.{Exclusive, Shared}
 use Rattle.flt_tree.specs.Filter.{context_of}
 use Rattle.flt_tree.specs.Variable.{whose}
 use Rattle.flt_tree.specs.declared.filter.Filter.{Filter}
@@ -27,7 +30,7 @@ use Rattle.flt_model.specs.declared.event.Object.{Object}
 use Rattle.flt_model.specs.declared.event.Object.TheVariants.{Context, Visit}
 use Rattle.flt_model.specs.declared.moves.Key.TheVariants.{Stream, Instance}
 use Rattle.flt_model.specs.Effects.{Step, context, operation, optional, gains_context, loses_context, freed_by_drop, after_unlink, events_of_unlink, onward, goes_on, unchanged, gives_nothing, calling}
-use Rattle.flt_model.specs.Locks.{holds_lock, without_last, with_holder}
+use Rattle.flt_model.specs.Locks.{with_holder, without_holder}
 use Rattle.flt_model.specs.Settling.{way_of, makes_frame, settled_by}
 use Rattle.flt_model.specs.Variables.{context_in, operation_in, named_in, with_context_in, with_operation_in, with_old}
 use Rattle.flt_model.specs.World.{World, Store, Activation, Entry, Item, Link, is_attached, presence_at, queue_at, context_at, activation_at, actor_at, arrival_of, is_freed, linked_at, with_queue, add_reference, drop_reference, with_link}
@@ -173,22 +176,27 @@ module _ (w : World) (a : ℕ) where
 
   -- ---- locks: what is held already isn't taken again, and what isn't held isn't released
 
-  -- the lock is the latest of the list, and its holder is the activation
-  abbrev pub taken : LockNumber → List Statement → Step
-  taken l rest =
+  -- the lock is the latest of the list, and the activation is one of its holders
+  abbrev pub taken : LockNumber → Access → List Statement → Step
+  taken l access rest =
       if holds_lock l act.locks
       then unchanged w a rest
-      else goes_on w a (record (onward w a rest) { locks = act.locks ++ l ∷ [] }) (with_holder w.store filter l (Some a)) []
+      else goes_on w a (record (onward w a rest) { locks = act.locks ++ held l access ∷ [] })
+        (with_holder w.store filter l (record { activation = a; access = access })) []
 
   -- KeAcquireSpinLock, ExAcquireFastMutex, FltAcquirePushLockExclusive
   abbrev pub acquire : LockKind → LockNumber → List Statement → Step
-  acquire k l rest = calling w a (call.AcquireLock k) (event.Lock a l ∷ []) [] (taken l rest)
+  acquire k l rest = calling w a (call.AcquireLock k) (event.Lock a l ∷ []) [] (taken l Exclusive rest)
 
-  -- the lock leaves the list, and nobody holds it
+  -- FltAcquirePushLockShared
+  abbrev pub acquire_shared : LockNumber → List Statement → Step
+  acquire_shared l rest = calling w a call.AcquirePushLockShared (event.Lock a l ∷ []) [] (taken l Shared rest)
+
+  -- the last entry of the lock leaves the list, of either kind, and the activation is none of its holders
   abbrev pub given_up : LockNumber → List Statement → Step
   given_up l rest =
       if holds_lock l act.locks
-      then goes_on w a (record (onward w a rest) { locks = without_last l act.locks }) (with_holder w.store filter l None) []
+      then goes_on w a (record (onward w a rest) { locks = without_last l act.locks }) (without_holder w.store filter l a) []
       else unchanged w a rest
 
   -- KeReleaseSpinLock, ExReleaseFastMutex, FltReleasePushLock

@@ -45,7 +45,7 @@ keeps p m s V3 = settled_once m.trace s.events
 keeps p m s V4 = one_owner s.world (m.trace ++ s.events)
 keeps p m s V5 = legal_statuses p m.world m.trace s.events
 keeps p m s V6 = levels_kept p m.world m.trace s.events
-keeps p m s V7 = lock_discipline p m.world m.trace s.events
+keeps p m s V7 = lock_discipline p m.world m.trace s.world s.events
 keeps p m s V8 = legal_places p m.world m.trace s.events
 
 -- in the order of their numbers

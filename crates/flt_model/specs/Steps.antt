@@ -1,5 +1,8 @@
 -- One transition of the machine, with its events, or nothing where it isn't enabled.
 use Rattle.std.specs.Prelude.{ℕ, Bool, true, false, ◌&&◌, ◌||◌, if◌then◌else◌, List, [], ◌∷◌, ◌++◌, Option, Some, None, option_map, set}
+use Rattle.flt_rules.specs.declared.call.LockNumber.{LockNumber}
+use Rattle.flt_rules.specs.declared.held.Access.{Access}
+use Rattle.flt_rules.specs.declared.held.Access.TheVariants.{Exclusive, Shared}
 use Rattle.flt_tree.specs.declared.filter.Action.{Action}
 use Rattle.flt_tree.specs.declared.filter.Action.TheVariants as action
 use Rattle.flt_tree.specs.declared.filter.Condition.{Condition}
@@ -15,10 +18,10 @@ use Rattle.flt_tree.specs.declared.filter.Test.{Test}
 use Rattle.flt_tree.specs.declared.filter.Test.TheVariants as test
 use Rattle.flt_model.specs.declared.event.Event.{Event}
 use Rattle.flt_model.specs.declared.moves.Move.{Move}
-use Rattle.flt_model.specs.Calls.{allocate, get, set_context, delete_at, delete, reference, release, acquire, release_lock, insert, remove_next, queue_deferred, queue_generic, complete_pre, complete_post}
+use Rattle.flt_model.specs.Calls.{allocate, get, set_context, delete_at, delete, reference, release, acquire, acquire_shared, release_lock, insert, remove_next, queue_deferred, queue_generic, complete_pre, complete_post}
 use Rattle.flt_model.specs.Effects.{Step}
 use Rattle.flt_model.specs.LocalSteps.{local_step}
-use Rattle.flt_model.specs.Locks.{holder_of, is_free_for}
+use Rattle.flt_model.specs.Locks.{holders_of, is_free_for}
 use Rattle.flt_model.specs.Moves.{make}
 use Rattle.flt_model.specs.Program.{callbacks_at, routine_of}
 use Rattle.flt_model.specs.Reads.{read_value, write_value, read_file, test_irp}
@@ -46,12 +49,15 @@ abbrev pub leaves_choice : Condition → Bool
 leaves_choice (condition.Succeeds c) = may_be_refused c
 leaves_choice (condition.Test t) = false
 
--- whether the first statement can go on with this choice, where the activation is of a filter: a lock that it asks for isn't
--- another's
+-- whether the activation may take a lock of its filter so, beside the others that hold it
+abbrev pub may_take : World → ℕ → LockNumber → Access → Bool
+may_take w a l access = is_free_for a access (holders_of w.store (actor_at w a).filter l)
+
+-- whether the first statement can go on with this choice: a lock that it asks for isn't held by others in a way that refuses it
 abbrev pub may_go : World → ℕ → Bool → Statement-F Statement → Bool
 may_go w a grant (Statement-F.If line asked granted refused) = grant || leaves_choice asked
-may_go w a grant (Statement-F.Call line (plain.AcquireLock k l)) =
-    grant && is_free_for a (holder_of w.store (actor_at w a).filter l)
+may_go w a grant (Statement-F.Call line (plain.AcquireLock k l)) = grant && may_take w a l Exclusive
+may_go w a grant (Statement-F.Call line (plain.AcquirePushLockShared l)) = grant && may_take w a l Shared
 may_go w a grant _ = grant
 
 -- ---- steps that others see; a local one is none
@@ -70,6 +76,7 @@ module _ (p : List Filter) (t : List Event) (w : World) (a : ℕ) where
   plain_step rest (plain.ReferenceContext c d) = reference w a c d rest
   plain_step rest (plain.ReleaseContext c) = release w a c rest
   plain_step rest (plain.AcquireLock k l) = acquire w a k l rest
+  plain_step rest (plain.AcquirePushLockShared l) = acquire_shared w a l rest
   plain_step rest (plain.ReleaseLock k l) = release_lock w a k l rest
   plain_step rest (plain.CompletePendedPreOperation d st) = complete_pre w a p d st rest
   plain_step rest plain.CompletePendedPostOperation = complete_post w a p rest

@@ -4,6 +4,7 @@ use Rattle.std.specs.Prelude.{ℕ, zero, suc, ◌+◌, Bool, true, false, not, �
 use Rattle.std.specs.List.{list_all}
 use Rattle.flt_rules.specs.Call.{is_legal_in_draining}
 use Rattle.flt_rules.specs.Columns.{has_place}
+use Rattle.flt_rules.specs.Held.{holds_lock, is_latest}
 use Rattle.flt_rules.specs.Place.{is_above}
 use Rattle.flt_rules.specs.Table.{row}
 use Rattle.flt_tree.specs.declared.filter.Filter.{Filter}
@@ -12,7 +13,7 @@ use Rattle.flt_model.specs.declared.event.Event.TheVariants.{Call, Status, Lock,
 use Rattle.flt_model.specs.declared.event.Object.{Object}
 use Rattle.flt_model.specs.declared.event.Object.TheVariants.{Context, Visit}
 use Rattle.flt_model.specs.Levels.{level_at}
-use Rattle.flt_model.specs.Locks.{holds_lock, is_latest}
+use Rattle.flt_model.specs.Locks.{locks_exclude}
 use Rattle.flt_model.specs.Moves.{is_empty}
 use Rattle.flt_model.specs.Program.{filter_at}
 use Rattle.flt_model.specs.Statuses.{may_answer, may_pend}
@@ -141,16 +142,17 @@ module _ (p : List Filter) (w : World) (t : List Event) where
   abbrev pub levels_kept : List Event → Bool
   levels_kept events = list_all is_low_enough events
 
-  -- V7, lock discipline: the latest lock is released first, none is taken twice, none is kept at the end
+  -- V7, lock discipline: the latest lock is released first, none is taken twice, none is kept at the end; and after the step no
+  -- lock is held exclusively beside another activation
   abbrev pub is_disciplined : Event → Bool
   is_disciplined (Lock a l) = not (holds_lock l (activation_at w a).locks)
   is_disciplined (Unlock a l) = is_latest l (activation_at w a).locks
   is_disciplined (End a) = is_empty (activation_at w a).locks
   is_disciplined _ = true
 
-  -- each event keeps the discipline
-  abbrev pub lock_discipline : List Event → Bool
-  lock_discipline events = list_all is_disciplined events
+  -- each event keeps the discipline, and so does the world after the step
+  abbrev pub lock_discipline : World → List Event → Bool
+  lock_discipline after events = list_all is_disciplined events && locks_exclude after
 
   -- V8, legal places: each call where the table has it, and in a draining callback only what cleans up
   abbrev pub is_in_place : Event → Bool

@@ -2,7 +2,8 @@
 -- numbered from 0 in the order in which they came, and no number is used again; so what never changes stands in lists that
 -- only grow. What isn't there has ended, is settled and counts nothing.
 use Rattle.std.specs.Prelude.{ℕ, ◌+◌, ◌-◌, Bool, true, false, ◌&&◌, ◌==◌, if◌then◌else◌, List, [], Option, Some, None, get_or, set, replicate, position, map}
-use Rattle.flt_rules.specs.declared.call.LockNumber.{LockNumber}
+use Rattle.flt_rules.specs.declared.held.Access.{Access}
+use Rattle.flt_rules.specs.declared.held.HeldLock.{HeldLock}
 use Rattle.flt_rules.specs.declared.place.Mode.{Mode}
 use Rattle.flt_rules.specs.declared.place.Mode.TheVariants.{Irp}
 use Rattle.flt_rules.specs.declared.place.Operation.{Operation}
@@ -114,16 +115,22 @@ pub record Activation : Type 0 where
   pub numbers : List ℕ
   pub contexts : List (Option ℕ)
   pub operations : List (Option ℕ)
-  pub locks : List LockNumber
+  pub locks : List HeldLock
   pub ended : Bool
+
+-- an activation that holds a lock, and how. Source: FltAcquirePushLockExclusive, FltAcquirePushLockShared
+pub record Holder : Type 0 where
+  pub activation : ℕ
+  pub access : Access
 
 -- ---- the world
 
--- what activations share. By filter: presences, queues, and who holds each lock. Items that have started are gone
+-- what activations share. By filter: presences, queues, and who holds each lock, in the order in which they took it. Items that
+-- have started are gone
 pub record Store : Type 0 where
   pub presences : List Presence
   pub queues : List (List Entry)
-  pub holders : List (List (Option ℕ))
+  pub holders : List (List (List Holder))
   pub arrivals : List Arrival
   pub routes : List Route
   pub visits : List Visit
@@ -145,7 +152,7 @@ opening p = record {
   store = record {
     presences = map (λ _. Attached) p;
     queues = map (λ _. []) p;
-    holders = map (λ _. replicate 8 None) p;
+    holders = map (λ _. replicate 8 []) p;
     arrivals = [];
     routes = [];
     visits = [];
@@ -166,7 +173,7 @@ abbrev pub queue_at : Store → ℕ → List Entry
 queue_at s f = get_or s.queues f []
 
 -- who holds each lock of a filter
-abbrev pub holders_at : Store → ℕ → List (Option ℕ)
+abbrev pub holders_at : Store → ℕ → List (List Holder)
 holders_at s f = get_or s.holders f []
 
 -- an operation that isn't there

@@ -1,5 +1,6 @@
 pub mod Call
 pub mod Columns
+pub mod Held
 pub mod Place
 pub mod Rule
 pub mod Status

@@ -1,8 +1,10 @@
 -- Where a callback status is legal. Source: FLT_PREOP_CALLBACK_STATUS and FLT_POSTOP_CALLBACK_STATUS in the
 -- driver kit; that SYNCHRONIZE isn't for a create and what may be handed on are this project's own rules.
-use Rattle.std.specs.Prelude.{Bool, true, false, Some, None}
+use Rattle.std.specs.Prelude.{Bool, true, false, Option, Some, None}
+use Rattle.flt_rules.specs.declared.place.Mode.{Mode}
 use Rattle.flt_rules.specs.declared.place.Mode.TheVariants as mode
 use Rattle.flt_rules.specs.declared.place.Stage.TheVariants as stage
+use Rattle.flt_rules.specs.declared.status.Possession.{Possession}
 use Rattle.flt_rules.specs.declared.status.Possession.TheVariants as possession
 use Rattle.flt_rules.specs.declared.status.StatusRow.{StatusRow}
 use Rattle.flt_rules.specs.declared.status.StatusWord.{StatusWord}
@@ -44,3 +46,15 @@ is_complete _ = false
 abbrev pub is_with_callback : StatusWord → Bool
 is_with_callback word.WithCallback = true
 is_with_callback _ = false
+
+-- ---- what a row asks for
+
+-- the operation is held, or was given away, as a row asks
+abbrev pub is_possessed : Bool → Bool → Possession → Bool
+is_possessed held given_away possession.Held = held
+is_possessed held given_away possession.GivenAway = given_away
+
+-- the mode that a row asks for passes, if it asks for one
+abbrev pub is_of_mode : (Mode → Bool) → Option Mode → Bool
+is_of_mode passes None = true
+is_of_mode passes (Some wanted) = passes wanted

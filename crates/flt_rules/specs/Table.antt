@@ -10,6 +10,7 @@ use Rattle.flt_rules.specs.declared.call.LockKind.{LockKind}
 use Rattle.flt_rules.specs.declared.call.LockKind.TheVariants as kind
 use Rattle.flt_rules.specs.declared.call.Possessed.{Possessed}
 use Rattle.flt_rules.specs.declared.call.Possessed.TheVariants.{Given, Removed}
+use Rattle.flt_rules.specs.declared.held.Access.TheVariants.{Exclusive, Shared}
 use Rattle.flt_rules.specs.declared.place.Level.{Level}
 use Rattle.flt_rules.specs.declared.place.Level.TheVariants as level
 use Rattle.flt_rules.specs.declared.columns.Change.TheVariants as becomes
@@ -123,7 +124,8 @@ row (call.DeleteContextOf a) = anchored a need.Nothing gives_held gives_null
 row call.DeleteContext = lifetime_row level.Apc need.Held need.Nothing same
 row call.ReferenceContext = lifetime_row level.Dispatch need.Held need.Output gives_held
 row call.ReleaseContext = release_row
-row (call.AcquireLock k) = lock_row k lock.NotHeld list.Taken
+row (call.AcquireLock k) = lock_row k lock.NotHeld (list.Taken Exclusive)
+row call.AcquirePushLockShared = lock_row kind.Push lock.NotHeld (list.Taken Shared)
 row (call.ReleaseLock k) = lock_row k lock.Latest list.Released
 row call.InsertIo = hand_over_row level.Apc places.PreOrDeferredPre need.Held true (Some same)
 row call.RemoveNextIo = remove_next_row

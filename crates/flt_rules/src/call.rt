@@ -64,6 +64,8 @@ pub enum Call {
     ReleaseContext,
     /// KeAcquireSpinLock, ExAcquireFastMutex, FltAcquirePushLockExclusive
     AcquireLock(LockKind),
+    /// FltAcquirePushLockShared
+    AcquirePushLockShared,
     /// KeReleaseSpinLock, ExReleaseFastMutex, FltReleasePushLock
     ReleaseLock(LockKind),
     /// FltCbdqInsertIo

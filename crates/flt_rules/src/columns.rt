@@ -2,6 +2,7 @@
 
 ghost use Rattle.std.specs.Prelude.{◌≡◌};
 
+use crate::held::Access;
 use crate::place::{Level, Operation, Place};
 
 /// The places at which a call is legal.
@@ -68,7 +69,9 @@ pub enum Change {
 #[derive(Clone, Copy)]
 pub enum LockChange {
     Stays,
-    Taken,
+    /// The lock is added as the latest.
+    Taken(Access),
+    /// Its last entry goes, of either kind.
     Released,
 }
 

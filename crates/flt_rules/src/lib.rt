@@ -5,6 +5,7 @@
 
 mod call;
 mod columns;
+mod held;
 mod place;
 mod rule;
 mod status;
@@ -12,6 +13,7 @@ mod table;
 
 pub use call::{Anchor, Call, Existing, LockKind, LockNumber, Possessed, is_legal_in_draining};
 pub use columns::{Change, Effects, LockChange, LockNeed, Need, Needs, Places, Row};
+pub use held::{Access, HeldLock};
 pub use place::{Level, Mode, Operation, Place, Stage, entry_level, raised_by};
 pub use rule::{Rule, number, text};
 pub use status::{FinalStatus, Possession, StatusRow, StatusWord, status_row};

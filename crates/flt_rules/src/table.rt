@@ -6,6 +6,7 @@ ghost use Rattle.flt_rules.specs.Table as spec;
 
 use crate::call::{Anchor, Call, Existing, LockKind, Possessed};
 use crate::columns::{Change, Effects, LockChange, LockNeed, Need, Needs, Places, Row};
+use crate::held::Access;
 use crate::place::Level;
 
 const NOTHING: Needs = Needs {
@@ -247,7 +248,16 @@ pub fn row(call: Call) -> Row
             lifetime_row(Level::Dispatch, Need::Held, Need::Output, GIVES_HELD)
         }
         Call::ReleaseContext => release_row(),
-        Call::AcquireLock(kind) => lock_row(kind, LockNeed::NotHeld, LockChange::Taken),
+        Call::AcquireLock(kind) => lock_row(
+            kind,
+            LockNeed::NotHeld,
+            LockChange::Taken(Access::Exclusive),
+        ),
+        Call::AcquirePushLockShared => lock_row(
+            LockKind::Push,
+            LockNeed::NotHeld,
+            LockChange::Taken(Access::Shared),
+        ),
         Call::ReleaseLock(kind) => lock_row(kind, LockNeed::Latest, LockChange::Released),
         Call::InsertIo => hand_over_row(
             Level::Apc,

@@ -3,5 +3,6 @@ pub mod Filter
 pub mod Limits
 pub mod Measures
 pub mod Names
+pub mod Registered
 pub mod Variable
 pub mod WellFormed

@@ -3,6 +3,7 @@
 use Rattle.std.specs.Prelude.{◌≡◌, ◌≢◌, ◌<◌, ◌≤◌, ◌^◌, ◌-◌, ℕ, suc, Bool, true, List, [], ◌∷◌, length, is_some, Option, Some, IsTrue}
 use Rattle.std.specs.List.{list_all}
 use Rattle.flt_rules.specs.declared.call.LockKind.{LockKind}
+use Rattle.flt_rules.specs.declared.call.LockKind.TheVariants.{Push}
 use Rattle.flt_rules.specs.declared.call.LockNumber.{LockNumber}
 use Rattle.flt_tree.specs.Declarations.{lock_name, lock_number, AreNewLocks, AreNewCallbacks, AreWhole, IsServed}
 use Rattle.flt_tree.specs.Names.{is_name}
@@ -71,6 +72,7 @@ IsLock locks kind l = (is_name (lock_name locks l) ≡ true) × (lock_number kin
 abbrev pub IsPlain : List Lock → PlainCall → Type 0
 IsPlain locks (plain.ReferenceContext c d) = d ≢ c
 IsPlain locks (plain.AcquireLock kind l) = IsLock locks kind l
+IsPlain locks (plain.AcquirePushLockShared l) = IsLock locks Push l
 IsPlain locks (plain.ReleaseLock kind l) = IsLock locks kind l
 IsPlain locks _ = Unit {0}
 

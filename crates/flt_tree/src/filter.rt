@@ -69,6 +69,8 @@ pub enum PlainCall {
     ReleaseContext(ContextVariable),
     /// KeAcquireSpinLock, ExAcquireFastMutex, FltAcquirePushLockExclusive
     AcquireLock(LockKind, LockNumber),
+    /// FltAcquirePushLockShared
+    AcquirePushLockShared(LockNumber),
     /// KeReleaseSpinLock, ExReleaseFastMutex, FltReleasePushLock
     ReleaseLock(LockKind, LockNumber),
     CompletePendedPreOperation(OperationVariable, Status),

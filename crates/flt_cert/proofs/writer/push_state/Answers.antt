@@ -1,6 +1,6 @@
 use Rattle.std.proofs.Common.{◌≡◌, ◌+◌, ◌++◌, ◌∷◌, []}
 use Rattle.flt_abs.specs.Sets.{mode_bits, draining_bits}
-use Rattle.flt_cert.specs.Format.{digits, places_text}
+use Rattle.flt_cert.specs.Format.{digits, locks_text}
 use Rattle.flt_cert.proofs.WriteLaws.{five_fields}
 use Rattle.flt_cert.proofs.writer.push_state.Goals as goal
 
@@ -11,6 +11,6 @@ returns c =
     let two : c.push_field-2.new.out.items ≡ c.push_field.new.out.items ++ (digits s.operations ++ 32 ∷ []) = cc (c.in_ok-push_field-2.ensures) in
     let three : c.push_digit.new.out.items ≡ c.push_field-2.new.out.items ++ (48 + mode_bits s.modes) ∷ 32 ∷ [] = cc (c.in_ok-push_digit.ensures) in
     let four : c.push_digit-2.new.out.items ≡ c.push_digit.new.out.items ++ (48 + draining_bits s.draining) ∷ 32 ∷ [] = cc (c.in_ok-push_digit-2.ensures) in
-    let five : c.push_places.new.out.items ≡ c.push_digit-2.new.out.items ++ places_text s.locks = cc (c.in_ok-push_places.ensures) in
-    five_fields c.args.out.now.items (digits s.contexts) (digits s.operations) (places_text s.locks) (48 + mode_bits s.modes) (48 + draining_bits s.draining)
-    c.push_field.new.out.items c.push_field-2.new.out.items c.push_digit.new.out.items c.push_digit-2.new.out.items c.push_places.new.out.items one two three four five
+    let five : c.push_locks.new.out.items ≡ c.push_digit-2.new.out.items ++ locks_text s.locks = cc (c.in_ok-push_locks.ensures) in
+    five_fields c.args.out.now.items (digits s.contexts) (digits s.operations) (locks_text s.locks) (48 + mode_bits s.modes) (48 + draining_bits s.draining)
+    c.push_field.new.out.items c.push_field-2.new.out.items c.push_digit.new.out.items c.push_digit-2.new.out.items c.push_locks.new.out.items one two three four five
