@@ -1,6 +1,6 @@
 -- The first of all faults is by the least rule that is broken.
 use Rattle.std.proofs.Common.{◌≡◌, ℕ, Bool, true, false, List, [], ◌∷◌, ◌++◌, Option, Some, if◌then◌else◌, refl}
-use Rattle.std.specs.List.{find, map}
+use Rattle.std.specs.Prelude.{find, map}
 use Rattle.flt_rules.specs.declared.rule.Rule.{Rule}
 use Rattle.flt_graph.specs.Graph.{place_at, instruction_at}
 use Rattle.flt_graph.specs.declared.graph.Graph.{Graph}

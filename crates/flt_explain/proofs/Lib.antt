@@ -1,4 +1,4 @@
 pub mod Digits
 pub mod Firsts
-pub mod Mending
+pub mod MendedSets
 pub mod Reading

@@ -1,7 +1,8 @@
 -- Which operand of a point is to blame where it breaks a rule, read as `flt_abs` reads the rules. This project's own definitions.
 use Rattle.std.specs.Prelude.{Bool, true, false, not, ◌==◌, ◌&&◌, Option, Some, None}
-use Rattle.flt_rules.specs.Call.{is_legal_in_draining, place_of}
+use Rattle.flt_rules.specs.Call.{is_legal_in_draining}
 use Rattle.flt_rules.specs.Columns.{has_place}
+use Rattle.flt_rules.specs.Held.{same_lock, holds_lock}
 use Rattle.flt_rules.specs.Status.{status_row}
 use Rattle.flt_rules.specs.Table.{row}
 use Rattle.flt_rules.specs.declared.call.LockNumber.{LockNumber}
@@ -24,7 +25,6 @@ use Rattle.flt_graph.specs.declared.instruction.Instruction.{Instruction}
 use Rattle.flt_graph.specs.declared.instruction.Instruction.TheVariants as instruction
 use Rattle.flt_graph.specs.declared.instruction.Invocation.{Invocation}
 use Rattle.flt_abs.specs.Breaks.{is_need_output, is_possessed, is_of_mode, owes_data}
-use Rattle.flt_abs.specs.Locks.{holds_lock}
 use Rattle.flt_abs.specs.State.{State}
 use Rattle.flt_abs.specs.Variables.{context_in, operation_in}
 use Rattle.flt_explain.specs.declared.finding.Subject.{Subject}
@@ -42,7 +42,7 @@ is_operation (Some d) v = operation_place d == operation_place v
 is_operation None v = false
 
 abbrev pub is_lock : Option LockNumber → LockNumber → Bool
-is_lock (Some l) m = place_of l == place_of m
+is_lock (Some l) m = same_lock l m
 is_lock None m = false
 
 -- ---- statements that neither call nor branch, and tests
@@ -109,7 +109,7 @@ abbrev pub is_return_about : Place → State → Option Status → Rule → Subj
 is_return_about place x st R02 (about.Context v) = is_kept_context x (named_context st) v
 is_return_about place x st R05 (about.Operation v) = is_kept_operation place x v
 is_return_about place x st R06 u = is_returned_about x st u
-is_return_about place x st R10 (about.Lock l) = holds_lock (place_of l) x.locks
+is_return_about place x st R10 (about.Lock l) = holds_lock l x.locks
 is_return_about place x st R13 (about.Context v) = is_context (named_context st) v
 is_return_about place x st _ _ = false
 

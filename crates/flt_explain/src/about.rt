@@ -50,7 +50,7 @@ fn is_lock(named: Option<LockNumber>, lock: LockNumber) -> bool
     ensures { result ≡ spec.is_lock named lock }
 {
     match named {
-        Some(named) => named.place() == lock.place(),
+        Some(named) => named.is_same(lock),
         None => false,
     }
 }
@@ -59,10 +59,9 @@ fn is_action_about(action: Action, subject: Subject) -> bool
     ensures { result ≡ spec.is_action_about action subject }
 {
     match (action, subject) {
-        (
-            Action::ReadValue(_, c) | Action::WriteValue(c, _) | Action::ClearContext(c),
-            Subject::Context(v),
-        ) => is_context(Some(c), v),
+        (Action::ReadValue(_, c), Subject::Context(v)) => is_context(Some(c), v),
+        (Action::WriteValue(c, _), Subject::Context(v)) => is_context(Some(c), v),
+        (Action::ClearContext(c), Subject::Context(v)) => is_context(Some(c), v),
         (Action::ClearOperation(o), Subject::Operation(v)) => {
             is_operation(Some(OperationVariable::Removed(o)), v)
         }

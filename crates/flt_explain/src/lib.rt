@@ -3,11 +3,11 @@
 #![tactic(auto)]
 
 mod about;
-mod faults;
+mod at_point;
 mod finding;
-mod findings;
 mod locks;
 mod mending;
+mod of_text;
 mod operands;
 mod sets;
 mod sight;
@@ -15,7 +15,7 @@ mod tell;
 mod walk;
 mod writes;
 
-pub use faults::faults;
+pub use at_point::faults;
 pub use finding::{Fault, Finding, Subject};
-pub use findings::findings;
 pub use mending::mending_is_exact;
+pub use of_text::findings;

@@ -15,7 +15,7 @@ const HELD: u8 = 2;
 const NOT_HELD: u8 = 5;
 
 /// What of a set of statuses a rule asks for; it may be the empty set.
-#[tactic(auto, using(crate::proofs::Mending::kept_held, crate::proofs::Mending::kept_not_held, crate::proofs::Mending::within_held, crate::proofs::Mending::within_not_held, crate::proofs::Mending::kept))]
+#[tactic(auto, using(crate::proofs::MendedSets::kept_held, crate::proofs::MendedSets::kept_not_held, crate::proofs::MendedSets::within_held, crate::proofs::MendedSets::within_not_held, crate::proofs::MendedSets::kept))]
 pub(crate) fn mended(set: Statuses, rule: Rule) -> Statuses
     ensures { result ≡ spec.mended rule set }
 {
@@ -35,7 +35,7 @@ pub(crate) fn mended(set: Statuses, rule: Rule) -> Statuses
 }
 
 /// An IRP alone, if it is possible.
-#[tactic(auto, using(crate::proofs::Mending::kept_irp, crate::proofs::Mending::within_irp))]
+#[tactic(auto, using(crate::proofs::MendedSets::kept_irp, crate::proofs::MendedSets::within_irp))]
 pub(crate) fn mended_modes(modes: Modes) -> Modes
     ensures { result ≡ spec.mended_modes modes }
 {
@@ -43,7 +43,7 @@ pub(crate) fn mended_modes(modes: Modes) -> Modes
 }
 
 /// No draining alone, if it is possible.
-#[tactic(auto, using(crate::proofs::Mending::kept_no, crate::proofs::Mending::within_no))]
+#[tactic(auto, using(crate::proofs::MendedSets::kept_no, crate::proofs::MendedSets::within_no))]
 pub(crate) fn mended_draining(draining: Draining) -> Draining
     ensures { result ≡ spec.mended_draining draining }
 {
@@ -52,7 +52,7 @@ pub(crate) fn mended_draining(draining: Draining) -> Draining
 
 /// What is left of a set is what of it is as the rule asks, and nothing else. So a variable that is wanted held is surely held then, and
 /// one that must not be held isn't, unless nothing is left. It does nothing: its clauses are the law.
-#[tactic(auto, using(crate::proofs::Mending::exact, crate::proofs::Mending::held, crate::proofs::Mending::not_held))]
+#[tactic(auto, using(crate::proofs::MendedSets::exact, crate::proofs::MendedSets::held, crate::proofs::MendedSets::not_held))]
 pub fn mending_is_exact()
     ensures exact { (r : Rule) (s : StatusSet) (t : Status) → has_status (spec.mended r s) t ≡ (has_status s t && spec.is_fine r t) }
     ensures held { (r : Rule) (s : StatusSet) → IsTrue (spec.wants_held r) → IsTrue (is_possible (spec.mended r s)) → IsTrue (is_held (spec.mended r s)) }

@@ -61,12 +61,18 @@ impl Spot {
     }
 }
 
+/// Whether a finding is among these.
+fn is_told(findings: &[Finding], finding: &Finding) -> bool
+    ensures { result ≡ spec.is_told findings.now finding.now }
+{
+    findings.iter().any(|f| f.is_same(finding))
+}
+
 /// Adds a finding, unless it is there.
 fn tell(findings: &mut Items<Finding>, finding: Finding) -> Result<(), AllocError>
     ensures { OnOk result (findings.new ≡ spec.told findings.old finding) }
 {
-    let known = findings.as_slice().iter().any(|f| f.is_same(&finding));
-    if !known {
+    if !is_told(findings.as_slice(), &finding) {
         findings.push(finding)?;
     }
     Ok(())

@@ -1,6 +1,6 @@
 //! The walk over the points of one callback, past what is wrong there.
 
-use crate::faults::faults;
+use crate::at_point::faults;
 use crate::finding::Finding;
 use crate::locks::Locks;
 use crate::sight::{Sight, Way};
