@@ -79,6 +79,7 @@ impl Walk {
     /// # Errors
     ///
     /// The rule that this breaks: other locks were held there, or there is no such point.
+    #[tactic(auto, using(flt_abs::specs::LockLaws::same_locks_decides))]
     fn reach(&mut self, successor: Option<Successor>) -> Result<(), Rule>
         requires few { length self.old.points ≤ 512 }
         ensures ok { OnOk result (spec.reach self.old successor ≡ Ok self.new) }

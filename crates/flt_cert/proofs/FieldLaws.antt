@@ -1,11 +1,10 @@
 -- What is read from a line is spelled so, and what is spelled so is read.
-use Rattle.std.proofs.Common.{◌≡◌, ◌<◌, ◌≤◌, ◌+◌, ◌-◌, ◌*◌, ◌/◌, ◌%◌, ℕ, zero, suc, Bool, true, false, List, [], ◌∷◌, ◌++◌, length, take, drop, refl, sym, ap, subst, arith, ◌∙◌, append_assoc, append-nil, length-drop, get_or}
+use Rattle.std.proofs.Common.{◌≡◌, ◌<◌, ◌≤◌, ◌+◌, ◌-◌, ◌*◌, ◌/◌, ◌%◌, ℕ, zero, suc, Bool, true, false, List, [], ◌∷◌, ◌++◌, length, take, drop, refl, sym, ap, subst, arith, ◌∙◌, append_assoc, append-nil}
 use Rattle.std.specs.Prelude.{not, ◌==◌, ◌&&◌, ◌||◌, nat_lt, if◌then◌else◌, Option, Some, None, codes}
 use Rattle.std.specs.List.{list_all}
 use Rattle.std.specs.Str.{bytes_eq}
-use Rattle.std.proofs.lemmas.Bool.{and_parts, and_from, or_parts, or_from, eqb-true, eqb-false, eq-eqb, ne_eqb, ltb-true, ltb-false, lt-ltb, le-ltb, not-true, agree_below, agree_below_at}
+use Rattle.std.proofs.lemmas.Bool.{and_parts, or_parts, or_from, eqb-true, eq-eqb, ne_eqb, ltb-true, ltb-false, lt-ltb, le-ltb, not-true, agree_below, agree_below_at}
 use Rattle.std.proofs.lemmas.Slice.Eq.{bytes_eq-Decides}
-use Rattle.std.proofs.Math.Seq.{take-length}
 use Rattle.std.proofs.lemmas.List.{take-append-drop}
 use Rattle.flt_rules.specs.Call.{place_of, lock_at}
 use Rattle.flt_rules.specs.Held.{held, same_lock, holds_lock}
@@ -190,12 +189,15 @@ lock_again found l new =
     let less : 48 + place_of l - 48 ≡ place_of l = omega arith in
     rw (le-ltb (48 + place_of l) 48 (omega arith), less, lock_at-place_of l, new) refl
 
-access_takes : (text : Text) → text ≡ access_text (access_at text).0 ++ (access_at text).1
+-- how a lock is held as it is spelled, and what follows
+abbrev behind : Access × Text → Text
+behind q = access_text q.0 ++ q.1
+
+access_takes : (text : Text) → text ≡ behind (access_at text)
 access_takes [] = refl
 access_takes (b ∷ text) = by_s (b == 115) refl
   where
-    by_s : (x : Bool) → (b == 115) ≡ x →
-        b ∷ text ≡ access_text (if x then (Shared, text) else (Exclusive, b ∷ text)).0 ++ (if x then (Shared, text) else (Exclusive, b ∷ text)).1
+    by_s : (x : Bool) → (b == 115) ≡ x → b ∷ text ≡ behind (if x then (Shared, text) else (Exclusive, b ∷ text))
     by_s true e = ap (λ c. c ∷ text) (eqb-true b 115 e)
     by_s false e = refl
 
@@ -314,18 +316,6 @@ locks_again (k ∷ locks) h =
     let grouped : (lock_text k ++ more_locks locks) ++ 10 ∷ [] ≡ lock_text k ++ (more_locks locks ++ 10 ∷ []) = append_assoc (lock_text k) (more_locks locks) (10 ∷ []) in
     let few : suc (length locks) ≤ 8 = eight_at_most (k ∷ locks) h in
     rw other (ap (λ t. locks_from 8 [] t) grouped ∙ from_again 8 [] k locks (omega arith) h)
-
--- ---- steps as the code makes them
-
-pub rest_of : (text : Text) → take (length text - 1) (drop 1 text) ≡ drop 1 text
-rest_of text = rw (← length-drop 1 text) (take-length (drop 1 text))
-
--- one lock is read, and then what may still come
-pub locks_step : (left : ℕ) (found : List HeldLock) (text : Text) → 1 ≤ left → locks_from left found text ≡
-    (with_lock found text >>= λ more. byte_at more.1 >>= λ b.
-    (if b.0 == 44 then locks_from (left - 1) more.0 b.1 else (if b.0 == 10 && length b.1 == 0 then Some more.0 else None)))
-locks_step zero found text h = absurd (omega arith)
-locks_step (suc left) found text h = let less : suc left - 1 ≡ left = omega arith in rw less refl
 
 -- ---- a state
 
