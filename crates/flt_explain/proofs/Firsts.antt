@@ -8,7 +8,6 @@ use Rattle.flt_abs.specs.Breaks.{breaks}
 use Rattle.flt_abs.specs.Setting.{setting_of}
 use Rattle.flt_abs.specs.State.{State}
 use Rattle.flt_explain.specs.Faults.{fault, or_itself, blamed, faults_of_all, first_rule}
-use Rattle.flt_explain.specs.Subjects.{operands}
 use Rattle.flt_explain.specs.declared.finding.Fault.{Fault}
 use Rattle.flt_explain.specs.declared.finding.Subject.{Subject}
 
@@ -20,9 +19,9 @@ first_by true r (u ∷ us) fs o e = refl
 first_by false r us fs o e = e
 
 -- of any rules, the first fault is by the first that is broken
-pub first_of_all : (g : Graph) (callback point : ℕ) (x : State) (rs : List Rule) →
-    first_rule (faults_of_all g callback point x rs) ≡ find (breaks (setting_of g callback x) x (instruction_at g callback point)) rs
-first_of_all g callback point x [] = refl
-first_of_all g callback point x (r ∷ rs) =
+pub first_of_all : (g : Graph) (callback point : ℕ) (x : State) (us : List Subject) (rs : List Rule) →
+    first_rule (faults_of_all g callback point x us rs) ≡ find (breaks (setting_of g callback x) x (instruction_at g callback point)) rs
+first_of_all g callback point x us [] = refl
+first_of_all g callback point x us (r ∷ rs) =
     first_by (breaks (setting_of g callback x) x (instruction_at g callback point) r) r
-    (blamed (place_at g callback) x (instruction_at g callback point) r operands) (faults_of_all g callback point x rs) _ (first_of_all g callback point x rs)
+    (blamed (place_at g callback) x (instruction_at g callback point) r us) (faults_of_all g callback point x us rs) _ (first_of_all g callback point x us rs)

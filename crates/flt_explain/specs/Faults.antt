@@ -34,22 +34,22 @@ fault r u = record { rule = r; subject = u }
 abbrev pub blamed : Place → State → Instruction → Rule → List Subject → List Subject
 blamed place x i r = filter (is_about place x i r)
 
--- the faults by one rule: none, or one for each operand that is to blame, and one at least
-abbrev pub faults_by : Setting → State → Instruction → Rule → List Fault
-faults_by s x i r = if breaks s x i r then map (fault r) (or_itself r (blamed s.place x i r operands)) else []
+-- the faults by one rule, as far as these operands are told: none, or one for each that is to blame, and one at least
+abbrev pub faults_by : Setting → State → Instruction → List Subject → Rule → List Fault
+faults_by s x i us r = if breaks s x i r then map (fault r) (or_itself r (blamed s.place x i r us)) else []
 
 -- the faults of a point of a callback in a state by one rule
-abbrev pub faults_of : Graph → ℕ → ℕ → State → Rule → List Fault
+abbrev pub faults_of : Graph → ℕ → ℕ → State → List Subject → Rule → List Fault
 faults_of g callback point x = faults_by (setting_of g callback x) x (instruction_at g callback point)
 
 -- the same by some rules, rule after rule
-abbrev pub faults_of_all : Graph → ℕ → ℕ → State → List Rule → List Fault
-faults_of_all g callback point x [] = []
-faults_of_all g callback point x (r ∷ rs) = faults_of g callback point x r ++ faults_of_all g callback point x rs
+abbrev pub faults_of_all : Graph → ℕ → ℕ → State → List Subject → List Rule → List Fault
+faults_of_all g callback point x us [] = []
+faults_of_all g callback point x us (r ∷ rs) = faults_of g callback point x us r ++ faults_of_all g callback point x us rs
 
 -- all that is wrong there
 abbrev pub faults_at : Graph → ℕ → ℕ → State → List Fault
-faults_at g callback point x = faults_of_all g callback point x rules
+faults_at g callback point x = faults_of_all g callback point x operands rules
 
 -- the rule of the first fault
 abbrev pub first_rule : List Fault → Option Rule

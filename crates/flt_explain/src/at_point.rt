@@ -5,7 +5,6 @@ ghost use Rattle.flt_abs.specs.Breaks.{first_broken};
 ghost use Rattle.flt_abs.specs.Setting.{setting_of};
 ghost use Rattle.flt_graph.specs.Graph.{instruction_at};
 ghost use Rattle.flt_explain.specs.Faults as spec;
-ghost use Rattle.flt_explain.specs.Subjects.{operands};
 
 use crate::about::is_about;
 use crate::finding::{Fault, Subject};
@@ -77,22 +76,45 @@ fn add(faults: &mut Items<Fault>, rule: Rule, subjects: &[Subject]) -> Result<()
     Ok(())
 }
 
-/// What a broken rule is about: at least the call or the status itself.
+/// What a broken rule is about, of these operands: at least the call or the status itself.
 fn subjects(
     alloc: Global,
     place: Place,
     state: &Abs,
     instruction: &Instruction,
     rule: Rule,
+    operands: &[Subject],
 ) -> Result<Items<Subject>, AllocError>
-    ensures { IfOk result (λ us. us ≡ spec.or_itself rule (spec.blamed place state.now instruction.now rule operands)) }
+    ensures { IfOk result (λ us. us ≡ spec.or_itself rule (spec.blamed place state.now instruction.now rule operands.now)) }
 {
     let mut blamed = Items::new(alloc);
-    blame(&mut blamed, place, state, instruction, rule, &OPERANDS)?;
+    blame(&mut blamed, place, state, instruction, rule, operands)?;
     if blamed.is_empty() {
         blamed.push(itself(rule))?;
     }
     Ok(blamed)
+}
+
+/// Adds the faults by one rule.
+fn add_rule(
+    alloc: Global,
+    faults: &mut Items<Fault>,
+    graph: &Graph,
+    callback: usize,
+    point: usize,
+    state: &Abs,
+    operands: &[Subject],
+    rule: Rule,
+) -> Result<(), AllocError>
+    ensures { OnOk result (faults.new ≡ faults.old ++ spec.faults_of graph.now callback point state.now operands.now rule) }
+{
+    if breaks_rule(graph, callback, point, state, rule) {
+        let instruction = graph.instruction(callback, point);
+        let place = graph.place(callback);
+        let subjects = subjects(alloc, place, state, &instruction, rule, operands)?;
+        add(faults, rule, subjects.as_slice())?;
+    }
+    Ok(())
 }
 
 /// Adds the faults by some rules.
@@ -103,24 +125,24 @@ fn add_all(
     callback: usize,
     point: usize,
     state: &Abs,
+    operands: &[Subject],
     rules: &[Rule],
 ) -> Result<(), AllocError>
-    ensures { OnOk result (faults.new ≡ faults.old ++ spec.faults_of_all graph.now callback point state.now rules.now) }
+    ensures { OnOk result (faults.new ≡ faults.old ++ spec.faults_of_all graph.now callback point state.now operands.now rules.now) }
 {
     if let [rule, others @ ..] = rules {
-        if breaks_rule(graph, callback, point, state, *rule) {
-            let instruction = graph.instruction(callback, point);
-            let subjects = subjects(alloc, graph.place(callback), state, &instruction, *rule)?;
-            add(faults, *rule, subjects.as_slice())?;
-        }
-        add_all(alloc, faults, graph, callback, point, state, others)?;
+        add_rule(
+            alloc, faults, graph, callback, point, state, operands, *rule,
+        )?;
+        add_all(
+            alloc, faults, graph, callback, point, state, operands, others,
+        )?;
     }
     Ok(())
 }
 
 /// All that is wrong at the point of a callback in a state: the rules that it breaks, in their order, each with every operand that is to
 /// blame. The first one's rule is what `flt_abs::transfer` answers, and there is none where that answers successors.
-#[tactic(auto, using(crate::proofs::Firsts::first_of_all))]
 pub fn faults(
     alloc: Global,
     graph: &Graph,
@@ -132,6 +154,15 @@ pub fn faults(
     ensures least { IfOk result (λ fs. spec.first_rule fs ≡ first_broken (setting_of graph.now callback state.now) state.now (instruction_at graph.now callback point)) }
 {
     let mut faults = Items::new(alloc);
-    add_all(alloc, &mut faults, graph, callback, point, state, &RULES)?;
+    add_all(
+        alloc,
+        &mut faults,
+        graph,
+        callback,
+        point,
+        state,
+        &OPERANDS,
+        &RULES,
+    )?;
     Ok(faults)
 }
