@@ -106,6 +106,7 @@ module _ (text : Text) (locks : List Lock) (queue : Bool) where
   says_plain (plain.AcquireLock Spin l) h = says_by (says_both (says_kind k.AcquireSpinLock refl) (says_lock Spin l h)) (λ i o p. calls.acquire_spin p.1 p.2)
   says_plain (plain.AcquireLock Fast l) h = says_by (says_both (says_kind k.AcquireFastMutex refl) (says_lock Fast l h)) (λ i o p. calls.acquire_fast p.1 p.2)
   says_plain (plain.AcquireLock Push l) h = says_by (says_both (says_kind k.AcquirePushLock refl) (says_lock Push l h)) (λ i o p. calls.acquire_push p.1 p.2)
+  says_plain (plain.AcquirePushLockShared l) h = says_by (says_both (says_kind k.AcquirePushLockShared refl) (says_lock Push l h)) (λ i o p. calls.acquire_push_shared p.1 p.2)
   says_plain (plain.ReleaseLock Spin l) h = says_by (says_both (says_kind k.ReleaseSpinLock refl) (says_lock Spin l h)) (λ i o p. calls.release_spin p.1 p.2)
   says_plain (plain.ReleaseLock Fast l) h = says_by (says_both (says_kind k.ReleaseFastMutex refl) (says_lock Fast l h)) (λ i o p. calls.release_fast p.1 p.2)
   says_plain (plain.ReleaseLock Push l) h = says_by (says_both (says_kind k.ReleasePushLock refl) (says_lock Push l h)) (λ i o p. calls.release_push p.1 p.2)

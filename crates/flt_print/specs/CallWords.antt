@@ -57,6 +57,7 @@ plain_words locks (plain.ReferenceContext c d) =
     spelling k.ReferenceContext ∷ spelling (context_kind c) ∷ spelling k.As ∷ spelling (context_kind d) ∷ []
 plain_words locks (plain.ReleaseContext c) = spelling k.ReleaseContext ∷ spelling (context_kind c) ∷ []
 plain_words locks (plain.AcquireLock kind l) = spelling (acquire_kind kind) ∷ lock_name locks l ∷ []
+plain_words locks (plain.AcquirePushLockShared l) = spelling k.AcquirePushLockShared ∷ lock_name locks l ∷ []
 plain_words locks (plain.ReleaseLock kind l) = spelling (release_kind kind) ∷ lock_name locks l ∷ []
 plain_words locks (plain.CompletePendedPreOperation d s) =
     spelling k.CompletePendedPreOperation ∷ spelling (operation_variable_kind d) ∷ status_words s

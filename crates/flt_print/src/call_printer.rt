@@ -151,6 +151,10 @@ pub fn plain_call(
             begin(out, level, acquire_kind(kind))?;
             name(out, lock_name(locks, number))
         }
+        PlainCall::AcquirePushLockShared(number) => {
+            begin(out, level, Kind::AcquirePushLockShared)?;
+            name(out, lock_name(locks, number))
+        }
         PlainCall::ReleaseLock(kind, number) => {
             begin(out, level, release_kind(kind))?;
             name(out, lock_name(locks, number))

@@ -151,6 +151,7 @@ is_plain k.ReleaseSpinLock = true
 is_plain k.AcquireFastMutex = true
 is_plain k.ReleaseFastMutex = true
 is_plain k.AcquirePushLock = true
+is_plain k.AcquirePushLockShared = true
 is_plain k.ReleasePushLock = true
 is_plain k.CompletePendedPreOperation = true
 is_plain k.CompletePendedPostOperation = true

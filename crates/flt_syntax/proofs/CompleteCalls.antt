@@ -26,7 +26,7 @@ use Rattle.flt_syntax.specs.Words.{Next, Meant, NameAt, ContextAt, OptionalAt}
 use Rattle.flt_syntax.specs.Operand.{context_variable, removed_variable, removed_variable_of, operation_variable, operation_variable_of, same_context, other_context, with_context}
 use Rattle.flt_syntax.specs.Scope.{Scope, lock_named, routine}
 use Rattle.flt_syntax.specs.Status.{final_status_of, final_status, bare_status_of, bare_status, status_by, status, has_more, begins_status, optional_status}
-use Rattle.flt_syntax.specs.Call.{existing_of, existing, old, other_old, get_context, set_context, delete_context_of, insert_io, remove_next_io, queue_call, queue_deferred, queue_generic, fallible_by, fallible_call, reference_context, acquire_lock, release_lock, complete_pre, complete_post, plain_by, plain_call}
+use Rattle.flt_syntax.specs.Call.{existing_of, existing, old, other_old, get_context, set_context, delete_context_of, insert_io, remove_next_io, queue_call, queue_deferred, queue_generic, fallible_by, fallible_call, reference_context, acquire_lock, acquire_shared, release_lock, complete_pre, complete_post, plain_by, plain_call}
 use Rattle.flt_syntax.specs.Cursor.{Input, kind, refusal, unknown, expect, name}
 use Rattle.flt_syntax.proofs.Sound.{none_some}
 use Rattle.flt_syntax.proofs.Complete.{then_again, kind_is, rest_is, means, sees_it, expect_again, eat_again, eat_none, known_again, context_again, spelled_again, Follows, no_tail, no_status, is_plain, is_fallible, next_less, meant_less, name_less, optional_less}
@@ -162,7 +162,7 @@ unfolding plain_call
 plain_at {i = i} scope n = ap (λ x. plain_by scope x i) (kind_is n)
 
 pub plain_again : {scope : Scope} {i o : Input} {c : PlainCall} → PlainAt scope i c o → Follows o → plain_call scope i ≡ Ok (c, o)
-unfolding reference_context acquire_lock release_lock complete_pre complete_post
+unfolding reference_context acquire_lock acquire_shared release_lock complete_pre complete_post
 plain_again {scope = scope} (g.delete n p) f = plain_at scope n ∙ then_again _ (ap context_variable (rest_is n) ∙ context_again p) refl
 plain_again {scope = scope} (g.reference n p m q h) f =
     plain_at scope n ∙ then_again _ (ap context_variable (rest_is n) ∙ context_again p) (then_again _ (expect_again m) (then_again _ (other_again _ q h) refl))
@@ -172,6 +172,7 @@ plain_again {scope = scope} (g.release_spin n p) f = plain_at scope n ∙ then_a
 plain_again {scope = scope} (g.acquire_fast n p) f = plain_at scope n ∙ then_again _ (ap (lock_named scope Fast) (rest_is n) ∙ lock_again p) refl
 plain_again {scope = scope} (g.release_fast n p) f = plain_at scope n ∙ then_again _ (ap (lock_named scope Fast) (rest_is n) ∙ lock_again p) refl
 plain_again {scope = scope} (g.acquire_push n p) f = plain_at scope n ∙ then_again _ (ap (lock_named scope Push) (rest_is n) ∙ lock_again p) refl
+plain_again {scope = scope} (g.acquire_push_shared n p) f = plain_at scope n ∙ then_again _ (ap (lock_named scope Push) (rest_is n) ∙ lock_again p) refl
 plain_again {scope = scope} (g.release_push n p) f = plain_at scope n ∙ then_again _ (ap (lock_named scope Push) (rest_is n) ∙ lock_again p) refl
 plain_again {scope = scope} (g.complete_pre n p q) f =
     plain_at scope n ∙ then_again _ (ap operation_variable (rest_is n) ∙ operation_again p) (then_again _ (status_again q f) refl)
@@ -201,6 +202,7 @@ plain_begins (g.release_spin n _) = ap is_plain (kind_is n)
 plain_begins (g.acquire_fast n _) = ap is_plain (kind_is n)
 plain_begins (g.release_fast n _) = ap is_plain (kind_is n)
 plain_begins (g.acquire_push n _) = ap is_plain (kind_is n)
+plain_begins (g.acquire_push_shared n _) = ap is_plain (kind_is n)
 plain_begins (g.release_push n _) = ap is_plain (kind_is n)
 plain_begins (g.complete_pre n _ _) = ap is_plain (kind_is n)
 plain_begins (g.complete_post n _) = ap is_plain (kind_is n)
@@ -245,6 +247,7 @@ plain_less (g.release_spin n p) = omega (arith, next_less n, lock_less p)
 plain_less (g.acquire_fast n p) = omega (arith, next_less n, lock_less p)
 plain_less (g.release_fast n p) = omega (arith, next_less n, lock_less p)
 plain_less (g.acquire_push n p) = omega (arith, next_less n, lock_less p)
+plain_less (g.acquire_push_shared n p) = omega (arith, next_less n, lock_less p)
 plain_less (g.release_push n p) = omega (arith, next_less n, lock_less p)
 plain_less (g.complete_pre n p q) = omega (arith, next_less n, meant_less p, status_less q)
 plain_less (g.complete_post n m) = omega (arith, next_less n, next_less m)

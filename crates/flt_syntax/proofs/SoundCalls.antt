@@ -22,7 +22,7 @@ use Rattle.flt_syntax.specs.Operand.{context_variable, removed_variable, removed
 use Rattle.flt_syntax.specs.Scope.{Scope, lock_named, spelled, routine}
 use Rattle.flt_tree.specs.Declarations.{lock_number}
 use Rattle.flt_syntax.specs.Status.{final_status_of, final_status, bare_status_of, bare_status, status_by, status, begins_status, optional_status}
-use Rattle.flt_syntax.specs.Call.{existing_of, existing, old, other_old, get_context, set_context, delete_context_of, insert_io, remove_next_io, queue_call, queue_deferred, queue_generic, fallible_by, fallible_call, reference_context, acquire_lock, release_lock, complete_pre, complete_post, plain_by, plain_call}
+use Rattle.flt_syntax.specs.Call.{existing_of, existing, old, other_old, get_context, set_context, delete_context_of, insert_io, remove_next_io, queue_call, queue_deferred, queue_generic, fallible_by, fallible_call, reference_context, acquire_lock, acquire_shared, release_lock, complete_pre, complete_post, plain_by, plain_call}
 use Rattle.flt_syntax.specs.Cursor.{Input, ◌<$>◌, pure, front, kind, next, bytes_of, refusal, refuse, unknown, fault_at, fail, sees, number_within, found_or}
 use Rattle.flt_syntax.proofs.Sound.{Gives, gives, fails, then_gives, gives_by, kind_same, differ, took, expect_gives, Eaten, eaten, left, eat_gives, none_some, known_gives, context_gives, WordAt, word_gives, name_of}
 
@@ -213,7 +213,7 @@ unfolding fallible_call
 fallible_gives scope i = fallible_by_gives scope i (kind i) refl
 
 plain_by_gives : (scope : Scope) (i : Input) (kd : Kind) → kind i ≡ kd → Gives (PlainAt scope i) (plain_by scope kd i)
-unfolding same_kind reference_context acquire_lock release_lock complete_pre complete_post
+unfolding same_kind reference_context acquire_lock acquire_shared release_lock complete_pre complete_post
 plain_by_gives scope i k.DeleteContext e = then_gives _ (context_gives (next i)) (λ c o p. gives (g.delete (took i k.DeleteContext refl e) p))
 plain_by_gives scope i k.ReferenceContext e =
     then_gives _ (context_gives (next i)) (λ c b p. then_gives _ (expect_gives b k.As refl) (λ _ l n. then_gives _ (other_gives c l) (λ d o q.
@@ -224,6 +224,7 @@ plain_by_gives scope i k.ReleaseSpinLock e = then_gives _ (lock_gives scope Spin
 plain_by_gives scope i k.AcquireFastMutex e = then_gives _ (lock_gives scope Fast (next i)) (λ l o p. gives (g.acquire_fast (took i k.AcquireFastMutex refl e) p))
 plain_by_gives scope i k.ReleaseFastMutex e = then_gives _ (lock_gives scope Fast (next i)) (λ l o p. gives (g.release_fast (took i k.ReleaseFastMutex refl e) p))
 plain_by_gives scope i k.AcquirePushLock e = then_gives _ (lock_gives scope Push (next i)) (λ l o p. gives (g.acquire_push (took i k.AcquirePushLock refl e) p))
+plain_by_gives scope i k.AcquirePushLockShared e = then_gives _ (lock_gives scope Push (next i)) (λ l o p. gives (g.acquire_push_shared (took i k.AcquirePushLockShared refl e) p))
 plain_by_gives scope i k.ReleasePushLock e = then_gives _ (lock_gives scope Push (next i)) (λ l o p. gives (g.release_push (took i k.ReleasePushLock refl e) p))
 plain_by_gives scope i k.CompletePendedPreOperation e =
     then_gives _ (operation_gives (next i)) (λ d b p. then_gives _ (status_gives b) (λ s o q.

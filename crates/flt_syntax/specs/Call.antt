@@ -123,6 +123,10 @@ reference_context = do
 unfoldable pub acquire_lock : Scope → LockKind → Parser PlainCall
 acquire_lock scope kind = take_token >> plain.AcquireLock kind <$> lock_named scope kind
 
+-- "FltAcquirePushLockShared" NAME
+unfoldable pub acquire_shared : Scope → Parser PlainCall
+acquire_shared scope = take_token >> plain.AcquirePushLockShared <$> lock_named scope Push
+
 -- ("KeReleaseSpinLock" | "ExReleaseFastMutex" | "FltReleasePushLock") NAME
 unfoldable pub release_lock : Scope → LockKind → Parser PlainCall
 release_lock scope kind = take_token >> plain.ReleaseLock kind <$> lock_named scope kind
@@ -149,6 +153,7 @@ plain_by scope k.ReleaseSpinLock = release_lock scope Spin
 plain_by scope k.AcquireFastMutex = acquire_lock scope Fast
 plain_by scope k.ReleaseFastMutex = release_lock scope Fast
 plain_by scope k.AcquirePushLock = acquire_lock scope Push
+plain_by scope k.AcquirePushLockShared = acquire_shared scope
 plain_by scope k.ReleasePushLock = release_lock scope Push
 plain_by scope k.CompletePendedPreOperation = complete_pre
 plain_by scope k.CompletePendedPostOperation = complete_post

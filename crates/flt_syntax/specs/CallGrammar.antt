@@ -120,6 +120,9 @@ pub data PlainAt (scope : Scope) : Input → PlainCall → Input → Type 0 wher
   -- "FltAcquirePushLockExclusive" NAME
   acquire_push : {i a o : Input} {l : LockNumber} → Next k.AcquirePushLock i a → LockAt scope Push a l o →
       PlainAt scope i (plain.AcquireLock Push l) o
+  -- "FltAcquirePushLockShared" NAME
+  acquire_push_shared : {i a o : Input} {l : LockNumber} → Next k.AcquirePushLockShared i a → LockAt scope Push a l o →
+      PlainAt scope i (plain.AcquirePushLockShared l) o
   -- "FltReleasePushLock" NAME
   release_push : {i a o : Input} {l : LockNumber} → Next k.ReleasePushLock i a → LockAt scope Push a l o →
       PlainAt scope i (plain.ReleaseLock Push l) o

@@ -98,6 +98,7 @@ plain_call_vocabulary =
     (codes "ExAcquireFastMutex", k.AcquireFastMutex) ∷
     (codes "ExReleaseFastMutex", k.ReleaseFastMutex) ∷
     (codes "FltAcquirePushLockExclusive", k.AcquirePushLock) ∷
+    (codes "FltAcquirePushLockShared", k.AcquirePushLockShared) ∷
     (codes "FltReleasePushLock", k.ReleasePushLock) ∷
     (codes "FltCompletePendedPreOperation", k.CompletePendedPreOperation) ∷
     (codes "FltCompletePendedPostOperation", k.CompletePendedPostOperation) ∷ []

@@ -207,6 +207,15 @@ fn acquire_lock(
     Ok(PlainCall::AcquireLock(kind, lock_named(scope, tokens, kind)?))
 }
 
+#[tactic(auto, unfolding(crate::specs::Call::acquire_shared))]
+fn acquire_shared(scope: &Scope<'_>, tokens: &mut Tokens<'_>) -> Result<PlainCall, ParseError>
+    ensures { Reads (spec.acquire_shared (scope_of scope.now) tokens.old.rest.now) result tokens.new.rest.now }
+{
+    tokens.take();
+    let lock = lock_named(scope, tokens, LockKind::Push)?;
+    Ok(PlainCall::AcquirePushLockShared(lock))
+}
+
 #[tactic(auto, unfolding(crate::specs::Call::release_lock))]
 fn release_lock(
     scope: &Scope<'_>,
@@ -257,6 +266,7 @@ pub fn plain_call(scope: &Scope<'_>, tokens: &mut Tokens<'_>) -> Result<PlainCal
         Kind::AcquireFastMutex => acquire_lock(scope, tokens, LockKind::Fast),
         Kind::ReleaseFastMutex => release_lock(scope, tokens, LockKind::Fast),
         Kind::AcquirePushLock => acquire_lock(scope, tokens, LockKind::Push),
+        Kind::AcquirePushLockShared => acquire_shared(scope, tokens),
         Kind::ReleasePushLock => release_lock(scope, tokens, LockKind::Push),
         Kind::CompletePendedPreOperation => complete_pre(tokens),
         Kind::CompletePendedPostOperation => complete_post(tokens),

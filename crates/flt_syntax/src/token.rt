@@ -85,6 +85,7 @@ pub enum Kind {
     AcquireFastMutex,
     ReleaseFastMutex,
     AcquirePushLock,
+    AcquirePushLockShared,
     ReleasePushLock,
     CompletePendedPreOperation,
     CompletePendedPostOperation,

@@ -5,7 +5,7 @@ ghost use Rattle.flt_syntax.specs.Vocabulary.{vocabulary};
 
 use crate::token::Kind;
 
-const KEYWORDS: [(&[u8], Kind); 89] = [
+const KEYWORDS: [(&[u8], Kind); 90] = [
     (b"filter", Kind::Filter),
     (b"altitude", Kind::Altitude),
     (b"lock", Kind::Lock),
@@ -74,6 +74,7 @@ const KEYWORDS: [(&[u8], Kind); 89] = [
     (b"ExAcquireFastMutex", Kind::AcquireFastMutex),
     (b"ExReleaseFastMutex", Kind::ReleaseFastMutex),
     (b"FltAcquirePushLockExclusive", Kind::AcquirePushLock),
+    (b"FltAcquirePushLockShared", Kind::AcquirePushLockShared),
     (b"FltReleasePushLock", Kind::ReleasePushLock),
     (
         b"FltCompletePendedPreOperation",
