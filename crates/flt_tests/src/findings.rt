@@ -80,11 +80,11 @@ const EXAMPLES: [Example; 9] = [
     ),
     // Two rules at one call, and a completion context that is kept.
     (
-        "filter a altitude 100\npost read {\nif FltGetInstanceContext c0 {\nFltReleaseContext c0\n}\nreturn FINISHED_PROCESSING\n}\n",
+        "filter a altitude 100\npre read {\nreturn WITH_CALLBACK\n}\npost read {\nif FltGetInstanceContext c0 {\nFltReleaseContext c0\n}\nreturn FINISHED_PROCESSING\n}\n",
         &[
-            (0, 0, 3, 7, "call"),
-            (0, 0, 3, 8, "draining"),
-            (0, 2, 6, 2, "arg"),
+            (1, 0, 6, 7, "call"),
+            (1, 0, 6, 8, "draining"),
+            (1, 2, 9, 2, "arg"),
         ],
     ),
 ];
