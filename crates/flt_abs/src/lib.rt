@@ -6,6 +6,7 @@ mod breaks;
 mod entry;
 mod locks;
 mod outcome;
+mod past;
 mod sets;
 mod setting;
 mod state;
@@ -15,6 +16,7 @@ mod variables;
 pub use entry::{entry_state, is_entry_below};
 pub use locks::LockList;
 pub use outcome::transfer_follows_situations;
+pub use past::{breaks_rule, leads_past};
 pub use sets::{Draining, Modes, Statuses};
 /// No call answers it: the definitions of the rules speak of it.
 pub use setting::{Setting, graphs_are_registered_alike};

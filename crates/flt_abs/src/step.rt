@@ -232,7 +232,7 @@ fn at(point: usize, state: Option<Abs>) -> Option<Successor>
     }
 }
 
-fn leads_to(state: &Abs, instruction: &Instruction) -> Successors
+pub(crate) fn leads_to(state: &Abs, instruction: &Instruction) -> Successors
     ensures { result ≡ spec.leads_to state.now instruction.now }
 {
     match instruction {

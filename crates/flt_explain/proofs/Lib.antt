@@ -1,0 +1,4 @@
+pub mod Digits
+pub mod Firsts
+pub mod MendedSets
+pub mod Reading

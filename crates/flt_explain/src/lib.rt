@@ -1,0 +1,21 @@
+//! All that is wrong with a text: where the analyser stops at the first broken rule, the walk here takes what the rule asks for as
+//! given and goes on. It exports `findings` for a text, and `faults` for a point and a state.
+#![tactic(auto)]
+
+mod about;
+mod at_point;
+mod finding;
+mod locks;
+mod mending;
+mod of_text;
+mod operands;
+mod sets;
+mod sight;
+mod tell;
+mod walk;
+mod writes;
+
+pub use at_point::faults;
+pub use finding::{Fault, Finding, Subject};
+pub use mending::mending_is_exact;
+pub use of_text::findings;

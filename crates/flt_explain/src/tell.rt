@@ -1,0 +1,79 @@
+//! Findings as they are told.
+
+ghost use Rattle.std.specs.Prelude.{◌≡◌, OnOk};
+ghost use Rattle.flt_explain.specs.Told as spec;
+
+use crate::finding::{Fault, Finding, Subject};
+use crate::locks::{LOCKS, Locks};
+use crate::sight::Sight;
+use flt_rules::Rule;
+use sqlite_items::Items;
+use std::alloc::AllocError;
+
+/// Where findings are told: callbacks and points from 0, lines from 1.
+#[derive(Clone, Copy)]
+pub(crate) struct Spot {
+    pub(crate) callback: usize,
+    pub(crate) point: usize,
+    pub(crate) line: usize,
+}
+
+impl Spot {
+    fn finding(self, rule: Rule, subject: Subject) -> Finding
+        ensures { result ≡ spec.finding_at self rule subject }
+    {
+        Finding {
+            callback: self.callback,
+            point: self.point,
+            line: self.line,
+            rule,
+            subject,
+        }
+    }
+
+    /// Tells what is wrong at the point, as far as it isn't told yet.
+    pub(crate) fn tell_faults(
+        self,
+        findings: &mut Items<Finding>,
+        sight: &Sight,
+        faults: &[Fault],
+    ) -> Result<(), AllocError> {
+        for fault in faults {
+            if sight.tells(fault.subject) {
+                tell(findings, self.finding(fault.rule, fault.subject))?;
+            }
+        }
+        Ok(())
+    }
+
+    /// Tells that the ways from the point meet others with other locks.
+    pub(crate) fn tell_locks(
+        self,
+        findings: &mut Items<Finding>,
+        differ: &Locks,
+    ) -> Result<(), AllocError> {
+        for lock in LOCKS {
+            if differ.contains(lock) {
+                tell(findings, self.finding(Rule::R12, Subject::Lock(lock)))?;
+            }
+        }
+        Ok(())
+    }
+}
+
+/// Whether a finding is among these.
+fn is_told(findings: &[Finding], finding: &Finding) -> bool
+    ensures { result ≡ spec.is_told findings.now finding.now }
+{
+    findings.iter().any(|f| f.is_same(finding))
+}
+
+/// Adds a finding, unless it is there.
+fn tell(findings: &mut Items<Finding>, finding: Finding) -> Result<(), AllocError>
+    ensures { OnOk result (findings.new ≡ spec.told findings.old finding) }
+{
+    if !is_told(findings.as_slice(), &finding) {
+        findings.push(finding)?;
+    }
+    Ok(())
+}

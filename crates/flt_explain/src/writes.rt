@@ -1,0 +1,48 @@
+//! Which variables an instruction writes.
+
+use crate::about::{is_context, is_operation};
+use crate::finding::Subject;
+use flt_graph::{Action, Instruction, Invocation, OperationVariable};
+use flt_rules::{Change, Effects, row};
+
+fn is_change(change: Change) -> bool {
+    !matches!(change, Change::Stays)
+}
+
+/// What becomes of a call's operands where it succeeds, or where it fails, if it can.
+fn effects(call: &Invocation, granted: bool) -> Option<Effects> {
+    let row = row(call.call);
+    if granted {
+        Some(row.on_ok)
+    } else {
+        row.on_fail
+    }
+}
+
+fn call_writes(call: &Invocation, granted: bool, subject: Subject) -> bool {
+    let Some(effects) = effects(call, granted) else {
+        return false;
+    };
+    match subject {
+        Subject::Context(v) => {
+            let own = is_change(effects.context) && is_context(call.context, v);
+            own || (is_change(effects.output) && is_context(call.output, v))
+        }
+        Subject::Operation(v) => is_change(effects.operation) && is_operation(call.operation, v),
+        _ => false,
+    }
+}
+
+/// Whether an instruction gives a variable a new status, where a call succeeds or where it fails.
+pub(crate) fn writes(instruction: &Instruction, granted: bool, subject: Subject) -> bool {
+    match (instruction, subject) {
+        (Instruction::Act(Action::ClearContext(c), _), Subject::Context(v)) => {
+            is_context(Some(*c), v)
+        }
+        (Instruction::Act(Action::ClearOperation(o), _), Subject::Operation(v)) => {
+            is_operation(Some(OperationVariable::Removed(*o)), v)
+        }
+        (Instruction::Call(call, _, _), _) => call_writes(call, granted, subject),
+        _ => false,
+    }
+}
