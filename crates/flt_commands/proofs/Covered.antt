@@ -30,7 +30,13 @@ covered_is_clean one fine theorem text graph cert points covers f transitions sp
     same = one text points.filter f points.spelled spelled
 
     accepted : IsAccepted f
-    accepted = subst IsAccepted same (record { graph = graph; cert = cert; well_formed = fine text points.filter points.spelled; lowered = points.lowered; covers = covers })
+    accepted = subst IsAccepted same (record {
+      graph = graph;
+      cert = cert;
+      well_formed = fine text points.filter points.spelled;
+      lowered = points.lowered;
+      covers = covers;
+    })
 
     all : AreAccepted (f ∷ [])
     all zero d within = accepted
@@ -44,13 +50,15 @@ module _ (law : Law) where
   judged text certificate (Written bytes) said good = absurd said.decided
   judged text certificate (Judged v) said good = absurd said.decided
 
-  checked : (texts : List Text) (answer : Answer) (file : Text) (cert : Option Text) → IsChecked texts (Ok answer) → status_of answer ≡ 0 → IsClean (Check file cert) texts
+  checked : (texts : List Text) (answer : Answer) (file : Text) (cert : Option Text) → IsChecked texts (Ok answer) →
+      status_of answer ≡ 0 → IsClean (Check file cert) texts
   checked [] answer file cert said good = said
   checked (bytes ∷ []) answer file cert said good = (said.0, said.1, judged (take said.0 bytes) (drop said.0 bytes) answer said.2 good)
   checked (text ∷ certificate ∷ []) answer file cert said good = judged text certificate answer said good
   checked (text ∷ certificate ∷ more ∷ texts) answer file cert said good = said
 
-  analysed : (texts : List Text) (answer : Answer) (file : Text) → IsAnalysed texts (Ok answer) → status_of answer ≡ 0 → IsClean (Analyse file) texts
+  analysed : (texts : List Text) (answer : Answer) (file : Text) → IsAnalysed texts (Ok answer) → status_of answer ≡ 0 →
+      IsClean (Analyse file) texts
   analysed [] answer file said good = said
   analysed (text ∷ []) (Written bytes) file said good = law text said.graph said.cert said.points said.covers
   analysed (text ∷ []) (Refused f) file said good = absurd (omega (arith, good))
@@ -58,18 +66,23 @@ module _ (law : Law) where
   analysed (text ∷ []) (Judged v) file said good = absurd said
   analysed (text ∷ more ∷ texts) answer file said good = said
 
-  said_is_clean : (request : Asked) (texts : List Text) (answer : Answer) → IsSaidOf request texts (Ok answer) → status_of answer ≡ 0 → IsClean request texts
+  said_is_clean : (request : Asked) (texts : List Text) (answer : Answer) → IsSaidOf request texts (Ok answer) →
+      status_of answer ≡ 0 → IsClean request texts
   said_is_clean (Check file cert) texts answer said good = checked texts answer file cert said good
   said_is_clean (Analyse file) texts answer said good = analysed texts answer file said good
   said_is_clean (Replay journal files) texts answer said good = tt
 
-  of_said : (gives : Giving) (request : Asked) (said : Result Answer Failure) (bytes : List ℕ) → IsSaid gives request said → IsReported said bytes 0 → YesIsClean gives (Some request)
+  of_said : (gives : Giving) (request : Asked) (said : Result Answer Failure) (bytes : List ℕ) → IsSaid gives request said →
+      IsReported said bytes 0 → YesIsClean gives (Some request)
   of_said gives request (Err f) bytes said reported = absurd (omega (arith, reported.1.1))
-  of_said gives request (Ok answer) bytes (given texts result there said) reported = (texts, there, said_is_clean request texts answer said (sym reported.1))
+  of_said gives request (Ok answer) bytes (given texts result there said) reported =
+      (texts, there, said_is_clean request texts answer said (sym reported.1))
 
   -- where what the words ask for is said, and reported with the status 0, the text breaks nothing
-  pub clean_of : (gives : Giving) (words : List (List ℕ)) (request : Asked) (said : Result Answer Failure) (result : Result ℕ CommandFault) (P : ℕ → List ℕ → Type 0)
-      → Some request ≡ asked words → IsSaid gives request said → IfOk result (λ status. (bytes : List ℕ) × IsReported said bytes status × P status bytes)
+  pub clean_of : (gives : Giving) (words : List (List ℕ)) (request : Asked) (said : Result Answer Failure)
+      (result : Result ℕ CommandFault) (P : ℕ → List ℕ → Type 0)
+      → Some request ≡ asked words → IsSaid gives request said →
+      IfOk result (λ status. (bytes : List ℕ) × IsReported said bytes status × P status bytes)
       → IfOk result (λ status. status ≡ 0 → YesIsClean gives (asked words))
   clean_of gives words request said (Ok status) P asks is (bytes, reported, rest) =
       λ good. rw (← asks) (of_said gives request said bytes is (subst (λ n. IsReported said bytes n) good reported))

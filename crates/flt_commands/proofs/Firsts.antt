@@ -24,7 +24,8 @@ module _ {X Y : Type 0} (f : X → Y) (xs : List X) (i : ℕ) (x d : X) (h : i <
   pub parted : map f xs ≡ map f (take i xs) ++ f x ∷ map f (drop (i + 1) xs)
   parted =
       let rest : map f (drop i xs) ≡ f (get_or xs i d) ∷ map f (drop (i + 1) xs) = ap (map f) (drop_more xs i d h) in
-      let whole : map f xs ≡ map f (take i xs) ++ map f (drop i xs) = sym (ap (map f) (take-append-drop i xs)) ∙ map-append f (take i xs) (drop i xs) in
+      let whole : map f xs ≡ map f (take i xs) ++ map f (drop i xs) = sym (ap (map f) (take-append-drop i xs))
+      ∙ map-append f (take i xs) (drop i xs) in
       rw at (rw rest at whole)
 
   pub places_before : i ≡ length (map f (take i xs))
@@ -54,7 +55,8 @@ module _ {X : Type 0} (p : X → Bool) where
   still_once false rest n once other none = omega arith
 
   pub once_more : (xs : List X) (x : X) → count_by p xs ≤ 1 → p x && list_any p xs ≡ false → count_by p (xs ++ x ∷ []) ≤ 1
-  once_more xs x once other = rw (sum_by_push (λ y. cond (p y) 1 0) xs x) (still_once (p x) (list_any p xs) (count_by p xs) once other (count_none xs))
+  once_more xs x once other = rw (sum_by_push (λ y. cond (p y) 1 0) xs x)
+      (still_once (p x) (list_any p xs) (count_by p xs) once other (count_none xs))
 
   pub any_more : (xs : List X) (x : X) → list_any p (xs ++ x ∷ []) ≡ (list_any p xs || p x)
   any_more xs x = list_any-append p xs (x ∷ []) ∙ ap (λ b. list_any p xs || b) (or_none (p x))
@@ -64,11 +66,13 @@ module _ {X : Type 0} (p : X → Bool) where
       or_none false = refl
 
 module _ (gives : Giving) (names : List (Bor Text)) (i : ℕ) (name d : Bor Text) (h : i < length names) (at : name ≡ get_or names i d) where
-  pub given_more : (texts more : List (Vec ℕ Global)) (text : Vec ℕ Global) → AreGiven gives (map (λ n. n.now) (take i names)) (map (λ t. t.items) texts) →
+  pub given_more : (texts more : List (Vec ℕ Global)) (text : Vec ℕ Global) →
+      AreGiven gives (map (λ n. n.now) (take i names)) (map (λ t. t.items) texts) →
       gives name.now (Some text.items) → is_standard name.now && list_any is_standard (map (λ n. n.now) (take i names)) ≡ false →
       more ≡ texts ++ text ∷ [] → AreGiven gives (map (λ n. n.now) (take (i + 1) names)) (map (λ t. t.items) more)
   given_more texts more text given one other pushed =
-      let named : map (λ (n : Bor Text). n.now) (take (i + 1) names) ≡ map (λ (n : Bor Text). n.now) (take i names) ++ name.now ∷ [] = one_more (λ n. n.now) names i name d h at in
+      let named : map (λ (n : Bor Text). n.now) (take (i + 1) names) ≡ map (λ (n : Bor Text). n.now) (take i names) ++ name.now
+      ∷ [] = one_more (λ n. n.now) names i name d h at in
       let read : map (λ (t : Vec ℕ Global). t.items) more ≡ map (λ (t : Vec ℕ Global). t.items) texts ++ text.items ∷ [] =
       ap (map (λ (t : Vec ℕ Global). t.items)) pushed ∙ map_push (λ t. t.items) texts text in
       rw (named, read) (record {
@@ -77,7 +81,8 @@ module _ (gives : Giving) (names : List (Bor Text)) (i : ℕ) (name d : Bor Text
       })
 
   -- the name at a place is the first for which nothing is given
-  pub unreadable : (texts : List Text) → AreGiven gives (map (λ n. n.now) (take i names)) texts → IsMissing gives (map (λ n. n.now) (take i names)) name.now →
+  pub unreadable : (texts : List Text) → AreGiven gives (map (λ n. n.now) (take i names)) texts →
+      IsMissing gives (map (λ n. n.now) (take i names)) name.now →
       IsUnreadable gives (map (λ n. n.now) names) (CannotRead name)
   unreadable texts given missing = record {
     before = map (λ n. n.now) (take i names);
@@ -90,26 +95,32 @@ module _ (gives : Giving) (names : List (Bor Text)) (i : ℕ) (name d : Bor Text
     told = refl;
   }
 
-  pub used_more : (used more : Bool) → used ≡ list_any is_standard (map (λ n. n.now) (take i names)) → more ≡ (used || is_standard name.now) →
+  pub used_more : (used more : Bool) → used ≡ list_any is_standard (map (λ n. n.now) (take i names)) →
+      more ≡ (used || is_standard name.now) →
       more ≡ list_any is_standard (map (λ n. n.now) (take (i + 1) names))
   used_more used more is now =
-      let named : map (λ (n : Bor Text). n.now) (take (i + 1) names) ≡ map (λ (n : Bor Text). n.now) (take i names) ++ name.now ∷ [] = one_more (λ n. n.now) names i name d h at in
-      let any : list_any is_standard (map (λ n. n.now) (take (i + 1) names)) ≡ (list_any is_standard (map (λ n. n.now) (take i names)) || is_standard name.now) =
+      let named : map (λ (n : Bor Text). n.now) (take (i + 1) names) ≡ map (λ (n : Bor Text). n.now) (take i names) ++ name.now
+      ∷ [] = one_more (λ n. n.now) names i name d h at in
+      let any : list_any is_standard (map (λ n. n.now) (take (i + 1) names)) ≡
+      (list_any is_standard (map (λ n. n.now) (take i names)) || is_standard name.now) =
       ap (list_any is_standard) named ∙ any_more is_standard (map (λ n. n.now) (take i names)) name.now in
       now ∙ ap (λ b. b || is_standard name.now) is ∙ sym any
 
 -- ---- the texts
 
 module _ (texts : List (Vec ℕ Global)) (i : ℕ) (text d : Vec ℕ Global) (h : i < length texts) (at : text ≡ get_or texts i d) where
-  pub spelled_more : (trees more : List Tree) (tree : Tree) → AreSpelled (map (λ t. t.items) (take i texts)) (filters_of trees) → Spells text.items tree.filter →
+  pub spelled_more : (trees more : List Tree) (tree : Tree) → AreSpelled (map (λ t. t.items) (take i texts)) (filters_of trees) →
+      Spells text.items tree.filter →
       more ≡ trees ++ tree ∷ [] → AreSpelled (map (λ t. t.items) (take (i + 1) texts)) (filters_of more)
   spelled_more trees more tree spelled one pushed =
-      let read : map (λ (t : Vec ℕ Global). t.items) (take (i + 1) texts) ≡ map (λ (t : Vec ℕ Global). t.items) (take i texts) ++ text.items ∷ [] =
+      let read : map (λ (t : Vec ℕ Global). t.items) (take (i + 1) texts) ≡ map (λ (t : Vec ℕ Global). t.items) (take i texts)
+      ++ text.items ∷ [] =
       one_more (λ t. t.items) texts i text d h at in
       let parsed : filters_of more ≡ filters_of trees ++ tree.filter ∷ [] = ap filters_of pushed ∙ map_push (λ t. t.filter) trees tree in
       rw (read, parsed) (all_zipped_more _ _ _ text.items tree.filter spelled one)
 
-  pub first_fault : (filters : List Filter) (f : SyntaxFault) → AreSpelled (map (λ t. t.items) (take i texts)) filters → filter_of text.items ≡ Err f →
+  pub first_fault : (filters : List Filter) (f : SyntaxFault) → AreSpelled (map (λ t. t.items) (take i texts)) filters →
+      filter_of text.items ≡ Err f →
       IsSyntaxFault (map (λ t. t.items) texts) i f
   first_fault filters f spelled fault = record {
     before = map (λ t. t.items) (take i texts);

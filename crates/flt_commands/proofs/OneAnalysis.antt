@@ -25,7 +25,8 @@ module _ (graph : (text : Text) (g h : Graph) → HasPoints text g → HasPoints
   certified_once : (text bytes others : Text) → IsCertified text bytes → IsCertified text others → bytes ≡ others
   certified_once text bytes others x y =
       let points : y.graph ≡ x.graph = graph text y.graph x.graph y.points x.points in
-      let cert = least x.graph x.cert y.cert x.covers x.least (subst (λ g. Covers g y.cert) points y.covers) (subst (λ g. IsLeast g y.cert) points y.least) in
+      let cert = least x.graph x.cert y.cert x.covers x.least (subst (λ g. Covers g y.cert) points y.covers)
+      (subst (λ g. IsLeast g y.cert) points y.least) in
       x.written ∙ ap spelling cert ∙ sym y.written
 
   not_refused : (text bytes : Text) (f : Refusal) → IsCertified text bytes → IsRefused text f → ⊥

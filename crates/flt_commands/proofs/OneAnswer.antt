@@ -28,14 +28,18 @@ not_both p f r s h e g = cc
 
 module _ (bytes other : List ℕ) (status other_status : ℕ) where
   -- of what is the same one thing is reported
-  reported_once : (a b : Result Answer Failure) → AreSame a b → IsReported a bytes status → IsReported b other other_status → (bytes ≡ other) × (status ≡ other_status)
+  reported_once : (a b : Result Answer Failure) → AreSame a b → IsReported a bytes status → IsReported b other other_status →
+      (bytes ≡ other) × (status ≡ other_status)
   reported_once (Ok a) (Ok b) same x y =
-      let once = same_pair (output a, status_of a) (output b, status_of b) (seen (Ok a)) (seen (Ok b)) (same (an_answer a) (an_answer b)) refl refl in
+      let once = same_pair (output a, status_of a) (output b, status_of b) (seen (Ok a)) (seen (Ok b))
+      (same (an_answer a) (an_answer b)) refl refl in
       (x.0 ∙ ap (λ (p : List ℕ × ℕ). p.0) once ∙ sym y.0, x.1 ∙ ap (λ (p : List ℕ × ℕ). p.1) once ∙ sym y.1)
   reported_once (Ok a) (Err f) same x y =
-      absurd (not_both (output a, status_of a) (told f) (seen (Ok a)) (seen (Err f)) (same (an_answer a) (a_failure f y.0 (Err f) refl)) refl refl)
+      absurd (not_both (output a, status_of a) (told f) (seen (Ok a)) (seen (Err f))
+      (same (an_answer a) (a_failure f y.0 (Err f) refl)) refl refl)
   reported_once (Err f) (Ok b) same x y =
-      absurd (not_both (output b, status_of b) (told f) (seen (Ok b)) (seen (Err f)) (sym (same (a_failure f x.0 (Err f) refl) (an_answer b))) refl refl)
+      absurd (not_both (output b, status_of b) (told f) (seen (Ok b)) (seen (Err f))
+      (sym (same (a_failure f x.0 (Err f) refl) (an_answer b))) refl refl)
   reported_once (Err f) (Err h) same x y = (x.1.0 ∙ sym y.1.0, x.1.1 ∙ sym y.1.1)
 
 module _ (checked : SaysOne IsChecked) (analysed : SaysOne IsAnalysed) (replayed : SaysOne IsReplayed) where
@@ -45,11 +49,13 @@ module _ (checked : SaysOne IsChecked) (analysed : SaysOne IsAnalysed) (replayed
   of_one (Replay journal files) = replayed
 
   -- of what is asked for one thing is said at most
-  pub said_once : (gives : Giving) (request : Asked) (a b : Result Answer Failure) → GivesOne gives → IsSaid gives request a → IsSaid gives request b → AreSame a b
+  pub said_once : (gives : Giving) (request : Asked) (a b : Result Answer Failure) → GivesOne gives → IsSaid gives request a →
+      IsSaid gives request b → AreSame a b
   said_once gives request a b one x y = says_once gives one (names_of request) (IsSaidOf request) (of_one request) a b x y
 
   -- one thing is printed at most, with one exit status
-  pub printed_once : (gives : Giving) (request : Option Asked) (bytes other : List ℕ) (status other_status : ℕ) → GivesOne gives → PrintsFor gives request bytes status →
+  pub printed_once : (gives : Giving) (request : Option Asked) (bytes other : List ℕ) (status other_status : ℕ) → GivesOne gives →
+      PrintsFor gives request bytes status →
       PrintsFor gives request other other_status → (bytes ≡ other) × (status ≡ other_status)
   printed_once gives None bytes other status other_status one x y = (x.0 ∙ sym y.0, x.1 ∙ sym y.1)
   printed_once gives (Some request) bytes other status other_status one x y =

@@ -26,7 +26,8 @@ use Rattle.flt_commands.specs.declared.failure.Failure.TheVariants.{Syntax, Cert
 -- ---- the graph
 
 -- a text has one graph at most
-pub graph_once : SpellsAtMostOne → SpelledIsWellFormed → ((f : Filter) (g h : Graph) → IsWellFormed f → IsLowered f g → IsLowered f h → g ≡ h) →
+pub graph_once : SpellsAtMostOne → SpelledIsWellFormed →
+    ((f : Filter) (g h : Graph) → IsWellFormed f → IsLowered f g → IsLowered f h → g ≡ h) →
     (text : Text) (g h : Graph) → HasPoints text g → HasPoints text h → g ≡ h
 graph_once one fine lowered text g h a b =
     let same : b.filter ≡ a.filter = one text b.filter a.filter b.spelled a.spelled in
@@ -99,20 +100,23 @@ module _ (faultless : (g : Graph) (k : Certificate) → Covers g k → IsFaultle
       (spelled : (k l : Certificate) → IsTrue (is_certificate k) → IsTrue (is_certificate l) → spelling k ≡ spelling l → k ≡ l)
       (first : (text : Text) (m n : ℕ) → IsFirstFault text m → IsFirstFault text n → m ≡ n)
       (none : (k : Certificate) (n : ℕ) → IsTrue (is_certificate k) → ¬ IsFirstFault (spelling k) n) where
-    answers_once : (text certificate : Text) (a b : Answer) → IsAnswer text certificate a → IsAnswer text certificate b → seen (Ok a) ≡ seen (Ok b)
+    answers_once : (text certificate : Text) (a b : Answer) → IsAnswer text certificate a → IsAnswer text certificate b →
+        seen (Ok a) ≡ seen (Ok b)
     answers_once text certificate a b x y =
         let points : y.graph ≡ x.graph = graph text y.graph x.graph y.points x.points in
         let cert : y.cert ≡ x.cert = spelled y.cert x.cert y.certified x.certified (sym y.written ∙ x.written) in
         decided_once x.graph x.cert a b x.decided (subst (λ g. Decides g x.cert b) points (subst (λ k. Decides y.graph k b) cert y.decided))
 
     -- an answer stands beside no failure
-    not_both : (text certificate : Text) (a : Answer) (f : Failure) → IsAnswer text certificate a → IsFailure text certificate f → f ≢ OutOfMemory → ⊥
+    not_both : (text certificate : Text) (a : Answer) (f : Failure) → IsAnswer text certificate a → IsFailure text certificate f →
+        f ≢ OutOfMemory → ⊥
     not_both text certificate a (Syntax e) x y told = not_faulty text x.points.filter e (read text x.points.filter x.points.spelled) y
     not_both text certificate a (CertificateLine n) x y told = none x.cert n x.certified (subst (λ c. IsFirstFault c n) x.written y.1)
     not_both text certificate a OutOfMemory x y told = told refl
     not_both text certificate a f x y told = y
 
-    failures_once : (text certificate : Text) (f h : Failure) → IsFailure text certificate f → IsFailure text certificate h → f ≢ OutOfMemory → h ≢ OutOfMemory → told f ≡ told h
+    failures_once : (text certificate : Text) (f h : Failure) → IsFailure text certificate f → IsFailure text certificate h →
+        f ≢ OutOfMemory → h ≢ OutOfMemory → told f ≡ told h
     failures_once text certificate (Syntax e) (Syntax f) x y p q = ap Syntax (one_syntax_fault text e f x y)
     failures_once text certificate (Syntax e) (CertificateLine n) x y p q = absurd (not_faulty text y.0.0 e (read text y.0.0 y.0.1) x)
     failures_once text certificate (CertificateLine n) (Syntax e) x y p q = absurd (not_faulty text x.0.0 e (read text x.0.0 x.0.1) y)
@@ -124,11 +128,13 @@ module _ (faultless : (g : Graph) (k : Certificate) → Covers g k → IsFaultle
     failures_once text certificate (CertificateLine n) h x y p q = absurd y
     failures_once text certificate f h x y p q = absurd x
 
-    judged_once : (text certificate : Text) (a b : Result Answer Failure) → Judges text certificate a → Judges text certificate b → AreSame a b
+    judged_once : (text certificate : Text) (a b : Result Answer Failure) → Judges text certificate a →
+        Judges text certificate b → AreSame a b
     judged_once text certificate (Ok a) (Ok b) x y p q = answers_once text certificate a b x y
     judged_once text certificate (Ok a) (Err f) x y p q = absurd (not_both text certificate a f x y (λ e. q (ap Err e)))
     judged_once text certificate (Err f) (Ok b) x y p q = absurd (not_both text certificate b f y x (λ e. p (ap Err e)))
-    judged_once text certificate (Err f) (Err h) x y p q = ap Err (failures_once text certificate f h x y (λ e. p (ap Err e)) (λ e. q (ap Err e)))
+    judged_once text certificate (Err f) (Err h) x y p q =
+        ap Err (failures_once text certificate f h x y (λ e. p (ap Err e)) (λ e. q (ap Err e)))
 
     together_once : (bytes : Text) (a b : Result Answer Failure) → JudgesTogether bytes a → JudgesTogether bytes b → AreSame a b
     together_once bytes a b x y =

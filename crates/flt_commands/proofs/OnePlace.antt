@@ -8,13 +8,15 @@ pub data Places {X : Type 0} (before : List X) (x : X) (others : List X) (y : X)
   earlier : (between : List X) → others ≡ before ++ x ∷ between → Places before x others y
   later : (between : List X) → before ≡ others ++ y ∷ between → Places before x others y
 
-places_behind : {X : Type 0} (a b x y : X) (before others : List X) → a ≡ b → Places before x others y → Places (a ∷ before) x (b ∷ others) y
+places_behind : {X : Type 0} (a b x y : X) (before others : List X) → a ≡ b → Places before x others y →
+    Places (a ∷ before) x (b ∷ others) y
 places_behind a b x y before others e (same h at) = same (cc) at
 places_behind a b x y before others e (earlier between h) = earlier between (cc)
 places_behind a b x y before others e (later between h) = later between (cc)
 
 -- two places in one list
-pub places : {X : Type 0} (before after others rest : List X) (x y : X) → before ++ x ∷ after ≡ others ++ y ∷ rest → Places before x others y
+pub places : {X : Type 0} (before after others rest : List X) (x y : X) → before ++ x ∷ after ≡ others ++ y ∷ rest →
+    Places before x others y
 places [] after [] rest x y e = same refl (cc)
 places [] after (b ∷ others) rest x y e = let head : b ≡ x = cc in earlier others (cc)
 places (a ∷ before) after [] rest x y e = let head : a ≡ y = cc in later before (cc)

@@ -32,7 +32,8 @@ module _ {X : Type 0} (p : X → Bool) where
   pub counts_two : (before after : List X) (x : X) → p x && list_any p before ≡ true → count_by p (before ++ x ∷ after) ≤ 1 → ⊥
   counts_two before after x h once =
       let parts = and_parts (p x) (list_any p before) h in
-      let all : count_by p (before ++ x ∷ after) ≡ count_by p before + count_by p (x ∷ after) = sum_by-append (λ z. cond (p z) 1 0) before (x ∷ after) in
+      let all : count_by p (before ++ x ∷ after) ≡ count_by p before + count_by p (x ∷ after) =
+      sum_by-append (λ z. cond (p z) 1 0) before (x ∷ after) in
       let first : count_by p (x ∷ after) ≡ cond (p x) 1 0 + count_by p after = sum_by-cons (λ z. cond (p z) 1 0) x after in
       let front = some_counted before parts.1 in
       let back = counted_on (p x) (count_by p after) parts.0 in
@@ -56,10 +57,12 @@ module _ (gives : Giving) (one : GivesOne gives) where
   -- the bytes of names are one list
   texts_once : (names texts others : List Text) → AreGiven gives names texts → AreGiven gives names others → texts ≡ others
   texts_once names texts others a b =
-      zipped_once (λ name text. gives name (Some text)) (λ name x y h k. same_Some x y (one name (Some x) (Some y) h k)) names texts others a.each b.each
+      zipped_once (λ name text. gives name (Some text))
+      (λ name x y h k. same_Some x y (one name (Some x) (Some y) h k)) names texts others a.each b.each
 
   -- none of the names that are given is missing
-  not_missing : (before after : List Text) (name : Text) (texts : List Text) → AreGiven gives (before ++ name ∷ after) texts → IsMissing gives before name → ⊥
+  not_missing : (before after : List Text) (name : Text) (texts : List Text) → AreGiven gives (before ++ name ∷ after) texts →
+      IsMissing gives before name → ⊥
   not_missing before after name texts there (inl again) = counts_two is_standard before after name again there.once
   not_missing before after name texts there (inr none) =
       let found = zipped_at (λ name text. gives name (Some text)) before after name texts there.each in
@@ -84,10 +87,12 @@ module _ (gives : Giving) (one : GivesOne gives) where
       told_unread a.name f a.told ∙ ap unread_name name ∙ sym (told_unread b.name h b.told)
 
   -- what is said where names are read is one thing, if it is for what they give
-  pub says_once : (names : List Text) (IsSaidOf : List Text → Result Answer Failure → Type 0) → SaysOne IsSaidOf → (a b : Result Answer Failure) →
+  pub says_once : (names : List Text) (IsSaidOf : List Text → Result Answer Failure → Type 0) → SaysOne IsSaidOf →
+      (a b : Result Answer Failure) →
       Says gives names IsSaidOf a → Says gives names IsSaidOf b → AreSame a b
   says_once names IsSaidOf once _ _ (unread f fails) (unread h others) p q =
-      ap Err (unread_once names f h (unreadable gives names f (λ e. p (ap Err e)) fails) (unreadable gives names h (λ e. q (ap Err e)) others))
+      ap Err (unread_once names f h (unreadable gives names f (λ e. p (ap Err e)) fails)
+      (unreadable gives names h (λ e. q (ap Err e)) others))
   says_once names IsSaidOf once _ _ (unread f fails) (given texts b there said) p q =
       absurd (all_or_none names f texts (unreadable gives names f (λ e. p (ap Err e)) fails) there)
   says_once names IsSaidOf once _ _ (given texts a there said) (unread h others) p q =

@@ -28,22 +28,29 @@ abbrev IsEarlier : List Filter → Filter → Type 0
 IsEarlier before filter = (at : ℕ) × (other : Filter) × (slice_get before at ≡ Some other) × (other.altitude ≡ filter.altitude)
 
 -- then the altitudes of a list with the filter behind it aren't distinct
-not_distinct : (before after : List Filter) (filter : Filter) → HasDistinctAltitudes (before ++ filter ∷ after) → IsEarlier before filter → ⊥
+not_distinct : (before after : List Filter) (filter : Filter) → HasDistinctAltitudes (before ++ filter ∷ after) →
+    IsEarlier before filter → ⊥
 not_distinct before after filter distinct (at, other, there, altitude) =
     let within : at < length before = slice_get_within before at other there in
     let long = length-append before (filter ∷ after) in
-    let front : get_or (before ++ filter ∷ after) at other ≡ other = get_or-append before (filter ∷ after) other at within ∙ get_or_from_slice_get before at other other there in
+    let front : get_or (before ++ filter ∷ after) at other ≡ other = get_or-append before (filter ∷ after) other at within
+    ∙ get_or_from_slice_get before at other other there in
     let back : get_or (before ++ filter ∷ after) (length before) other ≡ filter = get_or-append_seam before filter after other in
-    distinct at (length before) other within (omega (arith, long)) (ap (λ (f : Filter). f.altitude) front ∙ altitude ∙ sym (ap (λ (f : Filter). f.altitude) back))
+    distinct at (length before) other within (omega (arith, long))
+    (ap (λ (f : Filter). f.altitude) front ∙ altitude ∙ sym (ap (λ (f : Filter). f.altitude) back))
 
-same_number : (filters : List Filter) (m n : ℕ) (a : IsRepeated filters m) (b : IsRepeated filters n) → Places a.before a.filter b.before b.filter → m ≡ n
+same_number : (filters : List Filter) (m n : ℕ) (a : IsRepeated filters m) (b : IsRepeated filters n) →
+    Places a.before a.filter b.before b.filter → m ≡ n
 same_number filters m n a b (same before filter) = a.counted ∙ ap length before ∙ sym b.counted
-same_number filters m n a b (earlier between before) = absurd (not_distinct a.before between a.filter (subst HasDistinctAltitudes before b.distinct) a.earlier)
-same_number filters m n a b (later between before) = absurd (not_distinct b.before between b.filter (subst HasDistinctAltitudes before a.distinct) b.earlier)
+same_number filters m n a b (earlier between before) =
+    absurd (not_distinct a.before between a.filter (subst HasDistinctAltitudes before b.distinct) a.earlier)
+same_number filters m n a b (later between before) =
+    absurd (not_distinct b.before between b.filter (subst HasDistinctAltitudes before a.distinct) b.earlier)
 
 -- the first filter that repeats an altitude is one
 repeated_once : (filters : List Filter) (m n : ℕ) → IsRepeated filters m → IsRepeated filters n → m ≡ n
-repeated_once filters m n a b = same_number filters m n a b (places a.before a.after b.before b.after a.filter b.filter (sym a.parts ∙ b.parts))
+repeated_once filters m n a b = same_number filters m n a b
+    (places a.before a.after b.before b.after a.filter b.filter (sym a.parts ∙ b.parts))
 
 -- filters of distinct altitudes have none
 all_distinct : (filters : List Filter) (n : ℕ) → IsRepeated filters n → HasDistinctAltitudes filters → ⊥
@@ -51,7 +58,8 @@ all_distinct filters n a distinct = not_distinct a.before a.after a.filter (subs
 
 module _ (one : SpellsAtMostOne) (read : (text : Text) (f : Filter) → Spells text f → filter_of text ≡ Ok f)
     (spelled : (a b : Entries) → IsJournal a → IsJournal b → spelling a ≡ spelling b → a ≡ b)
-    (first : (text : Text) (line : ℕ) (left : Text) (other_line : ℕ) (other_left : Text) → IsFirstFault text line left → IsFirstFault text other_line other_left →
+    (first : (text : Text) (line : ℕ) (left : Text) (other_line : ℕ) (other_left : Text) → IsFirstFault text line left →
+    IsFirstFault text other_line other_left →
     (line ≡ other_line) × (left ≡ other_left))
     (none : (entries : Entries) (line : ℕ) (left : Text) → IsJournal entries → ¬ IsFirstFault (spelling entries) line left) where
   -- ---- the texts
@@ -60,31 +68,40 @@ module _ (one : SpellsAtMostOne) (read : (text : Text) (f : Filter) → Spells t
   filters_once texts fs gs a b = zipped_once Spells (λ text f g h k. one text f g h k) texts fs gs a b
 
   -- a text that is spelled has no fault
-  not_spelled : (before after : List Text) (text : Text) (e : SyntaxFault) (filters : List Filter) → AreSpelled (before ++ text ∷ after) filters → filter_of text ≡ Err e → ⊥
+  not_spelled : (before after : List Text) (text : Text) (e : SyntaxFault) (filters : List Filter) →
+      AreSpelled (before ++ text ∷ after) filters → filter_of text ≡ Err e → ⊥
   not_spelled before after text e filters a fault =
       let found = zipped_at Spells before after text filters a in
       not_faulty text found.0 e (read text found.0 found.1) fault
 
-  all_spelled : (texts : List Text) (n : ℕ) (e : SyntaxFault) (filters : List Filter) → IsSyntaxFault texts n e → AreSpelled texts filters → ⊥
-  all_spelled texts n e filters a all = not_spelled a.before a.after a.text e filters (subst (λ ts. AreSpelled ts filters) a.parts all) a.fault
+  all_spelled : (texts : List Text) (n : ℕ) (e : SyntaxFault) (filters : List Filter) → IsSyntaxFault texts n e →
+      AreSpelled texts filters → ⊥
+  all_spelled texts n e filters a all =
+      not_spelled a.before a.after a.text e filters (subst (λ ts. AreSpelled ts filters) a.parts all) a.fault
 
-  same_fault : (texts : List Text) (m n : ℕ) (e f : SyntaxFault) (a : IsSyntaxFault texts m e) (b : IsSyntaxFault texts n f) → Places a.before a.text b.before b.text →
+  same_fault : (texts : List Text) (m n : ℕ) (e f : SyntaxFault) (a : IsSyntaxFault texts m e) (b : IsSyntaxFault texts n f) →
+      Places a.before a.text b.before b.text →
       FileSyntax m e ≡ FileSyntax n f
   same_fault texts m n e f a b (same before text) =
       let number : m ≡ n = a.counted ∙ ap length before ∙ sym b.counted in
       let fault : e ≡ f = one_syntax_fault a.text e f a.fault (subst (λ t. filter_of t ≡ Err f) (sym text) b.fault) in
       cc
-  same_fault texts m n e f a b (earlier between before) = absurd (not_spelled a.before between a.text e b.filters (subst (λ ts. AreSpelled ts b.filters) before b.spelled) a.fault)
-  same_fault texts m n e f a b (later between before) = absurd (not_spelled b.before between b.text f a.filters (subst (λ ts. AreSpelled ts a.filters) before a.spelled) b.fault)
+  same_fault texts m n e f a b (earlier between before) =
+      absurd (not_spelled a.before between a.text e b.filters (subst (λ ts. AreSpelled ts b.filters) before b.spelled) a.fault)
+  same_fault texts m n e f a b (later between before) =
+      absurd (not_spelled b.before between b.text f a.filters (subst (λ ts. AreSpelled ts a.filters) before a.spelled) b.fault)
 
   -- the first fault of the texts is one
-  syntax_once : (texts : List Text) (m n : ℕ) (e f : SyntaxFault) → IsSyntaxFault texts m e → IsSyntaxFault texts n f → FileSyntax m e ≡ FileSyntax n f
-  syntax_once texts m n e f a b = same_fault texts m n e f a b (places a.before a.after b.before b.after a.text b.text (sym a.parts ∙ b.parts))
+  syntax_once : (texts : List Text) (m n : ℕ) (e f : SyntaxFault) → IsSyntaxFault texts m e → IsSyntaxFault texts n f →
+      FileSyntax m e ≡ FileSyntax n f
+  syntax_once texts m n e f a b = same_fault texts m n e f a b
+      (places a.before a.after b.before b.after a.text b.text (sym a.parts ∙ b.parts))
 
   -- ---- the journal
 
   -- a journal's text has no fault
-  not_a_journal : (journal : Text) (entries : Entries) (n : ℕ) (left : Text) → IsJournal entries → journal ≡ spelling entries → IsFirstFault journal n left → ⊥
+  not_a_journal : (journal : Text) (entries : Entries) (n : ℕ) (left : Text) → IsJournal entries → journal ≡ spelling entries →
+      IsFirstFault journal n left → ⊥
   not_a_journal journal entries n left good written fault = none entries n left good (subst (λ j. IsFirstFault j n left) written fault)
 
   -- ---- what is said
@@ -95,7 +112,8 @@ module _ (one : SpellsAtMostOne) (read : (text : Text) (f : Filter) → Spells t
       let entries = spelled x.entries y.entries x.is_journal y.is_journal (sym x.written ∙ y.written) in
       x.is ∙ ap (λ fs. verdict fs x.entries) filters ∙ ap (λ es. verdict y.filters es) entries ∙ sym y.is
 
-  not_both : (journal : Text) (texts : List Text) (v : Verdict) (f : Failure) → IsVerdict journal texts v → IsFailure journal texts f → f ≢ OutOfMemory → ⊥
+  not_both : (journal : Text) (texts : List Text) (v : Verdict) (f : Failure) → IsVerdict journal texts v →
+      IsFailure journal texts f → f ≢ OutOfMemory → ⊥
   not_both journal texts v TooManyFiles x y told = let few = x.few in absurd (omega (arith, y))
   not_both journal texts v (FileSyntax n e) x y told = all_spelled texts n e x.filters y.1 x.spelled
   not_both journal texts v (JournalLine n) x y told = not_a_journal journal x.entries n y.2.0 x.is_journal x.written y.2.1
@@ -104,7 +122,8 @@ module _ (one : SpellsAtMostOne) (read : (text : Text) (f : Filter) → Spells t
   not_both journal texts v OutOfMemory x y told = told refl
   not_both journal texts v f x y told = y
 
-  failures_once : (journal : Text) (texts : List Text) (f h : Failure) → IsFailure journal texts f → IsFailure journal texts h → f ≢ OutOfMemory → h ≢ OutOfMemory → told f ≡ told h
+  failures_once : (journal : Text) (texts : List Text) (f h : Failure) → IsFailure journal texts f → IsFailure journal texts h →
+      f ≢ OutOfMemory → h ≢ OutOfMemory → told f ≡ told h
   failures_once journal texts TooManyFiles TooManyFiles x y p q = refl
   failures_once journal texts TooManyFiles (FileSyntax n f) x y p q = let few = y.0 in absurd (omega (arith, x))
   failures_once journal texts TooManyFiles (JournalLine n) x y p q = let few = y.0 in absurd (omega (arith, x))
@@ -130,7 +149,8 @@ module _ (one : SpellsAtMostOne) (read : (text : Text) (f : Filter) → Spells t
   failures_once journal texts (Altitude m) h x y p q = absurd y
   failures_once journal texts f h x y p q = absurd x
 
-  judged_once : (journal : Text) (texts : List Text) (a b : Result Answer Failure) → Judges journal texts a → Judges journal texts b → AreSame a b
+  judged_once : (journal : Text) (texts : List Text) (a b : Result Answer Failure) → Judges journal texts a →
+      Judges journal texts b → AreSame a b
   judged_once journal texts (Ok (Judged v)) (Ok (Judged w)) x y p q = ap (λ u. seen (Ok (Judged u))) (verdict_once journal texts v w x y)
   judged_once journal texts (Ok (Judged v)) (Err f) x y p q = absurd (not_both journal texts v f x y (λ e. q (ap Err e)))
   judged_once journal texts (Err f) (Ok (Judged v)) x y p q = absurd (not_both journal texts v f y x (λ e. p (ap Err e)))

@@ -7,13 +7,15 @@ use Rattle.flt_commands.specs.declared.answer.Answer.{Answer}
 use Rattle.flt_commands.specs.declared.failure.Failure.{Failure}
 
 -- the bytes of an only input
-pub only_one : (texts : List (Vec ℕ Global)) (x : Vec ℕ Global) → length texts ≡ 1 → x ≡ slice_index_or texts 0 x → map (λ t. t.items) texts ≡ x.items ∷ []
+pub only_one : (texts : List (Vec ℕ Global)) (x : Vec ℕ Global) → length texts ≡ 1 → x ≡ slice_index_or texts 0 x →
+    map (λ t. t.items) texts ≡ x.items ∷ []
 only_one [] x one at = absurd (omega (arith, one))
 only_one (t ∷ []) x one at = ap (λ (v : Vec ℕ Global). v.items ∷ []) (sym at)
 only_one (t ∷ u ∷ texts) x one at = absurd (omega (arith, one))
 
 -- the bytes of two inputs
-pub both : (texts : List (Vec ℕ Global)) (x y : Vec ℕ Global) → length texts ≡ 2 → x ≡ slice_index_or texts 0 x → y ≡ slice_index_or texts 1 y →
+pub both : (texts : List (Vec ℕ Global)) (x y : Vec ℕ Global) → length texts ≡ 2 → x ≡ slice_index_or texts 0 x →
+    y ≡ slice_index_or texts 1 y →
     map (λ t. t.items) texts ≡ x.items ∷ y.items ∷ []
 both [] x y two first second = absurd (omega (arith, two))
 both (t ∷ []) x y two first second = absurd (omega (arith, two))
@@ -21,22 +23,28 @@ both (t ∷ u ∷ []) x y two first second =
     ap (λ (v : Vec ℕ Global). v.items ∷ u.items ∷ []) (sym first) ∙ ap (λ (v : Vec ℕ Global). x.items ∷ v.items ∷ []) (sym second)
 both (t ∷ u ∷ v ∷ texts) x y two first second = absurd (omega (arith, two))
 
-module _ (gives : Giving) (IsSaidOf : List Text → Result Answer Failure → Type 0) (texts : List (Vec ℕ Global)) (result : Result Answer Failure) where
+module _ (gives : Giving) (IsSaidOf : List Text → Result Answer Failure → Type 0) (texts : List (Vec ℕ Global))
+    (result : Result Answer Failure) where
   -- what is said of one input that was read
-  pub says_of_one : (name : Text) (x : Vec ℕ Global) → length texts ≡ 1 → x ≡ slice_index_or texts 0 x → AreGiven gives (name ∷ []) (map (λ t. t.items) texts) →
+  pub says_of_one : (name : Text) (x : Vec ℕ Global) → length texts ≡ 1 → x ≡ slice_index_or texts 0 x →
+      AreGiven gives (name ∷ []) (map (λ t. t.items) texts) →
       IsSaidOf (x.items ∷ []) result → Says gives (name ∷ []) IsSaidOf result
   says_of_one name x one at read said = given _ result (rw (only_one texts x one at) at read) said
 
   -- what is said of two
-  pub says_of_both : (name other : Text) (x y : Vec ℕ Global) → length texts ≡ 2 → x ≡ slice_index_or texts 0 x → y ≡ slice_index_or texts 1 y →
-      AreGiven gives (name ∷ other ∷ []) (map (λ t. t.items) texts) → IsSaidOf (x.items ∷ y.items ∷ []) result → Says gives (name ∷ other ∷ []) IsSaidOf result
+  pub says_of_both : (name other : Text) (x y : Vec ℕ Global) → length texts ≡ 2 → x ≡ slice_index_or texts 0 x →
+      y ≡ slice_index_or texts 1 y →
+      AreGiven gives (name ∷ other ∷ []) (map (λ t. t.items) texts) → IsSaidOf (x.items ∷ y.items ∷ []) result →
+      Says gives (name ∷ other ∷ []) IsSaidOf result
   says_of_both name other x y two first second read said = given _ result (rw (both texts x y two first second) at read) said
 
 -- what is said of a journal and of the texts behind it
-pub says_of_journal : (gives : Giving) (texts : List (Vec ℕ Global)) (result : Result Answer Failure) (journal : Text) (names : List Text) (x : Vec ℕ Global) (others : List (Vec ℕ Global)) →
+pub says_of_journal : (gives : Giving) (texts : List (Vec ℕ Global)) (result : Result Answer Failure) (journal : Text)
+    (names : List Text) (x : Vec ℕ Global) (others : List (Vec ℕ Global)) →
     x ≡ slice_index_or texts 0 x → others ≡ drop 1 texts → AreGiven gives (journal ∷ names) (map (λ t. t.items) texts) →
     Judges x.items (map (λ t. t.items) others) result → Says gives (journal ∷ names) IsReplayed result
-says_of_journal gives [] result journal names x others first behind read said = absurd (omega (arith, AllZip-long {B = Text} (λ name text. gives name (Some text)) (journal ∷ names) [] read.each))
+says_of_journal gives [] result journal names x others first behind read said =
+    absurd (omega (arith, AllZip-long {B = Text} (λ name text. gives name (Some text)) (journal ∷ names) [] read.each))
 says_of_journal gives (t ∷ texts) result journal names x others first behind read said =
     let is_first : x ≡ t = first in
     let are_others : others ≡ texts = behind in

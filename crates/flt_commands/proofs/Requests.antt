@@ -23,7 +23,8 @@ use Rattle.flt_commands.specs.Words.{IsCommand, asked_by, asked_of, asked_words,
 -- a name and the matches behind it
 module _ {A B C : Type 0} (f : A → B) (g : A → C) where
   pub paired : (o : Option A) (x : B) (y : C) → option_map f o ≡ Some x →
-      option_map (λ (p : B × C). p.1) (option_map {U = B × C} (λ a. (f a, g a)) o) ≡ Some y → option_map {U = B × C} (λ a. (f a, g a)) o ≡ Some (x, y)
+      option_map (λ (p : B × C). p.1) (option_map {U = B × C} (λ a. (f a, g a)) o) ≡ Some y →
+      option_map {U = B × C} (λ a. (f a, g a)) o ≡ Some (x, y)
   paired None x y e h = absurd (cc e)
   paired (Some a) x y e h = cc (e, h)
 
@@ -32,7 +33,7 @@ pub text_or : (o : Option (Bor Text)) (other : Bor Text) → (unwrap_or o other)
 text_or None other = refl
 text_or (Some s) other = refl
 
--- an error that isn't want of memory has one of the kinds, so there is one
+-- an error other than running out of memory has one of the kinds, so there is one
 pub has_kinds : (kinds : Kinds) (e : Error) → HasKind kinds e → is_memory (kind_of e) ≡ false → is_none kinds ≡ false
 has_kinds [] e (inl memory) other = absurd (cc (rw memory at other))
 has_kinds [] e (inr among) other = absurd among
@@ -58,14 +59,16 @@ module _ (c : Command) (words : List Text) (is : IsCommand c program_app) where
       rw (same, none) refl
 
   -- the same of a request, unless memory ran out
-  pub all_taken : (m : ArgMatches) → HasMatchesOf (app_of c) words m → (is_simple_and_free (app_of c) ≡ true → fault_of (app_of c) words ≡ []) →
+  pub all_taken : (m : ArgMatches) → HasMatchesOf (app_of c) words m →
+      (is_simple_and_free (app_of c) ≡ true → fault_of (app_of c) words ≡ []) →
       (result : Result Request AllocError) → IfOk result (λ r. asked_of r ≡ option_and_then asked_by (subcommand_rows_of m)) →
       IfOk result (λ r. asked_of r ≡ asked_words words)
   all_taken m matches kinds (Ok r) asks = asks ∙ taken m matches kinds
   all_taken m matches kinds (Err e) asks = tt
 
   -- words that aren't taken ask for nothing
-  pub not_taken : (e : Error) → (is_simple_and_free (app_of c) ≡ true → HasKind (fault_of (app_of c) words) e) → is_memory (kind_of e) ≡ false →
+  pub not_taken : (e : Error) → (is_simple_and_free (app_of c) ≡ true → HasKind (fault_of (app_of c) words) e) →
+      is_memory (kind_of e) ≡ false →
       None ≡ asked_words words
   not_taken e kinds other =
       let free : is_simple_and_free (app_of c) ≡ true = ap is_simple_and_free is.0 ∙ is_free in
@@ -75,14 +78,16 @@ module _ (c : Command) (words : List Text) (is : IsCommand c program_app) where
 
 -- the matches of a subcommand ask for what its name and its own matches ask for
 pub named : (m : ArgMatches) (name : Text) (rows : List Row) → subcommand_name_of m ≡ Some name →
-    option_map (λ (p : Text × List Row). p.1) (subcommand_rows_of m) ≡ Some rows → asked_by (name, rows) ≡ option_and_then asked_by (subcommand_rows_of m)
+    option_map (λ (p : Text × List Row). p.1) (subcommand_rows_of m) ≡ Some rows →
+    asked_by (name, rows) ≡ option_and_then asked_by (subcommand_rows_of m)
 named m name rows is matches =
     let both : subcommand_rows_of m ≡ Some (name, rows) = paired _ _ (out-ArgMatches m).subcommand name rows is matches in
     rw both refl
 
 -- an argument that must be there and takes as many values as are given
 pub many : (a b c : Arg) (id : Text) (r : ValueRange) → rule_of a ≡ new_rule id → b ≡ record a { required = true } →
-    (c ≡ record b { num_vals = c.num_vals }) × IsSomeAnd c.num_vals (λ v. v ≡ r) → rule_of c ≡ record (new_rule id) { required = true; range = Some r }
+    (c ≡ record b { num_vals = c.num_vals }) × IsSomeAnd c.num_vals (λ v. v ≡ r) →
+    rule_of c ≡ record (new_rule id) { required = true; range = Some r }
 many a b c id r new must takes =
     let range : c.num_vals ≡ Some r = known c.num_vals r takes.1 in
     rw (takes.0, range, must) (ap (λ (s : Rule). record s { required = true; range = Some r }) new)
@@ -109,6 +114,7 @@ module _ (old sub : Command) (a s : App) (one : IsCommand old a) (other : IsComm
       let globals : (fields_of new).has_globals ≡ false = rw (one.1, other.1) at adds.globals in
       (shapes, globals)
 
-  pub with_the_last : (r : Result Command AllocError) → IfOk r (λ new. AddsSubcommand old sub new) → IfOk r (λ new. IsCommand new (with_subcommand a s.top))
+  pub with_the_last : (r : Result Command AllocError) → IfOk r (λ new. AddsSubcommand old sub new) →
+      IfOk r (λ new. IsCommand new (with_subcommand a s.top))
   with_the_last (Ok new) adds = with_one_more new adds
   with_the_last (Err e) adds = tt

@@ -6,12 +6,12 @@ use Rattle.flt_cert.specs.declared.fault.CertFault.TheVariants as cert
 use Rattle.flt_commands.specs.declared.failure.Failure.{Failure}
 use Rattle.flt_commands.specs.declared.failure.Failure.TheVariants.{Syntax, Certificate, OutOfMemory}
 
--- how a fault of a certificate is told
+-- how a fault of a certificate is reported
 abbrev pub of_certificate : CertFault → Failure
 of_certificate (cert.Line n) = Certificate n
 of_certificate cert.OutOfMemory = OutOfMemory
 
--- how a fault of a text is told
+-- how a fault of a text is reported
 abbrev pub of_parse : ParseError → Failure
 of_parse (parse.Syntax f) = Syntax f
 of_parse parse.OutOfMemory = OutOfMemory

@@ -48,6 +48,8 @@ NamesFail gives names OutOfMemory = Unit {0}
 NamesFail gives names f = IsUnreadable gives names f
 
 -- what is said where these names are read: how that fails, or what is said of the bytes that they give
-pub data Says (gives : Giving) (names : List Text) (IsSaidOf : List Text → Result Answer Failure → Type 0) : Result Answer Failure → Type 0 where
+pub data Says (gives : Giving) (names : List Text)
+    (IsSaidOf : List Text → Result Answer Failure → Type 0) : Result Answer Failure → Type 0 where
   unread : (f : Failure) → NamesFail gives names f → Says gives names IsSaidOf (Err f)
-  given : (texts : List Text) (result : Result Answer Failure) → AreGiven gives names texts → IsSaidOf texts result → Says gives names IsSaidOf result
+  given : (texts : List Text) (result : Result Answer Failure) → AreGiven gives names texts → IsSaidOf texts result →
+      Says gives names IsSaidOf result

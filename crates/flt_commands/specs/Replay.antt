@@ -66,7 +66,8 @@ pub record IsVerdict (journal : Text) (texts : List Text) (v : Verdict) : Type 0
 abbrev pub IsFailure : Text → List Text → Failure → Type 0
 IsFailure journal texts TooManyFiles = max_filters < length texts
 IsFailure journal texts (FileSyntax number f) = (length texts ≤ max_filters) × IsSyntaxFault texts number f
-IsFailure journal texts (JournalLine n) = (length texts ≤ max_filters) × ((filters : List Filter) × AreSpelled texts filters) × ((left : Text) × IsFirstFault journal n left)
+IsFailure journal texts (JournalLine n) = (length texts ≤ max_filters) × ((filters : List Filter) × AreSpelled texts filters)
+    × ((left : Text) × IsFirstFault journal n left)
 IsFailure journal texts (Altitude number) =
     (length texts ≤ max_filters) × ((filters : List Filter) × AreSpelled texts filters × IsRepeated filters number)
     × ((entries : Entries) × IsJournal entries × (journal ≡ spelling entries))

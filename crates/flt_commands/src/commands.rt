@@ -93,8 +93,10 @@ fn report<O: Sink, E: Sink>(
     out: &mut O,
     err: &mut E,
 ) -> Result<u8, CommandFault>
-    ensures prints { IfOk result (λ status. (bytes : List ℕ) × spec.IsReported said.entry bytes status × Appends (O.taken out.old) (O.taken out.new) bytes) }
-    ensures write { IfErr result (λ e. e ≡ CommandFault.Write → (O.failures out.new ≢ O.failures out.old) ⊎ (E.failures err.new ≢ E.failures err.old)) }
+    ensures prints { IfOk result (λ status. (bytes : List ℕ) × spec.IsReported said.entry bytes status
+        × Appends (O.taken out.old) (O.taken out.new) bytes) }
+    ensures write { IfErr result (λ e. e ≡ CommandFault.Write → (O.failures out.new ≢ O.failures out.old)
+        ⊎ (E.failures err.new ≢ E.failures err.old)) }
     ensures fine { OnOk result ((O.failures out.new ≡ O.failures out.old) × (E.failures err.new ≡ E.failures err.old)) }
     ensures memory { IfErr result (λ e. e ≡ CommandFault.OutOfMemory → (out.new ≡ out.old) × (err.new ≡ err.old)) }
     ensures quiet { IfOk result (λ status. status ≢ 2 → err.new ≡ err.old) }
@@ -115,8 +117,10 @@ pub fn command<I: Inputs, O: Sink, E: Sink>(
     out: &mut O,
     err: &mut E,
 ) -> Result<u8, CommandFault>
-    ensures prints { IfOk result (λ status. (bytes : List ℕ) × spec.Prints (I.gives inputs.now) (map string_bytes words.now) bytes status × Appends (O.taken out.old) (O.taken out.new) bytes) }
-    ensures write { IfErr result (λ e. e ≡ CommandFault.Write → (O.failures out.new ≢ O.failures out.old) ⊎ (E.failures err.new ≢ E.failures err.old)) }
+    ensures prints { IfOk result (λ status. (bytes : List ℕ)
+        × spec.Prints (I.gives inputs.now) (map string_bytes words.now) bytes status × Appends (O.taken out.old) (O.taken out.new) bytes) }
+    ensures write { IfErr result (λ e. e ≡ CommandFault.Write → (O.failures out.new ≢ O.failures out.old)
+        ⊎ (E.failures err.new ≢ E.failures err.old)) }
     ensures fine { OnOk result ((O.failures out.new ≡ O.failures out.old) × (E.failures err.new ≡ E.failures err.old)) }
     ensures memory { IfErr result (λ e. e ≡ CommandFault.OutOfMemory → (out.new ≡ out.old) × (err.new ≡ err.old)) }
     ensures quiet { IfOk result (λ status. status ≢ 2 → err.new ≡ err.old) }

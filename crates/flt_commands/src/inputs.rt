@@ -23,7 +23,8 @@ pub const MAX_INPUT: usize = 67_108_864;
 
 /// All bytes that a reader has; none if a read fails, or if they are more than `MAX_INPUT`.
 pub fn read_within<R: Read>(alloc: Global, reader: &mut R) -> Result<Option<Vec<u8>>, AllocError>
-    ensures all { IfOk result (λ found. IfSome found (λ v. Consumes (R.remaining reader.old) (R.remaining reader.new) v.items × IsAtEnd (R.remaining reader.new))) }
+    ensures all { IfOk result (λ found. IfSome found
+        (λ v. Consumes (R.remaining reader.old) (R.remaining reader.new) v.items × IsAtEnd (R.remaining reader.new))) }
     ensures few { IfOk result (λ found. IfSome found (λ v. length v.items ≤ 67108864)) }
 {
     let mut found = Vec::new(alloc);
@@ -53,7 +54,8 @@ pub fn read_all<'a, I: Inputs>(
     inputs: &I,
     names: &[&'a str],
 ) -> Result<Vec<Vec<u8>>, Failure<'a>>
-    ensures ok { IfOk result (λ texts. spec.AreGiven (I.gives inputs.now) (map (λ name. name.now) names.now) (map (λ text. text.items) texts.items)) }
+    ensures ok { IfOk result (λ texts. spec.AreGiven (I.gives inputs.now) (map (λ name. name.now) names.now)
+        (map (λ text. text.items) texts.items)) }
     ensures each { IfOk result (λ texts. length texts.items ≡ length names.now) }
     ensures err { IfErr result (spec.NamesFail (I.gives inputs.now) (map (λ name. name.now) names.now)) }
 {

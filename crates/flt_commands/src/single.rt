@@ -64,8 +64,11 @@ fn one_verdict_at_most()
 /// A command line has one answer at most, where the inputs give one thing for each name. What is printed is one, and so is
 /// the exit status; why there is none is one too, unless memory ran out. It does nothing: its clauses are the law.
 pub fn one_answer_at_most<I: Inputs>()
-    ensures one { (inputs : I) (words : List (List ℕ)) (bytes other : List ℕ) (status other_status : ℕ) → spec.GivesOne (I.gives inputs) → Prints (I.gives inputs) words bytes status → Prints (I.gives inputs) words other other_status → (bytes ≡ other) × (status ≡ other_status) }
-    ensures said { (inputs : I) (request : Asked) (a b : Result Answer Failure) → spec.GivesOne (I.gives inputs) → IsSaid (I.gives inputs) request a → IsSaid (I.gives inputs) request b → spec.AreSame a b }
+    ensures one { (inputs : I) (words : List (List ℕ)) (bytes other : List ℕ) (status other_status : ℕ) →
+        spec.GivesOne (I.gives inputs) → Prints (I.gives inputs) words bytes status →
+        Prints (I.gives inputs) words other other_status → (bytes ≡ other) × (status ≡ other_status) }
+    ensures said { (inputs : I) (request : Asked) (a b : Result Answer Failure) → spec.GivesOne (I.gives inputs) →
+        IsSaid (I.gives inputs) request a → IsSaid (I.gives inputs) request b → spec.AreSame a b }
 {
     one_check_at_most();
     one_analysis_at_most();

@@ -24,4 +24,5 @@ pub first_of_all : (g : Graph) (callback point : ℕ) (x : State) (us : List Sub
 first_of_all g callback point x us [] = refl
 first_of_all g callback point x us (r ∷ rs) =
     first_by (breaks (setting_of g callback x) x (instruction_at g callback point) r) r
-    (blamed (place_at g callback) x (instruction_at g callback point) r us) (faults_of_all g callback point x us rs) _ (first_of_all g callback point x us rs)
+    (blamed (place_at g callback) x (instruction_at g callback point) r us) (faults_of_all g callback point x us rs) _
+    (first_of_all g callback point x us rs)

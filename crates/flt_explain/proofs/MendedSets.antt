@@ -23,10 +23,12 @@ kept_held_by true true false = refl
 kept_held_by true true true = refl
 
 -- the bit of held is what is left where held is asked for
-pub kept_held : (s : StatusSet) → statuses (bit_and (status_bits s) 2) ≡ record { null = s.null && false; held = s.held && true; stale = s.stale && false }
+pub kept_held : (s : StatusSet) → statuses (bit_and (status_bits s) 2)
+    ≡ record { null = s.null && false; held = s.held && true; stale = s.stale && false }
 kept_held s = kept_held_by s.null s.held s.stale
 
-kept_not_held_by : (n h s : Bool) → statuses (bit_and (bit_of n 1 + (bit_of h 2 + bit_of s 4)) 5) ≡ set_of (n && true) (h && false) (s && true)
+kept_not_held_by : (n h s : Bool) →
+    statuses (bit_and (bit_of n 1 + (bit_of h 2 + bit_of s 4)) 5) ≡ set_of (n && true) (h && false) (s && true)
 kept_not_held_by false false false = refl
 kept_not_held_by false false true = refl
 kept_not_held_by false true false = refl
@@ -37,7 +39,8 @@ kept_not_held_by true true false = refl
 kept_not_held_by true true true = refl
 
 -- and the others where it is not to be held
-pub kept_not_held : (s : StatusSet) → statuses (bit_and (status_bits s) 5) ≡ record { null = s.null && true; held = s.held && false; stale = s.stale && true }
+pub kept_not_held : (s : StatusSet) →
+    statuses (bit_and (status_bits s) 5) ≡ record { null = s.null && true; held = s.held && false; stale = s.stale && true }
 kept_not_held s = kept_not_held_by s.null s.held s.stale
 
 kept_by : (n h s : Bool) → set_of n h s ≡ set_of (n && true) (h && true) (s && true)
@@ -118,7 +121,8 @@ exact r s Null = refl
 exact r s Held = refl
 exact r s Stale = refl
 
-held_by : (n h s w z : Bool) → w ≡ true → ((n && not w) || ((h && not z) || (s && not w))) ≡ true → ((h && not z) && (not (n && not w) && not (s && not w))) ≡ true
+held_by : (n h s w z : Bool) → w ≡ true → ((n && not w) || ((h && not z) || (s && not w))) ≡ true →
+    ((h && not z) && (not (n && not w) && not (s && not w))) ≡ true
 held_by false false false true false e p = p
 held_by false false false true true e p = p
 held_by false false true true false e p = p

@@ -151,7 +151,8 @@ pub fn faults(
     state: &Abs,
 ) -> Result<Items<Fault>, AllocError>
     ensures value { IfOk result (λ fs. fs ≡ spec.faults_at graph.now callback point state.now) }
-    ensures least { IfOk result (λ fs. spec.first_rule fs ≡ first_broken (setting_of graph.now callback state.now) state.now (instruction_at graph.now callback point)) }
+    ensures least { IfOk result (λ fs. spec.first_rule fs ≡ first_broken (setting_of graph.now callback state.now) state.now
+        (instruction_at graph.now callback point)) }
 {
     let mut faults = Items::new(alloc);
     add_all(

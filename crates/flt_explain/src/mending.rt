@@ -55,6 +55,7 @@ pub(crate) fn mended_draining(draining: Draining) -> Draining
 #[tactic(auto, using(crate::proofs::MendedSets::exact, crate::proofs::MendedSets::held, crate::proofs::MendedSets::not_held))]
 pub fn mending_is_exact()
     ensures exact { (r : Rule) (s : StatusSet) (t : Status) → has_status (spec.mended r s) t ≡ (has_status s t && spec.is_fine r t) }
-    ensures held { (r : Rule) (s : StatusSet) → IsTrue (spec.wants_held r) → IsTrue (is_possible (spec.mended r s)) → IsTrue (is_held (spec.mended r s)) }
+    ensures held { (r : Rule) (s : StatusSet) → IsTrue (spec.wants_held r) → IsTrue (is_possible (spec.mended r s)) →
+        IsTrue (is_held (spec.mended r s)) }
     ensures not_held { (r : Rule) (s : StatusSet) → IsTrue (spec.wants_not_held r) → (spec.mended r s).held ≡ false }
 {}

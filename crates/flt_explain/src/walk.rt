@@ -12,7 +12,7 @@ use std::alloc::{AllocError, Global};
 /// How often a point is looked at, at most. Each time but the first its sets have grown, an empty one has come back, or a lock is unsure.
 const LOOKS: usize = 80;
 
-/// What was found so far at the points of a callback, and which of them are to be looked at.
+/// What was found so far at the points of a callback, and which of them are pending.
 #[derive(Drop)]
 struct Walk {
     points: Items<Option<Sight>>,

@@ -30,20 +30,23 @@ line_some (Detach altitude) text e = some_byte 100 _ e
 line_some (Refuse choice) text e = some_byte 114 _ e
 
 -- a line that begins otherwise than "refuse" is a move's
-made_of : (b : ℕ) (others behind : Text) (command : Command) → (b ≡ 114 → ⊥) → b ∷ others ≡ command_line command ++ behind → is_command command ≡ true →
+made_of : (b : ℕ) (others behind : Text) (command : Command) → (b ≡ 114 → ⊥) → b ∷ others ≡ command_line command ++ behind →
+    is_command command ≡ true →
     (made : Move) × (command_of made ≡ Some command) × (b ∷ others ≡ move_line made ++ behind) × IsMove made
 made_of b others behind (Arrive operation mode file) other e h =
     let parts = and_parts (fits_mode operation mode) (nat_lt file 1024) h in
     let small : file < 1024 = ltb-true file 1024 parts.1 in
     (moves.Arrive operation mode file, refl, e, omega arith)
-made_of b others behind (Cancel serial) other e h = let small : serial < 65536 = ltb-true serial 65536 h in (moves.Cancel serial, refl, e, omega arith)
+made_of b others behind (Cancel serial) other e h = let small : serial < 65536 = ltb-true serial 65536 h in
+    (moves.Cancel serial, refl, e, omega arith)
 made_of b others behind (Detach altitude) other e h = (moves.Detach altitude, refl, e, ltb-true altitude (2 ^ 32) h)
 made_of b others behind (Refuse choice) other e h = absurd (other (ap (λ t. get_or t 0 0) e))
 
 -- ---- what is read of a line
 
 -- no read of a slice fails
-never_failed : {A : Type 0} (r : Result A Stop) → Counts r 0 0 → (value : A) (behind left : Text) → IsReadAs value behind r left → (r ≡ Ok value) × (left ≡ behind)
+never_failed : {A : Type 0} (r : Result A Stop) → Counts r 0 0 → (value : A) (behind left : Text) → IsReadAs value behind r left →
+    (r ≡ Ok value) × (left ≡ behind)
 never_failed (Ok found) fine value behind left h = (ap Ok h.0, h.1)
 never_failed (Err Wrong) fine value behind left h = absurd h
 never_failed (Err Failed) fine value behind left h = absurd (fine refl)
@@ -55,7 +58,8 @@ parts_of (b ∷ text) some = ap (λ z. b ∷ z) (take_rest (b ∷ text) 1)
 
 -- behind its first byte the line of a move is read
 pub reads_made : (text left : Text) (r : Result Move Stop) → (get_or text 0 0 ≡ 114 → ⊥) → Counts r 0 0 →
-    ((made : Move) → IsMove made → (behind : Text) → get_or text 0 0 ∷ take (length text - 1) (drop 1 text) ≡ move_line made ++ behind → IsReadAs made behind r left) →
+    ((made : Move) → IsMove made → (behind : Text) →
+    get_or text 0 0 ∷ take (length text - 1) (drop 1 text) ≡ move_line made ++ behind → IsReadAs made behind r left) →
     (command : Command) → is_command command ≡ true → (behind : Text) → text ≡ command_line command ++ behind →
     (made : Move) × (command_of made ≡ Some command) × (r ≡ Ok made) × (left ≡ behind)
 reads_made text left r other fine reads command good behind e =

@@ -16,36 +16,45 @@ use Rattle.flt_script.proofs.CommandLaws.{line_some}
 -- ---- filters of a stack
 
 -- the altitudes of trees are those of their filters
-pub loaded_of : (trees : List Tree) (altitude : ℕ) → list_any (λ (t : Tree). t.filter.altitude == altitude) trees ≡ is_loaded (filters_of trees) altitude
+pub loaded_of : (trees : List Tree) (altitude : ℕ) →
+    list_any (λ (t : Tree). t.filter.altitude == altitude) trees ≡ is_loaded (filters_of trees) altitude
 loaded_of [] altitude = refl
 loaded_of (tree ∷ trees) altitude = ap (λ z. (tree.filter.altitude == altitude) || z) (loaded_of trees altitude)
 
 -- ---- commands in order
 
 -- commands and one more that may follow them
-one_more : (filters : List Filter) (before more : Commands) (command : Command) → are_commands filters before more ≡ true → may_follow filters (before ++ more) command ≡ true →
+one_more : (filters : List Filter) (before more : Commands) (command : Command) → are_commands filters before more ≡ true →
+    may_follow filters (before ++ more) command ≡ true →
     are_commands filters before (more ++ command ∷ []) ≡ true
-one_more filters before [] command h last = and_from (may_follow filters before command) true (ap (λ z. may_follow filters z command) (sym (append-nil before)) ∙ last) refl
+one_more filters before [] command h last =
+    and_from (may_follow filters before command) true (ap (λ z. may_follow filters z command) (sym (append-nil before)) ∙ last) refl
 one_more filters before (first ∷ more) command h last =
     let parts = and_parts (may_follow filters before first) (are_commands filters (before ++ first ∷ []) more) h in
     and_from (may_follow filters before first) _ parts.0
-    (one_more filters (before ++ first ∷ []) more command parts.1 (ap (λ z. may_follow filters z command) (append_assoc before (first ∷ []) more) ∙ last))
+    (one_more filters (before ++ first ∷ []) more command parts.1
+    (ap (λ z. may_follow filters z command) (append_assoc before (first ∷ []) more) ∙ last))
 
 -- the one that stands behind some of the commands may follow them
-that_follows : (filters : List Filter) (before more : Commands) (command : Command) (others : Commands) → are_commands filters before (more ++ command ∷ others) ≡ true →
+that_follows : (filters : List Filter) (before more : Commands) (command : Command) (others : Commands) →
+    are_commands filters before (more ++ command ∷ others) ≡ true →
     may_follow filters (before ++ more) command ≡ true
 that_follows filters before [] command others h =
-    ap (λ z. may_follow filters z command) (append-nil before) ∙ (and_parts (may_follow filters before command) (are_commands filters (before ++ command ∷ []) others) h).0
+    ap (λ z. may_follow filters z command) (append-nil before)
+    ∙ (and_parts (may_follow filters before command) (are_commands filters (before ++ command ∷ []) others) h).0
 that_follows filters before (first ∷ more) command others h =
     let parts = and_parts (may_follow filters before first) (are_commands filters (before ++ first ∷ []) (more ++ command ∷ others)) h in
-    ap (λ z. may_follow filters z command) (sym (append_assoc before (first ∷ []) more)) ∙ that_follows filters (before ++ first ∷ []) more command others parts.1
+    ap (λ z. may_follow filters z command) (sym (append_assoc before (first ∷ []) more))
+    ∙ that_follows filters (before ++ first ∷ []) more command others parts.1
 
 -- each is a command by itself
-pub all_commands : (filters : List Filter) (before more : Commands) → are_commands filters before more ≡ true → list_all is_command more ≡ true
+pub all_commands : (filters : List Filter) (before more : Commands) → are_commands filters before more ≡ true →
+    list_all is_command more ≡ true
 all_commands filters before [] h = refl
 all_commands filters before (first ∷ more) h =
     let parts = and_parts (may_follow filters before first) (are_commands filters (before ++ first ∷ []) more) h in
-    and_from (is_command first) (list_all is_command more) (and_parts (is_command first) _ parts.0).0 (all_commands filters (before ++ first ∷ []) more parts.1)
+    and_from (is_command first) (list_all is_command more) (and_parts (is_command first) _ parts.0).0
+    (all_commands filters (before ++ first ∷ []) more parts.1)
 
 -- ---- a place in a text
 
@@ -65,10 +74,16 @@ pub record Reached (filters : List Filter) (text : Text) (found : Commands) (lef
 -- what one reading of a line has to find
 abbrev pub Finds : List Filter → Commands → Text → Option Command → Text → Type 0
 Finds filters found left result new =
-    (command : Command) → may_follow filters found command ≡ true → (behind : Text) → left ≡ command_line command ++ behind → (result ≡ Some command) × (new ≡ behind)
+    (command : Command) → may_follow filters found command ≡ true → (behind : Text) → left ≡ command_line command ++ behind →
+    (result ≡ Some command) × (new ≡ behind)
 
 pub at_start : (filters : List Filter) (text : Text) → Reached filters text [] text
-at_start filters text = record { spelled = refl; script = refl; ahead = λ commands good e. record { more = commands; parts = refl; rest = e }; count = omega arith }
+at_start filters text = record {
+  spelled = refl;
+  script = refl;
+  ahead = λ commands good e. record { more = commands; parts = refl; rest = e };
+  count = omega arith;
+}
 
 -- one line leaves less
 pub line_shorter : (command : Command) (left new : Text) → left ≡ command_line command ++ new → length new < length left
@@ -81,7 +96,8 @@ line_shorter command left new e = go (command_line command) refl
         let parts = length-append (b ∷ line) new in
         omega arith
 
-pub one_line : (filters : List Filter) (text : Text) (found : Commands) (left : Text) (command : Command) (new : Text) → Reached filters text found left →
+pub one_line : (filters : List Filter) (text : Text) (found : Commands) (left : Text) (command : Command) (new : Text) →
+    Reached filters text found left →
     left ≡ command_line command ++ new → may_follow filters found command ≡ true → Finds filters found left (Some command) new →
     Reached filters text (found ++ command ∷ []) new
 one_line filters text found left command new at line follows finds = record {
@@ -101,7 +117,8 @@ one_line filters text found left command new at line follows finds = record {
         let one = length-append found (command ∷ []) in
         omega arith
 
-    further : (commands : Commands) → is_script filters commands ≡ true → Ahead found left commands → Ahead (found ++ command ∷ []) new commands
+    further : (commands : Commands) → is_script filters commands ≡ true → Ahead found left commands →
+        Ahead (found ++ command ∷ []) new commands
     further commands good ahead = by ahead.more ahead.parts ahead.rest
       where
         by : (more : Commands) → commands ≡ found ++ more → left ≡ spelling more → Ahead (found ++ command ∷ []) new commands
@@ -111,7 +128,12 @@ one_line filters text found left command new at line follows finds = record {
             let read = finds first may (spelling more) rest in
             let found_is : Some command ≡ Some first = read.0 in
             let same : command ≡ first = cc in
-            record { more = more; parts = parts ∙ ap (λ z. found ++ z ∷ more) (sym same) ∙ sym (append_assoc found (command ∷ []) more); rest = read.1 }
+            record {
+              more = more;
+              parts = parts ∙ ap (λ z. found ++ z ∷ more) (sym same)
+                  ∙ sym (append_assoc found (command ∷ []) more);
+              rest = read.1;
+            }
 
 -- ---- where reading ends
 
@@ -123,7 +145,8 @@ pub none_left : (left : Text) → (length left == 0) ≡ true → left ≡ []
 none_left left h = nil_from_length left (eqb-true (length left) 0 h)
 
 -- at the end of the text, the commands found are those that it spells
-pub only_script : (filters : List Filter) (text : Text) (found : Commands) → Reached filters text found [] → (commands : Commands) → is_script filters commands ≡ true → text ≡ spelling commands → found ≡ commands
+pub only_script : (filters : List Filter) (text : Text) (found : Commands) → Reached filters text found [] →
+    (commands : Commands) → is_script filters commands ≡ true → text ≡ spelling commands → found ≡ commands
 only_script filters text found at commands good e = by ahead.more ahead.parts ahead.rest
   where
     ahead : Ahead found [] commands
@@ -136,11 +159,13 @@ only_script filters text found at commands good e = by ahead.more ahead.parts ah
 pub whole_script : (filters : List Filter) (text : Text) (found : Commands) → Reached filters text found [] → text ≡ spelling found
 whole_script filters text found at = at.spelled ∙ append-nil (spelling found)
 
-pub is_reached_script : (filters : List Filter) (text : Text) (found : Commands) (left : Text) → Reached filters text found left → is_script filters found ≡ true
+pub is_reached_script : (filters : List Filter) (text : Text) (found : Commands) (left : Text) → Reached filters text found left →
+    is_script filters found ≡ true
 is_reached_script filters text found left at = at.script
 
 -- where no command is found, the first fault stands
-pub first_fault : (filters : List Filter) (text : Text) (found : Commands) (left new : Text) → Reached filters text found left → left ≢ [] → Finds filters found left None new →
+pub first_fault : (filters : List Filter) (text : Text) (found : Commands) (left new : Text) → Reached filters text found left →
+    left ≢ [] → Finds filters found left None new →
     IsFirstFault filters text (length found + 1)
 first_fault filters text found left new at some finds = record {
   before = found;
@@ -156,7 +181,8 @@ first_fault filters text found left new at some finds = record {
 }
 
 -- and the text is no script
-pub no_script : (filters : List Filter) (text : Text) (found : Commands) (left new : Text) → Reached filters text found left → left ≢ [] → Finds filters found left None new →
+pub no_script : (filters : List Filter) (text : Text) (found : Commands) (left new : Text) → Reached filters text found left →
+    left ≢ [] → Finds filters found left None new →
     (commands : Commands) → is_script filters commands ≡ true → text ≡ spelling commands → ⊥
 no_script filters text found left new at some finds commands good e = by ahead.more ahead.parts ahead.rest
   where

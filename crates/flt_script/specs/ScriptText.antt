@@ -75,7 +75,7 @@ command_of _ = None
 
 -- ---- texts that are no script
 
--- the first line that isn't as asked, counted from 1: the lines before it are those of a script, something stands behind
+-- the first malformed line, counted from 1: the lines before it are those of a script, something stands behind
 -- them, and no script goes on with it
 pub record IsFirstFault (filters : List Filter) (text : Text) (line : ℕ) : Type 0 where
   pub before : Commands
@@ -84,7 +84,8 @@ pub record IsFirstFault (filters : List Filter) (text : Text) (line : ℕ) : Typ
   pub left : Text
   pub begun : text ≡ spelling before ++ left
   pub some : left ≢ []
-  pub stopped : (command : Command) → IsTrue (is_script filters (before ++ command ∷ [])) → (others : Text) → left ≢ command_line command ++ others
+  pub stopped : (command : Command) → IsTrue (is_script filters (before ++ command ∷ [])) → (others : Text) →
+      left ≢ command_line command ++ others
 
 -- a fault of the text names its first line that isn't as asked
 abbrev pub IsFaultOf : List Filter → Text → ScriptFault → Type 0

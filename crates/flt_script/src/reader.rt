@@ -38,7 +38,8 @@ fn command_of(made: Move) -> Option<Command>
 /// The command whose line comes next, whether or not it may stand there.
 fn command_at(text: &mut &[u8]) -> Option<Command>
     ensures spelled { IfSome result (λ command. text.old.now ≡ spec.command_line command ++ text.new.now) }
-    ensures read { (command : Command) → IsTrue (spec.is_command command) → (behind : Text) → text.old.now ≡ spec.command_line command ++ behind → (result ≡ Some command) × (text.new.now ≡ behind) }
+    ensures read { (command : Command) → IsTrue (spec.is_command command) → (behind : Text) →
+        text.old.now ≡ spec.command_line command ++ behind → (result ≡ Some command) × (text.new.now ≡ behind) }
 {
     let [first, others @ ..] = *text else {
         return None;
@@ -55,7 +56,8 @@ fn command_at(text: &mut &[u8]) -> Option<Command>
 fn next_command(trees: &[Tree], before: &[Command], text: &mut &[u8]) -> Option<Command>
     ensures spelled { IfSome result (λ command. text.old.now ≡ spec.command_line command ++ text.new.now) }
     ensures follows { IfSome result (λ command. IsTrue (spec.may_follow (filters_of trees.now) before.now command)) }
-    ensures read { (command : Command) → IsTrue (spec.may_follow (filters_of trees.now) before.now command) → (behind : Text) → text.old.now ≡ spec.command_line command ++ behind → (result ≡ Some command) × (text.new.now ≡ behind) }
+    ensures read { (command : Command) → IsTrue (spec.may_follow (filters_of trees.now) before.now command) → (behind : Text) →
+        text.old.now ≡ spec.command_line command ++ behind → (result ≡ Some command) × (text.new.now ≡ behind) }
 {
     let command = command_at(text)?;
     if may_follow(trees, before, command) {
@@ -71,8 +73,9 @@ pub fn read(alloc: Global, trees: &[Tree], text: &[u8]) -> Result<Script, Script
     ensures spelled { IfOk result (λ script. text.now ≡ spec.spelling script) }
     ensures script { IfOk result (λ script. IsTrue (spec.is_script (filters_of trees.now) script)) }
     // What is spelled so is read, unless memory runs out.
-    ensures read { (commands : spec.Commands) → IsTrue (spec.is_script (filters_of trees.now) commands) → text.now ≡ spec.spelling commands → MatchResult result (λ script. script ≡ commands) (λ e. e ≡ ScriptFault.OutOfMemory) }
-    // A fault names the first line that isn't as asked.
+    ensures read { (commands : spec.Commands) → IsTrue (spec.is_script (filters_of trees.now) commands) →
+        text.now ≡ spec.spelling commands → MatchResult result (λ script. script ≡ commands) (λ e. e ≡ ScriptFault.OutOfMemory) }
+    // A fault names the first malformed line.
     ensures fault { MatchResult result (λ _. Unit {0}) (λ e. spec.IsFaultOf (filters_of trees.now) text.now e) }
 {
     let mut found = Items::new(alloc);

@@ -9,7 +9,7 @@ const WORKED: &str =
 /// Locks that are shared, and one that isn't.
 const SHARED: &str = "fltcert 1\ncallback 0 1\n0 111111111 11112 1 1 1s,0,7s\nend\n";
 
-/// Texts that are no certificate, and the first line that isn't as asked.
+/// Texts that are no certificate, and the first malformed line.
 const REFUSED: [(&str, usize); 38] = [
     ("", 1),
     ("fltcert 1", 1),

@@ -204,7 +204,7 @@ const WORKED: [&str; 6] = [
     "fltjournal 1\narrive read irp 0\npre 0\ngo 0 1 yes\ngo 0 1 yes\ngo 0 1 yes\narrive write irp 0\npre 1\ngo 1 1 yes\ngo 1 1 yes\ngo 1 1 yes\ndetach 100\ndrain 100 1\ngo 2 2 yes\ngo 2 1 yes\ncanceled 100 0\ngo 3 2 yes\ngo 3 1 yes\nunlink 100 stream 0\ndetached 100\nlower 1\nend\n",
 ];
 
-/// Texts that are no journal, and the first line that isn't as asked.
+/// Texts that are no journal, and the first malformed line.
 const REFUSED: [(&str, usize); 44] = [
     ("", 1),
     ("fltjournal 1", 1),
@@ -316,7 +316,7 @@ fn a_bad_line_is_told(rt: HostRuntime) {
     }
 }
 
-/// Reading stops at the first byte that isn't as asked: a failure behind it doesn't come.
+/// Reading stops at the first malformed byte: a failure behind it doesn't come.
 #[test]
 fn wrong_byte_is_told_as_it_is_met(rt: HostRuntime) {
     let mut reader = Given::new(b"fltjournal 1\npre 0x", Some(19));

@@ -51,7 +51,7 @@ const EACH_KIND_COMMANDS: [Command; 13] = [
     Command::Refuse { choice: 0 },
 ];
 
-/// Texts that are no script, and the first line that isn't as asked.
+/// Texts that are no script, and the first malformed line.
 const REFUSED: [(&str, usize); 51] = [
     ("\n", 1),
     ("# a comment\n", 1),

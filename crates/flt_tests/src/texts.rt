@@ -1,4 +1,4 @@
-//! Texts and what is told of them.
+//! Texts and what is reported of them.
 
 use flt_print::print;
 use flt_syntax::{ParseError, parse};
@@ -300,7 +300,7 @@ const TEXTS: [(&[u8], &str); 88] = [
         b"filter q altitude 100\nqueue\npre read {\n  if irp data {\n    if FltCbdqInsertIo data {\n      return PENDING\n    }\n  }\n  return NO_CALLBACK\n}\ncanceled {\n  if arg != NULL {\n    FltReleaseContext arg\n  }\n  FltCompletePendedPreOperation data COMPLETE STATUS_CANCELLED\n}",
         "ok",
     ),
-    // Limits, which are told where they are passed.
+    // Limits, which are reported where they are passed.
     (b"filter a altitude 0\npre read {\n}\n", "1:19 E06"),
     (b"filter a altitude 4294967295\npre read {\n}\n", "ok"),
     (b"filter a altitude 4294967296\npre read {\n}\n", "1:19 E06"),

@@ -41,7 +41,10 @@ look-requires g c =
       omega arith,
       (
         c.requires.callback,
-        (taken_within c.args.graph.now c.args.callback c.looks.walk c.in-Some.point stage (sym c.in-Some.ensures.value), (long, omega arith)),
+        (
+          taken_within c.args.graph.now c.args.callback c.looks.walk c.in-Some.point stage (sym c.in-Some.ensures.value),
+          (long, omega arith),
+        ),
       ),
     )
 

@@ -33,7 +33,7 @@ const INPUTS: [(&str, &[u8]); 7] = [
 /// The words behind `replay`, and the line on the standard error.
 type Refused = (&'static [&'static str], &'static str);
 
-/// Each fault, and each over one that is told after it.
+/// Each fault, and each over one that is reported after it.
 const REFUSED: [Refused; 24] = [
     (&["replay", "gone", "text"], "cannot read gone\n"),
     (&["replay", "journal", "gone"], "cannot read gone\n"),
@@ -132,7 +132,7 @@ fn are_refused(rt: &impl Abort, alloc: Global, table: &[Refused]) -> Result<(), 
     Ok(())
 }
 
-/// Bytes that are no journal, and the line that is told.
+/// Bytes that are no journal, and the line that is reported.
 type Torn = (&'static str, &'static str);
 
 /// The first line.
@@ -222,7 +222,7 @@ const ENDS: [Torn; 13] = [
     ("fltjournal 1\npre 0\nend\npre 0\n", "journal line 4\n"),
 ];
 
-/// No part of a line that can't be read is judged, and the fault that comes first is told.
+/// No part of a line that can't be read is judged, and the fault that comes first is reported.
 fn are_torn(rt: &impl Abort, alloc: Global, table: &[Torn]) -> Result<(), Fail> {
     for (journal, line) in table {
         let files = [("journal", journal.as_bytes()), ("text", TEXT)];

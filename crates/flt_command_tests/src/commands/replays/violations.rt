@@ -1,4 +1,4 @@
-//! Journals that break something: each violation in several ways, and which of several is told.
+//! Journals that break something: each violation in several ways, and which of several is reported.
 
 use super::{Case, Replay, are_verdicts, is_verdict, replay};
 use std::alloc::Global;
@@ -409,7 +409,7 @@ const SEVERAL: [Broken; 15] = [
     ),
 ];
 
-/// The entry that comes first is told, be it a break or no run; an entry that isn't enabled breaks nothing.
+/// The entry that comes first is reported, be it a break or no run; an entry that isn't enabled breaks nothing.
 const RELEASES_NOTHING: &str =
     "filter a altitude 100\npre read {\nFltReleaseContext c0\nreturn NO_CALLBACK\n}\n";
 

@@ -15,7 +15,8 @@ returns-in_err-texts-in-Some g c =
 
 pub returns-in_ok-texts-in-None : goal.returns-in_ok-texts-in-None
 returns-in_ok-texts-in-None g c =
-    rw c.in-None.is (says_of_one _ _ c.in_ok-texts-in-None.texts.items _ _ c.index.result.now c.in_ok-texts-in-None.ensures.each c.index.ensures
+    rw c.in-None.is (says_of_one _ _ c.in_ok-texts-in-None.texts.items _ _ c.index.result.now c.in_ok-texts-in-None.ensures.each
+    c.index.ensures
     c.in_ok-texts-in-None.ensures.ok (rw c.as_slice.ensures.value at c.check_together.ensures))
 
 pub returns-in_ok-texts-in-Some : goal.returns-in_ok-texts-in-Some

@@ -3,7 +3,8 @@ use Rattle.flt_commands.proofs.commands.command.Goals as goal
 
 pub returns-in-Check-clause-clean : goal.returns-in-Check-clause-clean
 returns-in-Check-clause-clean g c =
-    clean_of c.covered_texts_break_nothing.ensures _ _ _ _ _ _ (rw c.in-Check.is at c.in_ok-text.ensures) c.check_files-said.ensures c.report.ensures.prints
+    clean_of c.covered_texts_break_nothing.ensures _ _ _ _ _ _
+    (rw c.in-Check.is at c.in_ok-text.ensures) c.check_files-said.ensures c.report.ensures.prints
 
 pub returns-in-Analyse-clause-clean : goal.returns-in-Analyse-clause-clean
 returns-in-Analyse-clause-clean g c =

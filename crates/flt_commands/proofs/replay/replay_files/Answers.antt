@@ -18,13 +18,16 @@ returns-in_err-extend_from_slice g c =
 pub returns-in_err-texts : goal.returns-in_err-texts
 returns-in_err-texts g c =
     let fails : c.from_residual-in_err-texts.result ≡ Err c.in_err-texts.field-0.0 = search rules in
-    let names : map (λ (n : Bor (List ℕ)). n.now) c.as_slice.result.now ≡ c.args.journal.now ∷ map (λ (n : Bor (List ℕ)). n.now) c.args.files.now =
+    let names : map (λ (n : Bor (List ℕ)). n.now) c.as_slice.result.now ≡ c.args.journal.now
+    ∷ map (λ (n : Bor (List ℕ)). n.now) c.args.files.now =
     rw (c.as_slice.ensures.value, c.in_ok-extend_from_slice.ensures.items, c.in_ok-push.ensures.items, c.new-names.ensures.items) refl in
     rw fails (unread _ (rw names at c.in_err-texts.ensures.err))
 
 pub returns : goal.returns
 returns g c =
-    let names : map (λ (n : Bor (List ℕ)). n.now) c.as_slice.result.now ≡ c.args.journal.now ∷ map (λ (n : Bor (List ℕ)). n.now) c.args.files.now =
+    let names : map (λ (n : Bor (List ℕ)). n.now) c.as_slice.result.now ≡ c.args.journal.now
+    ∷ map (λ (n : Bor (List ℕ)). n.now) c.args.files.now =
     rw (c.as_slice.ensures.value, c.in_ok-extend_from_slice.ensures.items, c.in_ok-push.ensures.items, c.new-names.ensures.items) refl in
-    says_of_journal _ c.in_ok-texts.texts.items _ _ _ c.index.result.now _ c.index.ensures (rw c.deref.ensures.value (take_rest c.in_ok-texts.texts.items 1))
+    says_of_journal _ c.in_ok-texts.texts.items _ _ _ c.index.result.now _ c.index.ensures
+    (rw c.deref.ensures.value (take_rest c.in_ok-texts.texts.items 1))
     (rw names at c.in_ok-texts.ensures.ok) (rw c.as_slice-2.ensures.value at c.replay_texts.ensures)

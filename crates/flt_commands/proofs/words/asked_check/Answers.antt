@@ -7,5 +7,6 @@ use Rattle.flt_commands.proofs.words.asked_check.Goals as goal
 pub returns : goal.returns
 returns c =
     let found = found_of c.args.check.now in
-    let cert : option_map (λ s. s.now) c.get_str.result ≡ first_of (codes "CERT") (rows_of found) = c.get_str.ensures ∙ first_value-rows found (codes "CERT") in
+    let cert : option_map (λ s. s.now) c.get_str.result ≡ first_of (codes "CERT") (rows_of found) = c.get_str.ensures
+    ∙ first_value-rows found (codes "CERT") in
     rw (c.text_of.ensures, cert) refl

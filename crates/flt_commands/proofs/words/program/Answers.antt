@@ -6,7 +6,8 @@ use Rattle.flt_commands.proofs.words.program.Goals as goal
 
 -- the program without its subcommands
 abbrev bare : App
-bare = let a = new_app (codes "fltstack") in record a { top = record a.top { subcommand_required = true; no_binary_name = true; has_version = true } }
+bare = let a = new_app (codes "fltstack") in
+    record a { top = record a.top { subcommand_required = true; no_binary_name = true; has_version = true } }
 
 pub returns : goal.returns
 returns c =

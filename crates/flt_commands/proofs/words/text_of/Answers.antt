@@ -8,5 +8,6 @@ use Rattle.flt_commands.proofs.words.text_of.Goals as goal
 pub returns : goal.returns
 returns c =
     let found = found_of c.args.matches.now in
-    let given : option_map (λ s. s.now) c.get_str.result ≡ first_of c.args.id.now (rows_of found) = c.get_str.ensures ∙ first_value-rows found c.args.id.now in
+    let given : option_map (λ s. s.now) c.get_str.result ≡ first_of c.args.id.now (rows_of found) = c.get_str.ensures
+    ∙ first_value-rows found c.args.id.now in
     ap (λ (s : Bor (List ℕ)). s.now) c.unwrap_or.ensures ∙ text_or c.get_str.result _ ∙ ap (λ o. unwrap_or o (codes "-")) given

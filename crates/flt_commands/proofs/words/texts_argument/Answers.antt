@@ -7,5 +7,6 @@ use Rattle.flt_commands.proofs.words.texts_argument.Goals as goal
 
 pub returns-clause-rule : goal.returns-clause-rule
 returns-clause-rule c =
-    let taken : rule_of c.num_args.result ≡ texts_rule = many c.new.result c.required.result c.num_args.result (codes "FILE") _ c.new.ensures.rule c.required.ensures c.num_args.ensures in
+    let taken : rule_of c.num_args.result ≡ texts_rule =
+    many c.new.result c.required.result c.num_args.result (codes "FILE") _ c.new.ensures.rule c.required.ensures c.num_args.ensures in
     grind (arith, common_steps)

@@ -9,7 +9,10 @@ use Rattle.flt_replay.proofs.monitor.verdict_of.Goals as goal
 pub loop-number-init : goal.loop-number-init
 loop-number-init c =
     let p = by_altitude (filters_of c.args.trees.now) in
-    let stay : StayExclusive = record { opening = c.locks_stay_exclusive.ensures.opening; steps = c.locks_stay_exclusive.ensures.steps } in (
+    let stay : StayExclusive = record {
+      opening = c.locks_stay_exclusive.ensures.opening;
+      steps = c.locks_stay_exclusive.ensures.steps;
+    } in (
       start p,
       begins p (record { world = c.in_ok-opening.field-0; ledger = c.new.result }) stay
           (c.in_ok-opening.ensures p (sym (rw c.in_ok-stack.ensures at c.len.ensures))) (c.new.ensures p),
@@ -38,5 +41,6 @@ loop-number-preserved c =
       to.0,
       to.1,
       judged_at _ at.0 c.loop-number.number c.args.journal.now _
-          (verdict (filters_of c.args.trees.now) c.args.journal.now) _ (rw c.entries-entry-items.ensures at c.loop-number-test.true) at.2 to.2,
+          (verdict (filters_of c.args.trees.now) c.args.journal.now) _
+          (rw c.entries-entry-items.ensures at c.loop-number-test.true) at.2 to.2,
     )

@@ -17,7 +17,8 @@ loop-left-preserved c =
     let follows = subst Follows c.as_slice.ensures c.in-Some.ensures.follows in
     let reads = subst Reads c.as_slice.ensures c.in-Some.ensures.read in
     rw c.in_ok-push-in-Some.ensures.ok
-    (one_line filters c.args.text.now c.loop-left.found c.loop-left.left.now command c.next_command.new.text.now c.loop-left.invariant c.in-Some.ensures.spelled follows reads)
+    (one_line filters c.args.text.now c.loop-left.found c.loop-left.left.now command c.next_command.new.text.now
+    c.loop-left.invariant c.in-Some.ensures.spelled follows reads)
 
 pub returns-in-None-clause-read : goal.returns-in-None-clause-read
 returns-in-None-clause-read c = λ commands good e.
@@ -25,7 +26,8 @@ returns-in-None-clause-read c = λ commands good e.
     let Reads : Commands → Type 0 = λ z. Finds filters z c.loop-left.left.now None c.next_command.new.text.now in
     let some = some_left c.loop-left.left.now (sym c.is_empty.ensures ∙ c.loop-left-test.true) in
     let reads = subst Reads c.as_slice.ensures c.in-None.ensures.read in
-    absurd (no_script filters c.args.text.now c.loop-left.found c.loop-left.left.now c.next_command.new.text.now c.loop-left.invariant some reads commands good e)
+    absurd (no_script filters c.args.text.now c.loop-left.found c.loop-left.left.now c.next_command.new.text.now
+    c.loop-left.invariant some reads commands good e)
 
 pub returns-in-None-clause-fault : goal.returns-in-None-clause-fault
 returns-in-None-clause-fault c =
@@ -33,12 +35,14 @@ returns-in-None-clause-fault c =
     let Reads : Commands → Type 0 = λ z. Finds filters z c.loop-left.left.now None c.next_command.new.text.now in
     let some = some_left c.loop-left.left.now (sym c.is_empty.ensures ∙ c.loop-left-test.true) in
     let reads = subst Reads c.as_slice.ensures c.in-None.ensures.read in
-    rw c.len.ensures (first_fault filters c.args.text.now c.loop-left.found c.loop-left.left.now c.next_command.new.text.now c.loop-left.invariant some reads)
+    rw c.len.ensures (first_fault filters c.args.text.now c.loop-left.found c.loop-left.left.now c.next_command.new.text.now
+    c.loop-left.invariant some reads)
 
 pub new-requires : goal.new-requires
 new-requires c =
     let filters = filters_of c.args.trees.now in
-    all_commands filters [] c.loop-left.found (is_reached_script filters c.args.text.now c.loop-left.found c.loop-left.left.now c.loop-left.invariant)
+    all_commands filters [] c.loop-left.found
+    (is_reached_script filters c.args.text.now c.loop-left.found c.loop-left.left.now c.loop-left.invariant)
 
 pub returns-clause-spelled : goal.returns-clause-spelled
 returns-clause-spelled c =

@@ -10,7 +10,8 @@ loop-preserved c p m xs at =
     let quiet : AreQuiet = record { events = c.local_steps_are_quiet.ensures.events; breaks = c.local_steps_are_quiet.ensures.breaks } in
     let stay : StayExclusive = record { opening = c.locks_stay_exclusive.ensures.opening; steps = c.locks_stay_exclusive.ensures.steps } in
     let step = unseen p so_far.0 c.args.a c.loop.self c.step_unseen.new.world c.in_ok-step_unseen.field-0 so_far.1
-    c.in_ok-step_unseen.ensures (replicate (c.args.steps - (c.loop.counter + 1)) (Local c.args.a) ++ xs) quiet stay c.if-not-branch.false in (
+    c.in_ok-step_unseen.ensures (replicate (c.args.steps - (c.loop.counter + 1)) (Local c.args.a) ++ xs) quiet stay
+    c.if-not-branch.false in (
       step.0,
       step.1,
       so_far.2 ∙ ap (λ n. course p so_far.0 (replicate n (Local c.args.a) ++ xs))
