@@ -1,9 +1,9 @@
 -- Parts of lines: what is read is spelled so, and what is spelled so is read.
-use Rattle.std.proofs.Common.{◌≡◌, ◌<◌, ◌^◌, ℕ, Bool, true, false, [], ◌∷◌, ◌++◌, refl, sym, ap, subst, arith, ◌∙◌, append_assoc, get_or}
-use Rattle.std.specs.Prelude.{◌==◌, if◌then◌else◌, Option, Some, None, Result, Ok, Err, IfOk, codes}
+use Rattle.std.proofs.Common.{◌≡◌, ℕ, false, [], ◌∷◌, ◌++◌, refl, sym, ap, arith, ◌∙◌, append_assoc, get_or}
+use Rattle.std.specs.Prelude.{◌==◌, Option, Some, Result, Ok, Err, IfOk}
 use Rattle.flt_model.specs.Streams.{Text}
 use Rattle.flt_model.specs.JournalText.{IsMove, IsNumber, number_text, move_line}
-use Rattle.flt_model.specs.JournalTextReading.{Outcome, Reads, and_then, exactly, line, go, move_by, number, numbered}
+use Rattle.flt_model.specs.JournalTextReading.{Outcome, Reads, and_then, line, move_by, numbered}
 use Rattle.flt_model.specs.LineParts.{IsReadAs}
 use Rattle.flt_model.specs.declared.moves.JournalEntry.{JournalEntry}
 use Rattle.flt_model.specs.declared.moves.JournalEntry.TheVariants as entries
