@@ -18,8 +18,8 @@ use Rattle.flt_script.specs.declared.fault.ScriptFault.TheVariants.{Line, OutOfM
 abbrev pub Commands : Type 0
 Commands = List Command
 
--- a command by itself: create and cleanup are I/O request packets; there are 1,024 files and 65,536 operations; other
--- numbers have 32 bits
+-- the mode and the number of a command are within bounds: create and cleanup are I/O request packets; there are 1,024
+-- files and 65,536 operations; other numbers have 32 bits
 abbrev pub is_command : Command → Bool
 is_command (Arrive operation mode file) = fits_mode operation mode && nat_lt file 1024
 is_command (Cancel serial) = nat_lt serial 65536
@@ -44,7 +44,7 @@ detaches_legally filters before _ = true
 abbrev pub may_follow : List Filter → Commands → Command → Bool
 may_follow filters before command = is_command command && detaches_legally filters before command
 
--- each of these commands may stand behind those before it, which begin with others
+-- behind some commands each one more may stand behind all those before it
 abbrev pub are_commands : List Filter → Commands → Commands → Bool
 are_commands filters before [] = true
 are_commands filters before (command ∷ more) = may_follow filters before command && are_commands filters (before ++ command ∷ []) more
