@@ -84,9 +84,9 @@ fn with_first(
     Ok(all)
 }
 
-/// All that is wrong with a text. There are no findings exactly where the analyser gives a certificate; else the first one is its refusal.
-/// Then they stand in the order in which the walk meets them: callbacks in order, in each the least pending point, and at a point by
-/// rule and then by subject. Each is told once.
+/// What is wrong with a text. There are no findings exactly where the analyser gives a certificate; else the first one is its refusal.
+/// The others come as the walk meets them: callbacks in order, in each the least pending point, and at a point by rule and then by
+/// subject. No clause speaks of them.
 ///
 /// # Errors
 ///
