@@ -65,6 +65,20 @@ impl Operations {
         }
     }
 
+    /// How many operations there are: the serial number of the next one.
+    pub fn len(&self) -> usize
+        ensures { result ≡ length self.now.arrivals }
+    {
+        self.arrivals.len()
+    }
+
+    /// How many visits there have been: the number of the next one.
+    pub fn visits(&self) -> usize
+        ensures { result ≡ length self.now.visits }
+    {
+        self.visits.len()
+    }
+
     /// What an operation is. One that isn't there reads file 0 by an I/O request packet.
     pub fn arrival(&self, serial: u32) -> Arrival
         ensures { result ≡ machine.arrival_at (store_of self.now) serial }
@@ -98,6 +112,13 @@ impl Operations {
         ensures { option_map outcome_of result ≡ (route_of self.now serial).outcome }
     {
         self.routes.outcome(serial)
+    }
+
+    /// The first frame of a filter that an operation has.
+    pub fn first_frame(&self, filter: usize, serial: u32) -> Option<Frame>
+        ensures { result ≡ find (moves.is_frame_of filter) (route_of self.now serial).frames }
+    {
+        self.routes.first_frame(serial, filter)
     }
 
     /// The least serial number of an operation with a frame of the filter.
@@ -138,7 +159,7 @@ impl Operations {
     }
 
     /// The filter that an operation is at on its way down.
-    fn filter_at(&self, serial: u32) -> Option<usize>
+    pub fn filter_at(&self, serial: u32) -> Option<usize>
         ensures { result ≡ filter_at self.now serial }
     {
         match self.routes.position(serial) {
@@ -147,8 +168,8 @@ impl Operations {
         }
     }
 
-    /// The frame whose post callback is next.
-    fn frame_at(&self, serial: u32) -> Option<Frame>
+    /// The frame whose post callback is next: the last one, where the operation is on its way up.
+    pub fn frame_at(&self, serial: u32) -> Option<Frame>
         ensures { result ≡ frame_at self.now serial }
     {
         match self.routes.position(serial) {
@@ -158,7 +179,7 @@ impl Operations {
     }
 
     /// Whether an operation is below the last filter.
-    fn is_past_filters(&self, serial: u32) -> bool
+    pub fn is_past_filters(&self, serial: u32) -> bool
         ensures { result ≡ is_past_filters self.now serial }
     {
         match self.routes.position(serial) {

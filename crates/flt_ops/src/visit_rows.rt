@@ -41,6 +41,13 @@ impl Visits {
         }
     }
 
+    /// How many visits there have been.
+    pub(crate) fn len(&self) -> usize
+        ensures { result ≡ length self.now.visits }
+    {
+        self.visits.len()
+    }
+
     /// The visit of a number. For one that isn't there it is a draining one.
     pub(crate) fn get(&self, visit: usize) -> Visit
         ensures { result ≡ get_or self.now.visits visit machine.no_visit }

@@ -1,0 +1,62 @@
+//! Changes of what activations share, one for each thing that a call or a move of the machine does to it.
+
+use flt_model::Key;
+use flt_ops::Way;
+use flt_rules::{Access, LockNumber, Mode, Operation};
+use flt_tree::ContextVariable;
+
+/// A change of what activations share. Filters, visits, contexts, items and activations are named by their numbers, operations by
+/// their serial numbers, all from 0.
+#[derive(Clone, Copy)]
+pub enum Change {
+    Nothing,
+    // ---- contexts
+    /// A new context of the filter, with one reference.
+    Allocate(usize),
+    AddReference(usize),
+    DropReference(usize),
+    /// The context has this value. A freed one keeps its own.
+    Write(usize, u64),
+    /// The context is linked, of the filter, there; over the one that is linked there now, whose reference goes to the variable, or
+    /// is dropped where there is none.
+    Link(usize, usize, Key, Option<usize>, Option<ContextVariable>),
+    /// The context's link goes; its reference goes to the variable, or is dropped where there is none.
+    Unlink(usize, Option<ContextVariable>),
+    // ---- locks
+    /// The activation holds the filter's lock, so.
+    TakeLock(usize, LockNumber, usize, Access),
+    /// The activation holds the filter's lock no longer.
+    GiveUpLock(usize, LockNumber, usize),
+    // ---- what waits
+    /// An entry comes to the end of the filter's queue: a visit and a context.
+    Insert(usize, usize, Option<usize>),
+    /// The front entry of the filter's queue goes.
+    RemoveNext(usize),
+    /// The first entry of the operation goes out of the filter's queue; it is of the visit.
+    RemoveOf(usize, u32, usize),
+    /// One more work item: filter, routine, visit, context.
+    Queue(usize, usize, Option<usize>, Option<usize>),
+    /// A work item starts, and is gone.
+    Start(usize),
+    // ---- operations
+    /// The visit is settled, with this context for a frame.
+    Settle(usize, Option<usize>, Way),
+    /// An operation on a file arrives.
+    Arrive(Operation, Mode, u32),
+    /// The operation is in a new visit of the filter on its way down.
+    StartPre(u32, usize),
+    /// The operation passes the filter.
+    Skip(u32, usize),
+    /// The operation is carried out below the last filter.
+    Lower(u32),
+    /// The operation is in a new visit of the filter on its way up; its last frame goes, which is of the filter, with this context.
+    StartPost(u32, usize, Option<usize>),
+    /// The operation has a new draining visit of the filter; its first frame of the filter goes, with this context.
+    StartDraining(u32, usize, Option<usize>),
+    Cancel(u32),
+    // ---- filters
+    /// The filter's teardown begins.
+    Detach(usize),
+    /// The filter's teardown ends.
+    Finish(usize),
+}

@@ -1,0 +1,104 @@
+//! Work items by number. Those that have started are gone.
+
+ghost use Rattle.std.specs.Prelude.{◌≡◌, [], ◌∷◌, ◌++◌, length, set, get_or, Some, None, OnOk, OnErr};
+ghost use Rattle.std.specs.List.{list_any};
+ghost use Rattle.flt_model.specs.Moves.{is_item_of};
+
+use std::alloc::{AllocError, Global};
+use std::marker::Model;
+
+/// A queued work item: the filter, its routine by the number of the callback, and what it hands over.
+#[derive(Clone, Copy)]
+pub struct Item {
+    pub filter: usize,
+    pub routine: usize,
+    pub visit: Option<usize>,
+    pub context: Option<usize>,
+}
+
+impl Model for Item {
+    ghost use Rattle.flt_model.specs.World as machine;
+
+    ghost Value = { machine.Item };
+
+    ghost view = { λ i. record { filter = i.filter; routine = i.routine; visit = i.visit; context = i.context } };
+
+    ghost inverse = { λ i. record { filter = i.filter; routine = i.routine; visit = i.visit; context = i.context } };
+}
+
+/// Work items by number, from 0.
+#[derive(Drop)]
+pub(crate) struct WorkItems {
+    items: Vec<Option<Item>>,
+}
+
+impl Model for WorkItems {
+    ghost use Rattle.std.specs.Prelude.{List, Option};
+    ghost use Rattle.flt_model.specs.World as machine;
+
+    ghost Value = { List (Option machine.Item) };
+
+    ghost view = { λ w. w.items.items };
+}
+
+impl WorkItems {
+    /// No items.
+    pub(crate) fn new(alloc: Global) -> WorkItems
+        ensures { result ≡ [] }
+    {
+        WorkItems {
+            items: Vec::new(alloc),
+        }
+    }
+
+    /// How many there have been.
+    pub(crate) fn len(&self) -> usize
+        ensures { result ≡ length self.now }
+    {
+        self.items.len()
+    }
+
+    /// The item of a number, until it starts.
+    pub(crate) fn get(&self, item: usize) -> Option<Item>
+        ensures { result ≡ get_or self.now item None }
+    {
+        match self.items.get(item) {
+            Some(item) => *item,
+            None => None,
+        }
+    }
+
+    /// Whether an item of the filter waits.
+    pub(crate) fn has_of(&self, filter: usize) -> bool
+        ensures { result ≡ list_any (is_item_of filter) self.now }
+    {
+        self.items.iter().any(|item| is_of(filter, item))
+    }
+
+    /// One more item.
+    pub(crate) fn push(&mut self, item: Item) -> Result<(), AllocError>
+        ensures ok { OnOk result (self.new ≡ self.old ++ Some item ∷ []) }
+        ensures refused { OnErr result (self.new ≡ self.old) }
+    {
+        self.items.push(Some(item))?;
+        Ok(())
+    }
+
+    /// The item is gone.
+    pub(crate) fn take(&mut self, item: usize)
+        ensures { self.new ≡ set self.old item None }
+    {
+        if item < self.items.len() {
+            self.items[item] = None;
+        }
+    }
+}
+
+fn is_of(filter: usize, item: &Option<Item>) -> bool
+    ensures { result ≡ is_item_of filter item.now }
+{
+    match item {
+        Some(item) => item.filter == filter,
+        None => false,
+    }
+}
