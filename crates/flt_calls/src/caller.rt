@@ -1,0 +1,14 @@
+//! The activation that makes a step.
+
+use flt_frame::Standing;
+use flt_rules::Place;
+
+/// The activation that makes a step: its number and its filter's, from 0, what its callback is registered for, and how far it has
+/// come: up to the step.
+#[derive(Clone, Copy)]
+pub struct Caller {
+    pub activation: usize,
+    pub filter: usize,
+    pub place: Place,
+    pub standing: Standing,
+}

@@ -1,0 +1,22 @@
+//! Steps that others see, as plans: what a call, a read, a test or the end of a callback comes to, found out by reading alone.
+//!
+//! A plan has the step's events, by which side the activation goes on, what is written to its variables and locks, and what changes of
+//! what activations share. Nothing is changed before the plan is made, so that a refusal of memory leaves all as it was. Each plan is
+//! the machine's own step, by contract; `plan` finds the one of the instruction at which an activation stands.
+#![tactic(auto)]
+
+mod caller;
+mod contexts;
+mod effects;
+mod locking;
+mod plan;
+mod planning;
+mod queueing;
+mod reads;
+mod settling;
+
+pub use caller::Caller;
+pub use plan::{Plan, Write};
+pub use planning::plan;
+/// What a plan answers that was refused memory.
+pub use std::alloc::AllocError as OutOfMemory;
