@@ -14,13 +14,13 @@ ghost use Rattle.flt_store.specs.Changes.{AreCounted, IsPossible};
 ghost use Rattle.flt_tree.specs.declared.filter.Filter.{Filter};
 
 use crate::caller::Caller;
-use crate::plan::Plan;
+use crate::plans::Plan;
 use flt_frame::Loaded;
 use flt_store::Store;
 use std::alloc::{AllocError, Global};
 
 /// The plan of the step at which the caller stands. `grant` is the system's choice, where the step leaves one. The store isn't changed.
-pub fn plan(
+pub fn plan_step(
     alloc: Global,
     loaded: &Loaded,
     store: &Store,

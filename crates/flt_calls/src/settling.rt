@@ -10,7 +10,7 @@ ghost use Rattle.flt_calls.specs.Own.{AreOwn};
 ghost use Rattle.flt_store.specs.Changes.{AreCounted, IsPossible};
 
 use crate::caller::Caller;
-use crate::plan::Plan;
+use crate::plans::Plan;
 use flt_frame::Loaded;
 use flt_tree::{OperationVariable, Status};
 use flt_store::Store;
