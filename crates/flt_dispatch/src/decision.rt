@@ -1,0 +1,26 @@
+//! Decisions.
+
+use flt_rules::Place;
+use flt_store::Change;
+
+/// An activation that starts: its filter, what its callback is registered for, the draining flag, the number of the callback, and the
+/// visit and the context that it is given.
+#[derive(Clone, Copy)]
+pub struct Start {
+    pub filter: usize,
+    pub place: Place,
+    pub draining: bool,
+    /// From 0; past all callbacks where there is none, and then its body is empty.
+    pub callback: usize,
+    pub given: Option<usize>,
+    pub arg: Option<usize>,
+}
+
+/// What a move comes to.
+#[derive(Clone, Copy)]
+pub struct Decision {
+    pub start: Option<Start>,
+    /// The context whose last reference goes.
+    pub freed: Option<usize>,
+    pub change: Change,
+}
