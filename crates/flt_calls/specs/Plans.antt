@@ -17,6 +17,7 @@ use Rattle.flt_model.specs.Trace.{gains, loses}
 use Rattle.flt_model.specs.Variables.{operation_in, with_number, with_context_in, with_operation_in, with_old}
 use Rattle.flt_model.specs.World.{World, Store, Actor, Activation, no_actor, nobody}
 use Rattle.flt_store.specs.Changes.{after_change}
+pub use Rattle.flt_store.specs.Stores.{world_of}
 use Rattle.flt_calls.specs.declared.caller.Caller.{Caller}
 use Rattle.flt_calls.specs.declared.plans.Plan.{Plan}
 use Rattle.flt_calls.specs.declared.plans.Write.{Write}
@@ -40,10 +41,6 @@ is_end write.End = true
 is_end _ = false
 
 -- ---- worlds in which the activation makes the step
-
--- a world by its parts
-abbrev pub world_of : Store → List Actor → List Activation → World
-world_of store actors activations = record { actors = actors; activations = activations; store = store }
 
 -- the activation of these lists is the caller: its filter, its place, its variables and its locks are the same, and it goes on
 pub record IsCaller (actors : List Actor) (activations : List Activation) (c : Caller) : Type 0 where

@@ -1,12 +1,12 @@
 //! Which move comes next.
 
-ghost use Rattle.std.specs.Prelude.{◌≡◌, true, List, position};
-ghost use Rattle.flt_calls.specs.Plans.{world_of};
+ghost use Rattle.std.specs.Prelude.{◌≡◌, List, length};
+ghost use Rattle.flt_store.specs.Stores.{world_of};
 ghost use Rattle.flt_dispatch.specs.Turns as spec;
 ghost use Rattle.flt_frame.specs.Loading.{AreLoaded};
-ghost use Rattle.flt_model.specs.Moves.{has_active, has_frame};
+ghost use Rattle.flt_model.specs.Moves.{has_active};
 ghost use Rattle.flt_model.specs.Program.{filter_of};
-ghost use Rattle.flt_model.specs.World.{Actor, Activation, is_detaching, presence_at};
+ghost use Rattle.flt_model.specs.World.{Actor, Activation};
 ghost use Rattle.flt_tree.specs.declared.filter.Filter.{Filter};
 
 use flt_frame::Loaded;
@@ -16,7 +16,7 @@ use flt_store::Store;
 /// The enabled one of an operation's own moves: pre, skip, lower or post.
 pub fn next_of(loaded: &Loaded, store: &Store, serial: u32) -> Option<Move>
     ensures { (p : List Filter) (actors : List Actor) (activations : List Activation) → AreLoaded p loaded.now →
-        result ≡ spec.next_of p (world_of store.now actors activations) serial }
+        length store.now.presences ≡ length p → result ≡ spec.next_of p (world_of store.now actors activations) serial }
 {
     None
 }

@@ -4,7 +4,7 @@ use Rattle.std.specs.List.{list_any}
 use Rattle.flt_cbdq.specs.Queues as cbdq
 use Rattle.flt_ctx.specs.Contexts as ctx
 use Rattle.flt_model.specs.Moves.{has_frame, is_empty, is_item_of, is_linked_by}
-use Rattle.flt_model.specs.World.{Store, Context, Presence, Attached, Detached, Holder, is_attached, queue_at}
+use Rattle.flt_model.specs.World.{World, Store, Actor, Activation, Context, Presence, Attached, Detached, Holder, is_attached, queue_at}
 use Rattle.flt_model.specs.declared.moves.Key.{Key}
 use Rattle.flt_model.specs.declared.moves.Key.TheVariants.{Stream, Instance}
 use Rattle.flt_ops.specs.Operating.{Operating}
@@ -22,6 +22,10 @@ empty_store n = record {
   contexts = [];
   items = [];
 }
+
+-- a world by its parts
+abbrev pub world_of : Store → List Actor → List Activation → World
+world_of store actors activations = record { actors = actors; activations = activations; store = store }
 
 -- a filter is closed, and its queue disabled, where it isn't attached
 abbrev pub AreClosed : List Bool → List Presence → Type 0

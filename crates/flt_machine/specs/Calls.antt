@@ -1,0 +1,83 @@
+-- What the calls of a board promise.
+use Rattle.std.specs.Prelude.{◌≡◌, ◌⊎◌, ℕ, ◌+◌, Bool, true, false, List, [], ◌∷◌, ◌++◌, length, replicate, Option, Some, None}
+use Rattle.flt_tree.specs.declared.filter.Filter.{Filter}
+use Rattle.flt_calls.specs.Plans.{choice_at}
+use Rattle.flt_frame.specs.Loading.{AreLoaded}
+use Rattle.flt_frame.specs.Leads.{IsAdvance}
+use Rattle.flt_frame.specs.declared.frame.Advanced.{Advanced}
+use Rattle.flt_frame.specs.declared.loaded.Loaded.{Loaded}
+use Rattle.flt_model.specs.declared.event.Event.{Event}
+use Rattle.flt_model.specs.declared.moves.JournalEntry.TheVariants.{Go}
+use Rattle.flt_model.specs.declared.moves.Move.{Move}
+use Rattle.flt_model.specs.declared.moves.Move.TheVariants.{Arrive}
+use Rattle.flt_model.specs.Effects.{Step}
+use Rattle.flt_model.specs.Runs.{Moment, after, next, run_from}
+use Rattle.flt_model.specs.Steps.{Transition, Make, Local, Board}
+use Rattle.flt_model.specs.World.{activation_at}
+use Rattle.flt_machine.specs.Situations.{Situation, IsAt, IsBoard, Now, actor_of, standing_of}
+
+-- transitions lead from where one board stands to where another stands, the last with these events
+pub record Makes (p : List Filter) (later : Situation) (before : List Transition) (last : Transition) (events : List Event) (m : Moment) : Type 0 where
+  pub middle : Moment
+  pub step : Step
+  pub reached : run_from p m before ≡ Some middle
+  pub made : next p middle last ≡ Some step
+  pub told : events ≡ step.events
+  pub at : IsAt p later (after middle step)
+
+-- ---- moves
+
+-- a move isn't enabled
+abbrev pub IsDisabled : Loaded → Situation → Move → Type 0
+IsDisabled l b move = Now l b (λ p m. next p m (Make move) ≡ None)
+
+-- an operation arrives
+abbrev pub is_arrival : Move → Bool
+is_arrival (Arrive kind mode file) = true
+is_arrival _ = false
+
+-- there are as many entries as may be, or as many operations where one more arrives
+abbrev pub IsFullFor : Situation → Move → Type 0
+IsFullFor b move = (length b.entries ≡ 1000000) ⊎ ((is_arrival move ≡ true) × (length b.store.arrivals ≡ 65536))
+
+-- ---- steps of activations
+
+-- what is advanced was advanced on what is loaded
+abbrev pub IsAdvanced : Loaded → Advanced → Type 0
+IsAdvanced l advanced = (p : List Filter) → AreLoaded p l → IsAdvance p advanced
+
+-- the activation is in the state that the frame was taken from
+pub record IsFresh (b : Situation) (advanced : Advanced) : Type 0 where
+  pub standing : standing_of b advanced.frame.activation ≡ Some advanced.frame.standing
+  pub filter : (actor_of b advanced.frame.activation).filter ≡ advanced.frame.filter
+  pub draining : (actor_of b advanced.frame.activation).draining ≡ advanced.frame.draining
+
+-- the local steps of an advance
+abbrev pub local_steps : Advanced → List Transition
+local_steps advanced = replicate advanced.steps (Local advanced.frame.activation)
+
+-- the step after them, by the choice that is written
+abbrev pub step_at : Advanced → Bool → Moment → Transition
+step_at advanced grant m =
+    let a = advanced.frame.activation in Board a (choice_at (activation_at m.world a).rest grant)
+
+-- the local steps lead to a moment at which that step isn't enabled
+pub record IsRefusedAt (p : List Filter) (advanced : Advanced) (grant : Bool) (m : Moment) : Type 0 where
+  pub middle : Moment
+  pub reached : run_from p m (local_steps advanced) ≡ Some middle
+  pub refused : next p middle (step_at advanced grant middle) ≡ None
+
+-- the step isn't enabled: other activations hold the lock that it asks for in a way that refuses it
+abbrev pub IsBlocked : Loaded → Situation → Advanced → Bool → Type 0
+IsBlocked l b advanced grant = Now l b (λ p m. IsRefusedAt p advanced grant m)
+
+-- a commit led a board to another, with these events and one entry more
+pub record Commits (p : List Filter) (b later : Situation) (advanced : Advanced) (grant : Bool) (events : List Event) (m : Moment) : Type 0 where
+  pub middle : Moment
+  pub step : Step
+  pub reached : run_from p m (local_steps advanced) ≡ Some middle
+  pub made : next p middle (step_at advanced grant middle) ≡ Some step
+  pub told : events ≡ step.events
+  pub at : IsAt p later (after middle step)
+  pub written : later.entries
+      ≡ b.entries ++ Go advanced.frame.activation (advanced.steps + 1) (choice_at (activation_at middle.world advanced.frame.activation).rest grant) ∷ []

@@ -1,0 +1,2 @@
+pub mod Situations
+pub mod Calls
