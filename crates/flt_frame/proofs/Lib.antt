@@ -1,5 +1,8 @@
 pub mod Padding
 pub mod Parts
+pub mod Numbers
+pub mod Missing
+pub mod Filters
 pub mod Costs
 pub mod Going
 pub mod Stepping
