@@ -7,3 +7,5 @@ pub mod Costs
 pub mod Going
 pub mod Stepping
 pub mod Ways
+pub mod Firsts
+pub mod Placing
