@@ -13,12 +13,11 @@ use Rattle.flt_tree.specs.declared.filter.Callback.{Callback}
 use Rattle.flt_tree.specs.declared.filter.Filter.{Filter}
 use Rattle.flt_tree.specs.declared.filter.Head.{Head}
 use Rattle.flt_tree.specs.declared.filter.Head.TheVariants as head
-use Rattle.flt_tree.specs.declared.filter.Statement.{Statement}
 use Rattle.flt_graph.specs.Graph.{no_callback}
 use Rattle.flt_graph.specs.Lowering.{AreGraphsOf, IsLowered}
 use Rattle.flt_graph.specs.declared.graph.CallbackGraph.{CallbackGraph}
 use Rattle.flt_graph.specs.declared.graph.Graph.{Graph}
-use Rattle.flt_model.specs.Program.{no_filter, filter_at, callbacks_at, body_of, body_at, body_for, place_for, is_canceled}
+use Rattle.flt_model.specs.Program.{no_filter, filter_at, body_of, body_at, body_for, place_for, is_canceled}
 use Rattle.flt_frame.specs.Loading.{IsLoaded, AreGraphsOfFilters, graph_at, no_graph, callback_for, is_event}
 
 -- ---- graphs

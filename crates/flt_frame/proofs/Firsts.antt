@@ -8,7 +8,7 @@ use Rattle.flt_tree.specs.declared.filter.Statement.TheOpen.{Statement-F}
 use Rattle.flt_graph.specs.Graph.{callback_at, instruction_at}
 use Rattle.flt_graph.specs.Lowering.{IsLowered}
 use Rattle.flt_graph.specs.Points.{instruction_of, IsLeftOf, remaining, remaining_of, successor}
-use Rattle.flt_graph.specs.Turns.{StandsWith, StandsAtWith, HasLeft, left_at, turns_after}
+use Rattle.flt_graph.specs.Turns.{StandsWith, StandsAtWith, HasLeft, turns_after}
 use Rattle.flt_graph.specs.declared.graph.Graph.{Graph}
 use Rattle.flt_graph.specs.declared.graph.Point.{Point}
 use Rattle.flt_graph.specs.declared.instruction.Instruction.{Instruction}

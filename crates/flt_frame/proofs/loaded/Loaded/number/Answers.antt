@@ -1,6 +1,5 @@
-use Rattle.std.proofs.Common.{◌≡◌, ◌==◌, ℕ, List, length, refl, sym, ap, ◌∙◌}
+use Rattle.std.proofs.Common.{◌==◌, ℕ, List, length, ap, ◌∙◌}
 use Rattle.std.specs.List.{position_or_len}
-use Rattle.std.specs.Prelude.{position}
 use Rattle.std.specs.Option.{unwrap_or}
 use Rattle.flt_tree.specs.declared.filter.Filter.{Filter}
 use Rattle.flt_frame.proofs.Numbers.{first_or_end, first_of_map}
