@@ -1,8 +1,9 @@
 //! The filters that a machine runs, as their points.
 
-ghost use Rattle.std.specs.Prelude.{◌≡◌, List, length, option_map, slice_get};
+ghost use Rattle.std.specs.Prelude.{◌≡◌, ◌==◌, ℕ, List, length, option_map, position, slice_get};
 ghost use Rattle.std.specs.List.{list_any, position_or_len};
 ghost use Rattle.flt_frame.specs.Loading as spec;
+ghost use Rattle.flt_graph.specs.declared.graph.CallbackGraph.{CallbackGraph};
 ghost use Rattle.flt_model.specs.Program as program;
 ghost use Rattle.flt_tree.specs.declared.filter.Filter.{Filter};
 
@@ -29,6 +30,22 @@ fn is_event(event: Place, place: Place) -> bool
     }
 }
 
+/// The number of the first altitude that is equal.
+fn first_equal(altitudes: &[u32], altitude: u32) -> Option<usize>
+    ensures { result ≡ position (λ (n : ℕ). n == altitude) altitudes.now }
+{
+    altitudes.iter().position(|other| *other == altitude)
+}
+
+/// The number of the first callback for an event.
+fn first_for(callbacks: &[CallbackGraph], event: Place) -> Option<usize>
+    ensures { result ≡ position (λ (c : CallbackGraph). spec.is_event event c.place) callbacks.now }
+{
+    callbacks
+        .iter()
+        .position(|callback| is_event(event, callback.place))
+}
+
 impl Loaded {
     // ---- filters
 
@@ -44,10 +61,7 @@ impl Loaded {
         ensures { (p : List Filter) → spec.AreLoaded p self.now → result ≡ program.filter_of p altitude }
     {
         let altitudes = self.altitudes.as_slice();
-        match altitudes.iter().position(|other| *other == altitude) {
-            Some(number) => number,
-            None => altitudes.len(),
-        }
+        first_equal(altitudes, altitude).unwrap_or(altitudes.len())
     }
 
     /// The altitude of a filter; none where it isn't there.
@@ -83,13 +97,7 @@ impl Loaded {
         ensures { result ≡ position_or_len (λ c. spec.is_event event c.place) (spec.graph_at self.now.graphs filter).callbacks }
     {
         let callbacks = self.callbacks(filter);
-        match callbacks
-            .iter()
-            .position(|callback| is_event(event, callback.place))
-        {
-            Some(number) => number,
-            None => callbacks.len(),
-        }
+        first_for(callbacks, event).unwrap_or(callbacks.len())
     }
 
     /// Whether a filter has a pre callback of the operation.
