@@ -1,5 +1,5 @@
 -- What is read of contexts and queues is carried over to the machine's own.
-use Rattle.std.proofs.Common.{◌≡◌, ℕ, zero, suc, ◌+◌, Bool, true, false, ◌==◌, ◌&&◌, List, [], ◌∷◌, Option, Some, None, map, option_map, ap, sym, subst, refl, ◌∙◌, drop}
+use Rattle.std.proofs.Common.{◌≡◌, ℕ, ◌+◌, Bool, ◌==◌, ◌&&◌, List, [], ◌∷◌, Option, Some, None, map, option_map, ap, sym, subst, refl, ◌∙◌, drop}
 use Rattle.std.proofs.Math.ListN.{get_or, get_or-map}
 use Rattle.std.proofs.lemmas.List.{length-map}
 use Rattle.std.specs.Prelude.{position, not, cond, nat_lt, slice_get, length, MatchOption}
