@@ -121,3 +121,8 @@ module _ (entries : List Entry) (visits nodes : List ℕ) (i : ℕ) (within : i 
   pub found_still : (found : Option ℕ) → found ≡ found_by i → None ≡ find (is_with entries visit) nodes → found ≡ found_by (i + 1)
   found_still found is none = is ∙ sym
       (find_left (λ node. is_of (take i visits) (entry_at entries node)) (is_with entries visit) nodes (sym none)) ∙ sym found_more
+
+-- nothing is left of a walk that has come to the end
+pub none_after : (nodes : List ℕ) (at : Option ℕ) → at ≡ None → nodes_from nodes at ≡ []
+none_after [] at is = refl
+none_after (node ∷ nodes) at is = rw is refl

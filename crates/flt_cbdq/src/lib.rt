@@ -9,6 +9,7 @@
 //! | `remove_next`, `remove` | logarithmic in n |
 //! | `first_of` | logarithmic in n for each visit that is named; where several of them stand in the queue, as many steps as stand before the entry that is found, for each of them |
 //! | `entry` | as many steps as the place |
+//! | `walk`, and each entry of the walk | constant |
 //! | `disable` | constant |
 //!
 //! Counted in instructions, with 65,536 entries over the queues of 16 filters, `insert` takes 1,420 and `remove`, from the last entry to
@@ -23,9 +24,11 @@ mod fault;
 mod nodes;
 mod nodes_by_visit;
 mod queues;
+mod walk;
 
 pub use entry::Entry;
 pub use fault::InsertFault;
 pub use queues::Queues;
+pub use walk::Walk;
 /// What making the queues answers where there is no memory.
 pub use std::alloc::AllocError as OutOfMemory;

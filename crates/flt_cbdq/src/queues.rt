@@ -5,6 +5,7 @@ ghost use Rattle.flt_cbdq.specs.declared.fault.InsertFault.TheVariants.{Disabled
 
 use crate::nodes::{add_entry, entry_of, first_node, node_at};
 use crate::nodes_by_visit::NodesByVisit;
+use crate::walk::Walk;
 use crate::{Entry, InsertFault, OutOfMemory};
 use ilist_core::Lists;
 use std::alloc::Global;
@@ -149,6 +150,13 @@ impl Queues {
         let list = self.lists.list(filter)?;
         let node = node_at(&self.lists, list, place)?;
         Some(entry_of(self.entries.as_slice(), node))
+    }
+
+    /// A walk along the filter's queue from the front.
+    pub fn walk(&self, filter: usize) -> Walk<'_>
+        ensures { result ≡ queue_of self.now filter }
+    {
+        Walk::new(&self.lists, self.entries.as_slice(), filter)
     }
 
     /// From now on the filter's queue takes no entry. What is in it stays.

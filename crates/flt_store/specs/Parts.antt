@@ -1,5 +1,5 @@
 -- What the parts of the store stand for in the machine.
-use Rattle.std.specs.Prelude.{Bool, Option, option_map}
+use Rattle.std.specs.Prelude.{option_map}
 use Rattle.flt_cbdq.specs.declared.entry.Entry as cbdq
 use Rattle.flt_ctx.specs.Contexts as ctx
 use Rattle.flt_ctx.specs.declared.key.Key as ctx_key

@@ -186,6 +186,12 @@ impl Store {
     pub fn first_entry(&self, filter: usize, serial: u32) -> Option<Entry>
         ensures { option_map entry_of result ≡ find (moves.is_entry_of self.now serial) (spec.queue_at self.now filter) }
     {
+        let mut left = self.queues.walk(filter);
+        while let Some(entry) = left.next_entry() {
+            if self.operations.visit(entry.visit).operation == serial {
+                return Some(entry);
+            }
+        }
         None
     }
 

@@ -89,6 +89,12 @@ fn agree(queues: &Queues, plain: &Plain) -> bool {
         if queues.entry(filter, length).is_some() {
             return false;
         }
+        let mut left = queues.walk(filter);
+        for place in 0..length + 1 {
+            if left.next_entry() != plain.entry(filter, place) {
+                return false;
+            }
+        }
     }
     true
 }
