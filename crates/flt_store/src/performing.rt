@@ -151,8 +151,10 @@ impl Store {
         ensures refused { OnErr result (self.new ≡ self.old) }
     {
         match self.queues.insert(filter, Entry { visit, context }) {
+            Ok(()) => Ok(()),
             Err(InsertFault::OutOfMemory(_)) => Err(AllocError),
-            _ => Ok(()),
+            // The queue of an attached filter takes entries.
+            Err(InsertFault::Disabled(_)) => unreachable!(),
         }
     }
 
@@ -217,8 +219,9 @@ impl Store {
         ensures refused { OnErr result (self.new ≡ self.old) }
     {
         match self.operations.arrive(kind, mode, file) {
+            Ok(_) => Ok(()),
             Err(ArriveFault::OutOfMemory) => Err(AllocError),
-            _ => Ok(()),
+            Err(ArriveFault::Full) => unreachable!(),
         }
     }
 
