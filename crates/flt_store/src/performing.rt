@@ -2,9 +2,18 @@
 
 ghost use Rattle.std.specs.Prelude.{◌≡◌, OnOk, OnErr};
 ghost use Rattle.flt_store.specs.Changes.{after_change, IsPossible};
+ghost use Rattle.flt_store.specs.declared.change.Change.TheVariants as change;
 
 use crate::change::Change;
-use crate::store::Store;
+use crate::holders::Holder;
+use crate::items::Item;
+use crate::presence::Presence;
+use crate::store::{Store, key_at};
+use flt_cbdq::{Entry, InsertFault};
+use flt_model::Key;
+use flt_ops::{ArriveFault, Way};
+use flt_rules::{Access, LockNumber, Mode, Operation};
+use flt_tree::ContextVariable;
 use std::alloc::AllocError;
 
 impl Store {
@@ -14,7 +23,291 @@ impl Store {
         ensures ok { OnOk result (self.new ≡ after_change self.old change) }
         ensures refused { OnErr result (self.new ≡ self.old) }
     {
-        let _ = change;
-        Err(AllocError)
+        match change {
+            Change::Nothing => {}
+            Change::Allocate(owner) => self.allocate(owner)?,
+            Change::AddReference(x) => self.add_reference(x),
+            Change::DropReference(x) => self.drop_reference(x),
+            Change::Write(x, value) => self.write(x, value),
+            Change::Link(x, filter, key, over, old) => self.link(x, filter, key, over, old)?,
+            Change::Unlink(x, old) => self.unlink(x, old),
+            Change::TakeLock(filter, lock, a, access) => self.take_lock(filter, lock, a, access)?,
+            Change::GiveUpLock(filter, lock, a) => self.give_up_lock(filter, lock, a),
+            Change::Insert(filter, visit, x) => self.insert(filter, visit, x)?,
+            Change::RemoveNext(filter) => self.remove_next(filter),
+            Change::RemoveOf(filter, serial, visit) => self.remove_of(filter, serial, visit),
+            Change::Queue(filter, routine, visit, x) => self.queue(filter, routine, visit, x)?,
+            Change::Start(item) => self.start(item),
+            Change::Settle(visit, x, way) => self.settle(visit, x, way)?,
+            Change::Arrive(kind, mode, file) => self.arrive(kind, mode, file)?,
+            Change::StartPre(serial, filter) => self.start_pre(serial, filter)?,
+            Change::Skip(serial, filter) => self.skip(serial, filter),
+            Change::Lower(serial) => self.lower(serial),
+            Change::StartPost(serial, filter, x) => self.start_post(serial, filter, x)?,
+            Change::StartDraining(serial, filter, x) => self.start_draining(serial, filter, x)?,
+            Change::Cancel(serial) => self.cancel(serial),
+            Change::Detach(filter) => self.detach(filter),
+            Change::Finish(filter) => self.finish(filter),
+        }
+        Ok(())
+    }
+}
+
+// ---- contexts
+
+impl Store {
+    fn allocate(&mut self, owner: usize) -> Result<(), AllocError>
+        ensures ok { OnOk result (self.new ≡ after_change self.old (change.Allocate owner)) }
+        ensures refused { OnErr result (self.new ≡ self.old) }
+    {
+        self.contexts.alloc(owner)?;
+        Ok(())
+    }
+
+    fn add_reference(&mut self, context: usize)
+        requires { IsPossible self.old (change.AddReference context) }
+        ensures { self.new ≡ after_change self.old (change.AddReference context) }
+    {
+        self.contexts.reference(context);
+    }
+
+    fn drop_reference(&mut self, context: usize)
+        ensures { self.new ≡ after_change self.old (change.DropReference context) }
+    {
+        let _ = self.contexts.release(context);
+    }
+
+    fn write(&mut self, context: usize, value: u64)
+        ensures { self.new ≡ after_change self.old (change.Write context value) }
+    {
+        self.contexts.set_value(context, value);
+    }
+
+    // The context that is linked there now is known, so that `set` need not keep it: it replaces it, or makes the first link.
+    fn link(
+        &mut self,
+        context: usize,
+        filter: usize,
+        key: Key,
+        over: Option<usize>,
+        old: Option<ContextVariable>,
+    ) -> Result<(), AllocError>
+        requires { IsPossible self.old (change.Link context filter key over old) }
+        ensures ok { OnOk result (self.new ≡ after_change self.old (change.Link context filter key over old)) }
+        ensures refused { OnErr result (self.new ≡ self.old) }
+    {
+        let _ = over;
+        self.contexts
+            .set(key_at(filter, key), context, false, old.is_some())?;
+        Ok(())
+    }
+
+    fn unlink(&mut self, context: usize, old: Option<ContextVariable>)
+        ensures { self.new ≡ after_change self.old (change.Unlink context old) }
+    {
+        let _ = self.contexts.unlink(context, old.is_some());
+    }
+}
+
+// ---- locks
+
+impl Store {
+    fn take_lock(
+        &mut self,
+        filter: usize,
+        lock: LockNumber,
+        activation: usize,
+        access: Access,
+    ) -> Result<(), AllocError>
+        ensures ok { OnOk result (self.new ≡ after_change self.old (change.TakeLock filter lock activation access)) }
+        ensures refused { OnErr result (self.new ≡ self.old) }
+    {
+        if let Some(holders) = self.holders.get_mut(filter) {
+            holders[usize::from(lock.place())].push(Holder { activation, access })?;
+        }
+        Ok(())
+    }
+
+    fn give_up_lock(&mut self, filter: usize, lock: LockNumber, activation: usize)
+        ensures { self.new ≡ after_change self.old (change.GiveUpLock filter lock activation) }
+    {
+        if let Some(holders) = self.holders.get_mut(filter) {
+            holders[usize::from(lock.place())].remove(activation);
+        }
+    }
+}
+
+// ---- what waits
+
+impl Store {
+    fn insert(
+        &mut self,
+        filter: usize,
+        visit: usize,
+        context: Option<usize>,
+    ) -> Result<(), AllocError>
+        requires { IsPossible self.old (change.Insert filter visit context) }
+        ensures ok { OnOk result (self.new ≡ after_change self.old (change.Insert filter visit context)) }
+        ensures refused { OnErr result (self.new ≡ self.old) }
+    {
+        match self.queues.insert(filter, Entry { visit, context }) {
+            Ok(()) => Ok(()),
+            Err(InsertFault::OutOfMemory(_)) => Err(AllocError),
+            // The queue of an attached filter takes entries.
+            Err(InsertFault::Disabled(_)) => unreachable!(),
+        }
+    }
+
+    fn remove_next(&mut self, filter: usize)
+        ensures { self.new ≡ after_change self.old (change.RemoveNext filter) }
+    {
+        let _ = self.queues.remove_next(filter);
+    }
+
+    // The first entry of the operation is the first of its visit.
+    fn remove_of(&mut self, filter: usize, serial: u32, visit: usize)
+        requires { IsPossible self.old (change.RemoveOf filter serial visit) }
+        ensures { self.new ≡ after_change self.old (change.RemoveOf filter serial visit) }
+    {
+        let _ = serial;
+        let _ = self.queues.remove(filter, visit);
+    }
+
+    fn queue(
+        &mut self,
+        filter: usize,
+        routine: usize,
+        visit: Option<usize>,
+        context: Option<usize>,
+    ) -> Result<(), AllocError>
+        ensures ok { OnOk result (self.new ≡ after_change self.old (change.Queue filter routine visit context)) }
+        ensures refused { OnErr result (self.new ≡ self.old) }
+    {
+        self.items.push(Item {
+            filter,
+            routine,
+            visit,
+            context,
+        })
+    }
+
+    fn start(&mut self, item: usize)
+        ensures { self.new ≡ after_change self.old (change.Start item) }
+    {
+        self.items.take(item);
+    }
+}
+
+// ---- operations
+
+impl Store {
+    fn settle(
+        &mut self,
+        visit: usize,
+        context: Option<usize>,
+        way: Way,
+    ) -> Result<(), AllocError>
+        ensures ok { OnOk result (self.new ≡ after_change self.old (change.Settle visit context way)) }
+        ensures refused { OnErr result (self.new ≡ self.old) }
+    {
+        self.operations.settle(visit, context, way)
+    }
+
+    fn arrive(&mut self, kind: Operation, mode: Mode, file: u32) -> Result<(), AllocError>
+        requires { IsPossible self.old (change.Arrive kind mode file) }
+        ensures ok { OnOk result (self.new ≡ after_change self.old (change.Arrive kind mode file)) }
+        ensures refused { OnErr result (self.new ≡ self.old) }
+    {
+        match self.operations.arrive(kind, mode, file) {
+            Ok(_) => Ok(()),
+            Err(ArriveFault::OutOfMemory) => Err(AllocError),
+            Err(ArriveFault::Full) => unreachable!(),
+        }
+    }
+
+    fn start_pre(&mut self, serial: u32, filter: usize) -> Result<(), AllocError>
+        requires { IsPossible self.old (change.StartPre serial filter) }
+        ensures ok { OnOk result (self.new ≡ after_change self.old (change.StartPre serial filter)) }
+        ensures refused { OnErr result (self.new ≡ self.old) }
+    {
+        let _ = filter;
+        self.operations.start_pre(serial)?;
+        Ok(())
+    }
+
+    fn skip(&mut self, serial: u32, filter: usize)
+        requires { IsPossible self.old (change.Skip serial filter) }
+        ensures { self.new ≡ after_change self.old (change.Skip serial filter) }
+    {
+        let _ = filter;
+        let _ = self.operations.skip(serial);
+    }
+
+    fn lower(&mut self, serial: u32)
+        requires { IsPossible self.old (change.Lower serial) }
+        ensures { self.new ≡ after_change self.old (change.Lower serial) }
+    {
+        let _ = self.operations.lower(serial);
+    }
+
+    fn start_post(
+        &mut self,
+        serial: u32,
+        filter: usize,
+        context: Option<usize>,
+    ) -> Result<(), AllocError>
+        requires { IsPossible self.old (change.StartPost serial filter context) }
+        ensures ok { OnOk result (self.new ≡ after_change self.old (change.StartPost serial filter context)) }
+        ensures refused { OnErr result (self.new ≡ self.old) }
+    {
+        let _ = (filter, context);
+        self.operations.pop_frame(serial)?;
+        Ok(())
+    }
+
+    fn start_draining(
+        &mut self,
+        serial: u32,
+        filter: usize,
+        context: Option<usize>,
+    ) -> Result<(), AllocError>
+        requires { IsPossible self.old (change.StartDraining serial filter context) }
+        ensures ok { OnOk result (self.new ≡ after_change self.old (change.StartDraining serial filter context)) }
+        ensures refused { OnErr result (self.new ≡ self.old) }
+    {
+        let _ = context;
+        self.operations.drain(filter, serial)?;
+        Ok(())
+    }
+
+    fn cancel(&mut self, serial: u32)
+        requires { IsPossible self.old (change.Cancel serial) }
+        ensures { self.new ≡ after_change self.old (change.Cancel serial) }
+    {
+        let _ = self.operations.cancel(serial);
+    }
+}
+
+// ---- filters
+
+impl Store {
+    fn detach(&mut self, filter: usize)
+        requires { IsPossible self.old (change.Detach filter) }
+        ensures { self.new ≡ after_change self.old (change.Detach filter) }
+    {
+        if let Some(instance) = self.presences.get_mut(filter) {
+            instance.presence = Presence::Detaching;
+        }
+        self.contexts.close(filter);
+        self.queues.disable(filter);
+    }
+
+    fn finish(&mut self, filter: usize)
+        requires { IsPossible self.old (change.Finish filter) }
+        ensures { self.new ≡ after_change self.old (change.Finish filter) }
+    {
+        if let Some(instance) = self.presences.get_mut(filter) {
+            instance.presence = Presence::Detached;
+        }
     }
 }
