@@ -1,7 +1,13 @@
 -- What the calls of a board promise.
-use Rattle.std.specs.Prelude.{◌≡◌, ◌⊎◌, ℕ, ◌+◌, Bool, true, false, List, [], ◌∷◌, ◌++◌, length, replicate, Option, Some, None}
+use Rattle.std.specs.Prelude.{◌≡◌, ◌⊎◌, ℕ, ◌+◌, Bool, true, false, not, List, [], ◌∷◌, ◌++◌, length, replicate, Option, Some, None}
+use Rattle.flt_rules.specs.declared.call.Call.{Call}
+use Rattle.flt_rules.specs.declared.call.Call.TheVariants as call
+use Rattle.flt_rules.specs.declared.call.LockNumber.{LockNumber}
+use Rattle.flt_rules.specs.declared.held.Access.{Access}
+use Rattle.flt_rules.specs.declared.held.Access.TheVariants.{Exclusive, Shared}
 use Rattle.flt_tree.specs.declared.filter.Filter.{Filter}
 use Rattle.flt_calls.specs.Plans.{choice_at}
+use Rattle.flt_calls.specs.declared.caller.Caller.{Caller}
 use Rattle.flt_frame.specs.Loading.{AreLoaded}
 use Rattle.flt_frame.specs.Leads.{IsAdvance}
 use Rattle.flt_frame.specs.declared.frame.Advanced.{Advanced}
@@ -10,10 +16,13 @@ use Rattle.flt_model.specs.declared.event.Event.{Event}
 use Rattle.flt_model.specs.declared.moves.JournalEntry.TheVariants.{Go}
 use Rattle.flt_model.specs.declared.moves.Move.{Move}
 use Rattle.flt_model.specs.declared.moves.Move.TheVariants.{Arrive}
+use Rattle.flt_graph.specs.declared.instruction.Instruction.{Instruction}
+use Rattle.flt_graph.specs.declared.instruction.Instruction.TheVariants as instruction
 use Rattle.flt_model.specs.Effects.{Step}
+use Rattle.flt_model.specs.Locks.{holders_of, is_free_for}
 use Rattle.flt_model.specs.Runs.{Moment, after, next, run_from}
 use Rattle.flt_model.specs.Steps.{Transition, Make, Local, Board}
-use Rattle.flt_model.specs.World.{activation_at}
+use Rattle.flt_model.specs.World.{Store, activation_at}
 use Rattle.flt_machine.specs.Situations.{Situation, IsAt, IsBoard, Now, actor_of, standing_of}
 
 -- transitions lead from where one board stands to where another stands, the last with these events
@@ -81,3 +90,41 @@ pub record Commits (p : List Filter) (b later : Situation) (advanced : Advanced)
   pub at : IsAt p later (after middle step)
   pub written : later.entries
       ≡ b.entries ++ Go advanced.frame.activation (advanced.steps + 1) (choice_at (activation_at middle.world advanced.frame.activation).rest grant) ∷ []
+
+-- ---- what a commit reads
+
+-- the activation as it was advanced
+abbrev pub caller_of : Situation → Advanced → Caller
+caller_of b advanced = record {
+  activation = advanced.frame.activation;
+  filter = advanced.frame.filter;
+  place = (actor_of b advanced.frame.activation).place;
+  standing = advanced.after;
+}
+
+-- how a call asks for a lock, if it does
+abbrev pub access_of : Call → Option Access
+access_of (call.AcquireLock k) = Some Exclusive
+access_of call.AcquirePushLockShared = Some Shared
+access_of _ = None
+
+-- whether the lock is asked for so, and others hold it in a way that refuses it
+abbrev pub refuses : Store → Caller → Option LockNumber → Option Access → Bool
+refuses s c (Some l) (Some access) = not (is_free_for c.activation access (holders_of s c.filter l))
+refuses s c _ _ = false
+
+-- the same of an instruction
+abbrev pub is_refused_lock : Store → Caller → Instruction → Bool
+is_refused_lock s c (instruction.Call made granted refused) = refuses s c made.lock (access_of made.call)
+is_refused_lock s c _ = false
+
+-- whether an instruction is a call that the system may refuse
+abbrev pub leaves_choice_of : Call → Bool
+leaves_choice_of call.AllocateContext = true
+leaves_choice_of call.QueueDeferredIoWorkItem = true
+leaves_choice_of call.QueueGenericWorkItem = true
+leaves_choice_of _ = false
+
+abbrev pub leaves_choice_at : Instruction → Bool
+leaves_choice_at (instruction.Call made granted refused) = leaves_choice_of made.call
+leaves_choice_at _ = false

@@ -1,2 +1,3 @@
 pub mod Situations
 pub mod Calls
+pub mod Counted

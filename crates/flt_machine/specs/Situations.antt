@@ -1,10 +1,11 @@
 -- What a board holds, and the moment of the machine at which it stands.
-use Rattle.std.specs.Prelude.{◌≡◌, ℕ, ◌+◌, Bool, true, false, List, [], ◌∷◌, length, get_or, Option, Some, None}
+use Rattle.std.specs.Prelude.{◌≡◌, ℕ, ◌==◌, ◌&&◌, ◌||◌, Bool, true, false, List, [], ◌∷◌, length, get_or, is_some, Option, Some, None}
 use Rattle.flt_tree.specs.declared.filter.Callback.{Callback}
 use Rattle.flt_tree.specs.declared.filter.Filter.{Filter}
 use Rattle.flt_calls.specs.Plans.{IsCounted}
 use Rattle.flt_frame.specs.Loading.{AreLoaded}
 use Rattle.flt_frame.specs.Standings.{StandsFor}
+use Rattle.flt_frame.specs.declared.frame.Frame.{Frame}
 use Rattle.flt_frame.specs.declared.loaded.Loaded.{Loaded}
 use Rattle.flt_frame.specs.declared.standing.Standing.{Standing}
 use Rattle.flt_model.specs.declared.event.Event.{Event}
@@ -31,6 +32,16 @@ actor_of b a = get_or b.actors a no_actor
 -- how far it has come, unless it has ended or isn't there
 abbrev pub standing_of : Situation → ℕ → Option Standing
 standing_of b a = get_or b.standings a None
+
+-- an activation as it is taken from the board
+abbrev pub frame_of : Situation → ℕ → Standing → Frame
+frame_of b a s = record { activation = a; filter = (actor_of b a).filter; draining = (actor_of b a).draining; standing = s }
+
+-- whether an activation of the filter goes on
+abbrev pub has_standing : ℕ → List Actor → List (Option Standing) → Bool
+has_standing f [] standings = false
+has_standing f (actor ∷ actors) [] = false
+has_standing f (actor ∷ actors) (s ∷ standings) = ((actor.filter == f) && is_some s) || has_standing f actors standings
 
 -- before the first move there are only so many filters
 abbrev pub opening : ℕ → Situation
