@@ -1,5 +1,5 @@
 -- What a board holds, and the moment of the machine at which it stands.
-use Rattle.std.specs.Prelude.{◌≡◌, ℕ, ◌==◌, ◌&&◌, ◌||◌, Bool, true, false, List, [], ◌∷◌, length, get_or, is_some, Option, Some, None}
+use Rattle.std.specs.Prelude.{◌≡◌, ◌≤◌, ℕ, ◌==◌, ◌&&◌, ◌||◌, Bool, true, false, List, [], ◌∷◌, length, get_or, is_some, Option, Some, None}
 use Rattle.flt_tree.specs.declared.filter.Callback.{Callback}
 use Rattle.flt_tree.specs.declared.filter.Filter.{Filter}
 use Rattle.flt_calls.specs.Plans.{IsCounted}
@@ -9,11 +9,13 @@ use Rattle.flt_frame.specs.declared.frame.Frame.{Frame}
 use Rattle.flt_frame.specs.declared.loaded.Loaded.{Loaded}
 use Rattle.flt_frame.specs.declared.standing.Standing.{Standing}
 use Rattle.flt_model.specs.declared.event.Event.{Event}
+use Rattle.flt_model.specs.declared.event.Object.TheVariants.{Visit}
 use Rattle.flt_model.specs.declared.moves.JournalEntry.{JournalEntry}
 use Rattle.flt_model.specs.Expansion.{expand}
 use Rattle.flt_model.specs.Program.{callbacks_at}
 use Rattle.flt_model.specs.Runs.{Moment, run}
 use Rattle.flt_model.specs.Steps.{Transition}
+use Rattle.flt_model.specs.Trace.{gains, loses}
 use Rattle.flt_model.specs.World.{Store, Actor, Activation, activation_at, actor_at, no_actor}
 use Rattle.flt_store.specs.Stores.{empty_store}
 
@@ -68,6 +70,8 @@ pub record IsAt (p : List Filter) (b : Situation) (m : Moment) : Type 0 where
   pub filters : length m.world.store.presences ≡ length p
   pub kept : (a : ℕ) → KeptFor (callbacks_at p (actor_at m.world a).filter) m.trace a (activation_at m.world a) (standing_of b a)
   pub store : b.store ≡ m.world.store
+  -- nothing was gained or lost by an activation that isn't there yet
+  pub young : (a v : ℕ) → length m.world.activations ≤ a → (gains m.trace a (Visit v) ≡ 0) × (loses m.trace a (Visit v) ≡ 0)
 
 -- the board is one of these filters: its journal is a run, and it stands at that run's end
 pub record IsBoard (p : List Filter) (b : Situation) : Type 0 where
