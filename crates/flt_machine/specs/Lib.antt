@@ -1,3 +1,4 @@
 pub mod Situations
 pub mod Calls
 pub mod Counted
+pub mod Blocking
