@@ -1,5 +1,5 @@
 -- Plans: what a step that others see comes to, found out by reading alone.
-use Rattle.std.specs.Prelude.{◌≡◌, ℕ, ◌+◌, Bool, true, false, List, [], ◌∷◌, ◌++◌, Option, Some, None, set, get_or, if◌then◌else◌}
+use Rattle.std.specs.Prelude.{◌≡◌, ℕ, ◌+◌, Bool, true, false, List, [], ◌∷◌, ◌++◌, Option, Some, None, set, get_or, slice_get, if◌then◌else◌}
 use Rattle.flt_rules.specs.Held.{held, without_last}
 use Rattle.flt_tree.specs.declared.filter.Callback.{Callback}
 use Rattle.flt_tree.specs.declared.filter.Statement.{Statement, out-Statement}
@@ -12,6 +12,7 @@ use Rattle.flt_graph.specs.Turns.{StandsWith}
 use Rattle.flt_model.specs.declared.event.Event.{Event}
 use Rattle.flt_model.specs.declared.event.Object.TheVariants.{Visit}
 use Rattle.flt_model.specs.Effects.{Step, onward}
+use Rattle.flt_model.specs.Program.{body_of}
 use Rattle.flt_model.specs.Steps.{leaves_choice}
 use Rattle.flt_model.specs.Trace.{gains, loses}
 use Rattle.flt_model.specs.Variables.{operation_in, with_number, with_context_in, with_operation_in, with_old}
@@ -93,7 +94,8 @@ pub record IsWritten (cs : List Callback) (s later : Standing) (plan : Plan) (re
   pub variables : activation_with later [] ≡ written plan.write (activation_with s [])
   pub callback : later.callback ≡ s.callback
   pub given : given_of later ≡ given_of s
-  pub stands : (body : List Statement) → StandsWith body s.point s.turns rest → StandsWith body later.point later.turns (remaining_by rest plan.granted)
+  pub stands : StandsWith (body_of (slice_get cs s.callback)) s.point s.turns rest →
+      StandsWith (body_of (slice_get cs s.callback)) later.point later.turns (remaining_by rest plan.granted)
 
 -- its counts go on by the plan's events
 pub record IsCountedOn (a : ℕ) (s later : Standing) (plan : Plan) : Type 0 where

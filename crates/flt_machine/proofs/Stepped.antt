@@ -60,12 +60,12 @@ lose_other a b o (event.Free c) differs is = refl
 lose_other a b o (event.Settle c) differs is = refl
 lose_other a b o (event.End c) differs is = refl
 
-gains_other : (a b : ℕ) (o : Object) (es : List Event) → b ≢ a → AreOf a es → gains es b o ≡ 0
+pub gains_other : (a b : ℕ) (o : Object) (es : List Event) → b ≢ a → AreOf a es → gains es b o ≡ 0
 unfolding gains
 gains_other a b o [] differs own = refl
 gains_other a b o (e ∷ es) differs own = omega (arith, sum_by-cons (gain b o) e es, gain_other a b o e differs own.0, gains_other a b o es differs own.1)
 
-loses_other : (a b : ℕ) (o : Object) (es : List Event) → b ≢ a → AreOf a es → loses es b o ≡ 0
+pub loses_other : (a b : ℕ) (o : Object) (es : List Event) → b ≢ a → AreOf a es → loses es b o ≡ 0
 unfolding loses
 loses_other a b o [] differs own = refl
 loses_other a b o (e ∷ es) differs own = omega (arith, sum_by-cons (lose b o) e es, lose_other a b o e differs own.0, loses_other a b o es differs own.1)
@@ -79,7 +79,7 @@ unfolding loses
 loses-append t es a o = sum_by-append (lose a o) t es
 
 -- what is kept of another activation is kept on
-other_kept : (cs : List Callback) (t es : List Event) (a b : ℕ) (act : Activation) (s : Option Standing) → b ≢ a → AreOf a es → KeptFor cs t b act s → KeptFor cs (t ++ es) b act s
+pub other_kept : (cs : List Callback) (t es : List Event) (a b : ℕ) (act : Activation) (s : Option Standing) → b ≢ a → AreOf a es → KeptFor cs t b act s → KeptFor cs (t ++ es) b act s
 other_kept cs t es a b act None differs own k = k
 other_kept cs t es a b act (Some s) differs own k = record {
   stands = k.stands;
