@@ -6,5 +6,9 @@
 #![tactic(auto)]
 
 mod decision;
+mod moves;
+mod turns;
 
 pub use decision::{Decision, Start};
+pub use moves::decide;
+pub use turns::{next_of, next_of_teardown};

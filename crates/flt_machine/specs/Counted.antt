@@ -1,19 +1,20 @@
 -- What a board never holds too much of. This project's own limits.
-use Rattle.std.specs.Prelude.{◌≡◌, ◌≤◌, ◌*◌, ◌==◌, ℕ, List, length, map, Some}
-use Rattle.std.specs.List.{IsDistinct}
+use Rattle.std.specs.Prelude.{◌≡◌, ◌≤◌, ◌*◌, ◌==◌, ℕ, false, List, [], ◌∷◌, length, Some}
 use Rattle.flt_rules.specs.Call.{place_of}
 use Rattle.flt_rules.specs.declared.held.HeldLock.{HeldLock}
 use Rattle.flt_frame.specs.declared.standing.Standing.{Standing}
 use Rattle.flt_model.specs.World.{Store, context_at}
 use Rattle.flt_machine.specs.Situations.{Situation, standing_of}
 
--- locks by their places
-abbrev pub places_of : List HeldLock → List ℕ
-places_of locks = map (λ (h : HeldLock). place_of h.lock) locks
+-- each lock of a list is at another place
+abbrev pub AreApart : ℕ → List HeldLock → Type 0
+AreApart place [] = Unit {0}
+AreApart place (h ∷ locks) = ((place == place_of h.lock) ≡ false) × AreApart place locks
 
 -- no lock stands twice in a list
 abbrev pub AreDistinct : List HeldLock → Type 0
-AreDistinct locks = IsDistinct (λ (x y : ℕ). x == y) (places_of locks)
+AreDistinct [] = Unit {0}
+AreDistinct (h ∷ locks) = AreApart (place_of h.lock) locks × AreDistinct locks
 
 -- what is counted of an activation is at most sixteen of each entry, and it holds no lock twice
 pub record IsSmall (entries : ℕ) (s : Standing) : Type 0 where

@@ -1,0 +1,32 @@
+//! Which move comes next.
+
+ghost use Rattle.std.specs.Prelude.{◌≡◌, List, length};
+ghost use Rattle.flt_store.specs.Stores.{world_of};
+ghost use Rattle.flt_dispatch.specs.Turns as spec;
+ghost use Rattle.flt_frame.specs.Loading.{AreLoaded};
+ghost use Rattle.flt_model.specs.Moves.{has_active};
+ghost use Rattle.flt_model.specs.Program.{filter_of};
+ghost use Rattle.flt_model.specs.World.{Actor, Activation};
+ghost use Rattle.flt_tree.specs.declared.filter.Filter.{Filter};
+
+use flt_frame::Loaded;
+use flt_model::Move;
+use flt_store::Store;
+
+/// The enabled one of an operation's own moves: pre, skip, lower or post.
+pub fn next_of(loaded: &Loaded, store: &Store, serial: u32) -> Option<Move>
+    ensures { (p : List Filter) (actors : List Actor) (activations : List Activation) → AreLoaded p loaded.now →
+        length store.now.presences ≡ length p → result ≡ spec.next_of p (world_of store.now actors activations) serial }
+{
+    None
+}
+
+/// The move of the teardown of the filter at an altitude; none where it isn't being detached, or where only its activations are left.
+/// `active` says whether one of them goes on.
+pub fn next_of_teardown(loaded: &Loaded, store: &Store, altitude: u32, active: bool) -> Option<Move>
+    ensures { (p : List Filter) (actors : List Actor) (activations : List Activation) → AreLoaded p loaded.now →
+        active ≡ has_active (filter_of p altitude) actors activations →
+        spec.ComesNextOf p (world_of store.now actors activations) altitude result }
+{
+    None
+}
