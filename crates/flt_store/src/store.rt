@@ -9,7 +9,7 @@ ghost use Rattle.flt_model.specs.World as spec;
 ghost use Rattle.flt_ops.specs.Operating as operating;
 ghost use Rattle.flt_ops.specs.Parts.{position_of, outcome_of, way_of};
 ghost use Rattle.flt_model.specs.declared.moves.Key.{Key};
-ghost use Rattle.flt_store.specs.Parts.{entry_of, link_of, presence_of};
+ghost use Rattle.flt_store.specs.Parts.{entry_of, key_of, link_of, presence_of};
 ghost use Rattle.flt_store.specs.Stores.{empty_store, is_emptied, order_of};
 
 use crate::holders::{Holders, unheld};
@@ -325,7 +325,8 @@ impl Store {
             order_of key ≤ order_of other) }
         ensures none { IfNone result (list_any (λ (c : spec.Context). moves.is_linked_by filter c.link) self.now.contexts ≡ false) }
     {
-        None
+        let key = self.contexts.first_key(filter)?;
+        Some(key_in(key.target))
     }
 
     /// Whether the filter has nothing left but activations: no frame, no entry, no work item and no link.
@@ -344,4 +345,13 @@ fn key_at(filter: usize, key: Key) -> At
         Key::Instance => Target::Instance,
     };
     At { filter, target }
+}
+
+fn key_in(target: Target) -> Key
+    ensures { result ≡ key_of target }
+{
+    match target {
+        Target::Stream(file) => Key::Stream(file),
+        Target::Instance => Key::Instance,
+    }
 }
