@@ -63,7 +63,22 @@ impl Store {
     pub fn new(alloc: Global, filters: usize) -> Result<Store, AllocError>
         ensures { IfOk result (λ store. store ≡ empty_store filters) }
     {
-        Err(AllocError)
+        let mut presences = Vec::new(alloc);
+        let mut holders = Vec::new(alloc);
+        for _ in 0..filters {
+            presences.push(Instance {
+                presence: Presence::Attached,
+            })?;
+            holders.push(unheld(alloc))?;
+        }
+        Ok(Store {
+            presences,
+            queues: Queues::new(alloc, filters)?,
+            holders,
+            operations: Operations::new(alloc, filters),
+            contexts: Contexts::new(alloc, filters)?,
+            items: WorkItems::new(alloc, filters)?,
+        })
     }
 
     // ---- filters
@@ -333,7 +348,31 @@ impl Store {
     pub fn is_empty_of(&self, filter: usize) -> bool
         ensures { result ≡ is_emptied self.now filter }
     {
-        false
+        !self.has_frame(filter)
+            && !self.has_entry(filter)
+            && !self.items.has_of(filter)
+            && !self.has_link(filter)
+    }
+
+    /// Whether an operation has a frame of the filter.
+    fn has_frame(&self, filter: usize) -> bool
+        ensures { result ≡ list_any (moves.has_frame filter) self.now.routes }
+    {
+        self.least_frame(filter).is_some()
+    }
+
+    /// Whether an entry waits in the filter's queue.
+    fn has_entry(&self, filter: usize) -> bool
+        ensures { result ≡ not (moves.is_empty (spec.queue_at self.now filter)) }
+    {
+        self.front(filter).is_some()
+    }
+
+    /// Whether a context is linked for the filter.
+    fn has_link(&self, filter: usize) -> bool
+        ensures { result ≡ list_any (λ (c : spec.Context). moves.is_linked_by filter c.link) self.now.contexts }
+    {
+        self.first_key(filter).is_some()
     }
 }
 
