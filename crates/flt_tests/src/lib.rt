@@ -31,6 +31,8 @@ mod scripts;
 #[cfg(test)]
 mod states;
 #[cfg(test)]
+mod stores;
+#[cfg(test)]
 mod texts;
 #[cfg(test)]
 mod words;
