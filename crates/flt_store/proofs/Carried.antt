@@ -175,7 +175,8 @@ module _ (s : Store) (f o v : ℕ) where
       map entry_of (cbdq.without_first (cbdq.has_visit v) (e ∷ q)) ≡ other_entries s o (entry_of e ∷ map entry_of q)
   cut_by e q true is first rest =
       let same = rw is at first in
-      ap (map entry_of) (cut_here (cbdq.has_visit v) e q (eq-eqb e.visit v same)) ∙ sym (cut_here (is_entry_of s o) (entry_of e) (map entry_of q) is)
+      ap (map entry_of) (cut_here (cbdq.has_visit v) e q (eq-eqb e.visit v same))
+      ∙ sym (cut_here (is_entry_of s o) (entry_of e) (map entry_of q) is)
   cut_by e q false is first rest =
       let later = rw is at first in
       let other = other_visit e (cbdq.has_visit v e) refl is (first_is (map entry_of q) later) in

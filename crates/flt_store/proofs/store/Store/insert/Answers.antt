@@ -1,4 +1,4 @@
-use Rattle.std.proofs.Common.{OnOk, [], ◌∷◌, ◌++◌, ap, ◌∙◌, rules}
+use Rattle.std.proofs.Common.{[], ◌∷◌, ◌++◌, ap, ◌∙◌, rules}
 use Rattle.flt_cbdq.specs.Queues.{Queueing}
 use Rattle.flt_cbdq.specs.declared.entry.Entry as kept
 use Rattle.flt_model.specs.World.{Store, queue_at, with_queue}

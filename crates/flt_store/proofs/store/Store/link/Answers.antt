@@ -1,12 +1,10 @@
-use Rattle.std.proofs.Common.{◌≡◌, ℕ, Bool, true, false, List, Option, Some, None, is_some, get_or, ap, sym, subst, refl, ◌∙◌}
+use Rattle.std.proofs.Common.{◌≡◌, ℕ, Bool, true, false, List, is_some, get_or, ap, sym, subst, refl, ◌∙◌}
 use Rattle.flt_ctx.specs.Contexts as ctx
 use Rattle.flt_model.specs.World as world
 use Rattle.flt_model.specs.World.{Store, Link}
 use Rattle.flt_store.proofs.Carried.{with_contexts, after_link, link_made, closed_same, link_over_carried, cannot_there, open_there}
 use Rattle.flt_store.proofs.Reading.{linked_there}
 use Rattle.flt_store.specs.Changes.{after_change, CanBeLinked}
-use Rattle.flt_store.specs.Parts.{key_of}
-use Rattle.flt_store.specs.Stores.{AreParts}
 use Rattle.flt_store.specs.declared.change.Change.TheVariants as change
 use Rattle.flt_store.specs.contracts.store.Store.{the_view}
 use Rattle.flt_store.proofs.store.Store.link.Goals as goal
