@@ -272,7 +272,8 @@ impl Contexts {
         }
     }
 
-    /// Takes the context's link away, and drops the link's reference unless the caller wants it.
+    /// Takes the context's link away, and drops the link's reference unless the caller wants it. A context without a link loses a
+    /// reference all the same.
     pub fn unlink(&mut self, context: usize, wanted: bool) -> Release
         ensures released { (result ≡ Freed) ↔ ((wanted ≡ false) × ((context_at self.old context).references ≡ 1)) }
         ensures unlinked { self.new ≡ after_unlink self.old context wanted }

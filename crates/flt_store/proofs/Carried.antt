@@ -46,7 +46,8 @@ add_carried s t x = changed (λ c. record c { references = if ctx.is_freed c the
 
 pub drop_carried : (s : Store) (t : ctx.ContextTable) (x : ℕ) →
     with_contexts s (ctx.drop_reference t x) ≡ drop_reference (with_contexts s t) x
-drop_carried s t x = changed (λ c. record c { references = c.references - 1 }) (λ c. record c { references = c.references - 1 }) (λ c. refl) s t x
+drop_carried s t x =
+    changed (λ c. record c { references = c.references - 1 }) (λ c. record c { references = c.references - 1 }) (λ c. refl) s t x
 
 link_carried : (s : Store) (t : ctx.ContextTable) (x : ℕ) (l : Option at.Key) →
     with_contexts s (ctx.with_link t x l) ≡ with_link (with_contexts s t) x (option_map link_of l)
@@ -61,8 +62,9 @@ write_by s t x value false = changed (λ c. record c { value = value }) (λ c. r
 pub write_carried : (s : Store) (t : ctx.ContextTable) (x value : ℕ) →
     with_contexts s (ctx.put_value t x value) ≡ put_value (with_contexts s t) x value
 write_carried s t x value =
+    let r = with_contexts s t in
     write_by s t x value (ctx.is_freed (ctx.context_at t x))
-    ∙ ap (λ (c : Context). if is_freed c then with_contexts s t else with_context (with_contexts s t) x (record (context_at (with_contexts s t) x) { value = value }))
+    ∙ ap (λ (c : Context). if is_freed c then r else with_context r x (record (context_at r x) { value = value }))
     (sym (context_there t.contexts x))
 
 -- ---- links
@@ -173,7 +175,8 @@ module _ (s : Store) (f o v : ℕ) where
       map entry_of (cbdq.without_first (cbdq.has_visit v) (e ∷ q)) ≡ other_entries s o (entry_of e ∷ map entry_of q)
   cut_by e q true is first rest =
       let same = rw is at first in
-      ap (map entry_of) (cut_here (cbdq.has_visit v) e q (eq-eqb e.visit v same)) ∙ sym (cut_here (is_entry_of s o) (entry_of e) (map entry_of q) is)
+      ap (map entry_of) (cut_here (cbdq.has_visit v) e q (eq-eqb e.visit v same))
+      ∙ sym (cut_here (is_entry_of s o) (entry_of e) (map entry_of q) is)
   cut_by e q false is first rest =
       let later = rw is at first in
       let other = other_visit e (cbdq.has_visit v e) refl is (first_is (map entry_of q) later) in

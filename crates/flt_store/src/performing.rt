@@ -26,25 +26,35 @@ impl Store {
         match change {
             Change::Nothing => {}
             Change::Allocate(owner) => self.allocate(owner)?,
-            Change::AddReference(x) => self.add_reference(x),
-            Change::DropReference(x) => self.drop_reference(x),
-            Change::Write(x, value) => self.write(x, value),
-            Change::Link(x, filter, key, over, old) => self.link(x, filter, key, over, old)?,
-            Change::Unlink(x, old) => self.unlink(x, old),
-            Change::TakeLock(filter, lock, a, access) => self.take_lock(filter, lock, a, access)?,
-            Change::GiveUpLock(filter, lock, a) => self.give_up_lock(filter, lock, a),
-            Change::Insert(filter, visit, x) => self.insert(filter, visit, x)?,
+            Change::AddReference(context) => self.add_reference(context),
+            Change::DropReference(context) => self.drop_reference(context),
+            Change::Write(context, value) => self.write(context, value),
+            Change::Link(context, filter, key, over, old) => self.link(
+                context, filter, key, over, old,
+            )?,
+            Change::Unlink(context, old) => self.unlink(context, old),
+            Change::TakeLock(filter, lock, activation, access) => self.take_lock(
+                filter, lock, activation, access,
+            )?,
+            Change::GiveUpLock(filter, lock, activation) => self.give_up_lock(
+                filter, lock, activation,
+            ),
+            Change::Insert(filter, visit, context) => self.insert(filter, visit, context)?,
             Change::RemoveNext(filter) => self.remove_next(filter),
             Change::RemoveOf(filter, serial, visit) => self.remove_of(filter, serial, visit),
-            Change::Queue(filter, routine, visit, x) => self.queue(filter, routine, visit, x)?,
+            Change::Queue(filter, routine, visit, context) => self.queue(
+                filter, routine, visit, context,
+            )?,
             Change::Start(item) => self.start(item),
-            Change::Settle(visit, x, way) => self.settle(visit, x, way)?,
+            Change::Settle(visit, context, way) => self.settle(visit, context, way)?,
             Change::Arrive(kind, mode, file) => self.arrive(kind, mode, file)?,
             Change::StartPre(serial, filter) => self.start_pre(serial, filter)?,
             Change::Skip(serial, filter) => self.skip(serial, filter),
             Change::Lower(serial) => self.lower(serial),
-            Change::StartPost(serial, filter, x) => self.start_post(serial, filter, x)?,
-            Change::StartDraining(serial, filter, x) => self.start_draining(serial, filter, x)?,
+            Change::StartPost(serial, filter, context) => self.start_post(serial, filter, context)?,
+            Change::StartDraining(serial, filter, context) => self.start_draining(
+                serial, filter, context,
+            )?,
             Change::Cancel(serial) => self.cancel(serial),
             Change::Detach(filter) => self.detach(filter),
             Change::Finish(filter) => self.finish(filter),
@@ -83,7 +93,8 @@ impl Store {
         self.contexts.set_value(context, value);
     }
 
-    // The context that is linked there now is known, so that `set` need not keep it: it replaces it, or makes the first link.
+    // Who made the change has read which context is linked there, if any, and so knows what `set` does: it replaces that one, or
+    // makes the first link. So it never has one to keep.
     fn link(
         &mut self,
         context: usize,
@@ -96,7 +107,6 @@ impl Store {
         ensures ok { OnOk result (self.new ≡ after_change self.old (change.Link context filter key over old)) }
         ensures refused { OnErr result (self.new ≡ self.old) }
     {
-        let _ = over;
         self.contexts
             .set(key_at(filter, key), context, false, old.is_some())?;
         Ok(())
@@ -164,12 +174,11 @@ impl Store {
         let _ = self.queues.remove_next(filter);
     }
 
-    // The first entry of the operation is the first of its visit.
+    // The first entry of the operation is of the visit, so it is the visit's first.
     fn remove_of(&mut self, filter: usize, serial: u32, visit: usize)
         requires { IsPossible self.old (change.RemoveOf filter serial visit) }
         ensures { self.new ≡ after_change self.old (change.RemoveOf filter serial visit) }
     {
-        let _ = serial;
         let _ = self.queues.remove(filter, visit);
     }
 
@@ -201,12 +210,7 @@ impl Store {
 // ---- operations
 
 impl Store {
-    fn settle(
-        &mut self,
-        visit: usize,
-        context: Option<usize>,
-        way: Way,
-    ) -> Result<(), AllocError>
+    fn settle(&mut self, visit: usize, context: Option<usize>, way: Way) -> Result<(), AllocError>
         ensures ok { OnOk result (self.new ≡ after_change self.old (change.Settle visit context way)) }
         ensures refused { OnErr result (self.new ≡ self.old) }
     {
@@ -221,6 +225,7 @@ impl Store {
         match self.operations.arrive(kind, mode, file) {
             Ok(_) => Ok(()),
             Err(ArriveFault::OutOfMemory) => Err(AllocError),
+            // There is room for one operation more.
             Err(ArriveFault::Full) => unreachable!(),
         }
     }
@@ -230,7 +235,6 @@ impl Store {
         ensures ok { OnOk result (self.new ≡ after_change self.old (change.StartPre serial filter)) }
         ensures refused { OnErr result (self.new ≡ self.old) }
     {
-        let _ = filter;
         self.operations.start_pre(serial)?;
         Ok(())
     }
@@ -239,7 +243,6 @@ impl Store {
         requires { IsPossible self.old (change.Skip serial filter) }
         ensures { self.new ≡ after_change self.old (change.Skip serial filter) }
     {
-        let _ = filter;
         let _ = self.operations.skip(serial);
     }
 
@@ -260,7 +263,6 @@ impl Store {
         ensures ok { OnOk result (self.new ≡ after_change self.old (change.StartPost serial filter context)) }
         ensures refused { OnErr result (self.new ≡ self.old) }
     {
-        let _ = (filter, context);
         self.operations.pop_frame(serial)?;
         Ok(())
     }
@@ -275,7 +277,6 @@ impl Store {
         ensures ok { OnOk result (self.new ≡ after_change self.old (change.StartDraining serial filter context)) }
         ensures refused { OnErr result (self.new ≡ self.old) }
     {
-        let _ = context;
         self.operations.drain(filter, serial)?;
         Ok(())
     }
@@ -291,6 +292,7 @@ impl Store {
 // ---- filters
 
 impl Store {
+    // A filter that is being detached links nothing more, and its queue takes no entry.
     fn detach(&mut self, filter: usize)
         requires { IsPossible self.old (change.Detach filter) }
         ensures { self.new ≡ after_change self.old (change.Detach filter) }

@@ -311,6 +311,10 @@ fn step(contexts: &mut Contexts, rows: &mut Rows, dice: &mut Dice) -> Result<boo
             }
             Ok(true)
         }
+        14 => {
+            let want_old = dice.flip();
+            Ok(contexts.unlink(context, want_old) == rows.unlink(context, want_old))
+        }
         _ => link(contexts, rows, context, dice),
     }
 }
