@@ -18,9 +18,9 @@ use Rattle.flt_model.specs.Variables.{operation_in, with_number, with_context_in
 use Rattle.flt_model.specs.World.{World, Store, Actor, Activation, no_actor, nobody}
 use Rattle.flt_store.specs.Changes.{after_change}
 use Rattle.flt_calls.specs.declared.caller.Caller.{Caller}
-use Rattle.flt_calls.specs.declared.plan.Plan.{Plan}
-use Rattle.flt_calls.specs.declared.plan.Write.{Write}
-use Rattle.flt_calls.specs.declared.plan.Write.TheVariants as write
+use Rattle.flt_calls.specs.declared.plans.Plan.{Plan}
+use Rattle.flt_calls.specs.declared.plans.Write.{Write}
+use Rattle.flt_calls.specs.declared.plans.Write.TheVariants as write
 
 -- ---- what a plan changes of its activation
 

@@ -2,21 +2,18 @@
 //!
 //! A plan has the step's events, by which side the activation goes on, what is written to its variables and locks, and what changes of
 //! what activations share. Nothing is changed before the plan is made, so that a refusal of memory leaves all as it was. Each plan is
-//! the machine's own step, by contract; `plan` finds the one of the instruction at which an activation stands.
+//! the machine's own step, by contract; `plan_step` finds the one of the instruction at which an activation stands.
 #![tactic(auto)]
 
 mod caller;
 mod contexts;
 mod effects;
 mod locking;
-mod plan;
-mod planning;
+mod plans;
 mod queueing;
 mod reads;
-mod settling;
 
 pub use caller::Caller;
-pub use plan::{Plan, Write};
-pub use planning::plan;
+pub use plans::{Plan, Write};
 /// What a plan answers that was refused memory.
 pub use std::alloc::AllocError as OutOfMemory;

@@ -7,7 +7,7 @@ ghost use Rattle.flt_calls.specs.Own.{AreOwn};
 ghost use Rattle.flt_store.specs.Changes.{AreCounted, IsPossible};
 
 use crate::caller::Caller;
-use crate::plan::Plan;
+use crate::plans::Plan;
 use flt_tree::{Atom, ContextVariable, NumberVariable, OperationVariable};
 use flt_store::Store;
 use std::alloc::{AllocError, Global};

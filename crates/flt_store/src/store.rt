@@ -182,13 +182,6 @@ impl Store {
         self.queues.entry(filter, 0).copied()
     }
 
-    /// The first entry of an operation in a filter's queue.
-    pub fn first_entry(&self, filter: usize, serial: u32) -> Option<Entry>
-        ensures { option_map entry_of result ≡ find (moves.is_entry_of self.now serial) (spec.queue_at self.now filter) }
-    {
-        None
-    }
-
     /// How many work items there have been: the number of the next one.
     pub fn items(&self) -> usize
         ensures { result ≡ length self.now.items }
@@ -312,22 +305,6 @@ impl Store {
 
     // ---- teardown
 
-    /// The first key of a filter at which a context is linked: the instance, otherwise the stream with the least number.
-    pub fn first_key(&self, filter: usize) -> Option<Key>
-        ensures linked { IfSome result (λ key. is_some (spec.linked_at self.now (record { filter = filter; key = key })) ≡ true) }
-        ensures least { IfSome result (λ key. (other : Key) → is_some (spec.linked_at self.now (record { filter = filter; key = other })) ≡ true →
-            order_of key ≤ order_of other) }
-        ensures none { IfNone result (list_any (λ (c : spec.Context). moves.is_linked_by filter c.link) self.now.contexts ≡ false) }
-    {
-        None
-    }
-
-    /// Whether the filter has nothing left but activations: no frame, no entry, no work item and no link.
-    pub fn is_empty_of(&self, filter: usize) -> bool
-        ensures { result ≡ is_emptied self.now filter }
-    {
-        false
-    }
 }
 
 fn key_at(filter: usize, key: Key) -> At
