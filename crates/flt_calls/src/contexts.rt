@@ -9,8 +9,8 @@ ghost use Rattle.flt_store.specs.Changes.{AreCounted, IsPossible};
 use crate::caller::Caller;
 use crate::plans::Plan;
 use flt_rules::{Anchor, Existing};
-use flt_tree::ContextVariable;
 use flt_store::Store;
+use flt_tree::ContextVariable;
 use std::alloc::{AllocError, Global};
 
 /// FltAllocateContext: a new context, unless the system refuses.

@@ -8,8 +8,8 @@ ghost use Rattle.flt_store.specs.Changes.{AreCounted, IsPossible};
 
 use crate::caller::Caller;
 use crate::plans::Plan;
-use flt_tree::{Atom, ContextVariable, NumberVariable, OperationVariable};
 use flt_store::Store;
+use flt_tree::{Atom, ContextVariable, NumberVariable, OperationVariable};
 use std::alloc::{AllocError, Global};
 
 /// The value of a context, freed or not.
@@ -58,11 +58,7 @@ pub(crate) fn write_value(
 }
 
 /// Whether the operation is an I/O request packet.
-pub(crate) fn test_irp(
-    alloc: Global,
-    store: &Store,
-    caller: &Caller,
-) -> Result<Plan, AllocError>
+pub(crate) fn test_irp(alloc: Global, store: &Store, caller: &Caller) -> Result<Plan, AllocError>
     ensures planned { IfOk result (λ plan. Plans store.now caller.now plan (λ w granted refused. reads.test_irp w caller.now.activation granted refused)) }
     ensures own { IfOk result (λ plan. AreOwn caller.now.activation plan.events) }
     ensures possible { IfOk result (λ plan. AreCounted store.now → IsPossible store.now plan.change) }
