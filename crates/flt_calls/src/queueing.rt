@@ -8,8 +8,8 @@ ghost use Rattle.flt_store.specs.Changes.{AreCounted, IsPossible};
 
 use crate::caller::Caller;
 use crate::plans::Plan;
-use flt_store::Store;
 use flt_tree::{ContextVariable, RemovedVariable};
+use flt_store::Store;
 use std::alloc::{AllocError, Global};
 
 /// FltCbdqInsertIo.
