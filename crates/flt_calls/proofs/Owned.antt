@@ -1,13 +1,18 @@
 -- The events of a step are its activation's own, and few.
 use Rattle.std.proofs.Common.{refl, ◌==◌, is_some, ◌≡◌, ◌≤◌, ℕ, ◌+◌, Bool, true, false, if◌then◌else◌, List, [], ◌∷◌, ◌++◌, length, Option, Some, None, arith}
 use Rattle.std.proofs.lemmas.List.{length-append}
+use Rattle.flt_rules.specs.declared.call.Anchor.{Anchor}
+use Rattle.flt_rules.specs.declared.call.Anchor.TheVariants as anchor
 use Rattle.flt_rules.specs.declared.call.Call.{Call}
 use Rattle.flt_rules.specs.declared.call.Existing.{Existing}
 use Rattle.flt_rules.specs.declared.call.Existing.TheVariants.{Keep, Replace}
 use Rattle.flt_tree.specs.declared.filter.Statement.{Statement}
 use Rattle.flt_tree.specs.declared.variable.ContextVariable.{ContextVariable}
-use Rattle.flt_model.specs.Calls.{allocated, cannot_set, got, get_by, kept, set_there, set_by, unlinked, delete_by, deleted, referenced, released}
-use Rattle.flt_model.specs.Effects.{Step, after_unlink, onward, goes_on, unchanged, gives_nothing, uses, empties, calling, needing, freed_by_drop, events_of_unlink, gains_context, loses_context}
+use Rattle.flt_model.specs.Calls.{needs_of, allocated, cannot_set, got, get_by, kept, set_there, set_by, unlinked, delete_by, deleted, referenced, released}
+use Rattle.flt_model.specs.Effects.{Step, context, after_unlink, onward, goes_on, unchanged, gives_nothing, uses, empties, calling, needing, freed_by_drop, events_of_unlink, gains_context, loses_context}
+use Rattle.flt_model.specs.Reads.{read_value_of, write_value_of, read_file_of, test_irp_of}
+use Rattle.flt_tree.specs.declared.variable.Atom.{Atom}
+use Rattle.flt_tree.specs.declared.variable.NumberVariable.{NumberVariable}
 use Rattle.flt_model.specs.World.{World, Store, Link, context_at, linked_at}
 use Rattle.flt_model.specs.declared.event.Event.{Event}
 use Rattle.flt_model.specs.declared.event.Event.TheVariants as event
@@ -91,6 +96,16 @@ unlink_up_to a s x (Some d) = ((refl, tt), omega arith)
 pub none_up_to : (a n : ℕ) → AreUpTo a n []
 none_up_to a n = (tt, omega arith)
 
+-- ---- needs of the calls on contexts
+
+pub needs_few : (on : Anchor) (given : Option ℕ) → length (needs_of on given) ≤ 4
+needs_few anchor.Stream given = omega arith
+needs_few anchor.Instance given = omega arith
+
+pub needs_few_more : (on : Anchor) (given x : Option ℕ) → length (context x ∷ needs_of on given) ≤ 4
+needs_few_more anchor.Stream given x = omega arith
+needs_few_more anchor.Instance given x = omega arith
+
 -- ---- effects of the calls on contexts
 
 module _ (w : World) (a : ℕ) where
@@ -153,3 +168,21 @@ module _ (w : World) (a : ℕ) where
       AreUpTo a 8 (if grant then allocated w a d granted (length w.store.contexts) else gives_nothing w a (Some d) refused).events
   allocate_up_to d true granted refused = ((refl, tt), omega arith)
   allocate_up_to d false granted refused = (tt, omega arith)
+
+  -- ---- effects of reads
+
+  pub read_value_up_to : (n : NumberVariable) (rest : List Statement) (x : Option ℕ) → AreUpTo a 8 (read_value_of w a n rest x).events
+  read_value_up_to n rest None = (tt, omega arith)
+  read_value_up_to n rest (Some x) = (tt, omega arith)
+
+  pub write_value_up_to : (value : Atom) (rest : List Statement) (x : Option ℕ) → AreUpTo a 8 (write_value_of w a value rest x).events
+  write_value_up_to value rest None = (tt, omega arith)
+  write_value_up_to value rest (Some x) = (tt, omega arith)
+
+  pub read_file_up_to : (n : NumberVariable) (rest : List Statement) (v : Option ℕ) → AreUpTo a 8 (read_file_of w a n rest v).events
+  read_file_up_to n rest None = (tt, omega arith)
+  read_file_up_to n rest (Some v) = (tt, omega arith)
+
+  pub test_irp_up_to : (holds fails : List Statement) (v : Option ℕ) → AreUpTo a 8 (test_irp_of w a holds fails v).events
+  test_irp_up_to holds fails None = (tt, omega arith)
+  test_irp_up_to holds fails (Some v) = (tt, omega arith)
