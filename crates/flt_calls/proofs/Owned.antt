@@ -50,7 +50,10 @@ pub joined : (a m n : ℕ) (xs ys : List Event) → AreUpTo a m xs → AreUpTo a
 joined a m n xs ys left right = (of_append a xs ys left.0 right.0, omega (arith, length-append xs ys, left.1, right.1))
 
 pub needs_up_to : (a : ℕ) (needs : List (Option Object)) → AreUpTo a (length needs) (uses a needs ++ empties a needs)
-needs_up_to a needs = (of_append a (uses a needs) (empties a needs) (of_uses a needs) (of_empties a needs), omega (arith, length-append (uses a needs) (empties a needs), as_many a needs))
+needs_up_to a needs = (
+  of_append a (uses a needs) (empties a needs) (of_uses a needs) (of_empties a needs),
+  omega (arith, length-append (uses a needs) (empties a needs), as_many a needs),
+)
 
 pub own_up_to : (a n : ℕ) (es : List Event) → n ≤ 16 → AreUpTo a n es → AreOwn a es
 own_up_to a n es small here = record { of = here.0; few = omega (arith, small, here.1) }
@@ -61,8 +64,10 @@ pub own_call : (w : World) (a : ℕ) (k : Call) (own : List Event) (needs : List
 own_call w a k own needs effect mine small done =
     let held = needs_up_to a needs in
     let used = joined a 1 (length (uses a needs)) own (uses a needs) mine (of_uses a needs, omega arith) in
-    let both = joined a (1 + length (uses a needs)) (length (empties a needs)) (own ++ uses a needs) (empties a needs) used (of_empties a needs, omega arith) in
-    let all = joined a (1 + length (uses a needs) + length (empties a needs)) 8 (own ++ uses a needs ++ empties a needs) effect.events both done in
+    let both = joined a (1 + length (uses a needs)) (length (empties a needs)) (own ++ uses a needs) (empties a needs) used
+    (of_empties a needs, omega arith) in
+    let all = joined a (1 + length (uses a needs) + length (empties a needs)) 8
+    (own ++ uses a needs ++ empties a needs) effect.events both done in
     record { of = (tt, all.0); few = omega (arith, as_many a needs, small, all.1) }
 
 -- the like where it is no call

@@ -93,23 +93,27 @@ fn tell_unlink(
 /// A new context, unless the system refuses.
 fn allocated(
     store: &Store,
-    at: At,
+    caller: &Caller,
     output: ContextVariable,
     grant: bool,
     mut events: Vec<Event>,
 ) -> Result<Plan, AllocError>
-    ensures planned { IfOk result (λ plan. (actors : List machine.Actor) (acts : List machine.Activation) (granted refused : List Statement) → (get_or actors at.activation machine.no_actor).filter ≡ at.filter →
-        IsPlanned (world_of store.now actors acts) at.activation plan events.items granted refused (if grant then calls.allocated (world_of store.now actors acts) at.activation output granted (length store.now.contexts) else effects.gives_nothing (world_of store.now actors acts) at.activation (Some output) refused)) }
+    ensures planned { IfOk result (λ plan. (actors : List machine.Actor) (acts : List machine.Activation)
+        (granted refused : List Statement) → (get_or actors caller.now.activation machine.no_actor).filter ≡ caller.now.filter →
+        IsPlanned (world_of store.now actors acts) caller.now.activation plan events.items granted refused
+        (if grant then calls.allocated (world_of store.now actors acts) caller.now.activation output granted
+        (length store.now.contexts) else effects.gives_nothing (world_of store.now actors acts) caller.now.activation
+        (Some output) refused)) }
     ensures possible { IfOk result (λ plan. AreCounted store.now → IsPossible store.now plan.change) }
 {
     if grant {
         let number = store.contexts();
-        events.push(Event::Gain(at.activation, Object::Context(number)))?;
+        events.push(Event::Gain(caller.activation, Object::Context(number)))?;
         Ok(made_plan(
             events,
             true,
             Write::Output(Some(output), Some(number)),
-            Change::Allocate(at.filter),
+            Change::Allocate(caller.filter),
         ))
     } else {
         Ok(made_plan(
@@ -129,18 +133,14 @@ pub(crate) fn allocate(
     output: ContextVariable,
     grant: bool,
 ) -> Result<Plan, AllocError>
-    ensures planned { IfOk result (λ plan. Plans store.now caller.now plan (λ w granted refused. calls.allocate w caller.now.activation output grant granted refused)) }
+    ensures planned { IfOk result (λ plan. Plans store.now caller.now plan
+        (λ w granted refused. calls.allocate w caller.now.activation output grant granted refused)) }
     ensures own { IfOk result (λ plan. AreOwn caller.now.activation plan.events) }
     ensures possible { IfOk result (λ plan. AreCounted store.now → IsPossible store.now plan.change) }
 {
-    let at = At {
-        activation: caller.activation,
-        filter: caller.filter,
-        key: None,
-    };
     let mut events = Vec::new(alloc);
-    events.push(Event::Call(at.activation, Call::AllocateContext))?;
-    allocated(store, at, output, grant, events)
+    events.push(Event::Call(caller.activation, Call::AllocateContext))?;
+    allocated(store, caller, output, grant, events)
 }
 
 // ---- the context that is there
@@ -153,11 +153,12 @@ fn got(
     there: Option<usize>,
     mut events: Vec<Event>,
 ) -> Result<Plan, AllocError>
-    ensures planned { IfOk result (λ plan. (actors : List machine.Actor) (acts : List machine.Activation) (granted refused : List Statement) →
-        IsPlanned (world_of store.now actors acts) a plan events.items granted refused (calls.got (world_of store.now actors acts) a output granted refused there)) }
+    ensures planned { IfOk result (λ plan. (actors : List machine.Actor) (acts : List machine.Activation)
+        (granted refused : List Statement) →
+        IsPlanned (world_of store.now actors acts) a plan events.items granted refused
+        (calls.got (world_of store.now actors acts) a output granted refused there)) }
     ensures possible { IfOk result (λ plan. AreCounted store.now → IsPossible store.now plan.change) }
 {
-    let _ = store;
     match there {
         None => Ok(made_plan(
             events,
@@ -184,8 +185,11 @@ fn get_by(
     output: ContextVariable,
     events: Vec<Event>,
 ) -> Result<Plan, AllocError>
-    ensures planned { IfOk result (λ plan. (actors : List machine.Actor) (acts : List machine.Activation) (granted refused : List Statement) → (get_or actors at.activation machine.no_actor).filter ≡ at.filter →
-        IsPlanned (world_of store.now actors acts) at.activation plan events.items granted refused (calls.get_by (world_of store.now actors acts) at.activation output granted refused (option_map (λ k. record { filter = at.filter; key = k }) at.key))) }
+    ensures planned { IfOk result (λ plan. (actors : List machine.Actor) (acts : List machine.Activation)
+        (granted refused : List Statement) → (get_or actors at.activation machine.no_actor).filter ≡ at.filter →
+        IsPlanned (world_of store.now actors acts) at.activation plan events.items granted refused
+        (calls.get_by (world_of store.now actors acts) at.activation output granted refused
+        (option_map (λ k. record { filter = at.filter; key = k }) at.key))) }
     ensures possible { IfOk result (λ plan. AreCounted store.now → IsPossible store.now plan.change) }
 {
     match at.key {
@@ -205,7 +209,8 @@ pub(crate) fn get(
     on: Anchor,
     output: ContextVariable,
 ) -> Result<Plan, AllocError>
-    ensures planned { IfOk result (λ plan. Plans store.now caller.now plan (λ w granted refused. calls.get w caller.now.activation on output granted refused)) }
+    ensures planned { IfOk result (λ plan. Plans store.now caller.now plan
+        (λ w granted refused. calls.get w caller.now.activation on output granted refused)) }
     ensures own { IfOk result (λ plan. AreOwn caller.now.activation plan.events) }
     ensures possible { IfOk result (λ plan. AreCounted store.now → IsPossible store.now plan.change) }
 {
@@ -247,11 +252,12 @@ fn kept(
     y: usize,
     mut events: Vec<Event>,
 ) -> Result<Plan, AllocError>
-    ensures planned { IfOk result (λ plan. (actors : List machine.Actor) (acts : List machine.Activation) (granted refused : List Statement) →
-        IsPlanned (world_of store.now actors acts) a plan events.items granted refused (calls.kept (world_of store.now actors acts) a old refused y)) }
+    ensures planned { IfOk result (λ plan. (actors : List machine.Actor) (acts : List machine.Activation)
+        (granted refused : List Statement) →
+        IsPlanned (world_of store.now actors acts) a plan events.items granted refused
+        (calls.kept (world_of store.now actors acts) a old refused y)) }
     ensures possible { IfOk result (λ plan. AreCounted store.now → IsPossible store.now plan.change) }
 {
-    let _ = store;
     match old {
         None => Ok(made_plan(events, false, Write::Nothing, Change::Nothing)),
         Some(_) => {
@@ -274,9 +280,15 @@ fn set_there(
     link: Linking,
     mut events: Vec<Event>,
 ) -> Result<Plan, AllocError>
-    ensures planned { IfOk result (λ plan. (actors : List machine.Actor) (acts : List machine.Activation) (granted refused : List Statement) →
-        IsPlanned (world_of store.now actors acts) a plan events.items granted refused (calls.set_there (world_of store.now actors acts) a set.existing set.old granted refused link.context (record { filter = link.filter; key = link.key }) (machine.linked_at store.now (record { filter = link.filter; key = link.key })))) }
-    ensures possible { IfOk result (λ plan. (machine.is_attached (machine.presence_at store.now link.filter) ≡ true) → (is_some (machine.context_at store.now link.context).link || machine.is_freed (machine.context_at store.now link.context)) ≡ false → AreCounted store.now → IsPossible store.now plan.change) }
+    ensures planned { IfOk result (λ plan. (actors : List machine.Actor) (acts : List machine.Activation)
+        (granted refused : List Statement) →
+        IsPlanned (world_of store.now actors acts) a plan events.items granted refused
+        (calls.set_there (world_of store.now actors acts) a set.existing set.old granted refused link.context
+        (record { filter = link.filter; key = link.key }) (machine.linked_at store.now
+        (record { filter = link.filter; key = link.key })))) }
+    ensures possible { IfOk result (λ plan. (machine.is_attached (machine.presence_at store.now link.filter) ≡ true) →
+        (is_some (machine.context_at store.now link.context).link || machine.is_freed
+        (machine.context_at store.now link.context)) ≡ false → AreCounted store.now → IsPossible store.now plan.change) }
 {
     match store.linked_at(link.filter, link.key) {
         None => Ok(made_plan(
@@ -308,8 +320,11 @@ fn set_by(
     named: Option<usize>,
     events: Vec<Event>,
 ) -> Result<Plan, AllocError>
-    ensures planned { IfOk result (λ plan. (actors : List machine.Actor) (acts : List machine.Activation) (granted refused : List Statement) → (get_or actors at.activation machine.no_actor).filter ≡ at.filter →
-        IsPlanned (world_of store.now actors acts) at.activation plan events.items granted refused (calls.set_by (world_of store.now actors acts) at.activation set.existing set.old granted refused named (option_map (λ k. record { filter = at.filter; key = k }) at.key))) }
+    ensures planned { IfOk result (λ plan. (actors : List machine.Actor) (acts : List machine.Activation)
+        (granted refused : List Statement) → (get_or actors at.activation machine.no_actor).filter ≡ at.filter →
+        IsPlanned (world_of store.now actors acts) at.activation plan events.items granted refused
+        (calls.set_by (world_of store.now actors acts) at.activation set.existing set.old granted refused named
+        (option_map (λ k. record { filter = at.filter; key = k }) at.key))) }
     ensures possible { IfOk result (λ plan. AreCounted store.now → IsPossible store.now plan.change) }
 {
     match (named, at.key) {
@@ -338,7 +353,8 @@ fn need_to_set(
     events: &mut Vec<Event>,
 ) -> Result<(), AllocError>
     ensures { OnOk result (events.new.items ≡ events.old.items
-        ++ (effects.uses a (effects.context named ∷ calls.needs_of on given) ++ effects.empties a (effects.context named ∷ calls.needs_of on given))) }
+        ++ (effects.uses a (effects.context named ∷ calls.needs_of on given) ++ effects.empties a
+        (effects.context named ∷ calls.needs_of on given))) }
 {
     match on {
         Anchor::Stream => need(a, &[context_object(named), operation_object(given)], events),
@@ -356,7 +372,8 @@ pub(crate) fn set_context(
     context: ContextVariable,
     old: Option<ContextVariable>,
 ) -> Result<Plan, AllocError>
-    ensures planned { IfOk result (λ plan. Plans store.now caller.now plan (λ w granted refused. calls.set_context w caller.now.activation on existing context old granted refused)) }
+    ensures planned { IfOk result (λ plan. Plans store.now caller.now plan
+        (λ w granted refused. calls.set_context w caller.now.activation on existing context old granted refused)) }
     ensures own { IfOk result (λ plan. AreOwn caller.now.activation plan.events) }
     ensures possible { IfOk result (λ plan. AreCounted store.now → IsPossible store.now plan.change) }
 {
@@ -385,8 +402,10 @@ fn unlinked(
     there: Option<usize>,
     mut events: Vec<Event>,
 ) -> Result<Plan, AllocError>
-    ensures planned { IfOk result (λ plan. (actors : List machine.Actor) (acts : List machine.Activation) (granted refused : List Statement) →
-        IsPlanned (world_of store.now actors acts) a plan events.items granted refused (calls.unlinked (world_of store.now actors acts) a old granted refused there)) }
+    ensures planned { IfOk result (λ plan. (actors : List machine.Actor) (acts : List machine.Activation)
+        (granted refused : List Statement) →
+        IsPlanned (world_of store.now actors acts) a plan events.items granted refused
+        (calls.unlinked (world_of store.now actors acts) a old granted refused there)) }
     ensures possible { IfOk result (λ plan. AreCounted store.now → IsPossible store.now plan.change) }
 {
     match there {
@@ -410,8 +429,11 @@ fn delete_by(
     old: Option<ContextVariable>,
     events: Vec<Event>,
 ) -> Result<Plan, AllocError>
-    ensures planned { IfOk result (λ plan. (actors : List machine.Actor) (acts : List machine.Activation) (granted refused : List Statement) → (get_or actors at.activation machine.no_actor).filter ≡ at.filter →
-        IsPlanned (world_of store.now actors acts) at.activation plan events.items granted refused (calls.delete_by (world_of store.now actors acts) at.activation old granted refused (option_map (λ k. record { filter = at.filter; key = k }) at.key))) }
+    ensures planned { IfOk result (λ plan. (actors : List machine.Actor) (acts : List machine.Activation)
+        (granted refused : List Statement) → (get_or actors at.activation machine.no_actor).filter ≡ at.filter →
+        IsPlanned (world_of store.now actors acts) at.activation plan events.items granted refused
+        (calls.delete_by (world_of store.now actors acts) at.activation old granted refused
+        (option_map (λ k. record { filter = at.filter; key = k }) at.key))) }
     ensures possible { IfOk result (λ plan. AreCounted store.now → IsPossible store.now plan.change) }
 {
     match at.key {
@@ -431,7 +453,8 @@ pub(crate) fn delete_at(
     on: Anchor,
     old: Option<ContextVariable>,
 ) -> Result<Plan, AllocError>
-    ensures planned { IfOk result (λ plan. Plans store.now caller.now plan (λ w granted refused. calls.delete_at w caller.now.activation on old granted refused)) }
+    ensures planned { IfOk result (λ plan. Plans store.now caller.now plan
+        (λ w granted refused. calls.delete_at w caller.now.activation on old granted refused)) }
     ensures own { IfOk result (λ plan. AreOwn caller.now.activation plan.events) }
     ensures possible { IfOk result (λ plan. AreCounted store.now → IsPossible store.now plan.change) }
 {
@@ -455,11 +478,12 @@ fn deleted(
     named: Option<usize>,
     mut events: Vec<Event>,
 ) -> Result<Plan, AllocError>
-    ensures planned { IfOk result (λ plan. (actors : List machine.Actor) (acts : List machine.Activation) (granted refused : List Statement) →
-        IsPlanned (world_of store.now actors acts) a plan events.items granted refused (calls.deleted (world_of store.now actors acts) a granted named)) }
+    ensures planned { IfOk result (λ plan. (actors : List machine.Actor) (acts : List machine.Activation)
+        (granted refused : List Statement) →
+        IsPlanned (world_of store.now actors acts) a plan events.items granted refused
+        (calls.deleted (world_of store.now actors acts) a granted named)) }
     ensures possible { IfOk result (λ plan. AreCounted store.now → IsPossible store.now plan.change) }
 {
-    let _ = a;
     match named {
         Some(x) if store.is_linked(x) => {
             tell_drop(store, x, &mut events)?;
@@ -476,7 +500,8 @@ pub(crate) fn delete(
     caller: &Caller,
     context: ContextVariable,
 ) -> Result<Plan, AllocError>
-    ensures planned { IfOk result (λ plan. Plans store.now caller.now plan (λ w granted refused. calls.delete w caller.now.activation context granted)) }
+    ensures planned { IfOk result (λ plan. Plans store.now caller.now plan
+        (λ w granted refused. calls.delete w caller.now.activation context granted)) }
     ensures own { IfOk result (λ plan. AreOwn caller.now.activation plan.events) }
     ensures possible { IfOk result (λ plan. AreCounted store.now → IsPossible store.now plan.change) }
 {
@@ -498,11 +523,12 @@ fn referenced(
     named: Option<usize>,
     mut events: Vec<Event>,
 ) -> Result<Plan, AllocError>
-    ensures planned { IfOk result (λ plan. (actors : List machine.Actor) (acts : List machine.Activation) (granted refused : List Statement) →
-        IsPlanned (world_of store.now actors acts) a plan events.items granted refused (calls.referenced (world_of store.now actors acts) a output granted named)) }
+    ensures planned { IfOk result (λ plan. (actors : List machine.Actor) (acts : List machine.Activation)
+        (granted refused : List Statement) →
+        IsPlanned (world_of store.now actors acts) a plan events.items granted refused
+        (calls.referenced (world_of store.now actors acts) a output granted named)) }
     ensures possible { IfOk result (λ plan. AreCounted store.now → IsPossible store.now plan.change) }
 {
-    let _ = store;
     match named {
         None => Ok(made_plan(events, true, Write::Nothing, Change::Nothing)),
         Some(x) => {
@@ -525,7 +551,8 @@ pub(crate) fn reference(
     context: ContextVariable,
     output: ContextVariable,
 ) -> Result<Plan, AllocError>
-    ensures planned { IfOk result (λ plan. Plans store.now caller.now plan (λ w granted refused. calls.reference w caller.now.activation context output granted)) }
+    ensures planned { IfOk result (λ plan. Plans store.now caller.now plan
+        (λ w granted refused. calls.reference w caller.now.activation context output granted)) }
     ensures own { IfOk result (λ plan. AreOwn caller.now.activation plan.events) }
     ensures possible { IfOk result (λ plan. AreCounted store.now → IsPossible store.now plan.change) }
 {
@@ -544,8 +571,10 @@ fn released(
     named: Option<usize>,
     mut events: Vec<Event>,
 ) -> Result<Plan, AllocError>
-    ensures planned { IfOk result (λ plan. (actors : List machine.Actor) (acts : List machine.Activation) (granted refused : List Statement) →
-        IsPlanned (world_of store.now actors acts) a plan events.items granted refused (calls.released (world_of store.now actors acts) a granted named)) }
+    ensures planned { IfOk result (λ plan. (actors : List machine.Actor) (acts : List machine.Activation)
+        (granted refused : List Statement) →
+        IsPlanned (world_of store.now actors acts) a plan events.items granted refused
+        (calls.released (world_of store.now actors acts) a granted named)) }
     ensures possible { IfOk result (λ plan. AreCounted store.now → IsPossible store.now plan.change) }
 {
     match named {
@@ -565,7 +594,8 @@ pub(crate) fn release(
     caller: &Caller,
     context: ContextVariable,
 ) -> Result<Plan, AllocError>
-    ensures planned { IfOk result (λ plan. Plans store.now caller.now plan (λ w granted refused. calls.release w caller.now.activation context granted)) }
+    ensures planned { IfOk result (λ plan. Plans store.now caller.now plan
+        (λ w granted refused. calls.release w caller.now.activation context granted)) }
     ensures own { IfOk result (λ plan. AreOwn caller.now.activation plan.events) }
     ensures possible { IfOk result (λ plan. AreCounted store.now → IsPossible store.now plan.change) }
 {

@@ -27,7 +27,8 @@ fn value_read(
     events: Vec<Event>,
 ) -> Plan
     ensures planned { (actors : List machine.Actor) (acts : List machine.Activation) (granted refused : List Statement) →
-        IsPlanned (world_of store.now actors acts) a result events.items granted refused (reads.read_value_of (world_of store.now actors acts) a number granted context) }
+        IsPlanned (world_of store.now actors acts) a result events.items granted refused
+        (reads.read_value_of (world_of store.now actors acts) a number granted context) }
     ensures possible { AreCounted store.now → IsPossible store.now result.change }
 {
     let write = match context {
@@ -45,7 +46,8 @@ pub(crate) fn read_value(
     number: NumberVariable,
     context: ContextVariable,
 ) -> Result<Plan, AllocError>
-    ensures planned { IfOk result (λ plan. Plans store.now caller.now plan (λ w granted refused. reads.read_value w caller.now.activation number context granted)) }
+    ensures planned { IfOk result (λ plan. Plans store.now caller.now plan
+        (λ w granted refused. reads.read_value w caller.now.activation number context granted)) }
     ensures own { IfOk result (λ plan. AreOwn caller.now.activation plan.events) }
     ensures possible { IfOk result (λ plan. AreCounted store.now → IsPossible store.now plan.change) }
 {
@@ -65,7 +67,8 @@ fn file_read(
     events: Vec<Event>,
 ) -> Plan
     ensures planned { (actors : List machine.Actor) (acts : List machine.Activation) (granted refused : List Statement) →
-        IsPlanned (world_of store.now actors acts) a result events.items granted refused (reads.read_file_of (world_of store.now actors acts) a number granted visit) }
+        IsPlanned (world_of store.now actors acts) a result events.items granted refused
+        (reads.read_file_of (world_of store.now actors acts) a number granted visit) }
     ensures possible { AreCounted store.now → IsPossible store.now result.change }
 {
     let write = match visit {
@@ -83,7 +86,8 @@ pub(crate) fn read_file(
     number: NumberVariable,
     operation: OperationVariable,
 ) -> Result<Plan, AllocError>
-    ensures planned { IfOk result (λ plan. Plans store.now caller.now plan (λ w granted refused. reads.read_file w caller.now.activation number operation granted)) }
+    ensures planned { IfOk result (λ plan. Plans store.now caller.now plan
+        (λ w granted refused. reads.read_file w caller.now.activation number operation granted)) }
     ensures own { IfOk result (λ plan. AreOwn caller.now.activation plan.events) }
     ensures possible { IfOk result (λ plan. AreCounted store.now → IsPossible store.now plan.change) }
 {
@@ -109,8 +113,10 @@ fn value_written(
     context: Option<usize>,
     events: Vec<Event>,
 ) -> Plan
-    ensures planned { (actors : List machine.Actor) (acts : List machine.Activation) (granted refused : List Statement) → atom_value (get_or acts a machine.nobody) written.atom ≡ written.value →
-        IsPlanned (world_of store.now actors acts) a result events.items granted refused (reads.write_value_of (world_of store.now actors acts) a written.atom granted context) }
+    ensures planned { (actors : List machine.Actor) (acts : List machine.Activation) (granted refused : List Statement) → atom_value
+        (get_or acts a machine.nobody) written.atom ≡ written.value →
+        IsPlanned (world_of store.now actors acts) a result events.items granted refused
+        (reads.write_value_of (world_of store.now actors acts) a written.atom granted context) }
     ensures possible { AreCounted store.now → IsPossible store.now result.change }
 {
     let change = match context {
@@ -128,7 +134,8 @@ pub(crate) fn write_value(
     context: ContextVariable,
     value: Atom,
 ) -> Result<Plan, AllocError>
-    ensures planned { IfOk result (λ plan. Plans store.now caller.now plan (λ w granted refused. reads.write_value w caller.now.activation context value granted)) }
+    ensures planned { IfOk result (λ plan. Plans store.now caller.now plan
+        (λ w granted refused. reads.write_value w caller.now.activation context value granted)) }
     ensures own { IfOk result (λ plan. AreOwn caller.now.activation plan.events) }
     ensures possible { IfOk result (λ plan. AreCounted store.now → IsPossible store.now plan.change) }
 {
@@ -146,7 +153,8 @@ pub(crate) fn write_value(
 /// By the mode of the visit's operation.
 fn irp_tested(store: &Store, a: usize, visit: Option<usize>, events: Vec<Event>) -> Plan
     ensures planned { (actors : List machine.Actor) (acts : List machine.Activation) (granted refused : List Statement) →
-        IsPlanned (world_of store.now actors acts) a result events.items granted refused (reads.test_irp_of (world_of store.now actors acts) a granted refused visit) }
+        IsPlanned (world_of store.now actors acts) a result events.items granted refused
+        (reads.test_irp_of (world_of store.now actors acts) a granted refused visit) }
     ensures possible { AreCounted store.now → IsPossible store.now result.change }
 {
     let holds = match visit {
@@ -158,7 +166,8 @@ fn irp_tested(store: &Store, a: usize, visit: Option<usize>, events: Vec<Event>)
 
 /// Whether the operation is an I/O request packet.
 pub(crate) fn test_irp(alloc: Global, store: &Store, caller: &Caller) -> Result<Plan, AllocError>
-    ensures planned { IfOk result (λ plan. Plans store.now caller.now plan (λ w granted refused. reads.test_irp w caller.now.activation granted refused)) }
+    ensures planned { IfOk result (λ plan. Plans store.now caller.now plan
+        (λ w granted refused. reads.test_irp w caller.now.activation granted refused)) }
     ensures own { IfOk result (λ plan. AreOwn caller.now.activation plan.events) }
     ensures possible { IfOk result (λ plan. AreCounted store.now → IsPossible store.now plan.change) }
 {
