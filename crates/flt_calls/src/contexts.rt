@@ -101,9 +101,9 @@ fn allocated(
     ensures planned { IfOk result (λ plan. (actors : List machine.Actor) (acts : List machine.Activation)
         (granted refused : List Statement) → (get_or actors caller.now.activation machine.no_actor).filter ≡ caller.now.filter →
         IsPlanned (world_of store.now actors acts) caller.now.activation plan events.items granted refused
-        (if grant then calls.allocated (world_of store.now actors acts) caller.now.activation output granted
-        (length store.now.contexts) else effects.gives_nothing (world_of store.now actors acts) caller.now.activation
-        (Some output) refused)) }
+        (if grant
+        then calls.allocated (world_of store.now actors acts) caller.now.activation output granted (length store.now.contexts)
+        else effects.gives_nothing (world_of store.now actors acts) caller.now.activation (Some output) refused)) }
     ensures possible { IfOk result (λ plan. AreCounted store.now → IsPossible store.now plan.change) }
 {
     if grant {
@@ -284,11 +284,11 @@ fn set_there(
         (granted refused : List Statement) →
         IsPlanned (world_of store.now actors acts) a plan events.items granted refused
         (calls.set_there (world_of store.now actors acts) a set.existing set.old granted refused link.context
-        (record { filter = link.filter; key = link.key }) (machine.linked_at store.now
-        (record { filter = link.filter; key = link.key })))) }
+        (record { filter = link.filter; key = link.key })
+        (machine.linked_at store.now (record { filter = link.filter; key = link.key })))) }
     ensures possible { IfOk result (λ plan. (machine.is_attached (machine.presence_at store.now link.filter) ≡ true) →
-        (is_some (machine.context_at store.now link.context).link || machine.is_freed
-        (machine.context_at store.now link.context)) ≡ false → AreCounted store.now → IsPossible store.now plan.change) }
+        (is_some (machine.context_at store.now link.context).link || machine.is_freed (machine.context_at store.now link.context)) ≡ false →
+        AreCounted store.now → IsPossible store.now plan.change) }
 {
     match store.linked_at(link.filter, link.key) {
         None => Ok(made_plan(

@@ -113,8 +113,8 @@ fn value_written(
     context: Option<usize>,
     events: Vec<Event>,
 ) -> Plan
-    ensures planned { (actors : List machine.Actor) (acts : List machine.Activation) (granted refused : List Statement) → atom_value
-        (get_or acts a machine.nobody) written.atom ≡ written.value →
+    ensures planned { (actors : List machine.Actor) (acts : List machine.Activation) (granted refused : List Statement) →
+        atom_value (get_or acts a machine.nobody) written.atom ≡ written.value →
         IsPlanned (world_of store.now actors acts) a result events.items granted refused
         (reads.write_value_of (world_of store.now actors acts) a written.atom granted context) }
     ensures possible { AreCounted store.now → IsPossible store.now result.change }
