@@ -1,16 +1,73 @@
 //! Calls on locks.
 
-ghost use Rattle.std.specs.Prelude.{List, IfOk};
+ghost use Rattle.std.specs.Prelude.{◌≡◌, List, IfOk, get_or};
 ghost use Rattle.flt_model.specs.Calls as calls;
-ghost use Rattle.flt_calls.specs.Plans.{Plans};
+ghost use Rattle.flt_model.specs.World as machine;
+ghost use Rattle.flt_rules.specs.Held as rules;
+ghost use Rattle.flt_calls.specs.Plans.{IsPlanned, Plans, world_of};
 ghost use Rattle.flt_calls.specs.Own.{AreOwn};
 ghost use Rattle.flt_store.specs.Changes.{AreCounted, IsPossible};
+ghost use Rattle.flt_tree.specs.declared.filter.Statement.{Statement};
 
 use crate::caller::Caller;
-use crate::plans::Plan;
-use flt_rules::{LockKind, LockNumber};
-use flt_store::Store;
+use crate::plans::{Plan, Write, made_plan};
+use flt_frame::HeldLocks;
+use flt_model::Event;
+use flt_rules::{Access, Call, LockKind, LockNumber};
+use flt_store::{Change, Store};
 use std::alloc::{AllocError, Global};
+
+fn holds_lock(lock: LockNumber, locks: &HeldLocks) -> bool
+    ensures { result ≡ rules.holds_lock lock locks.now }
+{
+    locks.as_slice().iter().any(|held| lock.is_same(held.lock))
+}
+
+/// The lock is the latest of the list, and the activation is one of its holders.
+fn taken(
+    store: &Store,
+    caller: &Caller,
+    lock: LockNumber,
+    access: Access,
+    events: Vec<Event>,
+) -> Plan
+    ensures planned { (actors : List machine.Actor) (acts : List machine.Activation) (granted refused : List Statement) → (get_or actors caller.now.activation machine.no_actor).filter ≡ caller.now.filter → (get_or acts caller.now.activation machine.nobody).locks ≡ caller.now.standing.locks → IsPlanned (world_of store.now actors acts) caller.now.activation result events.items granted refused (calls.taken (world_of store.now actors acts) caller.now.activation lock access granted) }
+    ensures events { result.events ≡ events.items }
+    ensures possible { IsPossible store.now result.change }
+{
+    let _ = store;
+    let a = caller.activation;
+    if holds_lock(lock, &caller.standing.locks) {
+        made_plan(events, true, Write::Nothing, Change::Nothing)
+    } else {
+        made_plan(
+            events,
+            true,
+            Write::Take(lock, access),
+            Change::TakeLock(caller.filter, lock, a, access),
+        )
+    }
+}
+
+/// The last entry of the lock leaves the list, and the activation is none of its holders.
+fn given_up(store: &Store, caller: &Caller, lock: LockNumber, events: Vec<Event>) -> Plan
+    ensures planned { (actors : List machine.Actor) (acts : List machine.Activation) (granted refused : List Statement) → (get_or actors caller.now.activation machine.no_actor).filter ≡ caller.now.filter → (get_or acts caller.now.activation machine.nobody).locks ≡ caller.now.standing.locks → IsPlanned (world_of store.now actors acts) caller.now.activation result events.items granted refused (calls.given_up (world_of store.now actors acts) caller.now.activation lock granted) }
+    ensures events { result.events ≡ events.items }
+    ensures possible { IsPossible store.now result.change }
+{
+    let _ = store;
+    let a = caller.activation;
+    if holds_lock(lock, &caller.standing.locks) {
+        made_plan(
+            events,
+            true,
+            Write::GiveUp(lock),
+            Change::GiveUpLock(caller.filter, lock, a),
+        )
+    } else {
+        made_plan(events, true, Write::Nothing, Change::Nothing)
+    }
+}
 
 /// KeAcquireSpinLock, ExAcquireFastMutex, FltAcquirePushLockExclusive: a lock that the activation holds already isn't taken again.
 pub(crate) fn acquire(
@@ -24,7 +81,11 @@ pub(crate) fn acquire(
     ensures own { IfOk result (λ plan. AreOwn caller.now.activation plan.events) }
     ensures possible { IfOk result (λ plan. AreCounted store.now → IsPossible store.now plan.change) }
 {
-    Err(AllocError)
+    let a = caller.activation;
+    let mut events = Vec::new(alloc);
+    events.push(Event::Call(a, Call::AcquireLock(kind)))?;
+    events.push(Event::Lock(a, lock))?;
+    Ok(taken(store, caller, lock, Access::Exclusive, events))
 }
 
 /// FltAcquirePushLockShared.
@@ -38,7 +99,11 @@ pub(crate) fn acquire_shared(
     ensures own { IfOk result (λ plan. AreOwn caller.now.activation plan.events) }
     ensures possible { IfOk result (λ plan. AreCounted store.now → IsPossible store.now plan.change) }
 {
-    Err(AllocError)
+    let a = caller.activation;
+    let mut events = Vec::new(alloc);
+    events.push(Event::Call(a, Call::AcquirePushLockShared))?;
+    events.push(Event::Lock(a, lock))?;
+    Ok(taken(store, caller, lock, Access::Shared, events))
 }
 
 /// KeReleaseSpinLock, ExReleaseFastMutex, FltReleasePushLock: a lock that the activation doesn't hold isn't released.
@@ -53,5 +118,9 @@ pub(crate) fn release_lock(
     ensures own { IfOk result (λ plan. AreOwn caller.now.activation plan.events) }
     ensures possible { IfOk result (λ plan. AreCounted store.now → IsPossible store.now plan.change) }
 {
-    Err(AllocError)
+    let a = caller.activation;
+    let mut events = Vec::new(alloc);
+    events.push(Event::Call(a, Call::ReleaseLock(kind)))?;
+    events.push(Event::Unlock(a, lock))?;
+    Ok(given_up(store, caller, lock, events))
 }
