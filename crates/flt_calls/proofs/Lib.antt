@@ -1,1 +1,3 @@
-pub mod Calling
+pub mod Called
+pub mod Owned
+pub mod Queued

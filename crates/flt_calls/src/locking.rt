@@ -1,13 +1,13 @@
 //! Calls on locks.
 
-ghost use Rattle.std.specs.Prelude.{◌≡◌, List, IfOk, get_or};
+ghost use Rattle.std.specs.Prelude.{◌≡◌, List, IfOk};
 ghost use Rattle.flt_model.specs.Calls as calls;
 ghost use Rattle.flt_model.specs.World as machine;
 ghost use Rattle.flt_rules.specs.Held as rules;
-ghost use Rattle.flt_calls.specs.Plans.{IsPlanned, Plans, world_of};
+ghost use Rattle.flt_calls.specs.Following.{Follows};
+ghost use Rattle.flt_calls.specs.Plans.{Plans};
 ghost use Rattle.flt_calls.specs.Own.{AreOwn};
 ghost use Rattle.flt_store.specs.Changes.{AreCounted, IsPossible};
-ghost use Rattle.flt_tree.specs.declared.filter.Statement.{Statement};
 
 use crate::caller::Caller;
 use crate::plans::{Plan, Write, made_plan};
@@ -24,18 +24,12 @@ fn holds_lock(lock: LockNumber, locks: &HeldLocks) -> bool
 }
 
 /// The lock is the latest of the list, and the activation is one of its holders.
-fn taken(
-    store: &Store,
-    caller: &Caller,
-    lock: LockNumber,
-    access: Access,
-    events: Vec<Event>,
-) -> Plan
-    ensures planned { (actors : List machine.Actor) (acts : List machine.Activation) (granted refused : List Statement) → (get_or actors caller.now.activation machine.no_actor).filter ≡ caller.now.filter → (get_or acts caller.now.activation machine.nobody).locks ≡ caller.now.standing.locks → IsPlanned (world_of store.now actors acts) caller.now.activation result events.items granted refused (calls.taken (world_of store.now actors acts) caller.now.activation lock access granted) }
+fn taken(caller: &Caller, lock: LockNumber, access: Access, events: Vec<Event>) -> Plan
+    ensures planned { (s : machine.Store) → Follows s caller.now events.items result
+        (λ w granted refused. calls.taken w caller.now.activation lock access granted) }
     ensures events { result.events ≡ events.items }
-    ensures possible { IsPossible store.now result.change }
+    ensures possible { (s : machine.Store) → IsPossible s result.change }
 {
-    let _ = store;
     let a = caller.activation;
     if holds_lock(lock, &caller.standing.locks) {
         made_plan(events, true, Write::Nothing, Change::Nothing)
@@ -50,12 +44,12 @@ fn taken(
 }
 
 /// The last entry of the lock leaves the list, and the activation is none of its holders.
-fn given_up(store: &Store, caller: &Caller, lock: LockNumber, events: Vec<Event>) -> Plan
-    ensures planned { (actors : List machine.Actor) (acts : List machine.Activation) (granted refused : List Statement) → (get_or actors caller.now.activation machine.no_actor).filter ≡ caller.now.filter → (get_or acts caller.now.activation machine.nobody).locks ≡ caller.now.standing.locks → IsPlanned (world_of store.now actors acts) caller.now.activation result events.items granted refused (calls.given_up (world_of store.now actors acts) caller.now.activation lock granted) }
+fn given_up(caller: &Caller, lock: LockNumber, events: Vec<Event>) -> Plan
+    ensures planned { (s : machine.Store) → Follows s caller.now events.items result
+        (λ w granted refused. calls.given_up w caller.now.activation lock granted) }
     ensures events { result.events ≡ events.items }
-    ensures possible { IsPossible store.now result.change }
+    ensures possible { (s : machine.Store) → IsPossible s result.change }
 {
-    let _ = store;
     let a = caller.activation;
     if holds_lock(lock, &caller.standing.locks) {
         made_plan(
@@ -77,15 +71,17 @@ pub(crate) fn acquire(
     kind: LockKind,
     lock: LockNumber,
 ) -> Result<Plan, AllocError>
-    ensures planned { IfOk result (λ plan. Plans store.now caller.now plan (λ w granted refused. calls.acquire w caller.now.activation kind lock granted)) }
+    ensures planned { IfOk result (λ plan. Plans store.now caller.now plan
+        (λ w granted refused. calls.acquire w caller.now.activation kind lock granted)) }
     ensures own { IfOk result (λ plan. AreOwn caller.now.activation plan.events) }
     ensures possible { IfOk result (λ plan. AreCounted store.now → IsPossible store.now plan.change) }
 {
+    let _ = store;
     let a = caller.activation;
     let mut events = Vec::new(alloc);
     events.push(Event::Call(a, Call::AcquireLock(kind)))?;
     events.push(Event::Lock(a, lock))?;
-    Ok(taken(store, caller, lock, Access::Exclusive, events))
+    Ok(taken(caller, lock, Access::Exclusive, events))
 }
 
 /// FltAcquirePushLockShared.
@@ -95,15 +91,17 @@ pub(crate) fn acquire_shared(
     caller: &Caller,
     lock: LockNumber,
 ) -> Result<Plan, AllocError>
-    ensures planned { IfOk result (λ plan. Plans store.now caller.now plan (λ w granted refused. calls.acquire_shared w caller.now.activation lock granted)) }
+    ensures planned { IfOk result (λ plan. Plans store.now caller.now plan
+        (λ w granted refused. calls.acquire_shared w caller.now.activation lock granted)) }
     ensures own { IfOk result (λ plan. AreOwn caller.now.activation plan.events) }
     ensures possible { IfOk result (λ plan. AreCounted store.now → IsPossible store.now plan.change) }
 {
+    let _ = store;
     let a = caller.activation;
     let mut events = Vec::new(alloc);
     events.push(Event::Call(a, Call::AcquirePushLockShared))?;
     events.push(Event::Lock(a, lock))?;
-    Ok(taken(store, caller, lock, Access::Shared, events))
+    Ok(taken(caller, lock, Access::Shared, events))
 }
 
 /// KeReleaseSpinLock, ExReleaseFastMutex, FltReleasePushLock: a lock that the activation doesn't hold isn't released.
@@ -114,13 +112,15 @@ pub(crate) fn release_lock(
     kind: LockKind,
     lock: LockNumber,
 ) -> Result<Plan, AllocError>
-    ensures planned { IfOk result (λ plan. Plans store.now caller.now plan (λ w granted refused. calls.release_lock w caller.now.activation kind lock granted)) }
+    ensures planned { IfOk result (λ plan. Plans store.now caller.now plan
+        (λ w granted refused. calls.release_lock w caller.now.activation kind lock granted)) }
     ensures own { IfOk result (λ plan. AreOwn caller.now.activation plan.events) }
     ensures possible { IfOk result (λ plan. AreCounted store.now → IsPossible store.now plan.change) }
 {
+    let _ = store;
     let a = caller.activation;
     let mut events = Vec::new(alloc);
     events.push(Event::Call(a, Call::ReleaseLock(kind)))?;
     events.push(Event::Unlock(a, lock))?;
-    Ok(given_up(store, caller, lock, events))
+    Ok(given_up(caller, lock, events))
 }
