@@ -1,6 +1,11 @@
 pub mod Padding
 pub mod Parts
+pub mod Numbers
+pub mod Missing
+pub mod Filters
 pub mod Costs
 pub mod Going
 pub mod Stepping
 pub mod Ways
+pub mod Firsts
+pub mod Placing

@@ -30,8 +30,10 @@ use Rattle.flt_graph.specs.declared.instruction.Instruction.{Instruction}
 use Rattle.flt_graph.specs.declared.instruction.Instruction.TheVariants as instruction
 use Rattle.flt_graph.specs.declared.turns.Turn.{Turn}
 use Rattle.flt_model.specs.LocalSteps.{after_action, after_statement, goes_on_to, holds_test, local_step}
+use Rattle.flt_model.specs.Program.{body_of}
 use Rattle.flt_model.specs.Variables.{atom_value, expression_value}
 use Rattle.flt_model.specs.World.{Activation}
+use Rattle.flt_frame.proofs.Missing.{nothing_stands, end_at}
 use Rattle.flt_frame.specs.Loading.{IsLoaded}
 use Rattle.flt_frame.specs.Standings.{activation_with}
 use Rattle.flt_frame.specs.Steps.{turned_with, stepped}
@@ -194,17 +196,17 @@ module _ (all : List Callback) (body : List Statement) (draining : Bool) (s : St
       text_follows (Statement-F.If line (condition.Succeeds call) granted refused) text is (λ leads. refl) on
   layer_follows (Statement-F.Repeat line left block) text few is on counted = repeat_follows line left is.0 block text few is.1.1 on counted
 
--- the step of an activation that a standing stands for
-pub step_follows : Laws → (f : Filter) (g : Graph) → IsLoaded f g → (c : Callback) (s : Standing) →
+-- the step of an activation that stands in a callback that is there
+step_within : Laws → (f : Filter) (g : Graph) → IsLoaded f g → (c : Callback) (s : Standing) →
     slice_get f.callbacks s.callback ≡ Some c →
     (draining : Bool) (list : List Statement) → StandsWith c.body s.point s.turns list →
     Follows c.body (local_step draining (activation_with s list) list) (stepped draining (instruction_at g s.callback s.point) s)
-step_follows laws f g loaded c s there draining [] h =
+step_within laws f g loaded c s there draining [] h =
     let made = laws.each f g s.callback c loaded.lowered there in
     let last : instruction_at g s.callback s.point ≡ instruction.End =
     ap (λ (p : Point). p.instruction) (laws.first f.callbacks c (callback_at g s.callback) s.point [] made h.stands) in
     subst (λ (i : Instruction). Follows c.body None (stepped draining i s)) (sym last) refl
-step_follows laws f g loaded c s there draining (first ∷ rest) h =
+step_within laws f g loaded c s there draining (first ∷ rest) h =
     let made = laws.each f g s.callback c loaded.lowered there in
     let is = laws.first f.callbacks c (callback_at g s.callback) s.point (first ∷ rest) made h.stands in
     let at : instruction_at g s.callback s.point ≡ instruction_of f.callbacks is.0 s.point is.1.0 =
@@ -218,3 +220,19 @@ step_follows laws f g loaded c s there draining (first ∷ rest) h =
     (λ p ts l stands. laws.nested f s.callback p c ts l loaded.well_formed there stands) is.1.1.0)
     (λ outcome. laws.next f.callbacks c (callback_at g s.callback) s.point s.turns (first ∷ rest) outcome made h)
     (laws.left f.callbacks c (callback_at g s.callback) s.point s.turns first rest made h)
+
+-- the step of an activation that a standing stands for
+pub step_follows : Laws → (f : Filter) (g : Graph) → IsLoaded f g → (s : Standing) (draining : Bool) (list : List Statement) →
+    StandsWith (body_of (slice_get f.callbacks s.callback)) s.point s.turns list →
+    Follows (body_of (slice_get f.callbacks s.callback)) (local_step draining (activation_with s list) list)
+    (stepped draining (instruction_at g s.callback s.point) s)
+step_follows laws f g loaded s draining list h = by (slice_get f.callbacks s.callback) refl h
+  where
+    by : (o : Option Callback) → slice_get f.callbacks s.callback ≡ o → StandsWith (body_of o) s.point s.turns list →
+        Follows (body_of o) (local_step draining (activation_with s list) list) (stepped draining (instruction_at g s.callback s.point) s)
+    by (Some c) there stands = step_within laws f g loaded c s there draining list stands
+    by None missing stands =
+        let none : local_step draining (activation_with s list) list ≡ None =
+        ap (λ (l : List Statement). local_step draining (activation_with s l) l) (nothing_stands stands.stands) in
+        subst (λ (i : Instruction). Follows [] (local_step draining (activation_with s list) list) (stepped draining i s))
+        (sym (end_at f g s.callback s.point loaded.lowered missing)) none

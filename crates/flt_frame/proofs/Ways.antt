@@ -9,19 +9,23 @@ use Rattle.flt_tree.specs.declared.filter.Action.{Action}
 use Rattle.flt_tree.specs.declared.filter.Action.TheVariants as action
 use Rattle.flt_tree.specs.declared.filter.Callback.{Callback}
 use Rattle.flt_tree.specs.declared.filter.Filter.{Filter}
+use Rattle.flt_tree.specs.declared.filter.Statement.{Statement}
 use Rattle.flt_graph.specs.Graph.{instruction_at}
-use Rattle.flt_graph.specs.Turns.{left_at, turns_round}
+use Rattle.flt_graph.specs.Points.{Stands}
+use Rattle.flt_graph.specs.Turns.{StandsWith, left_at, turns_round}
 use Rattle.flt_graph.specs.declared.graph.Graph.{Graph}
 use Rattle.flt_graph.specs.declared.instruction.Instruction.{Instruction}
 use Rattle.flt_graph.specs.declared.instruction.Instruction.TheVariants as instruction
 use Rattle.flt_graph.specs.declared.turns.Turn.{Turn}
 use Rattle.flt_model.specs.LocalSteps.{holds_test, local_step}
-use Rattle.flt_model.specs.Program.{filter_at, callbacks_at}
+use Rattle.flt_model.specs.Program.{body_at, body_of, callbacks_at}
 use Rattle.flt_model.specs.World.{Activation}
+use Rattle.flt_frame.proofs.Filters.{none_at}
 use Rattle.flt_frame.proofs.Going.{locally_more, costs_fall}
+use Rattle.flt_frame.proofs.Missing.{nothing_stands}
 use Rattle.flt_frame.proofs.Stepping.{Laws, Follows, step_follows}
 use Rattle.flt_frame.specs.Leads.{locally, IsFrom, IsAdvanceOn, IsAdvance}
-use Rattle.flt_frame.specs.Loading.{IsLoaded, AreLoaded}
+use Rattle.flt_frame.specs.Loading.{IsLoaded, AreGraphsOfFilters}
 use Rattle.flt_frame.specs.Standings.{activation_with, StandsFor}
 use Rattle.flt_frame.specs.Steps.{stepped, turned_with}
 use Rattle.flt_frame.specs.Turns.{with_turn}
@@ -104,10 +108,10 @@ module _ (laws : Laws) (f : Filter) (g : Graph) (loaded : IsLoaded f g) (frame :
       on act led =
           let last : Activation = led.0 in
           let stands : StandsFor f.callbacks after last = led.1.1 in
-          let follows : Follows stands.callback.body (local_step frame.draining (activation_with after last.rest) last.rest)
-          (Some further) =
-          subst (Follows stands.callback.body (local_step frame.draining (activation_with after last.rest) last.rest)) is
-          (step_follows laws f g loaded stands.callback after stands.is frame.draining last.rest stands.stands) in
+          let body : List Statement = body_at f.callbacks after.callback in
+          let follows : Follows body (local_step frame.draining (activation_with after last.rest) last.rest) (Some further) =
+          subst (Follows body (local_step frame.draining (activation_with after last.rest) last.rest)) is
+          (step_follows laws f g loaded after frame.draining last.rest stands.stands) in
           let step : local_step frame.draining last last.rest ≡ Some (activation_with further follows.0) =
           subst (λ (x : Activation). local_step frame.draining x last.rest ≡ Some (activation_with further follows.0))
           (sym stands.same) follows.1.0 in
@@ -118,9 +122,8 @@ module _ (laws : Laws) (f : Filter) (g : Graph) (loaded : IsLoaded f g) (frame :
               ap (λ (n : ℕ). locally frame.draining n act) (add-one steps) ∙ more,
               record {
                 same = refl;
-                callback = stands.callback;
-                is = ap (λ (n : ℕ). slice_get f.callbacks n) kept.callback ∙ stands.is;
-                stands = follows.1.1;
+                stands = subst (λ (n : ℕ). StandsWith (body_at f.callbacks n) further.point further.turns follows.0) (sym kept.callback)
+                    follows.1.1;
               },
             ),
           )
@@ -141,8 +144,8 @@ module _ (laws : Laws) (f : Filter) (g : Graph) (loaded : IsLoaded f g) (frame :
           let last : Activation = led.0 in
           let stands : StandsFor f.callbacks after last = led.1.1 in
           let none : local_step frame.draining (activation_with after last.rest) last.rest ≡ None =
-          subst (Follows stands.callback.body (local_step frame.draining (activation_with after last.rest) last.rest)) is
-          (step_follows laws f g loaded stands.callback after stands.is frame.draining last.rest stands.stands) in
+          subst (Follows (body_at f.callbacks after.callback) (local_step frame.draining (activation_with after last.rest) last.rest)) is
+          (step_follows laws f g loaded after frame.draining last.rest stands.stands) in
           record {
             last = last;
             leads = record {
@@ -166,36 +169,21 @@ module _ (laws : Laws) (f : Filter) (g : Graph) (loaded : IsLoaded f g) (frame :
           subst (λ (y : Callback). is_small y ≡ true) (same_Some x c there) (and_parts (is_small x) (list_all is_small cs) small).0
       small_at (x ∷ cs) (suc k) c small there = small_at cs k c (and_parts (is_small x) (list_all is_small cs) small).1 there
 
+      few : (o : Option Callback) → slice_get f.callbacks frame.standing.callback ≡ o → cost (body_of o) + 1 ≤ max_cost
+      few None none = omega arith
+      few (Some c) there =
+          let small : is_small c ≡ true = small_at f.callbacks frame.standing.callback c loaded.well_formed.small there in
+          leb-true _ _ (and_parts (nat_le (points c.body + 1) max_points) (nat_le (cost c.body + 1) max_cost) small).1
+
       never : (act : Activation) → StandsFor f.callbacks frame.standing act →
           ((last : Activation) × ((locally frame.draining steps act ≡ Some last) × StandsFor f.callbacks after last)) → ⊥
       never act h led =
           let fall : cost led.0.rest + steps ≤ cost act.rest = costs_fall frame.draining steps act led.0 led.1.0 in
-          let whole : cost act.rest ≤ cost h.callback.body =
-          laws.cost h.callback.body frame.standing.point frame.standing.turns act.rest h.stands in
-          let small : is_small h.callback ≡ true = small_at f.callbacks frame.standing.callback h.callback loaded.well_formed.small h.is in
-          let few : cost h.callback.body + 1 ≤ max_cost =
-          leb-true _ _ (and_parts (nat_le (points h.callback.body + 1) max_points) (nat_le (cost h.callback.body + 1) max_cost) small).1 in
+          let whole : cost act.rest ≤ cost (body_at f.callbacks frame.standing.callback) =
+          laws.cost (body_at f.callbacks frame.standing.callback) frame.standing.point frame.standing.turns act.rest h.stands in
+          let less : cost (body_at f.callbacks frame.standing.callback) + 1 ≤ max_cost =
+          few (slice_get f.callbacks frame.standing.callback) refl in
           omega arith
-
--- ---- filters by number
-
--- a graph is that of the filter of its number
-pub loaded_at : (p : List Filter) (gs : List Graph) (n : ℕ) (g : Graph) → AreLoaded p gs → slice_get gs n ≡ Some g →
-    IsLoaded (filter_at p n) g
-loaded_at [] [] n g made is = absurd (none-some g is)
-loaded_at (f ∷ p) (h ∷ gs) zero g made is = subst (IsLoaded f) (same_Some h g is) made.0
-loaded_at (f ∷ p) (h ∷ gs) (suc n) g made is = loaded_at p gs n g made.1 is
-loaded_at [] (h ∷ gs) n g made is = absurd made
-loaded_at (f ∷ p) [] n g made is = absurd made
-
--- where there is no graph there is no callback
-pub none_at : (p : List Filter) (gs : List Graph) (n k : ℕ) (c : Callback) → AreLoaded p gs → slice_get gs n ≡ None →
-    slice_get (callbacks_at p n) k ≡ Some c → ⊥
-none_at [] [] n k c made is there = none-some c there
-none_at (f ∷ p) (h ∷ gs) zero k c made is there = none-some h (sym is)
-none_at (f ∷ p) (h ∷ gs) (suc n) k c made is there = none_at p gs n k c made.1 is there
-none_at [] (h ∷ gs) n k c made is there = absurd made
-none_at (f ∷ p) [] n k c made is there = absurd made
 
 -- ---- answers
 
@@ -207,11 +195,23 @@ put_together cs a frame steps frame_is steps_is advance =
     (λ i. record { frame = sym frame_is i; after = a.after; steps = sym steps_is i }) in
     subst (λ (x : Advanced). IsAdvanceOn cs x) same advance
 
--- where the frame's filter isn't there, the frame stands for nothing
-pub stays : (p : List Filter) (gs : List Graph) (frame : Frame) → AreLoaded p gs → slice_get gs frame.filter ≡ None →
+-- where the frame's filter isn't there, nothing remains of what the frame stands for
+pub stays : (p : List Filter) (gs : List Graph) (frame : Frame) → AreGraphsOfFilters p gs → slice_get gs frame.filter ≡ None →
     IsAdvance p (record { frame = frame; after = frame.standing; steps = 0 })
 stays p gs frame made none = record {
   gained = refl;
   lost = refl;
-  leads = λ act h. absurd (none_at p gs frame.filter frame.standing.callback h.callback made none h.is);
+  leads = λ act h. record {
+    last = act;
+    leads = record {
+      steps_are = refl;
+      seen = ap (λ (l : List Statement). local_step frame.draining act l) (nothing act h);
+    };
+    after = h;
+  };
 }
+  where
+    nothing : (act : Activation) → StandsFor (callbacks_at p frame.filter) frame.standing act → act.rest ≡ []
+    nothing act h =
+        nothing_stands (subst (λ (f : Filter). Stands (body_at f.callbacks frame.standing.callback) frame.standing.point act.rest)
+        (none_at p gs frame.filter made none) h.stands.stands)

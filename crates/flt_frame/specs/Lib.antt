@@ -5,3 +5,4 @@ pub mod Standings
 pub mod Steps
 pub mod Leads
 pub mod Loading
+pub mod Firsts

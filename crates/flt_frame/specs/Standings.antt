@@ -1,9 +1,10 @@
 -- What is kept of an activation, in place of the statements that remain of it: a point, with the turns that are left. This project's
 -- own representation of the machine's activations.
-use Rattle.std.specs.Prelude.{◌≡◌, false, List, Some, slice_get}
+use Rattle.std.specs.Prelude.{◌≡◌, false, List, slice_get}
 use Rattle.flt_tree.specs.declared.filter.Callback.{Callback}
 use Rattle.flt_tree.specs.declared.filter.Statement.{Statement}
 use Rattle.flt_graph.specs.Turns.{StandsWith}
+use Rattle.flt_model.specs.Program.{body_of}
 use Rattle.flt_model.specs.World.{Activation}
 use Rattle.flt_frame.specs.declared.standing.Standing.{Standing}
 
@@ -23,12 +24,10 @@ abbrev pub with_variables : Standing → Activation → Standing
 with_variables s act = record s { numbers = act.numbers; contexts = act.contexts; operations = act.operations }
 
 -- a standing in one of a filter's callbacks stands for an activation: the activation goes on, variables and locks are the same, and
--- what remains of it stands at the point, with the turns
+-- what remains of it stands at the point, with the turns; a callback that isn't there has an empty body
 pub record StandsFor (cs : List Callback) (s : Standing) (act : Activation) : Type 0 where
   pub same : act ≡ activation_with s act.rest
-  pub callback : Callback
-  pub is : slice_get cs s.callback ≡ Some callback
-  pub stands : StandsWith callback.body s.point s.turns act.rest
+  pub stands : StandsWith (body_of (slice_get cs s.callback)) s.point s.turns act.rest
 
 -- ---- parts of a standing
 

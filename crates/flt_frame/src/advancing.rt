@@ -51,7 +51,7 @@ fn advance_on(graph: &Graph, frame: Frame) -> Advanced
 /// Makes the local steps of a frame, up to the next step that others see. The machine isn't needed for it, and nothing is gained or lost.
 pub fn advance(loaded: &Loaded, frame: Frame) -> Advanced
     ensures frame { result.frame ≡ frame }
-    ensures advance { (p : List Filter) → AreLoaded p loaded.now.graphs → IsAdvance p result }
+    ensures advance { (p : List Filter) → AreLoaded p loaded.now → IsAdvance p result }
 {
     match loaded.graphs.get(frame.filter) {
         Some(graph) => advance_on(graph, frame),

@@ -6,18 +6,23 @@
 #![tactic(auto)]
 
 mod advancing;
+mod fault;
 mod frame;
 mod held_locks;
 mod loaded;
+mod loading;
 mod local;
+mod points;
 mod standing;
 mod turns;
 
 pub use advancing::advance;
-pub use flt_graph::{Graph, Turn};
+pub use fault::LoadedFault;
+pub use flt_graph::{Graph, Instruction, Operation, Place, Turn};
 pub use flt_rules::HeldLock;
 pub use frame::{Advanced, Frame};
 pub use held_locks::HeldLocks;
 pub use loaded::Loaded;
+pub use points::standings_have_points;
 pub use standing::Standing;
 pub use turns::Turns;

@@ -1,6 +1,7 @@
 //! How far an activation has come, and its variables.
 
-ghost use Rattle.std.specs.Prelude.{◌≡◌, ◌↔◌, [], List, Some, slice_get, IsTrue};
+ghost use Rattle.std.specs.Prelude.{◌≡◌, ◌↔◌, [], List, slice_get, IsTrue};
+ghost use Rattle.flt_model.specs.Program as program;
 ghost use Rattle.flt_model.specs.Variables as model;
 ghost use Rattle.flt_frame.specs.Standings as spec;
 ghost use Rattle.flt_tree.specs.declared.filter.Callback.{Callback};
@@ -42,10 +43,10 @@ fn are_same_names(left: &[Option<usize>], right: &[Option<usize>]) -> bool
 }
 
 impl Standing {
-    /// At entry all is 0 or NULL but the given operation and the given context. Nothing is gained or lost yet.
+    /// At entry all is 0 or NULL but the given operation and the given context. Nothing is gained or lost yet. A callback that isn't
+    /// there has an empty body.
     pub fn starting(callback: usize, given: Option<usize>, arg: Option<usize>) -> Standing
-        ensures stands { (cs : List Callback) (c : Callback) → slice_get cs callback ≡ Some c →
-            spec.StandsFor cs result (model.starting c.body given arg) }
+        ensures stands { (cs : List Callback) → spec.StandsFor cs result (model.starting (program.body_of (slice_get cs callback)) given arg) }
         ensures gained { result.gained ≡ 0 }
         ensures lost { result.lost ≡ 0 }
     {

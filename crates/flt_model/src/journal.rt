@@ -1,6 +1,6 @@
 //! Journals as values.
 
-ghost use Rattle.std.specs.Prelude.{◌≡◌, [], ◌∷◌, ◌++◌, length, slice_get, OnOk, OnErr};
+ghost use Rattle.std.specs.Prelude.{◌≡◌, [], ◌∷◌, ◌++◌, length, slice_get, MatchOption, OnOk, OnErr};
 ghost use Rattle.std.specs.Option.{option_copied};
 
 use crate::moves::JournalEntry;
@@ -38,6 +38,13 @@ impl Journal {
         ensures err { OnErr result (self.new ≡ self.old) }
     {
         self.entries.push(entry)
+    }
+
+    /// Takes the last entry back out; none where there is no entry.
+    pub fn pop(&mut self) -> Option<JournalEntry>
+        ensures { MatchOption result ((self.old ≡ []) × (self.new ≡ [])) (λ e. self.old ≡ self.new ++ e ∷ []) }
+    {
+        self.entries.pop()
     }
 
     /// How many entries there are.

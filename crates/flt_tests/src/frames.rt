@@ -1,9 +1,7 @@
 //! Local steps of frames: how many there are, and where they lead.
 
 use flt_frame::{Frame, Loaded, Standing, advance};
-use flt_graph::lower;
 use flt_syntax::parse;
-use sqlite_items::Items;
 use std::alloc::Global;
 use std::test::Fail;
 
@@ -74,10 +72,9 @@ const STOPS_IN_A_TURN: &str =
     "filter a altitude 100\npre read {\nrepeat 2 {\nrepeat 3 {\nn0 = n0 - 1\nif irp data {\n}\n}\n}\nreturn NO_CALLBACK\n}\n";
 
 fn filter_of(alloc: Global, text: &str) -> Result<Loaded, Fail> {
-    let tree = parse(alloc, text.as_bytes())?;
-    let mut graphs = Items::new(alloc);
-    graphs.push(lower(alloc, &tree)?)?;
-    Ok(Loaded { graphs })
+    let mut trees = Vec::new(alloc);
+    trees.push(parse(alloc, text.as_bytes())?)?;
+    Ok(Loaded::new(alloc, trees)?)
 }
 
 fn frame(standing: Standing, draining: bool) -> Frame {

@@ -284,6 +284,10 @@ fn both_ways(
     let mut out = Kept::new(alloc, None);
     assert!(rt; write(&made, &mut out).is_ok());
     assert_eq!(rt; out.bytes.as_slice(), text.as_bytes());
+    for entry in entries.iter().rev() {
+        assert!(rt; made.pop() == Some(*entry));
+    }
+    assert!(rt; made.pop().is_none());
     Ok(())
 }
 

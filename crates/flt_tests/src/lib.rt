@@ -9,6 +9,8 @@ mod contexts;
 #[cfg(test)]
 mod dice;
 #[cfg(test)]
+mod filters;
+#[cfg(test)]
 mod findings;
 #[cfg(test)]
 mod frames;
