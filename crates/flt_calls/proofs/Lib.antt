@@ -1,3 +1,4 @@
 pub mod Called
 pub mod Owned
 pub mod Queued
+pub mod Tallies

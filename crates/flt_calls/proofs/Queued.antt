@@ -20,7 +20,8 @@ use Rattle.flt_calls.proofs.Owned.{AreUpTo, own_call, gains_up_to, loses_up_to}
 
 -- a plan that follows a call's own events and its uses
 pub owned_call : (store : Store) (c : Caller) (plan : Plan) (k : Call) (own es : List Event) (needs : List (Option Object))
-    (effect : World → List Statement → List Statement → Step) → es ≡ event.Call c.activation k ∷ (own ++ (uses c.activation needs ++ empties c.activation needs)) → Follows store c es plan effect →
+    (effect : World → List Statement → List Statement → Step) →
+    es ≡ event.Call c.activation k ∷ (own ++ (uses c.activation needs ++ empties c.activation needs)) → Follows store c es plan effect →
     AreUpTo c.activation 1 own → length needs ≤ 4 → ((w : World) → AreUpTo c.activation 8 (effect w [] []).events) → AreOwn c.activation plan.events
 owned_call store c plan k own es needs effect is planned mine small done =
     of_events (AreOwn c.activation) store c plan (λ w granted refused. calling w c.activation k own needs (effect w granted refused))
@@ -41,7 +42,8 @@ module _ (w : World) (a : ℕ) where
   enqueued_up_to granted refused v x = chosen (is_attached (presence_at w.store (actor_at w a).filter))
     where
       entered : Step
-      entered = goes_on w a (onward w a granted) (with_entry w a (record { visit = v; context = x })) (event.Lose a (Visit v) ∷ loses_context a x)
+      entered = goes_on w a (onward w a granted) (with_entry w a (record { visit = v; context = x }))
+          (event.Lose a (Visit v) ∷ loses_context a x)
 
       chosen : (b : Bool) → AreUpTo a 8 (if b then entered else unchanged w a refused).events
       chosen true = one_more a (event.Lose a (Visit v)) (loses_context a x) (refl, tt) (loses_up_to a x)

@@ -12,4 +12,5 @@ use Rattle.flt_calls.specs.declared.plans.Plan.{Plan}
 abbrev pub Follows : Store → Caller → List Event → Plan → (World → List Statement → List Statement → Step) → Type 0
 Follows store c earlier plan step =
     (actors : List Actor) (activations : List Activation) (granted refused : List Statement) → IsCaller actors activations c →
-    IsPlanned (world_of store actors activations) c.activation plan earlier granted refused (step (world_of store actors activations) granted refused)
+    IsPlanned (world_of store actors activations) c.activation plan earlier granted refused
+    (step (world_of store actors activations) granted refused)

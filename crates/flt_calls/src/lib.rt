@@ -7,6 +7,7 @@
 
 mod caller;
 mod contexts;
+mod continuing;
 mod effects;
 mod locking;
 mod plans;
@@ -14,6 +15,7 @@ mod queueing;
 mod reads;
 
 pub use caller::Caller;
+pub use continuing::continued;
 pub use plans::{Plan, Write};
 /// What a plan answers that was refused memory.
 pub use std::alloc::AllocError as OutOfMemory;
