@@ -1,3 +1,5 @@
 pub mod Answering
 pub mod Called
 pub mod Owned
+pub mod Queued
+pub mod Tallies

@@ -1,2 +1,4 @@
 pub mod Own
 pub mod Plans
+pub mod Following
+pub mod Continuing

@@ -1,5 +1,5 @@
 -- Plans: what a step that others see comes to, found out by reading alone.
-use Rattle.std.specs.Prelude.{◌≡◌, ℕ, ◌+◌, Bool, true, false, List, [], ◌∷◌, ◌++◌, Option, Some, None, set, get_or, slice_get, if◌then◌else◌}
+use Rattle.std.specs.Prelude.{◌≡◌, ℕ, ◌+◌, Bool, true, false, List, [], ◌∷◌, ◌++◌, Option, Some, None, set, get_or, if◌then◌else◌}
 use Rattle.flt_rules.specs.Held.{held, without_last}
 use Rattle.flt_tree.specs.declared.filter.Callback.{Callback}
 use Rattle.flt_tree.specs.declared.filter.Statement.{Statement, out-Statement}
@@ -12,7 +12,7 @@ use Rattle.flt_graph.specs.Turns.{StandsWith}
 use Rattle.flt_model.specs.declared.event.Event.{Event}
 use Rattle.flt_model.specs.declared.event.Object.TheVariants.{Visit}
 use Rattle.flt_model.specs.Effects.{Step, onward}
-use Rattle.flt_model.specs.Program.{body_of}
+use Rattle.flt_model.specs.Program.{body_at}
 use Rattle.flt_model.specs.Steps.{leaves_choice}
 use Rattle.flt_model.specs.Trace.{gains, loses}
 use Rattle.flt_model.specs.Variables.{operation_in, with_number, with_context_in, with_operation_in, with_old}
@@ -89,13 +89,12 @@ list_or_none (Some list) = list
 abbrev pub remaining_by : List Statement → Bool → List Statement
 remaining_by list outcome = list_or_none (remaining list outcome)
 
--- a standing after a planned step that doesn't end the activation
+-- a standing after a planned step that doesn't end the activation: what remains then stands in the same callback
 pub record IsWritten (cs : List Callback) (s later : Standing) (plan : Plan) (rest : List Statement) : Type 0 where
   pub variables : activation_with later [] ≡ written plan.write (activation_with s [])
   pub callback : later.callback ≡ s.callback
   pub given : given_of later ≡ given_of s
-  pub stands : StandsWith (body_of (slice_get cs s.callback)) s.point s.turns rest →
-      StandsWith (body_of (slice_get cs s.callback)) later.point later.turns (remaining_by rest plan.granted)
+  pub stands : StandsWith (body_at cs s.callback) later.point later.turns (remaining_by rest plan.granted)
 
 -- its counts go on by the plan's events
 pub record IsCountedOn (a : ℕ) (s later : Standing) (plan : Plan) : Type 0 where

@@ -7,6 +7,7 @@
 
 mod caller;
 mod contexts;
+mod continuing;
 mod effects;
 mod locking;
 mod plans;
@@ -16,6 +17,7 @@ mod reads;
 mod settling;
 
 pub use caller::Caller;
+pub use continuing::continued;
 pub use plans::{Plan, Write};
 pub use planning::plan_step;
 /// What a plan answers that was refused memory.

@@ -1,16 +1,67 @@
 //! Calls on locks.
 
-ghost use Rattle.std.specs.Prelude.{List, IfOk};
+ghost use Rattle.std.specs.Prelude.{◌≡◌, List, IfOk};
 ghost use Rattle.flt_model.specs.Calls as calls;
+ghost use Rattle.flt_model.specs.World as machine;
+ghost use Rattle.flt_rules.specs.Held as rules;
+ghost use Rattle.flt_calls.specs.Following.{Follows};
 ghost use Rattle.flt_calls.specs.Plans.{Plans};
 ghost use Rattle.flt_calls.specs.Own.{AreOwn};
 ghost use Rattle.flt_store.specs.Changes.{AreCounted, IsPossible};
 
 use crate::caller::Caller;
-use crate::plans::Plan;
-use flt_rules::{LockKind, LockNumber};
-use flt_store::Store;
+use crate::plans::{Plan, Write, made_plan};
+use flt_frame::HeldLocks;
+use flt_model::Event;
+use flt_rules::{Access, Call, LockKind, LockNumber};
+use flt_store::{Change, Store};
 use std::alloc::{AllocError, Global};
+
+fn holds_lock(lock: LockNumber, locks: &HeldLocks) -> bool
+    ensures { result ≡ rules.holds_lock lock locks.now }
+{
+    locks.as_slice().iter().any(|held| lock.is_same(held.lock))
+}
+
+/// The lock is the latest of the list, and the activation is one of its holders.
+fn taken(caller: &Caller, lock: LockNumber, access: Access, events: Vec<Event>) -> Plan
+    ensures planned { (s : machine.Store) → Follows s caller.now events.items result
+        (λ w granted refused. calls.taken w caller.now.activation lock access granted) }
+    ensures events { result.events ≡ events.items }
+    ensures possible { (s : machine.Store) → IsPossible s result.change }
+{
+    let a = caller.activation;
+    if holds_lock(lock, &caller.standing.locks) {
+        made_plan(events, true, Write::Nothing, Change::Nothing)
+    } else {
+        made_plan(
+            events,
+            true,
+            Write::Take(lock, access),
+            Change::TakeLock(caller.filter, lock, a, access),
+        )
+    }
+}
+
+/// The last entry of the lock leaves the list, and the activation is none of its holders.
+fn given_up(caller: &Caller, lock: LockNumber, events: Vec<Event>) -> Plan
+    ensures planned { (s : machine.Store) → Follows s caller.now events.items result
+        (λ w granted refused. calls.given_up w caller.now.activation lock granted) }
+    ensures events { result.events ≡ events.items }
+    ensures possible { (s : machine.Store) → IsPossible s result.change }
+{
+    let a = caller.activation;
+    if holds_lock(lock, &caller.standing.locks) {
+        made_plan(
+            events,
+            true,
+            Write::GiveUp(lock),
+            Change::GiveUpLock(caller.filter, lock, a),
+        )
+    } else {
+        made_plan(events, true, Write::Nothing, Change::Nothing)
+    }
+}
 
 /// KeAcquireSpinLock, ExAcquireFastMutex, FltAcquirePushLockExclusive: a lock that the activation holds already isn't taken again.
 pub(crate) fn acquire(
@@ -20,11 +71,17 @@ pub(crate) fn acquire(
     kind: LockKind,
     lock: LockNumber,
 ) -> Result<Plan, AllocError>
-    ensures planned { IfOk result (λ plan. Plans store.now caller.now plan (λ w granted refused. calls.acquire w caller.now.activation kind lock granted)) }
+    ensures planned { IfOk result (λ plan. Plans store.now caller.now plan
+        (λ w granted refused. calls.acquire w caller.now.activation kind lock granted)) }
     ensures own { IfOk result (λ plan. AreOwn caller.now.activation plan.events) }
     ensures possible { IfOk result (λ plan. AreCounted store.now → IsPossible store.now plan.change) }
 {
-    Err(AllocError)
+    let _ = store;
+    let a = caller.activation;
+    let mut events = Vec::new(alloc);
+    events.push(Event::Call(a, Call::AcquireLock(kind)))?;
+    events.push(Event::Lock(a, lock))?;
+    Ok(taken(caller, lock, Access::Exclusive, events))
 }
 
 /// FltAcquirePushLockShared.
@@ -34,11 +91,17 @@ pub(crate) fn acquire_shared(
     caller: &Caller,
     lock: LockNumber,
 ) -> Result<Plan, AllocError>
-    ensures planned { IfOk result (λ plan. Plans store.now caller.now plan (λ w granted refused. calls.acquire_shared w caller.now.activation lock granted)) }
+    ensures planned { IfOk result (λ plan. Plans store.now caller.now plan
+        (λ w granted refused. calls.acquire_shared w caller.now.activation lock granted)) }
     ensures own { IfOk result (λ plan. AreOwn caller.now.activation plan.events) }
     ensures possible { IfOk result (λ plan. AreCounted store.now → IsPossible store.now plan.change) }
 {
-    Err(AllocError)
+    let _ = store;
+    let a = caller.activation;
+    let mut events = Vec::new(alloc);
+    events.push(Event::Call(a, Call::AcquirePushLockShared))?;
+    events.push(Event::Lock(a, lock))?;
+    Ok(taken(caller, lock, Access::Shared, events))
 }
 
 /// KeReleaseSpinLock, ExReleaseFastMutex, FltReleasePushLock: a lock that the activation doesn't hold isn't released.
@@ -49,9 +112,15 @@ pub(crate) fn release_lock(
     kind: LockKind,
     lock: LockNumber,
 ) -> Result<Plan, AllocError>
-    ensures planned { IfOk result (λ plan. Plans store.now caller.now plan (λ w granted refused. calls.release_lock w caller.now.activation kind lock granted)) }
+    ensures planned { IfOk result (λ plan. Plans store.now caller.now plan
+        (λ w granted refused. calls.release_lock w caller.now.activation kind lock granted)) }
     ensures own { IfOk result (λ plan. AreOwn caller.now.activation plan.events) }
     ensures possible { IfOk result (λ plan. AreCounted store.now → IsPossible store.now plan.change) }
 {
-    Err(AllocError)
+    let _ = store;
+    let a = caller.activation;
+    let mut events = Vec::new(alloc);
+    events.push(Event::Call(a, Call::ReleaseLock(kind)))?;
+    events.push(Event::Unlock(a, lock))?;
+    Ok(given_up(caller, lock, events))
 }

@@ -140,7 +140,7 @@ module _ (p : List Filter) (m : Moment) (a : ℕ) (cs : List Callback) (s : Stan
           written_with plan.write s later (remaining_by (activation_at m.world a).rest plan.granted) goes w.variables
       stands : StandsWith (body_of (slice_get cs later.callback)) later.point later.turns (remaining_by (activation_at m.world a).rest plan.granted)
       stands = subst (λ (k : ℕ). StandsWith (body_of (slice_get cs k)) later.point later.turns (remaining_by (activation_at m.world a).rest plan.granted)) (sym w.callback)
-          (w.stands kept.stands.stands)
+          w.stands
 
 -- a planned step that goes on
 pub planned_on : (p : List Filter) (m : Moment) (a : ℕ) (s later : Standing) (plan : Plan) (step : Step) →
