@@ -9,6 +9,7 @@ ghost use Rattle.flt_model.specs.Program.{filter_of};
 ghost use Rattle.flt_model.specs.World.{Actor, Activation};
 ghost use Rattle.flt_tree.specs.declared.filter.Filter.{Filter};
 
+use crate::moves::calls_pre;
 use flt_frame::Loaded;
 use flt_model::Move;
 use flt_store::Store;
@@ -18,7 +19,21 @@ pub fn next_of(loaded: &Loaded, store: &Store, serial: u32) -> Option<Move>
     ensures { (p : List Filter) (actors : List Actor) (activations : List Activation) → AreLoaded p loaded.now →
         length store.now.presences ≡ length p → result ≡ spec.next_of p (world_of store.now actors activations) serial }
 {
-    None
+    if let Some(filter) = store.filter_at(serial) {
+        let kind = store.arrival(serial).kind;
+        return Some(if calls_pre(loaded, store, filter, kind) {
+            Move::Pre { serial }
+        } else {
+            Move::Skip { serial }
+        });
+    }
+    if store.is_past_filters(serial) {
+        return Some(Move::Lower { serial });
+    }
+    match store.frame_at(serial) {
+        Some(_) => Some(Move::Post { serial }),
+        None => None,
+    }
 }
 
 /// The move of the teardown of the filter at an altitude; none where it isn't being detached, or where only its activations are left.
