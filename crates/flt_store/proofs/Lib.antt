@@ -1,2 +1,6 @@
+pub mod Counts
+pub mod Emptied
+pub mod Fresh
+pub mod Linked
 pub mod Reading
 pub mod Carried

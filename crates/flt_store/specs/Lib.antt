@@ -1,3 +1,4 @@
 pub mod Parts
+pub mod Waiting
 pub mod Stores
 pub mod Changes

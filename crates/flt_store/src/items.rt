@@ -1,6 +1,6 @@
 //! Work items by number. Those that have started are gone.
 
-ghost use Rattle.std.specs.Prelude.{◌≡◌, [], ◌∷◌, ◌++◌, length, set, get_or, Some, None, OnOk, OnErr};
+ghost use Rattle.std.specs.Prelude.{◌≡◌, [], ◌∷◌, ◌++◌, length, set, get_or, Some, None, IfOk, OnOk, OnErr};
 ghost use Rattle.std.specs.List.{list_any};
 ghost use Rattle.flt_model.specs.Moves.{is_item_of};
 
@@ -30,25 +30,35 @@ impl Model for Item {
 #[derive(Drop)]
 pub(crate) struct WorkItems {
     items: Vec<Option<Item>>,
+    /// By filter, how many of its items wait.
+    waiting: Vec<usize>,
 }
 
 impl Model for WorkItems {
     ghost use Rattle.std.specs.Prelude.{List, Option};
     ghost use Rattle.flt_model.specs.World as machine;
+    ghost use Rattle.flt_store.specs.Waiting.{AreCounted};
 
     ghost Value = { List (Option machine.Item) };
 
     ghost view = { λ w. w.items.items };
+
+    ghost invariant = { λ w. AreCounted w.items.items w.waiting.items };
 }
 
 impl WorkItems {
-    /// No items.
-    pub(crate) fn new(alloc: Global) -> WorkItems
-        ensures { result ≡ [] }
+    /// No items, with a count for each of so many filters.
+    pub(crate) fn new(alloc: Global, filters: usize) -> Result<WorkItems, AllocError>
+        ensures { IfOk result (λ items. items ≡ []) }
     {
-        WorkItems {
-            items: Vec::new(alloc),
+        let mut waiting = Vec::new(alloc);
+        for _ in 0..filters {
+            waiting.push(0)?;
         }
+        Ok(WorkItems {
+            items: Vec::new(alloc),
+            waiting,
+        })
     }
 
     /// How many there have been.
@@ -68,11 +78,14 @@ impl WorkItems {
         }
     }
 
-    /// Whether an item of the filter waits.
+    /// Whether an item of the filter waits. That of a filter without a count is looked for.
     pub(crate) fn has_of(&self, filter: usize) -> bool
         ensures { result ≡ list_any (is_item_of filter) self.now }
     {
-        self.items.iter().any(|item| is_of(filter, item))
+        match self.waiting.get(filter) {
+            Some(waiting) => *waiting > 0,
+            None => self.items.iter().any(|item| is_of(filter, item)),
+        }
     }
 
     /// One more item.
@@ -81,6 +94,9 @@ impl WorkItems {
         ensures refused { OnErr result (self.new ≡ self.old) }
     {
         self.items.push(Some(item))?;
+        if item.filter < self.waiting.len() {
+            self.waiting[item.filter] += 1;
+        }
         Ok(())
     }
 
@@ -88,8 +104,11 @@ impl WorkItems {
     pub(crate) fn take(&mut self, item: usize)
         ensures { self.new ≡ set self.old item None }
     {
-        if item < self.items.len() {
+        if let Some(taken) = self.get(item) {
             self.items[item] = None;
+            if taken.filter < self.waiting.len() {
+                self.waiting[taken.filter] -= 1;
+            }
         }
     }
 }

@@ -9,7 +9,7 @@ ghost use Rattle.flt_model.specs.World as spec;
 ghost use Rattle.flt_ops.specs.Operating as operating;
 ghost use Rattle.flt_ops.specs.Parts.{position_of, outcome_of, way_of};
 ghost use Rattle.flt_model.specs.declared.moves.Key.{Key};
-ghost use Rattle.flt_store.specs.Parts.{entry_of, link_of, presence_of};
+ghost use Rattle.flt_store.specs.Parts.{entry_of, key_of, link_of, presence_of};
 ghost use Rattle.flt_store.specs.Stores.{empty_store, is_emptied, order_of};
 
 use crate::holders::{Holders, unheld};
@@ -63,7 +63,22 @@ impl Store {
     pub fn new(alloc: Global, filters: usize) -> Result<Store, AllocError>
         ensures { IfOk result (λ store. store ≡ empty_store filters) }
     {
-        Err(AllocError)
+        let mut presences = Vec::new(alloc);
+        let mut holders = Vec::new(alloc);
+        for _ in 0..filters {
+            presences.push(Instance {
+                presence: Presence::Attached,
+            })?;
+            holders.push(unheld(alloc))?;
+        }
+        Ok(Store {
+            presences,
+            queues: Queues::new(alloc, filters)?,
+            holders,
+            operations: Operations::new(alloc, filters),
+            contexts: Contexts::new(alloc, filters)?,
+            items: WorkItems::new(alloc, filters)?,
+        })
     }
 
     // ---- filters
@@ -318,6 +333,47 @@ impl Store {
 
     // ---- teardown
 
+    /// The first key of a filter at which a context is linked: the instance, otherwise the stream with the least number.
+    pub fn first_key(&self, filter: usize) -> Option<Key>
+        ensures linked { IfSome result (λ key. is_some (spec.linked_at self.now (record { filter = filter; key = key })) ≡ true) }
+        ensures least { IfSome result (λ key. (other : Key) → is_some (spec.linked_at self.now (record { filter = filter; key = other })) ≡ true →
+            order_of key ≤ order_of other) }
+        ensures none { IfNone result (list_any (λ (c : spec.Context). moves.is_linked_by filter c.link) self.now.contexts ≡ false) }
+    {
+        let key = self.contexts.first_key(filter)?;
+        Some(key_in(key.target))
+    }
+
+    /// Whether the filter has nothing left but activations: no frame, no entry, no work item and no link.
+    pub fn is_empty_of(&self, filter: usize) -> bool
+        ensures { result ≡ is_emptied self.now filter }
+    {
+        !self.has_frame(filter)
+            && !self.has_entry(filter)
+            && !self.items.has_of(filter)
+            && !self.has_link(filter)
+    }
+
+    /// Whether an operation has a frame of the filter.
+    fn has_frame(&self, filter: usize) -> bool
+        ensures { result ≡ list_any (moves.has_frame filter) self.now.routes }
+    {
+        self.least_frame(filter).is_some()
+    }
+
+    /// Whether an entry waits in the filter's queue.
+    fn has_entry(&self, filter: usize) -> bool
+        ensures { result ≡ not (moves.is_empty (spec.queue_at self.now filter)) }
+    {
+        self.front(filter).is_some()
+    }
+
+    /// Whether a context is linked for the filter.
+    fn has_link(&self, filter: usize) -> bool
+        ensures { result ≡ list_any (λ (c : spec.Context). moves.is_linked_by filter c.link) self.now.contexts }
+    {
+        self.first_key(filter).is_some()
+    }
 }
 
 pub(crate) fn key_at(filter: usize, key: Key) -> At
@@ -328,4 +384,13 @@ pub(crate) fn key_at(filter: usize, key: Key) -> At
         Key::Instance => Target::Instance,
     };
     At { filter, target }
+}
+
+fn key_in(target: Target) -> Key
+    ensures { result ≡ key_of target }
+{
+    match target {
+        Target::Stream(file) => Key::Stream(file),
+        Target::Instance => Key::Instance,
+    }
 }

@@ -1,0 +1,40 @@
+-- The parts of a store before the first move.
+use Rattle.std.proofs.Common.{◌≡◌, ℕ, zero, suc, ◌≤◌, true, false, not, List, [], ◌∷◌, map, length, replicate, inl, inr, ap, sym, refl, ◌∙◌, arith}
+use Rattle.std.proofs.Math.ListN.{get_or}
+use Rattle.std.proofs.lemmas.Bool.{cases_lt}
+use Rattle.std.proofs.lemmas.List.{get_or-replicate, get_or_past, length-replicate}
+use Rattle.flt_cbdq.specs.Queues as cbdq
+use Rattle.flt_ctx.specs.Contexts as ctx
+use Rattle.flt_model.specs.World.{Presence, Attached, Detached, Holder, Entry, is_attached}
+use Rattle.flt_ops.specs.Operating.{Operating, no_operations}
+use Rattle.flt_store.specs.Parts.{entry_of}
+use Rattle.flt_store.specs.Stores.{AreParts}
+
+-- no filter is closed, and all are attached
+opened : (n f : ℕ) → get_or (replicate n false) f true ≡ not (is_attached (get_or (replicate n Attached) f Detached))
+opened n f = elim (cases_lt f n) [
+  | inl low ↦ get_or-replicate n f false true low ∙ sym (ap (λ (p : Presence). not (is_attached p)) (get_or-replicate n f Attached Detached low))
+  | inr past ↦
+      let long : length (replicate n false) ≤ f = omega (arith, past, length-replicate n false) in
+      let all : length (replicate n Attached) ≤ f = omega (arith, past, length-replicate n Attached) in
+      get_or_past (replicate n false) f true long ∙ sym (ap (λ (p : Presence). not (is_attached p)) (get_or_past (replicate n Attached) f Detached all))
+]
+
+pub fresh_parts : (presences : List Presence) (queues : cbdq.Queueing) (contexts : ctx.ContextTable) (operations : Operating)
+    (holders : List (List (List Holder))) (n : ℕ) → presences ≡ replicate n Attached →
+    queues ≡ record { queues = replicate n []; disabled = replicate n false } →
+    contexts ≡ record { contexts = []; closed = replicate n false } → operations ≡ no_operations n →
+    holders ≡ replicate n (replicate 8 []) → AreParts presences queues contexts operations holders
+fresh_parts presences queues contexts operations holders n attached empty none idle free =
+    let as_many : length presences ≡ n = ap (λ (ps : List Presence). length ps) attached ∙ length-replicate n Attached in
+    record {
+      filters = ap (λ (o : Operating). o.filters) idle ∙ sym as_many;
+      locked = ap (λ (hs : List (List (List Holder))). length hs) free ∙ length-replicate n (replicate 8 []) ∙ sym as_many;
+      closed = λ f. rw (none, attached) (opened n f);
+      disabled = λ f. rw (empty, attached) (opened n f);
+    }
+
+-- empty queues are the machine's
+pub no_entries : (n : ℕ) → map (map entry_of) (replicate n []) ≡ replicate n []
+no_entries zero = refl
+no_entries (suc n) = ap (λ (qs : List (List Entry)). [] ∷ qs) (no_entries n)
