@@ -176,7 +176,7 @@ pub fn decide(loaded: &Loaded, store: &Store, step: Move, active: bool) -> Optio
         }
         Move::Unlink { altitude, key } => teardown::unlink(store, loaded.number(altitude), key),
         Move::Detached { altitude } => {
-            None
+            teardown::detached(store, loaded.number(altitude), active)
         }
     }
 }

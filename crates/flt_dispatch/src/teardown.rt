@@ -67,3 +67,25 @@ pub(crate) fn unlink(store: &Store, filter: usize, key: Key) -> Option<Decision>
         change: Change::Unlink(context, None),
     })
 }
+
+/// Whether nothing of the filter is left: no frame, entry, work item, link or activation.
+pub(crate) fn is_drained(store: &Store, filter: usize, active: bool) -> bool
+    ensures { (actors : List Actor) (activations : List Activation) → active ≡ moves.has_active filter actors activations →
+        result ≡ moves.is_drained (world_of store.now actors activations) filter }
+{
+    store.is_empty_of(filter) && !active
+}
+
+/// The teardown ends.
+pub(crate) fn detached(store: &Store, filter: usize, active: bool) -> Option<Decision>
+    ensures decided { (p : List Filter) (actors : List Actor) (activations : List Activation) →
+        active ≡ moves.has_active filter actors activations →
+        Decides p (world_of store.now actors activations) result (moves.detached (world_of store.now actors activations) filter) }
+    ensures possible { IfSome result (λ d. IsPossible store.now d.change) }
+{
+    if store.is_detaching(filter) && is_drained(store, filter, active) {
+        Some(only(Change::Finish(filter)))
+    } else {
+        None
+    }
+}
