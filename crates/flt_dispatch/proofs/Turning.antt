@@ -76,13 +76,15 @@ module _ (p : List Filter) (w : World) (altitude f : ℕ) (at : f ≡ filter_of 
     -- nothing is left at all: the end
     pub ends : is_drained w f ≡ true → ComesNextOf p w altitude (Some (Detached altitude))
     ends e =
-        rw (sym at, detaching, framed, queued)
-        (none_linked w.store f unlinked,
-        ap (λ (b : Bool). if b then Some (Detached altitude) else None) (sym (end_enabled true e)))
+        rw (sym at, detaching, framed, queued) (
+          none_linked w.store f unlinked,
+          ap (λ (b : Bool). if b then Some (Detached altitude) else None) (sym (end_enabled true e)),
+        )
 
     -- something else is left: nothing yet
     pub waits : is_drained w f ≡ false → ComesNextOf p w altitude None
     waits e =
-        rw (sym at, detaching, framed, queued)
-        (none_linked w.store f unlinked,
-        ap (λ (b : Bool). if b then Some (Detached altitude) else None) (sym (end_enabled false e)))
+        rw (sym at, detaching, framed, queued) (
+          none_linked w.store f unlinked,
+          ap (λ (b : Bool). if b then Some (Detached altitude) else None) (sym (end_enabled false e)),
+        )

@@ -63,7 +63,11 @@ pub(crate) fn unlink(store: &Store, filter: usize, key: Key) -> Option<Decision>
     let context = store.linked_at(filter, key)?;
     Some(Decision {
         start: None,
-        freed: if store.is_last(context) { Some(context) } else { None },
+        freed: if store.is_last(context) {
+            Some(context)
+        } else {
+            None
+        },
         change: Change::Unlink(context, None),
     })
 }

@@ -19,7 +19,12 @@ fn may_cancel(store: &Store, filter: usize, serial: u32) -> bool
 }
 
 /// An entry of an operation that is cancelled, or of a filter that is being detached; CompleteCanceledIo starts with it.
-pub(crate) fn canceled(loaded: &Loaded, store: &Store, filter: usize, serial: u32) -> Option<Decision>
+pub(crate) fn canceled(
+    loaded: &Loaded,
+    store: &Store,
+    filter: usize,
+    serial: u32,
+) -> Option<Decision>
     ensures decided { DecidesIn loaded.now store.now result (λ p w. moves.canceled p w filter serial) }
     ensures possible { IfSome result (λ d. IsPossible store.now d.change) }
 {

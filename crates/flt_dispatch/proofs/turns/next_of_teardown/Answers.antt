@@ -10,8 +10,12 @@ returns-in-Some-clause-enabled c p actors activations loaded is =
 
 pub returns-then-is_drained-clause-next : goal.returns-then-is_drained-clause-next
 returns-then-is_drained-clause-next c p actors activations loaded is =
-    let t1 = c.in_default.ensures in
-    let t2 = c.in_default-front.ensures in
-    let t3 = c.in_default-first_key.ensures.none in
-    let t4 = c.if-is_drained.ensures in
-    ?
+    ends p (world_of c.args.store.now actors activations) c.args.altitude c.number-filter.result (c.number-filter.ensures p loaded)
+    (sym c.if-not-is_detaching.ensures) (sym c.in_default.ensures) c.in_default-front.ensures c.in_default-first_key.ensures.none
+    (sym (c.if-is_drained.ensures actors activations (rw (c.number-filter.ensures p loaded) is)))
+
+pub returns-else-is_drained-clause-next : goal.returns-else-is_drained-clause-next
+returns-else-is_drained-clause-next c p actors activations loaded is =
+    waits p (world_of c.args.store.now actors activations) c.args.altitude c.number-filter.result (c.number-filter.ensures p loaded)
+    (sym c.if-not-is_detaching.ensures) (sym c.in_default.ensures) c.in_default-front.ensures c.in_default-first_key.ensures.none
+    (sym (c.if-is_drained.ensures actors activations (rw (c.number-filter.ensures p loaded) is)))
