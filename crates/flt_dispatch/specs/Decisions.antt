@@ -9,8 +9,11 @@ use Rattle.flt_model.specs.Effects.{Step, gains_context}
 use Rattle.flt_model.specs.Moves.{gains_visit, has_active}
 use Rattle.flt_model.specs.Program.{body_at, callbacks_at, filter_of}
 use Rattle.flt_model.specs.Variables.{starting}
-use Rattle.flt_model.specs.World.{World, Actor, Activation}
+use Rattle.flt_model.specs.World.{World, Store, Actor, Activation}
+use Rattle.flt_frame.specs.Loading.{AreLoaded}
+use Rattle.flt_frame.specs.declared.loaded.Loaded.{Loaded}
 use Rattle.flt_store.specs.Changes.{after_change}
+use Rattle.flt_store.specs.Stores.{world_of}
 use Rattle.flt_dispatch.specs.declared.decision.Decision.{Decision}
 use Rattle.flt_dispatch.specs.declared.decision.Start.{Start}
 
@@ -60,6 +63,18 @@ abbrev pub Decides : List Filter → World → Option Decision → Option Step �
 Decides p w None None = Unit {0}
 Decides p w (Some d) (Some step) = IsDecided p w d step
 Decides p w _ _ = ⊥
+
+-- the decision for a move, in any world with this store, of any filters that are loaded so
+abbrev pub DecidesIn : Loaded → Store → Option Decision → (List Filter → World → Option Step) → Type 0
+DecidesIn l s decision step =
+    (p : List Filter) (actors : List Actor) (activations : List Activation) → AreLoaded p l → length s.presences ≡ length p →
+    Decides p (world_of s actors activations) decision (step p (world_of s actors activations))
+
+-- the same of a move that asks nothing of the filters
+abbrev pub DecidesAnywhere : Store → Option Decision → (World → Option Step) → Type 0
+DecidesAnywhere s decision step =
+    (p : List Filter) (actors : List Actor) (activations : List Activation) →
+    Decides p (world_of s actors activations) decision (step (world_of s actors activations))
 
 -- where the move ends a teardown: whether an activation of the filter goes on
 abbrev pub IsActive : List Filter → Move → Bool → List Actor → List Activation → Type 0

@@ -7,7 +7,9 @@
 
 mod decision;
 mod moves;
+mod teardown;
 mod turns;
+mod waiting;
 
 pub use decision::{Decision, Start};
 pub use moves::decide;
