@@ -103,7 +103,8 @@ pub record RepeatsFirst (s : Standing) (rest : List Statement) (turns : ℕ) : T
 -- what remains of an activation, where its standing's point has this instruction
 abbrev pub Remains : List Callback → Standing → List Statement → Instruction → Type 0
 Remains cs s rest (instruction.Act action next) = ActsFirst cs s rest action next
-Remains cs s rest (instruction.Call made granted refused) = CallsFirst cs s rest made granted refused ⊎ AsksCallFirst cs s rest made granted refused
+Remains cs s rest (instruction.Call made granted refused) =
+    CallsFirst cs s rest made granted refused ⊎ AsksCallFirst cs s rest made granted refused
 Remains cs s rest (instruction.Test test granted refused) = TestsFirst cs s rest test granted refused
 Remains cs s rest (instruction.Repeat turns block behind) = RepeatsFirst s rest turns
 Remains cs s rest (instruction.Return status) = ReturnsFirst rest status

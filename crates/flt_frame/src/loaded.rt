@@ -119,7 +119,8 @@ impl Loaded {
         ensures number { (p : List Filter) → spec.AreLoaded p self.now →
             result ≡ spec.callback_for (program.is_pre_of kind) (program.callbacks_at p filter) }
         ensures body { (p : List Filter) → spec.AreLoaded p self.now →
-            program.body_at (program.callbacks_at p filter) result ≡ program.body_for (program.is_pre_of kind) (program.callbacks_at p filter) }
+            program.body_at (program.callbacks_at p filter) result ≡
+            program.body_for (program.is_pre_of kind) (program.callbacks_at p filter) }
     {
         self.callback_for(filter, Place::Pre(kind))
     }
@@ -129,7 +130,8 @@ impl Loaded {
         ensures number { (p : List Filter) → spec.AreLoaded p self.now →
             result ≡ spec.callback_for (program.is_post_of kind) (program.callbacks_at p filter) }
         ensures body { (p : List Filter) → spec.AreLoaded p self.now →
-            program.body_at (program.callbacks_at p filter) result ≡ program.body_for (program.is_post_of kind) (program.callbacks_at p filter) }
+            program.body_at (program.callbacks_at p filter) result ≡
+            program.body_for (program.is_post_of kind) (program.callbacks_at p filter) }
     {
         self.callback_for(filter, Place::Post(kind))
     }

@@ -46,7 +46,8 @@ impl Standing {
     /// At entry all is 0 or NULL but the given operation and the given context. Nothing is gained or lost yet. A callback that isn't
     /// there has an empty body.
     pub fn starting(callback: usize, given: Option<usize>, arg: Option<usize>) -> Standing
-        ensures stands { (cs : List Callback) → spec.StandsFor cs result (model.starting (program.body_of (slice_get cs callback)) given arg) }
+        ensures stands { (cs : List Callback) →
+            spec.StandsFor cs result (model.starting (program.body_of (slice_get cs callback)) given arg) }
         ensures gained { result.gained ≡ 0 }
         ensures lost { result.lost ≡ 0 }
     {

@@ -15,7 +15,8 @@ returns-clause-first c =
       cost = c.lists_have_turns.ensures.cost;
       nested = c.lists_have_turns.ensures.nested;
     } in
-    λ p l filter s act made h. first_is laws (filter_at p filter) (graph_at l.graphs filter) (lowered_at p l.graphs filter made.graphs) s act.rest h.stands
+    λ p l filter s act made h. first_is laws (filter_at p filter) (graph_at l.graphs filter)
+    (lowered_at p l.graphs filter made.graphs) s act.rest h.stands
 
 pub returns-clause-next : goal.returns-clause-next
 returns-clause-next c =
@@ -27,7 +28,8 @@ returns-clause-next c =
       cost = c.lists_have_turns.ensures.cost;
       nested = c.lists_have_turns.ensures.nested;
     } in
-    λ p l filter s act outcome made h. next_is laws (filter_at p filter) (graph_at l.graphs filter) (lowered_at p l.graphs filter made.graphs) s act.rest h.stands outcome
+    λ p l filter s act outcome made h. next_is laws (filter_at p filter) (graph_at l.graphs filter)
+    (lowered_at p l.graphs filter made.graphs) s act.rest h.stands outcome
 
 pub returns-clause-told : goal.returns-clause-told
 returns-clause-told c =
@@ -39,4 +41,5 @@ returns-clause-told c =
       cost = c.lists_have_turns.ensures.cost;
       nested = c.lists_have_turns.ensures.nested;
     } in
-    λ p l filter s act made h. told_is laws (filter_at p filter) (graph_at l.graphs filter) (lowered_at p l.graphs filter made.graphs) s act.rest h.stands
+    λ p l filter s act made h. told_is laws (filter_at p filter) (graph_at l.graphs filter)
+    (lowered_at p l.graphs filter made.graphs) s act.rest h.stands

@@ -7,9 +7,11 @@ use Rattle.flt_frame.proofs.loaded.Loaded.canceled.Goals as goal
 pub returns-clause-number : goal.returns-clause-number
 returns-clause-number c = λ p made.
     c.callback_for.ensures
-    ∙ first_agrees place.Canceled is_canceled canceled_agrees _ _ _ (lowered_at p c.args.self.now.graphs c.args.filter made.graphs).callbacks
+    ∙ first_agrees place.Canceled is_canceled canceled_agrees _ _ _
+    (lowered_at p c.args.self.now.graphs c.args.filter made.graphs).callbacks
 
 pub returns-clause-body : goal.returns-clause-body
 returns-clause-body c = λ p made.
     body_agrees is_canceled (callbacks_at p c.args.filter) _ (c.callback_for.ensures
-    ∙ first_agrees place.Canceled is_canceled canceled_agrees _ _ _ (lowered_at p c.args.self.now.graphs c.args.filter made.graphs).callbacks)
+    ∙ first_agrees place.Canceled is_canceled canceled_agrees _ _ _
+    (lowered_at p c.args.self.now.graphs c.args.filter made.graphs).callbacks)
