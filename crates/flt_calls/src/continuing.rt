@@ -122,7 +122,11 @@ pub fn continued(standing: &Standing, instruction: Instruction, plan: &Plan) -> 
     requires few { length plan.now.events ≤ 16 }
     ensures written { (cs : List Callback) (rest : List Statement) → plans.is_end plan.now.write ≡ false → leads_on instruction ≡ true →
         Remains cs standing.now rest instruction → plans.IsWritten cs standing.now result plan.now rest }
+    ensures variables { plans.is_end plan.now.write ≡ false →
+        activation_with result [] ≡ plans.written plan.now.write (activation_with standing.now []) }
     ensures counted { (a : ℕ) → AreOf a plan.now.events → plans.IsCountedOn a standing.now result plan.now }
+    ensures few_gained { result.gained ≤ standing.now.gained + 16 }
+    ensures few_lost { result.lost ≤ standing.now.lost + 16 }
 {
     let point = point_after(instruction, plan.granted, standing.point);
     let counts = match standing.operation(OperationVariable::Data) {

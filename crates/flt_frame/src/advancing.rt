@@ -1,6 +1,6 @@
 //! Local steps, as many as come one after another.
 
-ghost use Rattle.std.specs.Prelude.{◌≡◌, List};
+ghost use Rattle.std.specs.Prelude.{◌≡◌, ◌≤◌, List};
 ghost use Rattle.flt_frame.specs.Leads.{IsAdvance, IsAdvanceOn};
 ghost use Rattle.flt_frame.specs.Loading.{AreLoaded, IsLoaded};
 ghost use Rattle.flt_frame.specs.Steps.{stepped};
@@ -28,6 +28,7 @@ fn further(graph: &Graph, advanced: &Advanced) -> Option<Standing>
 /// On the points of the frame's filter.
 fn advance_on(graph: &Graph, frame: Frame) -> Advanced
     ensures frame { result.frame ≡ frame }
+    ensures few { result.steps ≤ 1000000 }
     ensures advance { (f : Filter) → IsLoaded f graph.now → IsAdvanceOn f.callbacks result }
 {
     lists_have_points();
@@ -51,6 +52,7 @@ fn advance_on(graph: &Graph, frame: Frame) -> Advanced
 /// Makes the local steps of a frame, up to the next step that others see. The machine isn't needed for it, and nothing is gained or lost.
 pub fn advance(loaded: &Loaded, frame: Frame) -> Advanced
     ensures frame { result.frame ≡ frame }
+    ensures few { result.steps ≤ 1000000 }
     ensures advance { (p : List Filter) → AreLoaded p loaded.now → IsAdvance p result }
 {
     match loaded.graphs.get(frame.filter) {

@@ -1,5 +1,5 @@
 -- What the calls of a board promise.
-use Rattle.std.specs.Prelude.{◌≡◌, ◌⊎◌, ℕ, ◌+◌, Bool, true, false, not, List, [], ◌∷◌, ◌++◌, length, replicate, Option, Some, None}
+use Rattle.std.specs.Prelude.{◌≡◌, ◌≤◌, ◌⊎◌, ℕ, ◌+◌, Bool, true, false, not, List, [], ◌∷◌, ◌++◌, length, replicate, Option, Some, None}
 use Rattle.flt_rules.specs.declared.call.Call.{Call}
 use Rattle.flt_rules.specs.declared.call.Call.TheVariants as call
 use Rattle.flt_rules.specs.declared.call.LockNumber.{LockNumber}
@@ -51,9 +51,10 @@ IsFullFor b move = (length b.entries ≡ 1000000) ⊎ ((is_arrival move ≡ true
 
 -- ---- steps of activations
 
--- what is advanced was advanced on what is loaded
-abbrev pub IsAdvanced : Loaded → Advanced → Type 0
-IsAdvanced l advanced = (p : List Filter) → AreLoaded p l → IsAdvance p advanced
+-- what is advanced was advanced on what is loaded, as by `advance`
+pub record IsAdvanced (l : Loaded) (advanced : Advanced) : Type 0 where
+  pub few : advanced.steps ≤ 1000000
+  pub advance : (p : List Filter) → AreLoaded p l → IsAdvance p advanced
 
 -- the activation is in the state that the frame was taken from
 pub record IsFresh (b : Situation) (advanced : Advanced) : Type 0 where

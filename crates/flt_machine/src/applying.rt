@@ -1,0 +1,137 @@
+//! Moves.
+
+ghost use Rattle.std.specs.Prelude.{◌≡◌, ◌↔◌, ◌++◌, ◌∷◌, [], List, Err, is_some, IfOk, OnErr};
+ghost use Rattle.flt_dispatch.specs.Turns as turns;
+ghost use Rattle.flt_frame.specs.Loading.{AreLoaded};
+ghost use Rattle.flt_machine.specs.Calls as spec;
+ghost use Rattle.flt_machine.specs.Calls.{IsDisabled, IsFullFor};
+ghost use Rattle.flt_machine.specs.Situations.{IsBoard, IsOwn, Now};
+ghost use Rattle.flt_machine.specs.declared.fault.ApplyFault.TheVariants as fault;
+ghost use Rattle.flt_model.specs.Moves.{make};
+ghost use Rattle.flt_model.specs.Steps.{Make};
+ghost use Rattle.flt_model.specs.declared.moves.JournalEntry.TheVariants as journal_entry;
+ghost use Rattle.flt_tree.specs.declared.filter.Filter.{Filter};
+
+use crate::actor::Actor;
+use crate::board::{Board, MAX_ENTRIES};
+use crate::events::{Events, events_of};
+use crate::fault::ApplyFault;
+use crate::kept::Kept;
+use flt_dispatch::{Decision, Start, decide};
+use flt_frame::{Loaded, Standing};
+use flt_model::{JournalEntry, Move};
+use flt_ops::MAX_OPERATIONS;
+use std::alloc::{AllocError, Global};
+
+impl Board {
+    /// Makes a move.
+    pub fn apply(&mut self, alloc: Global, loaded: &Loaded, step: Move) -> Result<Events, ApplyFault>
+        requires own { IsOwn loaded.now self.old }
+        ensures own { (p : List Filter) → AreLoaded p loaded.now → IsBoard p self.old → IsBoard p self.new }
+        ensures made { IfOk result (λ events. Now loaded.now self.old (λ p m. spec.Makes p self.new [] (Make step) events.list m)) }
+        ensures written { IfOk result (λ events. self.new.entries ≡ self.old.entries ++ journal_entry.Move step ∷ []) }
+        ensures disabled { (result ≡ Err fault.NotEnabled) ↔ IsDisabled loaded.now self.old step }
+        ensures full { (result ≡ Err fault.Full) ↔ ((IsDisabled loaded.now self.old step → ⊥) × IsFullFor self.old step) }
+        ensures refused { OnErr result (self.new ≡ self.old) }
+    {
+        let active = self.is_active_for(loaded, step);
+        let Some(decision) = decide(loaded, &self.store, step, active) else {
+            return Err(ApplyFault::NotEnabled);
+        };
+        if self.is_full_for(step) {
+            return Err(ApplyFault::Full);
+        }
+        let list = self.make(alloc, step, &decision)?;
+        Ok(Events { list })
+    }
+
+    /// Whether a move is enabled.
+    pub fn enabled(&self, loaded: &Loaded, step: Move) -> bool
+        requires own { IsOwn loaded.now self.now }
+        ensures { Now loaded.now self.now (λ p m. result ≡ is_some (make p m.world step)) }
+    {
+        decide(loaded, &self.store, step, self.is_active_for(loaded, step)).is_some()
+    }
+
+    /// The enabled one of an operation's own moves: pre, skip, lower or post.
+    pub fn next_move(&self, loaded: &Loaded, serial: u32) -> Option<Move>
+        requires own { IsOwn loaded.now self.now }
+        ensures { Now loaded.now self.now (λ p m. result ≡ turns.next_of p m.world serial) }
+    {
+        flt_dispatch::next_of(loaded, &self.store, serial)
+    }
+
+    /// The move of the teardown of the filter at an altitude; none where it isn't being detached, or where only its activations are
+    /// left.
+    pub fn next_detach(&self, loaded: &Loaded, altitude: u32) -> Option<Move>
+        requires own { IsOwn loaded.now self.now }
+        ensures { Now loaded.now self.now (λ p m. turns.ComesNextOf p m.world altitude result) }
+    {
+        let active = self.has_active(loaded.number(altitude));
+        flt_dispatch::next_of_teardown(loaded, &self.store, altitude, active)
+    }
+
+    /// Whether an activation of the filter goes on whose teardown a move ends.
+    fn is_active_for(&self, loaded: &Loaded, step: Move) -> bool
+    {
+        match step {
+            Move::Detached { altitude } => self.has_active(loaded.number(altitude)),
+            _ => false,
+        }
+    }
+
+    fn is_full_for(&self, step: Move) -> bool
+        ensures { IsTrue result ↔ IsFullFor self.now step }
+    {
+        self.journal.len() >= MAX_ENTRIES
+            || (matches!(step, Move::Arrive { .. }) && self.store.operations() >= MAX_OPERATIONS)
+    }
+
+    /// A decision is made, and one entry more says so; or nothing is.
+    fn make(&mut self, alloc: Global, step: Move, decision: &Decision) -> Result<Items<Event>, AllocError>
+    {
+        let list = events_of(alloc, self.standings.len(), decision)?;
+        match decision.start {
+            Some(start) => self.start(alloc, step, decision, start)?,
+            None => self.write(step, decision)?,
+        }
+        Ok(list)
+    }
+
+    /// The store's part of a move that starts no activation.
+    fn write(&mut self, step: Move, decision: &Decision) -> Result<(), AllocError>
+    {
+        self.journal.push(JournalEntry::Move(step))?;
+        if let Err(refused) = self.store.perform(decision.change) {
+            self.journal.pop();
+            return Err(refused);
+        }
+        Ok(())
+    }
+
+    /// An activation starts.
+    fn start(&mut self, alloc: Global, step: Move, decision: &Decision, start: Start) -> Result<(), AllocError>
+    {
+        self.actors.reserve(1)?;
+        self.standings.reserve(1)?;
+        let kept = Kept::new(alloc, standing_of(start))?;
+        self.write(step, decision)?;
+        self.actors.push_reserved(Actor {
+            filter: start.filter,
+            place: start.place,
+            draining: start.draining,
+        });
+        self.standings.push_reserved(Some(kept));
+        Ok(())
+    }
+}
+
+/// How far an activation that starts has come. It has gained the visit that it is given.
+fn standing_of(start: Start) -> Standing
+{
+    let mut standing = Standing::starting(start.callback, start.given, start.arg);
+    if start.given.is_some() {
+        standing.gained = 1;
+    }
+    standing
+}
