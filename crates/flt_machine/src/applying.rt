@@ -1,6 +1,6 @@
 //! Moves.
 
-ghost use Rattle.std.specs.Prelude.{◌≡◌, ◌↔◌, ◌++◌, ◌∷◌, [], List, Err, is_some, IfOk, OnErr};
+ghost use Rattle.std.specs.Prelude.{◌≡◌, ◌↔◌, ◌++◌, ◌∷◌, [], List, Err, is_some, IsTrue, IfOk, OnErr};
 ghost use Rattle.flt_dispatch.specs.Turns as turns;
 ghost use Rattle.flt_frame.specs.Loading.{AreLoaded};
 ghost use Rattle.flt_machine.specs.Calls as spec;
@@ -19,8 +19,9 @@ use crate::fault::ApplyFault;
 use crate::kept::Kept;
 use flt_dispatch::{Decision, Start, decide};
 use flt_frame::{Loaded, Standing};
-use flt_model::{JournalEntry, Move};
+use flt_model::{Event, JournalEntry, Move};
 use flt_ops::MAX_OPERATIONS;
+use sqlite_items::Items;
 use std::alloc::{AllocError, Global};
 
 impl Board {

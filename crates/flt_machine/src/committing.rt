@@ -1,6 +1,6 @@
 //! Steps of activations.
 
-ghost use Rattle.std.specs.Prelude.{◌≡◌, ◌≢◌, ◌↔◌, ◌×◌, List, length, OnOk, OnErr, IfOk};
+ghost use Rattle.std.specs.Prelude.{◌≡◌, ◌≢◌, ◌↔◌, List, length, set, get_or, IsSome, IsTrue, Some, None, OnOk, OnErr, IfOk};
 ghost use Rattle.flt_frame.specs.Loading.{AreLoaded};
 ghost use Rattle.flt_machine.specs.Calls as spec;
 ghost use Rattle.flt_machine.specs.Calls.{IsAdvanced, IsBlocked, IsFresh};
@@ -11,8 +11,9 @@ ghost use Rattle.flt_tree.specs.declared.filter.Filter.{Filter};
 
 use crate::board::{Board, MAX_ENTRIES};
 use crate::events::Events;
+use crate::kept::Kept;
 use flt_calls::{Caller, Write, continued, plan_step};
-use flt_frame::{Advanced, Loaded};
+use flt_frame::{Advanced, Loaded, Standing};
 use flt_graph::Instruction;
 use flt_model::JournalEntry;
 use flt_rules::{Access, Call};
@@ -139,13 +140,33 @@ impl Board {
             self.journal.pop();
             return Err(refused);
         }
-        if matches!(plan.write, Write::End) {
-            self.standings[caller.activation] = None;
-        } else {
-            let later = continued(&caller.standing, instruction, &plan);
-            self.keep(caller.activation, later);
+        match plan.write {
+            Write::End => end(&mut self.standings, caller.activation),
+            _ => {
+                let later = continued(&caller.standing, instruction, &plan);
+                renew(&mut self.standings, caller.activation, later);
+            }
         }
         Ok(Events { list: plan.events })
+    }
+}
+
+/// The activation has ended.
+fn end(standings: &mut Vec<Option<Kept>>, activation: usize)
+    ensures { standings.new.items ≡ set standings.old.items activation None }
+{
+    if activation < standings.len() {
+        standings[activation] = None;
+    }
+}
+
+/// An activation that goes on is so from now on.
+fn renew(standings: &mut Vec<Option<Kept>>, activation: usize, later: Standing)
+    requires { IsSome (get_or standings.old.items activation None) }
+    ensures { standings.new.items ≡ set standings.old.items activation (Some later) }
+{
+    if let Some(Some(kept)) = standings.get_mut(activation) {
+        kept.set(later);
     }
 }
 

@@ -376,7 +376,7 @@ impl Store {
     }
 }
 
-fn key_at(filter: usize, key: Key) -> At
+pub(crate) fn key_at(filter: usize, key: Key) -> At
     ensures { link_of result ≡ record { filter = filter; key = key } }
 {
     let target = match key {
