@@ -14,6 +14,7 @@ mod planning;
 mod queueing;
 mod reads;
 mod settling;
+mod ways;
 
 pub use caller::Caller;
 pub use plans::{Plan, Write};
