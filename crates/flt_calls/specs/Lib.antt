@@ -1,3 +1,4 @@
+pub mod Completing
 pub mod Own
 pub mod Plans
 pub mod Returning

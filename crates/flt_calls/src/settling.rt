@@ -19,17 +19,19 @@ ghost use Rattle.flt_tree.specs.declared.filter.Filter.{Filter};
 ghost use Rattle.flt_tree.specs.declared.filter.Statement.{Statement};
 ghost use Rattle.flt_tree.specs.declared.variable.OperationVariable.TheVariants.{Data};
 ghost use Rattle.flt_calls.specs.Plans.{IsPlanned, Plans, PlansBy, world_of};
+ghost use Rattle.flt_calls.specs.Completing.{IsSettledBy, completes, completion_told, settled_told};
 ghost use Rattle.flt_calls.specs.Returning.{IsReturning, context_told, status_told, visit_told};
 ghost use Rattle.flt_calls.specs.Own.{AreOwn};
 ghost use Rattle.flt_ops.specs.Parts as parts;
 ghost use Rattle.flt_store.specs.Changes.{AreCounted, IsPossible};
 
 use crate::caller::Caller;
-use crate::effects::{context, lose_context, need};
+use crate::effects::{Named, context, lose_context, need, need_named};
 use crate::plans::{Plan, Write, made_plan};
 use crate::ways::{settles_visit, way_of};
 use flt_frame::{Loaded, Standing};
 use flt_model::{Answer, Event, Object};
+use flt_rules::Call;
 use flt_store::{Change, Store, Way};
 use flt_tree::{ContextVariable, OperationVariable, Status, named_context};
 use std::alloc::{AllocError, Global};
@@ -54,6 +56,120 @@ fn there(named: Option<Option<usize>>) -> Option<usize>
     }
 }
 
+// ---- completion
+
+/// What settles a visit: the visit, the context for a frame, and where its operation is led.
+#[derive(Clone, Copy)]
+struct Settled {
+    visit: usize,
+    context: Option<usize>,
+    way: Way,
+}
+
+/// A call that completes an operation: the call, the status that it gives, what it names, and what it settles.
+#[derive(Clone, Copy)]
+struct Completion {
+    call: Call,
+    answer: Option<Answer>,
+    named: Named,
+    settled: Option<Settled>,
+}
+
+/// The visit is given back and settled; a frame takes the context over.
+fn tell_settled(
+    store: &Store,
+    a: usize,
+    settled: Settled,
+    events: &mut Vec<Event>,
+) -> Result<(), AllocError>
+    ensures { OnOk result (events.new.items ≡ events.old.items ++ settled_told store.now a settled) }
+{
+    events.push(Event::Lose(a, Object::Visit(settled.visit)))?;
+    if store.makes_frame(settled.visit, settled.way) {
+        lose_context(a, settled.context, events)?;
+    }
+    events.push(Event::Settle(settled.visit))?;
+    Ok(())
+}
+
+/// The events of the call before its effect.
+fn tell_completion(
+    a: usize,
+    completion: Completion,
+    events: &mut Vec<Event>,
+) -> Result<(), AllocError>
+    ensures { OnOk result (events.new.items ≡ events.old.items ++ completion_told a completion) }
+{
+    events.push(Event::Call(a, completion.call))?;
+    if let Some(answer) = completion.answer {
+        events.push(Event::Status(a, answer))?;
+    }
+    need_named(a, completion.named, events)
+}
+
+/// The call, by what is read of the activation.
+fn plan_completion(
+    alloc: Global,
+    store: &Store,
+    a: usize,
+    completion: Completion,
+) -> Result<Plan, AllocError>
+    ensures planned { IfOk result (λ plan. (actors : List machine.Actor) (acts : List machine.Activation) (granted refused : List Statement) →
+        IsPlanned (world_of store.now actors acts) a plan [] granted refused (completes (world_of store.now actors acts) a completion granted)) }
+    ensures possible { IfOk result (λ plan. IsPossible store.now plan.change) }
+{
+    let mut events = Vec::new(alloc);
+    tell_completion(a, completion, &mut events)?;
+    match completion.settled {
+        Some(settled) => {
+            tell_settled(store, a, settled, &mut events)?;
+            let change = Change::Settle(settled.visit, settled.context, settled.way);
+            Ok(made_plan(events, true, Write::Nothing, change))
+        }
+        None => Ok(made_plan(
+            events,
+            true,
+            Write::Nothing,
+            Change::Nothing,
+        )),
+    }
+}
+
+/// The answer that FltCompletePendedPreOperation hands on.
+fn completes_pre(variable: OperationVariable, visit: usize, status: Status) -> Answer
+    ensures { result ≡ CompletesPre (whose variable) visit status }
+{
+    Answer::CompletesPre {
+        whose: variable.whose(),
+        visit,
+        status,
+    }
+}
+
+/// What an answer settles; nothing where the context is NULL.
+fn settled_by(
+    loaded: &Loaded,
+    store: &Store,
+    named: Named,
+    answer: Option<Answer>,
+) -> Option<Settled>
+    ensures { (p : List Filter) → AreLoaded p loaded.now → IsSettledBy p store.now named answer result }
+{
+    match (named.visit, named.context, answer) {
+        (Some(visit), None, Some(answer)) => Some(Settled {
+            visit,
+            context: None,
+            way: way_of(loaded, store, visit, answer),
+        }),
+        (Some(visit), Some(Some(x)), Some(answer)) => Some(Settled {
+            visit,
+            context: Some(x),
+            way: way_of(loaded, store, visit, answer),
+        }),
+        _ => None,
+    }
+}
+
 /// FltCompletePendedPreOperation, of the given operation or of one that was removed from the queue.
 pub(crate) fn complete_pre(
     alloc: Global,
@@ -67,7 +183,21 @@ pub(crate) fn complete_pre(
     ensures own { IfOk result (λ plan. AreOwn caller.now.activation plan.events) }
     ensures possible { IfOk result (λ plan. AreCounted store.now → IsPossible store.now plan.change) }
 {
-    Err(AllocError)
+    let named = Named {
+        visit: caller.standing.operation(operation),
+        context: named_in(&caller.standing, status.context()),
+    };
+    let answer = match named.visit {
+        Some(visit) => Some(completes_pre(operation, visit, status)),
+        None => None,
+    };
+    let completion = Completion {
+        call: Call::CompletePendedPreOperation(operation.whose()),
+        answer,
+        named,
+        settled: settled_by(loaded, store, named, answer),
+    };
+    plan_completion(alloc, store, caller.activation, completion)
 }
 
 /// FltCompletePendedPostOperation.
@@ -81,7 +211,21 @@ pub(crate) fn complete_post(
     ensures own { IfOk result (λ plan. AreOwn caller.now.activation plan.events) }
     ensures possible { IfOk result (λ plan. AreCounted store.now → IsPossible store.now plan.change) }
 {
-    Err(AllocError)
+    let named = Named {
+        visit: caller.standing.operation(OperationVariable::Data),
+        context: None,
+    };
+    let answer = match named.visit {
+        Some(visit) => Some(Answer::CompletesPost { visit }),
+        None => None,
+    };
+    let completion = Completion {
+        call: Call::CompletePendedPostOperation,
+        answer,
+        named,
+        settled: settled_by(loaded, store, named, answer),
+    };
+    plan_completion(alloc, store, caller.activation, completion)
 }
 
 // ---- the end
