@@ -1,3 +1,4 @@
 pub mod Called
+pub mod Completed
 pub mod Owned
 pub mod Returned

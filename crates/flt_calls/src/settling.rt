@@ -1,6 +1,6 @@
 //! Calls that complete an operation, and the end of a callback.
 
-ghost use Rattle.std.specs.Prelude.{◌≡◌, ◌++◌, [], List, Some, IfOk, OnOk, nat_lt};
+ghost use Rattle.std.specs.Prelude.{◌≡◌, ◌++◌, [], List, Some, IfOk, OnOk, nat_lt, option_map};
 ghost use Rattle.flt_rules.specs.Place.{answers};
 ghost use Rattle.flt_model.specs.Calls as calls;
 ghost use Rattle.flt_model.specs.Returns as spec;
@@ -8,7 +8,7 @@ ghost use Rattle.flt_model.specs.Settling as settling;
 ghost use Rattle.flt_model.specs.Trace.{is_held};
 ghost use Rattle.flt_model.specs.Variables.{named_in, operation_in};
 ghost use Rattle.flt_model.specs.World as machine;
-ghost use Rattle.flt_model.specs.declared.event.Answer.TheVariants.{CompletesPre};
+ghost use Rattle.flt_model.specs.declared.event.Answer.TheVariants.{CompletesPost, CompletesPre};
 ghost use Rattle.flt_model.specs.declared.event.Event.{Event};
 ghost use Rattle.flt_model.specs.declared.event.Object.TheVariants.{Visit};
 ghost use Rattle.flt_frame.specs.Loading.{AreLoaded};
@@ -146,6 +146,30 @@ fn completes_pre(variable: OperationVariable, visit: usize, status: Status) -> A
     }
 }
 
+/// The same, of a visit that may be there.
+fn pre_answer(
+    variable: OperationVariable,
+    visit: Option<usize>,
+    status: Status,
+) -> Option<Answer>
+    ensures { result ≡ option_map (λ v. CompletesPre (whose variable) v status) visit }
+{
+    match visit {
+        Some(visit) => Some(completes_pre(variable, visit, status)),
+        None => None,
+    }
+}
+
+/// The answer of FltCompletePendedPostOperation.
+fn post_answer(visit: Option<usize>) -> Option<Answer>
+    ensures { result ≡ option_map CompletesPost visit }
+{
+    match visit {
+        Some(visit) => Some(Answer::CompletesPost { visit }),
+        None => None,
+    }
+}
+
 /// What an answer settles; nothing where the context is NULL.
 fn settled_by(
     loaded: &Loaded,
@@ -187,10 +211,7 @@ pub(crate) fn complete_pre(
         visit: caller.standing.operation(operation),
         context: named_in(&caller.standing, status.context()),
     };
-    let answer = match named.visit {
-        Some(visit) => Some(completes_pre(operation, visit, status)),
-        None => None,
-    };
+    let answer = pre_answer(operation, named.visit, status);
     let completion = Completion {
         call: Call::CompletePendedPreOperation(operation.whose()),
         answer,
@@ -215,10 +236,7 @@ pub(crate) fn complete_post(
         visit: caller.standing.operation(OperationVariable::Data),
         context: None,
     };
-    let answer = match named.visit {
-        Some(visit) => Some(Answer::CompletesPost { visit }),
-        None => None,
-    };
+    let answer = post_answer(named.visit);
     let completion = Completion {
         call: Call::CompletePendedPostOperation,
         answer,
