@@ -1,4 +1,5 @@
 pub mod Called
 pub mod Completed
+pub mod Decoded
 pub mod Owned
 pub mod Returned

@@ -7,6 +7,7 @@
 
 mod caller;
 mod contexts;
+mod decoding;
 mod effects;
 mod locking;
 mod plans;
