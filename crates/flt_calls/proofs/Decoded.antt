@@ -1,5 +1,5 @@
 -- Calls by their operands are those of the statements.
-use Rattle.std.proofs.Common.{◌≡◌, ℕ, zero, suc, ◌+◌, Bool, true, false, if◌then◌else◌, List, [], ◌∷◌, length, Option, Some, None, slice_get, unwrap_or, refl, sym, ap, ◌∙◌}
+use Rattle.std.proofs.Common.{◌≡◌, ℕ, zero, suc, ◌+◌, Bool, true, false, if◌then◌else◌, List, [], ◌∷◌, length, Option, Some, None, slice_get, unwrap_or, refl, sym, ap, subst, ◌∙◌}
 use Rattle.flt_frame.proofs.Numbers.{first_or_end}
 use Rattle.flt_tree.specs.Filter.{is_named}
 use Rattle.flt_tree.specs.Registered.{routine_at, routine_of}
@@ -18,10 +18,14 @@ use Rattle.flt_graph.specs.declared.graph.Graph.{Graph}
 use Rattle.flt_model.specs.Effects.{Step}
 use Rattle.flt_model.specs.Program.{callbacks_at}
 use Rattle.flt_model.specs.Steps.{fallible_step}
-use Rattle.flt_model.specs.World.{World, actor_at}
+use Rattle.flt_model.specs.World.{World, Store, actor_at}
 use Rattle.flt_model.specs.declared.event.Event.{Event}
 use Rattle.flt_frame.specs.Loading.{AreGraphsOfFilters, graph_at}
+use Rattle.flt_calls.specs.declared.caller.Caller.{Caller}
+use Rattle.flt_calls.specs.declared.decoding.Asked.{Asked}
 use Rattle.flt_calls.specs.declared.decoding.Asked.TheVariants as asked
+use Rattle.flt_calls.specs.declared.plans.Plan.{Plan}
+use Rattle.flt_calls.specs.Plans.{IsPlanned, Plans, world_of}
 use Rattle.flt_calls.specs.Decoding.{plain_by, asked_by, asked_of, asked_step, choice_of}
 
 -- ---- by the operands
@@ -66,6 +70,18 @@ step_is p t w a grant granted refused (fallible.InsertIo c) = refl
 step_is p t w a grant granted refused (fallible.RemoveNextIo o d) = refl
 step_is p t w a grant granted refused (fallible.QueueDeferredIoWorkItem r c) = refl
 step_is p t w a grant granted refused (fallible.QueueGenericWorkItem r c) = refl
+
+-- a plan of a call by its operands is a plan of the call
+pub asked_planned : (p : List Filter) (t : List Event) (s : Store) (c : Caller) (plan : Plan) (x : Asked) (call : FallibleCall) (grant : Bool) → x ≡ asked_of (callbacks_at p c.filter) call →
+    Plans s c plan (λ (w : World) (granted refused : List Statement). asked_step w c.activation grant granted refused x) →
+    Plans s c plan (λ (w : World) (granted refused : List Statement). fallible_step p t w c.activation (choice_of call grant) granted refused call)
+asked_planned p t s c plan x call grant is planned = λ actors acts granted refused h.
+    let w = world_of s actors acts in
+    subst (IsPlanned w c.activation plan [] granted refused)
+    (ap (λ (y : Asked). asked_step w c.activation grant granted refused y) is
+    ∙ ap (λ (f : ℕ). asked_step w c.activation grant granted refused (asked_of (callbacks_at p f) call)) (sym h.filter)
+    ∙ sym (step_is p t w c.activation grant granted refused call))
+    (planned actors acts granted refused h)
 
 -- ---- how many callbacks there are
 

@@ -44,9 +44,9 @@ fn plan_action(
     caller: &Caller,
     action: Action,
 ) -> Result<Plan, AllocError>
-    ensures planned { IfOk result (λ plan. (p : List Filter) (t : List Event) (actors : List machine.Actor) (acts : List machine.Activation) (granted refused : List Statement) (step : Step) →
+    ensures planned { (p : List Filter) (t : List Event) (actors : List machine.Actor) (acts : List machine.Activation) (granted refused : List Statement) (step : Step) →
         IsCaller actors acts caller.now → steps.act_step p t (world_of store.now actors acts) caller.now.activation granted action ≡ Some step →
-        IsPlanned (world_of store.now actors acts) caller.now.activation plan [] granted refused step) }
+        IfOk result (λ plan. IsPlanned (world_of store.now actors acts) caller.now.activation plan [] granted refused step) }
     ensures own { IfOk result (λ plan. AreOwn caller.now.activation plan.events) }
     ensures possible { IfOk result (λ plan. AreCounted store.now → IsPossible store.now plan.change) }
 {
@@ -71,9 +71,9 @@ fn plan_test(
     caller: &Caller,
     test: Test,
 ) -> Result<Plan, AllocError>
-    ensures planned { IfOk result (λ plan. (p : List Filter) (t : List Event) (actors : List machine.Actor) (acts : List machine.Activation) (granted refused : List Statement) (step : Step) →
+    ensures planned { (p : List Filter) (t : List Event) (actors : List machine.Actor) (acts : List machine.Activation) (granted refused : List Statement) (step : Step) →
         IsCaller actors acts caller.now → steps.test_step p t (world_of store.now actors acts) caller.now.activation granted refused test ≡ Some step →
-        IsPlanned (world_of store.now actors acts) caller.now.activation plan [] granted refused step) }
+        IfOk result (λ plan. IsPlanned (world_of store.now actors acts) caller.now.activation plan [] granted refused step) }
     ensures own { IfOk result (λ plan. AreOwn caller.now.activation plan.events) }
     ensures possible { IfOk result (λ plan. AreCounted store.now → IsPossible store.now plan.change) }
 {
@@ -91,8 +91,8 @@ fn plan_plain(
     caller: &Caller,
     call: PlainCall,
 ) -> Result<Plan, AllocError>
-    ensures planned { IfOk result (λ plan. (p : List Filter) (t : List Event) → AreLoaded p loaded.now →
-        Plans store.now caller.now plan (λ w granted refused. steps.plain_step p t w caller.now.activation granted call)) }
+    ensures planned { (p : List Filter) (t : List Event) → AreLoaded p loaded.now →
+        IfOk result (λ plan. Plans store.now caller.now plan (λ w granted refused. steps.plain_step p t w caller.now.activation granted call)) }
     ensures own { IfOk result (λ plan. AreOwn caller.now.activation plan.events) }
     ensures possible { IfOk result (λ plan. AreCounted store.now → IsPossible store.now plan.change) }
 {
@@ -159,10 +159,10 @@ fn plan_call(
     made: Invocation,
     grant: bool,
 ) -> Result<Plan, AllocError>
-    ensures plain { IfOk result (λ plan. (p : List Filter) (t : List Event) (call : PlainCall) → AreLoaded p loaded.now → made ≡ invocation.plain call →
-        Plans store.now caller.now plan (λ w granted refused. steps.plain_step p t w caller.now.activation granted call)) }
-    ensures fallible { IfOk result (λ plan. (p : List Filter) (t : List Event) (call : FallibleCall) → AreLoaded p loaded.now → made ≡ invocation.fallible (callbacks_at p caller.now.filter) call →
-        Plans store.now caller.now plan (λ w granted refused. steps.fallible_step p t w caller.now.activation (spec.choice_of call grant) granted refused call)) }
+    ensures plain { (p : List Filter) (t : List Event) (call : PlainCall) → AreLoaded p loaded.now → made ≡ invocation.plain call →
+        IfOk result (λ plan. Plans store.now caller.now plan (λ w granted refused. steps.plain_step p t w caller.now.activation granted call)) }
+    ensures fallible { (p : List Filter) (t : List Event) (call : FallibleCall) → AreLoaded p loaded.now → made ≡ invocation.fallible (callbacks_at p caller.now.filter) call →
+        IfOk result (λ plan. Plans store.now caller.now plan (λ w granted refused. steps.fallible_step p t w caller.now.activation (spec.choice_of call grant) granted refused call)) }
     ensures own { IfOk result (λ plan. AreOwn caller.now.activation plan.events) }
     ensures possible { IfOk result (λ plan. AreCounted store.now → IsPossible store.now plan.change) }
 {
