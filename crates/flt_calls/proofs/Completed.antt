@@ -1,5 +1,5 @@
 -- Plans of calls that complete an operation.
-use Rattle.std.proofs.Common.{◌≡◌, ◌≤◌, ℕ, Bool, true, false, if◌then◌else◌, List, [], ◌∷◌, ◌++◌, length, Option, Some, None, option_map, arith, ap, sym, subst, refl, ◌∙◌}
+use Rattle.std.proofs.Common.{◌≡◌, ◌≤◌, ℕ, Bool, true, false, if◌then◌else◌, List, [], ◌∷◌, length, Option, Some, None, option_map, arith, ap, sym, subst, refl, ◌∙◌}
 use Rattle.flt_rules.specs.declared.call.Call.TheVariants as call
 use Rattle.flt_rules.specs.declared.call.Possessed.{Possessed}
 use Rattle.flt_tree.specs.Filter.{context_of}
@@ -14,15 +14,13 @@ use Rattle.flt_model.specs.declared.event.Answer.{Answer}
 use Rattle.flt_model.specs.declared.event.Answer.TheVariants.{CompletesPre, CompletesPost}
 use Rattle.flt_model.specs.declared.event.Event.{Event}
 use Rattle.flt_model.specs.declared.event.Event.TheVariants as event
-use Rattle.flt_model.specs.declared.event.Object.{Object}
-use Rattle.flt_model.specs.declared.event.Object.TheVariants.{Visit}
 use Rattle.flt_model.specs.Effects.{Step, calling, operation, optional, loses_context}
 use Rattle.flt_model.specs.Settling.{makes_frame}
 use Rattle.flt_model.specs.Variables.{operation_in, named_in}
 use Rattle.flt_model.specs.World.{World, Store, Actor, Activation, activation_at}
 use Rattle.flt_ops.specs.Parts as parts
-use Rattle.flt_calls.specs.Completing.{IsLed, IsSettledBy, answer_told, completes, needs_of_completion, settled_told, settles_by}
-use Rattle.flt_calls.specs.Own.{AreOf, AreOwn}
+use Rattle.flt_calls.specs.Completing.{IsLed, IsSettledBy, answer_told, completes, needs_of_completion, settles_by}
+use Rattle.flt_calls.specs.Own.{AreOwn}
 use Rattle.flt_calls.specs.Plans.{IsPlanned, world_of}
 use Rattle.flt_calls.specs.declared.plans.Plan.{Plan}
 use Rattle.flt_calls.specs.declared.settling.Completion.{Completion}

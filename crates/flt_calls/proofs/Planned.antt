@@ -1,5 +1,5 @@
 -- Plans of instructions are plans of the step at which the caller stands.
-use Rattle.std.proofs.Common.{◌≡◌, ◌⊎◌, inl, inr, ℕ, Bool, true, false, List, [], Option, Some, None, Result, Ok, Err, get_or, refl, sym, ap, subst, ◌∙◌}
+use Rattle.std.proofs.Common.{◌≡◌, inl, inr, ℕ, Bool, true, false, List, [], Option, Some, None, Result, Ok, Err, get_or, refl, ap, subst}
 use Rattle.std.specs.Prelude.{IfOk}
 use Rattle.std.proofs.lemmas.Result.{IfOk-at_ok, IfOk-weaker}
 use Rattle.flt_tree.specs.declared.filter.Action.{Action}
@@ -19,7 +19,7 @@ use Rattle.flt_model.specs.Returns.{returns}
 use Rattle.flt_model.specs.Steps.{act_step, plain_step, fallible_step, test_step, board}
 use Rattle.flt_model.specs.World.{World, Store, Actor, Activation, nobody, activation_at}
 use Rattle.flt_model.specs.declared.event.Event.{Event}
-use Rattle.flt_frame.specs.Firsts.{CallsFirst, AsksCallFirst, Remains}
+use Rattle.flt_frame.specs.Firsts.{Remains}
 use Rattle.flt_frame.specs.Loading.{AreLoaded}
 use Rattle.flt_frame.specs.Standings.{StandsFor}
 use Rattle.flt_frame.specs.declared.loaded.Loaded.{Loaded}
@@ -82,14 +82,14 @@ module _ (l : Loaded) (s : Store) (c : Caller) (grant : Bool) where
       let rest = (activation_at w a).rest in
       let lives = ap (λ (act : Activation). act.ended) h.act in
       elim (told p (activation_at w a) loaded stands) [
-      | inl x ↦ subst (IsPlanned w a plan [] (remaining_by rest true) (remaining_by rest false))
-        (call_case p t w a choice step (callbacks_at p c.filter) c.standing made m n lives board_is x)
-        (IfOk-at_ok (λ (y : Plan). Plans s c y (λ (u : World) (granted refused : List Statement). plain_step p t u a granted x.call)) is (plain p t x.call loaded x.made_is)
-        actors acts (remaining_by rest true) (remaining_by rest false) h)
-      | inr x ↦ subst (IsPlanned w a plan [] (remaining_by rest true) (remaining_by rest false))
-        (ask_case p t w a choice step (callbacks_at p c.filter) c.standing made m n grant lives board_is choice_is x)
-        (IfOk-at_ok (λ (y : Plan). Plans s c y (λ (u : World) (granted refused : List Statement). fallible_step p t u a (choice_of x.call grant) granted refused x.call)) is (fallible p t x.call loaded x.made_is)
-        actors acts (remaining_by rest true) (remaining_by rest false) h)
+        | inl x ↦ subst (IsPlanned w a plan [] (remaining_by rest true) (remaining_by rest false))
+            (call_case p t w a choice step (callbacks_at p c.filter) c.standing made m n lives board_is x)
+            (IfOk-at_ok (λ (y : Plan). Plans s c y (λ (u : World) (granted refused : List Statement). plain_step p t u a granted x.call)) is (plain p t x.call loaded x.made_is)
+            actors acts (remaining_by rest true) (remaining_by rest false) h)
+        | inr x ↦ subst (IsPlanned w a plan [] (remaining_by rest true) (remaining_by rest false))
+            (ask_case p t w a choice step (callbacks_at p c.filter) c.standing made m n grant lives board_is choice_is x)
+            (IfOk-at_ok (λ (y : Plan). Plans s c y (λ (u : World) (granted refused : List Statement). fallible_step p t u a (choice_of x.call grant) granted refused x.call)) is (fallible p t x.call loaded x.made_is)
+            actors acts (remaining_by rest true) (remaining_by rest false) h)
       ])
 
   pub return_ends : {E : Type 0} (r : Result Plan E) (status : Option Status) → Told l c (instruction.Return status) →

@@ -12,12 +12,12 @@ use Rattle.flt_model.specs.declared.event.Answer.TheVariants.{Returned}
 use Rattle.flt_model.specs.declared.event.Event.{Event}
 use Rattle.flt_model.specs.declared.event.Event.TheVariants as event
 use Rattle.flt_model.specs.declared.event.Object.TheVariants.{Visit}
-use Rattle.flt_model.specs.Effects.{Step, context, loses_context}
+use Rattle.flt_model.specs.Effects.{context, loses_context}
 use Rattle.flt_model.specs.Returns.{there, returned, returns, ends, visit_given_back}
 use Rattle.flt_model.specs.Settling.{Way, way_of, makes_frame, settles_visit, settled_by}
 use Rattle.flt_model.specs.Trace.{is_held, gains, loses}
 use Rattle.flt_model.specs.Variables.{operation_in, named_in}
-use Rattle.flt_model.specs.World.{World, Store, Actor, Activation, activation_at, visit_at}
+use Rattle.flt_model.specs.World.{World, Store, Actor, Activation, activation_at}
 use Rattle.flt_ops.specs.Parts as parts
 use Rattle.flt_ops.specs.declared.parts.Way as own
 use Rattle.flt_store.specs.declared.change.Change.TheVariants as change

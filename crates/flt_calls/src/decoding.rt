@@ -16,12 +16,7 @@ use flt_tree::{ContextVariable, OperationVariable, PlainCall, RemovedVariable};
 pub(crate) enum Asked {
     Allocate(ContextVariable),
     Get(Anchor, ContextVariable),
-    Set(
-        Anchor,
-        Existing,
-        ContextVariable,
-        Option<ContextVariable>,
-    ),
+    Set(Anchor, Existing, ContextVariable, Option<ContextVariable>),
     DeleteAt(Anchor, Option<ContextVariable>),
     Insert(Option<ContextVariable>),
     RemoveNext(RemovedVariable, ContextVariable),
@@ -74,10 +69,7 @@ pub(crate) fn asked_by(made: Invocation, callbacks: usize) -> Option<Asked>
         )),
         Call::DeleteContextOf(anchor) => Some(Asked::DeleteAt(anchor, made.output)),
         Call::InsertIo => Some(Asked::Insert(made.context)),
-        Call::RemoveNextIo => Some(Asked::RemoveNext(
-            removed_in(made.operation)?,
-            made.output?,
-        )),
+        Call::RemoveNextIo => Some(Asked::RemoveNext(removed_in(made.operation)?, made.output?)),
         Call::QueueDeferredIoWorkItem => {
             let routine = made.routine.unwrap_or(callbacks);
             Some(Asked::Defer(routine, made.context))

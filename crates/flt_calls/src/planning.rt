@@ -65,12 +65,7 @@ fn plan_action(
 }
 
 /// The plan of a test that others see.
-fn plan_test(
-    alloc: Global,
-    store: &Store,
-    caller: &Caller,
-    test: Test,
-) -> Result<Plan, AllocError>
+fn plan_test(alloc: Global, store: &Store, caller: &Caller, test: Test) -> Result<Plan, AllocError>
     ensures planned { (p : List Filter) (t : List Event) (actors : List machine.Actor) (acts : List machine.Activation) (granted refused : List Statement) (step : Step) →
         IsCaller actors acts caller.now → steps.test_step p t (world_of store.now actors acts) caller.now.activation granted refused test ≡ Some step →
         IfOk result (λ plan. IsPlanned (world_of store.now actors acts) caller.now.activation plan [] granted refused step) }

@@ -126,12 +126,7 @@ fn plan_completion(
             let change = Change::Settle(settled.visit, settled.context, settled.way);
             Ok(made_plan(events, true, Write::Nothing, change))
         }
-        None => Ok(made_plan(
-            events,
-            true,
-            Write::Nothing,
-            Change::Nothing,
-        )),
+        None => Ok(made_plan(events, true, Write::Nothing, Change::Nothing)),
     }
 }
 
@@ -147,11 +142,7 @@ fn completes_pre(variable: OperationVariable, visit: usize, status: Status) -> A
 }
 
 /// The same, of a visit that may be there.
-fn pre_answer(
-    variable: OperationVariable,
-    visit: Option<usize>,
-    status: Status,
-) -> Option<Answer>
+fn pre_answer(variable: OperationVariable, visit: Option<usize>, status: Status) -> Option<Answer>
     ensures { result ≡ option_map (λ v. CompletesPre (whose variable) v status) visit }
 {
     match visit {
@@ -324,12 +315,7 @@ fn plan_return(
             let way = way_of(loaded, store, visit, Answer::Returned(status));
             tell_back(store, a, r.held, visit, x, way, &mut events)?;
             events.push(Event::End(a))?;
-            Ok(made_plan(
-                events,
-                true,
-                Write::End,
-                Change::Settle(visit, x, way),
-            ))
+            Ok(made_plan(events, true, Write::End, Change::Settle(visit, x, way)))
         }
         _ => {
             events.push(Event::End(a))?;

@@ -1,4 +1,4 @@
-use Rattle.std.proofs.Common.{sym, ap, length, Option, ◌∙◌}
+use Rattle.std.proofs.Common.{sym, ap, length, ◌∙◌}
 use Rattle.std.specs.Option.{option_copied}
 use Rattle.flt_graph.specs.declared.graph.Graph.{Graph}
 use Rattle.flt_frame.proofs.Filters.{no_graph_at}

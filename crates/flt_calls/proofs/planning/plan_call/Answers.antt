@@ -1,4 +1,4 @@
-use Rattle.std.proofs.Common.{ℕ, List, Option, ap, subst, sym, ◌∙◌}
+use Rattle.std.proofs.Common.{ℕ, ap, subst, sym, ◌∙◌}
 use Rattle.std.specs.Prelude.{IfOk}
 use Rattle.std.proofs.lemmas.Option.{same_Some}
 use Rattle.std.proofs.lemmas.Result.{IfOk-weaker}
@@ -25,7 +25,7 @@ returns-in-Some-asked_by-clause-fallible c = λ p t call loaded is.
     let caller = c.args.caller.now in
     let cs = callbacks_at p caller.filter in
     let same = same_Some c.in-Some-asked_by.asked (asked_of cs call) (sym c.in-Some-asked_by.is ∙ c.asked_by.ensures ∙ ap (λ (i : Invocation). asked_by i c.callbacks.result) is
-        ∙ ap (λ (n : ℕ). asked_by (invocation.fallible cs call) n) (c.callbacks.ensures p loaded) ∙ asked_is cs call) in
+    ∙ ap (λ (n : ℕ). asked_by (invocation.fallible cs call) n) (c.callbacks.ensures p loaded) ∙ asked_is cs call) in
     IfOk-weaker c.plan_asked.result
     (λ (plan : Plan). Plans s caller plan (λ w granted refused. asked_step w caller.activation c.args.grant granted refused c.in-Some-asked_by.asked))
     (λ (plan : Plan). Plans s caller plan (λ w granted refused. steps.fallible_step p t w caller.activation (choice_of call c.args.grant) granted refused call))

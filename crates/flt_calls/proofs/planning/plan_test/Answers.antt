@@ -1,4 +1,4 @@
-use Rattle.std.proofs.Common.{◌≡◌, [], Some, subst, sym}
+use Rattle.std.proofs.Common.{◌≡◌, [], Some, subst}
 use Rattle.std.proofs.lemmas.Option.{same_Some}
 use Rattle.std.proofs.lemmas.Result.{IfOk-weaker}
 use Rattle.flt_tree.specs.declared.filter.Test.{Test}

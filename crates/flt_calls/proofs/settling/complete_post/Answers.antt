@@ -1,4 +1,4 @@
-use Rattle.std.proofs.Common.{List, [], None, subst, sym, ◌∙◌}
+use Rattle.std.proofs.Common.{List, [], None, subst, sym}
 use Rattle.std.proofs.lemmas.Result.{IfOk-weaker}
 use Rattle.flt_rules.specs.declared.call.Call.TheVariants as call
 use Rattle.flt_tree.specs.declared.variable.OperationVariable.TheVariants.{Data}

@@ -1,8 +1,7 @@
-use Rattle.std.proofs.Common.{ℕ, List, [], Option, ap, subst, sym, ◌∙◌}
+use Rattle.std.proofs.Common.{List, [], ap, subst, sym, ◌∙◌}
 use Rattle.std.proofs.lemmas.Result.{IfOk-weaker}
 use Rattle.flt_rules.specs.declared.call.Call.TheVariants as call
 use Rattle.flt_tree.specs.Filter.{context_of}
-use Rattle.flt_tree.specs.Variable.{whose}
 use Rattle.flt_tree.specs.declared.filter.Filter.{Filter}
 use Rattle.flt_tree.specs.declared.filter.Statement.{Statement}
 use Rattle.flt_frame.specs.Loading.{AreLoaded}
