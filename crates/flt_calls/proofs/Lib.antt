@@ -1,5 +1,10 @@
 pub mod Answering
 pub mod Called
+pub mod Completed
+pub mod Decoded
 pub mod Owned
+pub mod Planned
 pub mod Queued
+pub mod Returned
+pub mod Stepped
 pub mod Tallies

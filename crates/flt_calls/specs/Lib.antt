@@ -2,3 +2,6 @@ pub mod Own
 pub mod Plans
 pub mod Following
 pub mod Continuing
+pub mod Completing
+pub mod Decoding
+pub mod Returning

@@ -8,17 +8,19 @@
 mod caller;
 mod contexts;
 mod continuing;
+mod decoding;
 mod effects;
 mod locking;
-mod plans;
 mod planning;
+mod plans;
 mod queueing;
 mod reads;
 mod settling;
+mod ways;
 
 pub use caller::Caller;
 pub use continuing::continued;
-pub use plans::{Plan, Write};
 pub use planning::plan_step;
+pub use plans::{Plan, Write};
 /// What a plan answers that was refused memory.
 pub use std::alloc::AllocError as OutOfMemory;

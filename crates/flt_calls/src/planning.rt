@@ -1,23 +1,174 @@
 //! The plan of the instruction at which an activation stands.
 
 ghost use Rattle.std.specs.Prelude.{◌≡◌, [], List, Bool, true, false, Some, IfOk, get_or};
+ghost use Rattle.flt_calls.specs.Decoding as spec;
 ghost use Rattle.flt_calls.specs.Own.{AreOwn};
-ghost use Rattle.flt_calls.specs.Plans.{IsCaller, IsCounted, IsPlanned, choice_at, remaining_by, world_of};
+ghost use Rattle.flt_calls.specs.Plans.{IsCaller, IsCounted, IsPlanned, Plans, choice_at, remaining_by, world_of};
 ghost use Rattle.flt_frame.specs.Loading.{AreLoaded};
 ghost use Rattle.flt_frame.specs.Standings.{StandsFor};
+ghost use Rattle.flt_graph.specs.Instruction as invocation;
 ghost use Rattle.flt_model.specs.Effects.{Step};
 ghost use Rattle.flt_model.specs.Program.{callbacks_at};
 ghost use Rattle.flt_model.specs.Steps as steps;
 ghost use Rattle.flt_model.specs.World as machine;
 ghost use Rattle.flt_model.specs.declared.event.Event.{Event};
 ghost use Rattle.flt_store.specs.Changes.{AreCounted, IsPossible};
+ghost use Rattle.flt_store.specs.declared.change.Change.TheVariants.{Nothing};
+ghost use Rattle.flt_tree.specs.declared.filter.FallibleCall.{FallibleCall};
 ghost use Rattle.flt_tree.specs.declared.filter.Filter.{Filter};
+ghost use Rattle.flt_tree.specs.declared.filter.PlainCall.{PlainCall};
+ghost use Rattle.flt_tree.specs.declared.filter.Statement.{Statement};
 
 use crate::caller::Caller;
-use crate::plans::Plan;
-use flt_frame::Loaded;
-use flt_store::Store;
+use crate::decoding::{Asked, asked_by, callbacks, plain_by};
+use crate::plans::{Plan, Write, made_plan};
+use crate::{contexts, locking, queueing, reads, settling};
+use flt_frame::{Loaded, standings_have_points};
+use flt_graph::{Instruction, Invocation};
+use flt_store::{Change, Store};
+use flt_tree::{Action, PlainCall, Test};
 use std::alloc::{AllocError, Global};
+
+/// The plan of what can't stand at a point, or of what no other activation sees: it comes to nothing.
+fn nothing(alloc: Global) -> Plan
+    ensures events { result.events ≡ [] }
+    ensures change { result.change ≡ Nothing }
+{
+    made_plan(Vec::new(alloc), true, Write::Nothing, Change::Nothing)
+}
+
+/// The plan of an action that others see.
+fn plan_action(
+    alloc: Global,
+    store: &Store,
+    caller: &Caller,
+    action: Action,
+) -> Result<Plan, AllocError>
+    ensures planned { (p : List Filter) (t : List Event) (actors : List machine.Actor) (acts : List machine.Activation) (granted refused : List Statement) (step : Step) →
+        IsCaller actors acts caller.now → steps.act_step p t (world_of store.now actors acts) caller.now.activation granted action ≡ Some step →
+        IfOk result (λ plan. IsPlanned (world_of store.now actors acts) caller.now.activation plan [] granted refused step) }
+    ensures own { IfOk result (λ plan. AreOwn caller.now.activation plan.events) }
+    ensures possible { IfOk result (λ plan. AreCounted store.now → IsPossible store.now plan.change) }
+{
+    match action {
+        Action::ReadValue(number, context) => {
+            reads::read_value(alloc, store, caller, number, context)
+        }
+        Action::ReadFile(number, operation) => {
+            reads::read_file(alloc, store, caller, number, operation)
+        }
+        Action::WriteValue(context, value) => {
+            reads::write_value(alloc, store, caller, context, value)
+        }
+        _ => Ok(nothing(alloc)),
+    }
+}
+
+/// The plan of a test that others see.
+fn plan_test(alloc: Global, store: &Store, caller: &Caller, test: Test) -> Result<Plan, AllocError>
+    ensures planned { (p : List Filter) (t : List Event) (actors : List machine.Actor) (acts : List machine.Activation) (granted refused : List Statement) (step : Step) →
+        IsCaller actors acts caller.now → steps.test_step p t (world_of store.now actors acts) caller.now.activation granted refused test ≡ Some step →
+        IfOk result (λ plan. IsPlanned (world_of store.now actors acts) caller.now.activation plan [] granted refused step) }
+    ensures own { IfOk result (λ plan. AreOwn caller.now.activation plan.events) }
+    ensures possible { IfOk result (λ plan. AreCounted store.now → IsPossible store.now plan.change) }
+{
+    match test {
+        Test::IsIrp => reads::test_irp(alloc, store, caller),
+        _ => Ok(nothing(alloc)),
+    }
+}
+
+/// The plan of a call that always succeeds.
+fn plan_plain(
+    alloc: Global,
+    loaded: &Loaded,
+    store: &Store,
+    caller: &Caller,
+    call: PlainCall,
+) -> Result<Plan, AllocError>
+    ensures planned { (p : List Filter) (t : List Event) → AreLoaded p loaded.now →
+        IfOk result (λ plan. Plans store.now caller.now plan (λ w granted refused. steps.plain_step p t w caller.now.activation granted call)) }
+    ensures own { IfOk result (λ plan. AreOwn caller.now.activation plan.events) }
+    ensures possible { IfOk result (λ plan. AreCounted store.now → IsPossible store.now plan.change) }
+{
+    match call {
+        PlainCall::DeleteContext(context) => contexts::delete(alloc, store, caller, context),
+        PlainCall::ReferenceContext(context, output) => {
+            contexts::reference(alloc, store, caller, context, output)
+        }
+        PlainCall::ReleaseContext(context) => contexts::release(alloc, store, caller, context),
+        PlainCall::AcquireLock(kind, lock) => locking::acquire(alloc, store, caller, kind, lock),
+        PlainCall::AcquirePushLockShared(lock) => {
+            locking::acquire_shared(alloc, store, caller, lock)
+        }
+        PlainCall::ReleaseLock(kind, lock) => {
+            locking::release_lock(alloc, store, caller, kind, lock)
+        }
+        PlainCall::CompletePendedPreOperation(operation, status) => {
+            settling::complete_pre(alloc, loaded, store, caller, operation, status)
+        }
+        PlainCall::CompletePendedPostOperation => {
+            settling::complete_post(alloc, loaded, store, caller)
+        }
+    }
+}
+
+/// The plan of a call that can fail.
+fn plan_asked(
+    alloc: Global,
+    store: &Store,
+    caller: &Caller,
+    asked: Asked,
+    grant: bool,
+) -> Result<Plan, AllocError>
+    ensures planned { IfOk result (λ plan. Plans store.now caller.now plan (λ w granted refused. spec.asked_step w caller.now.activation grant granted refused asked)) }
+    ensures own { IfOk result (λ plan. AreOwn caller.now.activation plan.events) }
+    ensures possible { IfOk result (λ plan. AreCounted store.now → IsPossible store.now plan.change) }
+{
+    match asked {
+        Asked::Allocate(output) => contexts::allocate(alloc, store, caller, output, grant),
+        Asked::Get(on, output) => contexts::get(alloc, store, caller, on, output),
+        Asked::Set(on, existing, context, old) => {
+            contexts::set_context(alloc, store, caller, on, existing, context, old)
+        }
+        Asked::DeleteAt(on, old) => contexts::delete_at(alloc, store, caller, on, old),
+        Asked::Insert(context) => queueing::insert(alloc, store, caller, context),
+        Asked::RemoveNext(operation, output) => {
+            queueing::remove_next(alloc, store, caller, operation, output)
+        }
+        Asked::Defer(routine, context) => {
+            queueing::queue_deferred(alloc, store, caller, routine, context, grant)
+        }
+        Asked::Queue(routine, context) => {
+            queueing::queue_generic(alloc, store, caller, routine, context, grant)
+        }
+    }
+}
+
+/// The plan of a call, of either kind.
+fn plan_call(
+    alloc: Global,
+    loaded: &Loaded,
+    store: &Store,
+    caller: &Caller,
+    made: Invocation,
+    grant: bool,
+) -> Result<Plan, AllocError>
+    ensures plain { (p : List Filter) (t : List Event) (call : PlainCall) → AreLoaded p loaded.now → made ≡ invocation.plain call →
+        IfOk result (λ plan. Plans store.now caller.now plan (λ w granted refused. steps.plain_step p t w caller.now.activation granted call)) }
+    ensures fallible { (p : List Filter) (t : List Event) (call : FallibleCall) → AreLoaded p loaded.now → made ≡ invocation.fallible (callbacks_at p caller.now.filter) call →
+        IfOk result (λ plan. Plans store.now caller.now plan (λ w granted refused. steps.fallible_step p t w caller.now.activation (spec.choice_of call grant) granted refused call)) }
+    ensures own { IfOk result (λ plan. AreOwn caller.now.activation plan.events) }
+    ensures possible { IfOk result (λ plan. AreCounted store.now → IsPossible store.now plan.change) }
+{
+    if let Some(call) = plain_by(made) {
+        return plan_plain(alloc, loaded, store, caller, call);
+    }
+    match asked_by(made, callbacks(loaded, caller.filter)) {
+        Some(asked) => plan_asked(alloc, store, caller, asked, grant),
+        None => Ok(nothing(alloc)),
+    }
+}
 
 /// The plan of the step at which the caller stands. `grant` is the system's choice, where the step leaves one. The store isn't changed.
 pub fn plan_step(
@@ -38,5 +189,14 @@ pub fn plan_step(
     ensures own { IfOk result (λ plan. AreOwn caller.now.activation plan.events) }
     ensures possible { IfOk result (λ plan. AreCounted store.now → IsPossible store.now plan.change) }
 {
-    Err(AllocError)
+    standings_have_points();
+    let standing = &caller.standing;
+    match loaded.instruction(caller.filter, standing.callback, standing.point) {
+        Instruction::Act(action, _) => plan_action(alloc, store, caller, action),
+        Instruction::Call(made, _, _) => plan_call(alloc, loaded, store, caller, made, grant),
+        Instruction::Test(test, _, _) => plan_test(alloc, store, caller, test),
+        Instruction::Repeat(_, _, _) => Ok(nothing(alloc)),
+        Instruction::Return(status) => settling::returns(alloc, loaded, store, caller, status),
+        Instruction::End => settling::returns(alloc, loaded, store, caller, None),
+    }
 }

@@ -1,0 +1,33 @@
+use Rattle.std.proofs.Common.{ℕ, ap, subst, sym, ◌∙◌}
+use Rattle.std.specs.Prelude.{IfOk}
+use Rattle.std.proofs.lemmas.Option.{same_Some}
+use Rattle.std.proofs.lemmas.Result.{IfOk-weaker}
+use Rattle.flt_tree.specs.declared.filter.PlainCall.{PlainCall}
+use Rattle.flt_graph.specs.Instruction as invocation
+use Rattle.flt_graph.specs.declared.instruction.Invocation.{Invocation}
+use Rattle.flt_model.specs.Program.{callbacks_at}
+use Rattle.flt_model.specs.Steps as steps
+use Rattle.flt_calls.specs.Decoding.{asked_by, asked_of, asked_step, choice_of, plain_by}
+use Rattle.flt_calls.specs.Plans.{Plans}
+use Rattle.flt_calls.specs.declared.plans.Plan.{Plan}
+use Rattle.flt_calls.proofs.Decoded.{asked_is, asked_planned, plain_of}
+use Rattle.flt_calls.proofs.planning.plan_call.Goals as goal
+
+pub returns-in-Some-clause-plain : goal.returns-in-Some-clause-plain
+returns-in-Some-clause-plain c = λ p t call loaded is.
+    subst (λ (x : PlainCall). IfOk c.plan_plain.result (λ (plan : Plan). Plans c.args.store.now c.args.caller.now plan (λ w granted refused. steps.plain_step p t w c.args.caller.now.activation granted x)))
+    (same_Some c.in-Some.call call (sym c.in-Some.is ∙ c.plain_by.ensures ∙ ap (λ (i : Invocation). plain_by i) is ∙ plain_of call))
+    (c.plan_plain.ensures.planned p t loaded)
+
+pub returns-in-Some-asked_by-clause-fallible : goal.returns-in-Some-asked_by-clause-fallible
+returns-in-Some-asked_by-clause-fallible c = λ p t call loaded is.
+    let s = c.args.store.now in
+    let caller = c.args.caller.now in
+    let cs = callbacks_at p caller.filter in
+    let same = same_Some c.in-Some-asked_by.asked (asked_of cs call) (sym c.in-Some-asked_by.is ∙ c.asked_by.ensures ∙ ap (λ (i : Invocation). asked_by i c.callbacks.result) is
+    ∙ ap (λ (n : ℕ). asked_by (invocation.fallible cs call) n) (c.callbacks.ensures p loaded) ∙ asked_is cs call) in
+    IfOk-weaker c.plan_asked.result
+    (λ (plan : Plan). Plans s caller plan (λ w granted refused. asked_step w caller.activation c.args.grant granted refused c.in-Some-asked_by.asked))
+    (λ (plan : Plan). Plans s caller plan (λ w granted refused. steps.fallible_step p t w caller.activation (choice_of call c.args.grant) granted refused call))
+    (λ plan held. asked_planned p t s caller plan c.in-Some-asked_by.asked call c.args.grant same held)
+    c.plan_asked.ensures.planned
