@@ -22,7 +22,8 @@ pub called : (w : World) (a : ℕ) (plan : Plan) (k : Call) (own es : List Event
     es ≡ event.Call a k ∷ (own ++ (uses a needs ++ empties a needs)) → IsPlanned w a plan es granted refused effect →
     IsPlanned w a plan [] granted refused (calling w a k own needs effect)
 called w a plan k own es needs granted refused effect is planned = record {
-  events = planned.events ∙ ap (λ (earlier : List Event). earlier ++ effect.events) is ∙ told (event.Call a k) own (uses a needs) (empties a needs) effect.events;
+  events = planned.events ∙ ap (λ (earlier : List Event). earlier ++ effect.events) is ∙ told (event.Call a k) own (uses a needs)
+      (empties a needs) effect.events;
   world = planned.world;
 }
 
@@ -41,19 +42,22 @@ pub read_is : {X : Type 0} (read : Activation → X) (c : Caller) (actors : List
 read_is read c actors activations x h is = sym (ap read h.act ∙ is (get_or activations c.activation nobody).rest)
 
 -- a call whose own events, needs and effect are by what it reads of the activation
-pub plans_call : {X : Type 0} (store : Store) (c : Caller) (plan : Plan) (k : Call) (es : List Event) (x : X) (read : Activation → X) (own : X → List Event) (needs : X → List (Option Object))
+pub plans_call : {X : Type 0} (store : Store) (c : Caller) (plan : Plan) (k : Call) (es : List Event) (x : X) (read : Activation → X) (own : X → List Event)
+    (needs : X → List (Option Object))
     (effect : World → X → List Statement → List Statement → Step) →
     ((rest : List Statement) → read (activation_with c.standing rest) ≡ x) →
     es ≡ event.Call c.activation k ∷ (own x ++ (uses c.activation (needs x) ++ empties c.activation (needs x))) →
     ((actors : List Actor) (activations : List Activation) (granted refused : List Statement) → (get_or actors c.activation no_actor).filter ≡ c.filter →
     IsPlanned (world_of store actors activations) c.activation plan es granted refused (effect (world_of store actors activations) x granted refused)) →
     Plans store c plan (λ (w : World) (granted refused : List Statement).
-    calling w c.activation k (own (read (activation_at w c.activation))) (needs (read (activation_at w c.activation))) (effect w (read (activation_at w c.activation)) granted refused))
+    calling w c.activation k (own (read (activation_at w c.activation))) (needs (read (activation_at w c.activation)))
+    (effect w (read (activation_at w c.activation)) granted refused))
 plans_call store c plan k es x read own needs effect reads is planned = λ actors activations granted refused h.
     let w = world_of store actors activations in
     subst (λ y. IsPlanned w c.activation plan [] granted refused (calling w c.activation k (own y) (needs y) (effect w y granted refused)))
     (read_is read c actors activations x h reads)
-    (called w c.activation plan k (own x) es (needs x) granted refused (effect w x granted refused) is (planned actors activations granted refused h.filter))
+    (called w c.activation plan k (own x) es (needs x) granted refused (effect w x granted refused) is
+    (planned actors activations granted refused h.filter))
 
 -- the like of a read or a test, which is no call
 pub plans_read : {X : Type 0} (store : Store) (c : Caller) (plan : Plan) (es : List Event) (x : X) (read : Activation → X) (needs : X → List (Option Object))
@@ -68,7 +72,8 @@ plans_read store c plan es x read needs effect reads is planned = λ actors acti
     let w = world_of store actors activations in
     subst (λ y. IsPlanned w c.activation plan [] granted refused (needing w c.activation (needs y) (effect w y granted refused)))
     (read_is read c actors activations x h reads)
-    (needed w c.activation plan es (needs x) granted refused (effect w x granted refused) is (planned actors activations granted refused h.filter))
+    (needed w c.activation plan es (needs x) granted refused (effect w x granted refused) is
+    (planned actors activations granted refused h.filter))
 
 -- ---- a world in which the activation is the caller: what holds of a plan's events in each world, holds of them
 
@@ -97,4 +102,5 @@ is_caller c = record {
 pub of_events : (P : List Event → Type 0) (store : Store) (c : Caller) (plan : Plan) (step : World → List Statement → List Statement → Step) →
     Plans store c plan step → ((w : World) → P (step w [] []).events) → P plan.events
 of_events P store c plan step planned holds =
-    subst P (sym (planned (actors_with c) (activations_with c) [] [] (is_caller c)).events) (holds (world_of store (actors_with c) (activations_with c)))
+    subst P (sym (planned (actors_with c) (activations_with c) [] [] (is_caller c)).events)
+    (holds (world_of store (actors_with c) (activations_with c)))

@@ -1,13 +1,15 @@
 -- The events of a step are its activation's own, and few.
 use Rattle.std.proofs.Common.{refl, ◌==◌, is_some, ◌≡◌, ◌≤◌, ℕ, ◌+◌, Bool, true, false, if◌then◌else◌, List, [], ◌∷◌, ◌++◌, length, Option, Some, None, arith}
 use Rattle.std.proofs.lemmas.List.{length-append}
+use Rattle.flt_rules.specs.declared.call.Anchor.{Anchor}
+use Rattle.flt_rules.specs.declared.call.Anchor.TheVariants as anchor
 use Rattle.flt_rules.specs.declared.call.Call.{Call}
 use Rattle.flt_rules.specs.declared.call.Existing.{Existing}
 use Rattle.flt_rules.specs.declared.call.Existing.TheVariants.{Keep, Replace}
 use Rattle.flt_tree.specs.declared.filter.Statement.{Statement}
 use Rattle.flt_tree.specs.declared.variable.ContextVariable.{ContextVariable}
-use Rattle.flt_model.specs.Calls.{allocated, cannot_set, got, get_by, kept, set_there, set_by, unlinked, delete_by, deleted, referenced, released}
-use Rattle.flt_model.specs.Effects.{Step, after_unlink, onward, goes_on, unchanged, gives_nothing, uses, empties, calling, needing, freed_by_drop, events_of_unlink, gains_context, loses_context}
+use Rattle.flt_model.specs.Calls.{needs_of, allocated, cannot_set, got, get_by, kept, set_there, set_by, unlinked, delete_by, deleted, referenced, released}
+use Rattle.flt_model.specs.Effects.{Step, context, after_unlink, onward, goes_on, unchanged, gives_nothing, uses, empties, calling, needing, freed_by_drop, events_of_unlink, gains_context, loses_context}
 use Rattle.flt_model.specs.Reads.{read_value_of, write_value_of, read_file_of, test_irp_of}
 use Rattle.flt_tree.specs.declared.variable.Atom.{Atom}
 use Rattle.flt_tree.specs.declared.variable.NumberVariable.{NumberVariable}
@@ -48,7 +50,10 @@ pub joined : (a m n : ℕ) (xs ys : List Event) → AreUpTo a m xs → AreUpTo a
 joined a m n xs ys left right = (of_append a xs ys left.0 right.0, omega (arith, length-append xs ys, left.1, right.1))
 
 pub needs_up_to : (a : ℕ) (needs : List (Option Object)) → AreUpTo a (length needs) (uses a needs ++ empties a needs)
-needs_up_to a needs = (of_append a (uses a needs) (empties a needs) (of_uses a needs) (of_empties a needs), omega (arith, length-append (uses a needs) (empties a needs), as_many a needs))
+needs_up_to a needs = (
+  of_append a (uses a needs) (empties a needs) (of_uses a needs) (of_empties a needs),
+  omega (arith, length-append (uses a needs) (empties a needs), as_many a needs),
+)
 
 pub own_up_to : (a n : ℕ) (es : List Event) → n ≤ 16 → AreUpTo a n es → AreOwn a es
 own_up_to a n es small here = record { of = here.0; few = omega (arith, small, here.1) }
@@ -59,8 +64,10 @@ pub own_call : (w : World) (a : ℕ) (k : Call) (own : List Event) (needs : List
 own_call w a k own needs effect mine small done =
     let held = needs_up_to a needs in
     let used = joined a 1 (length (uses a needs)) own (uses a needs) mine (of_uses a needs, omega arith) in
-    let both = joined a (1 + length (uses a needs)) (length (empties a needs)) (own ++ uses a needs) (empties a needs) used (of_empties a needs, omega arith) in
-    let all = joined a (1 + length (uses a needs) + length (empties a needs)) 8 (own ++ uses a needs ++ empties a needs) effect.events both done in
+    let both = joined a (1 + length (uses a needs)) (length (empties a needs)) (own ++ uses a needs) (empties a needs) used
+    (of_empties a needs, omega arith) in
+    let all = joined a (1 + length (uses a needs) + length (empties a needs)) 8
+    (own ++ uses a needs ++ empties a needs) effect.events both done in
     record { of = (tt, all.0); few = omega (arith, as_many a needs, small, all.1) }
 
 -- the like where it is no call
@@ -93,6 +100,16 @@ unlink_up_to a s x (Some d) = ((refl, tt), omega arith)
 
 pub none_up_to : (a n : ℕ) → AreUpTo a n []
 none_up_to a n = (tt, omega arith)
+
+-- ---- needs of the calls on contexts
+
+pub needs_few : (on : Anchor) (given : Option ℕ) → length (needs_of on given) ≤ 4
+needs_few anchor.Stream given = omega arith
+needs_few anchor.Instance given = omega arith
+
+pub needs_few_more : (on : Anchor) (given x : Option ℕ) → length (context x ∷ needs_of on given) ≤ 4
+needs_few_more anchor.Stream given x = omega arith
+needs_few_more anchor.Instance given x = omega arith
 
 -- ---- effects of the calls on contexts
 
