@@ -29,6 +29,8 @@ mod scripts;
 #[cfg(test)]
 mod states;
 #[cfg(test)]
+mod stores;
+#[cfg(test)]
 mod texts;
 #[cfg(test)]
 mod words;
