@@ -201,12 +201,7 @@ impl Store {
 // ---- operations
 
 impl Store {
-    fn settle(
-        &mut self,
-        visit: usize,
-        context: Option<usize>,
-        way: Way,
-    ) -> Result<(), AllocError>
+    fn settle(&mut self, visit: usize, context: Option<usize>, way: Way) -> Result<(), AllocError>
         ensures ok { OnOk result (self.new ≡ after_change self.old (change.Settle visit context way)) }
         ensures refused { OnErr result (self.new ≡ self.old) }
     {

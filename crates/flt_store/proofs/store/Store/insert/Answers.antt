@@ -10,11 +10,11 @@ use Rattle.flt_store.proofs.store.Store.insert.Goals as goal
 
 pub returns-clause-ok : goal.returns-clause-ok
 returns-clause-ok c = elim c.match-insert.branch [
-  in-Ok w ↦ rw w.result-is (
-    let s = the_view c.self.inside in
-    let f = c.args.filter in
-    let e : kept.Entry = record { visit = c.args.visit; context = c.args.context } in
-    ap (λ (q : Queueing). with_queues s q) w.in-Ok.ensures.queued ∙ insert_carried s c.self.inside.queues f e
-    ∙ ap (λ (r : Store). with_queue r f (queue_at r f ++ entry_of e ∷ [])) c.self.view_is)
+  | in-Ok w ↦ rw w.result-is (
+      let s = the_view c.self.inside in
+      let f = c.args.filter in
+      let e : kept.Entry = record { visit = c.args.visit; context = c.args.context } in
+      ap (λ (q : Queueing). with_queues s q) w.in-Ok.ensures.queued ∙ insert_carried s c.self.inside.queues f e
+      ∙ ap (λ (r : Store). with_queue r f (queue_at r f ++ entry_of e ∷ [])) c.self.view_is)
   | in-Err-OutOfMemory w ↦ search rules
 ]

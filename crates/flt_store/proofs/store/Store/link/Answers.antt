@@ -19,13 +19,13 @@ linked c =
     let x = c.args.context in
     let k = c.key_at.result in
     let there : CanBeLinked s x c.args.filter c.args.key c.args.over =
-        subst (λ (r : Store). CanBeLinked r x c.args.filter c.args.key c.args.over) (sym c.self.view_is) c.requires in
+    subst (λ (r : Store). CanBeLinked r x c.args.filter c.args.key c.args.over) (sym c.self.view_is) c.requires in
     let f_is : k.filter ≡ c.args.filter = ap (λ (l : Link). l.filter) c.key_at.ensures in
     let unclosed : ctx.is_closed t k.filter ≡ false = ap (λ (f : ℕ). ctx.is_closed t f) f_is
-        ∙ open_there t.closed c.self.inside.presences.items c.args.filter c.self.invariant.closed there.attached in
+    ∙ open_there t.closed c.self.inside.presences.items c.args.filter c.self.invariant.closed there.attached in
     let can : ctx.cannot_link (ctx.context_at t x) ≡ false = cannot_there t.contexts x there.can in
     let is : ctx.linked_at t k ≡ c.args.over = sym (linked_there t.contexts k)
-        ∙ ap (λ (l : Link). world.linked_at s l) c.key_at.ensures ∙ there.linked in
+    ∙ ap (λ (l : Link). world.linked_at s l) c.key_at.ensures ∙ there.linked in
     link_made t c.set.new.self x k c.args.over (is_some c.args.old) is
     (λ none. (c.in_ok-set.ensures.done (unclosed, can) none).1)
     (λ y some. rw (← c.is_some.ensures) (c.in_ok-set.ensures.replaced y (unclosed, can) refl some).1)
