@@ -1,5 +1,5 @@
 -- Moves that start an activation: what is decided is the machine's step.
-use Rattle.std.proofs.Common.{◌≡◌, ℕ, nat_lt, Bool, true, false, if◌then◌else◌, List, [], ◌∷◌, ◌++◌, length, Option, Some, None, find, refl, sym, ap, ◌∙◌, ◌==◌, ◌||◌, arith, append-nil}
+use Rattle.std.proofs.Common.{◌≡◌, ℕ, nat_lt, Bool, true, false, if◌then◌else◌, List, [], ◌∷◌, length, Option, Some, None, find, refl, sym, ap, ◌∙◌, ◌==◌, ◌||◌, arith, append-nil}
 use Rattle.std.proofs.lemmas.Bool.Decides.{nat_tests}
 use Rattle.flt_rules.specs.declared.place.Operation.{Operation}
 use Rattle.flt_rules.specs.declared.place.Place.{Place}

@@ -1,5 +1,7 @@
 //! Decisions.
 
+ghost use Rattle.std.specs.Prelude.{◌≡◌, None};
+
 use flt_rules::Place;
 use flt_store::Change;
 
@@ -23,4 +25,17 @@ pub struct Decision {
     /// The context whose last reference goes.
     pub freed: Option<usize>,
     pub change: Change,
+}
+
+impl Decision {
+    /// A change alone: no activation starts, and no context is freed.
+    pub(crate) fn only(change: Change) -> Decision
+        ensures { result ≡ record { start = None; freed = None; change = change } }
+    {
+        Decision {
+            start: None,
+            freed: None,
+            change,
+        }
+    }
 }

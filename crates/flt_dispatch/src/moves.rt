@@ -6,7 +6,6 @@ ghost use Rattle.flt_dispatch.specs.Decisions.{Decides, DecidesAnywhere, Decides
 ghost use Rattle.flt_frame.specs.Loading.{AreLoaded};
 ghost use Rattle.flt_model.specs.Moves as moves;
 ghost use Rattle.flt_model.specs.Moves.{make};
-ghost use Rattle.flt_model.specs.Program.{callbacks_at};
 ghost use Rattle.flt_model.specs.World as world;
 ghost use Rattle.flt_model.specs.World.{Actor, Activation};
 ghost use Rattle.flt_store.specs.Changes.{IsPossible};
@@ -18,17 +17,6 @@ use flt_frame::Loaded;
 use flt_model::Move;
 use flt_rules::{Mode, Operation, Place};
 use flt_store::{Change, Store};
-
-/// A change alone: no activation starts, and no context is freed.
-pub(crate) fn only(change: Change) -> Decision
-    ensures { result ≡ record { start = None; freed = None; change = change } }
-{
-    Decision {
-        start: None,
-        freed: None,
-        change,
-    }
-}
 
 /// Create and cleanup are I/O request packets.
 fn fits_mode(kind: Operation, mode: Mode) -> bool
@@ -46,7 +34,7 @@ fn arrive(kind: Operation, mode: Mode, file: u32) -> Option<Decision>
     ensures possible { IfSome result (λ d. (s : world.Store) → length s.arrivals < 65536 → IsPossible s d.change) }
 {
     if fits_mode(kind, mode) && file < 1024 {
-        Some(only(Change::Arrive(kind, mode, file)))
+        Some(Decision::only(Change::Arrive(kind, mode, file)))
     } else {
         None
     }
@@ -96,7 +84,7 @@ fn skip(loaded: &Loaded, store: &Store, serial: u32) -> Option<Decision>
     if calls_pre(loaded, store, filter, kind) {
         return None;
     }
-    Some(only(Change::Skip(serial, filter)))
+    Some(Decision::only(Change::Skip(serial, filter)))
 }
 
 /// Below the last filter the operation is carried out.
@@ -107,7 +95,7 @@ fn lower(store: &Store, serial: u32) -> Option<Decision>
     ensures possible { IfSome result (λ d. IsPossible store.now d.change) }
 {
     if store.is_past_filters(serial) {
-        Some(only(Change::Lower(serial)))
+        Some(Decision::only(Change::Lower(serial)))
     } else {
         None
     }
@@ -144,7 +132,7 @@ fn cancel(store: &Store, serial: u32) -> Option<Decision>
     if store.is_done(serial) || store.cancelled(serial) {
         None
     } else {
-        Some(only(Change::Cancel(serial)))
+        Some(Decision::only(Change::Cancel(serial)))
     }
 }
 

@@ -9,7 +9,6 @@ ghost use Rattle.flt_store.specs.Stores.{world_of};
 ghost use Rattle.flt_tree.specs.declared.filter.Filter.{Filter};
 
 use crate::decision::{Decision, Start};
-use crate::moves::only;
 use flt_frame::Loaded;
 use flt_model::Key;
 use flt_rules::Place;
@@ -21,7 +20,7 @@ pub(crate) fn detach(store: &Store, filter: usize) -> Option<Decision>
     ensures possible { IfSome result (λ d. IsPossible store.now d.change) }
 {
     if store.is_attached(filter) {
-        Some(only(Change::Detach(filter)))
+        Some(Decision::only(Change::Detach(filter)))
     } else {
         None
     }
@@ -88,7 +87,7 @@ pub(crate) fn detached(store: &Store, filter: usize, active: bool) -> Option<Dec
     ensures possible { IfSome result (λ d. IsPossible store.now d.change) }
 {
     if store.is_detaching(filter) && is_drained(store, filter, active) {
-        Some(only(Change::Finish(filter)))
+        Some(Decision::only(Change::Finish(filter)))
     } else {
         None
     }

@@ -44,7 +44,7 @@ linked_in : (h : ctx.ContextTable) (f : ℕ) (k : Key) → has_link h (record { 
 linked_in h f k is =
     let here : at.Key = record { filter = f; target = target_of k } in
     let there : is_some (ctx.linked_at h here) ≡ true =
-        sym (ap (λ (o : Option ℕ). is_some o) (linked_there h.contexts here)) ∙ ap (λ (l : Key). has_link h (record { filter = f; key = l })) (back k) ∙ is in
+    sym (ap (λ (o : Option ℕ). is_some o) (linked_there h.contexts here)) ∙ ap (λ (l : Key). has_link h (record { filter = f; key = l })) (back k) ∙ is in
     let found = some_is (ctx.linked_at h here) there in
     (found.0, found_key h here found.0 found.1)
 

@@ -61,7 +61,7 @@ queue_there qs f = get_or-map (map entry_of) qs f []
 -- the front entry
 pub front_there : (qs : List (List cbdq.Entry)) (f : ℕ) (front : Option cbdq.Entry) → front ≡ slice_get (get_or qs f []) 0 →
     MatchOption front (get_or (map (map entry_of) qs) f [] ≡ [])
-        (λ e. get_or (map (map entry_of) qs) f [] ≡ record { visit = e.visit; context = e.context } ∷ drop 1 (get_or (map (map entry_of) qs) f []))
+    (λ e. get_or (map (map entry_of) qs) f [] ≡ record { visit = e.visit; context = e.context } ∷ drop 1 (get_or (map (map entry_of) qs) f []))
 front_there qs f None is = queue_there qs f ∙ none_there (get_or qs f []) is
 front_there qs f (Some e) is = subst (λ (q : List Entry). q ≡ entry_of e ∷ drop 1 q) (sym (queue_there qs f)) (first_there (get_or qs f []) e is)
 

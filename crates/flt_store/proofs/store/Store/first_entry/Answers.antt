@@ -15,7 +15,7 @@ loop-entry-init c =
 pub returns-then-visit-serial : goal.returns-then-visit-serial
 returns-then-visit-serial c =
     let visit_is : c.visit.result ≡ visit_at c.args.self.now c.in-Some.entry.visit =
-        c.visit.ensures ∙ ap (λ (s : Store). visit_at s c.in-Some.entry.visit) c.self.view_is in
+    c.visit.ensures ∙ ap (λ (s : Store). visit_at s c.in-Some.entry.visit) c.self.view_is in
     let here = ap (λ (v : Visit). v.operation) (sym c.visit-in-Some.view_is) ∙ c.if-visit-serial.true in
     walk_found c.args.self.now c.args.serial c.loop-entry.left c.in-Some.entry c.visit.result (sym c.in-Some.is ∙ c.next_entry.ensures.first)
     visit_is here ∙ sym c.loop-entry.invariant
@@ -28,7 +28,7 @@ loop-entry-smaller c =
 pub loop-entry-preserved : goal.loop-entry-preserved
 loop-entry-preserved c =
     let visit_is : c.visit.result ≡ visit_at c.args.self.now c.in-Some.entry.visit =
-        c.visit.ensures ∙ ap (λ (s : Store). visit_at s c.in-Some.entry.visit) c.self.view_is in
+    c.visit.ensures ∙ ap (λ (s : Store). visit_at s c.in-Some.entry.visit) c.self.view_is in
     let other : c.visit.result.operation ≢ c.args.serial = λ is. c.if-visit-serial.false (ap (λ (v : Visit). v.operation) c.visit-in-Some.view_is ∙ is) in
     c.loop-entry.invariant ∙
     walk_past c.args.self.now c.args.serial c.loop-entry.left c.in-Some.entry c.visit.result (sym c.in-Some.is ∙ c.next_entry.ensures.first)
