@@ -1,5 +1,5 @@
 -- A step of a call, a read or a test leaves its activation going on.
-use Rattle.std.proofs.Common.{◌≡◌, ◌<◌, ℕ, ◌+◌, Bool, true, false, not, ◌||◌, if◌then◌else◌, List, [], ◌∷◌, ◌++◌, length, Option, Some, None, get_or, set, replicate, is_some, arith, ap, sym, refl, subst, ◌∙◌}
+use Rattle.std.proofs.Common.{◌≡◌, ◌<◌, ℕ, ◌+◌, Bool, true, false, if◌then◌else◌, List, [], ◌∷◌, ◌++◌, length, Option, Some, None, get_or, set, is_some, arith, ap, sym, refl, ◌∙◌}
 use Rattle.std.proofs.lemmas.List.{get_or-replicate, get_or-set_same, length-replicate}
 use Rattle.flt_rules.specs.Held.{held, holds_lock, without_last}
 use Rattle.flt_rules.specs.Place.{is_irp}
