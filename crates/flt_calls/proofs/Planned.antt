@@ -43,7 +43,7 @@ IsStep l s c grant plan =
 abbrev pub Told : Loaded → Caller → Instruction → Type 0
 Told l c i = (p : List Filter) (act : Activation) → AreLoaded p l → StandsFor (callbacks_at p c.filter) c.standing act → Remains (callbacks_at p c.filter) c.standing act.rest i
 
-if_ok : {E : Type 0} (r : Result Plan E) (P : Plan → Type 0) → ((x : Plan) → r ≡ Ok x → P x) → IfOk r P
+pub if_ok : {E : Type 0} (r : Result Plan E) (P : Plan → Type 0) → ((x : Plan) → r ≡ Ok x → P x) → IfOk r P
 if_ok (Ok x) P holds = holds x refl
 if_ok (Err e) P holds = tt
 

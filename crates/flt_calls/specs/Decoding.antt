@@ -1,5 +1,5 @@
 -- Calls by their operands, as a statement has them.
-use Rattle.std.specs.Prelude.{ℕ, Bool, true, if◌then◌else◌, List, Option, Some, None, unwrap_or}
+use Rattle.std.specs.Prelude.{ℕ, Bool, true, false, if◌then◌else◌, List, Option, Some, None, unwrap_or}
 use Rattle.flt_rules.specs.declared.call.Call.{Call}
 use Rattle.flt_rules.specs.declared.call.Call.TheVariants as call
 use Rattle.flt_tree.specs.Registered.{routine_of}
@@ -12,6 +12,8 @@ use Rattle.flt_tree.specs.declared.filter.Statement.{Statement}
 use Rattle.flt_tree.specs.declared.variable.OperationVariable.{OperationVariable}
 use Rattle.flt_tree.specs.declared.variable.OperationVariable.TheVariants.{Removed}
 use Rattle.flt_tree.specs.declared.variable.RemovedVariable.{RemovedVariable}
+use Rattle.flt_graph.specs.declared.instruction.Instruction.{Instruction}
+use Rattle.flt_graph.specs.declared.instruction.Instruction.TheVariants as instruction
 use Rattle.flt_graph.specs.declared.instruction.Invocation.{Invocation}
 use Rattle.flt_model.specs.Calls as calls
 use Rattle.flt_model.specs.Effects.{Step}
@@ -92,3 +94,9 @@ asked_step w a grant granted refused (asked.Queue routine c) = calls.queue_gener
 -- the choice that is written for a call: one that leaves none is made with `yes`
 abbrev pub choice_of : FallibleCall → Bool → Bool
 choice_of c grant = if may_be_refused c then grant else true
+
+-- whether an instruction ends its callback
+abbrev pub is_ending : Instruction → Bool
+is_ending (instruction.Return status) = true
+is_ending instruction.End = true
+is_ending _ = false

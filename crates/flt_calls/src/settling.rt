@@ -1,6 +1,6 @@
 //! Calls that complete an operation, and the end of a callback.
 
-ghost use Rattle.std.specs.Prelude.{◌≡◌, ◌++◌, [], List, Some, IfOk, OnOk, nat_lt, option_map};
+ghost use Rattle.std.specs.Prelude.{◌≡◌, true, ◌++◌, [], List, Some, IfOk, OnOk, nat_lt, option_map};
 ghost use Rattle.flt_rules.specs.Place.{answers};
 ghost use Rattle.flt_model.specs.Calls as calls;
 ghost use Rattle.flt_model.specs.Returns as spec;
@@ -18,7 +18,7 @@ ghost use Rattle.flt_tree.specs.Variable.{whose};
 ghost use Rattle.flt_tree.specs.declared.filter.Filter.{Filter};
 ghost use Rattle.flt_tree.specs.declared.filter.Statement.{Statement};
 ghost use Rattle.flt_tree.specs.declared.variable.OperationVariable.TheVariants.{Data};
-ghost use Rattle.flt_calls.specs.Plans.{IsPlanned, Plans, PlansBy, world_of};
+ghost use Rattle.flt_calls.specs.Plans.{IsPlanned, is_end, Plans, PlansBy, world_of};
 ghost use Rattle.flt_calls.specs.Completing.{IsSettledBy, completes, completion_told, settled_told};
 ghost use Rattle.flt_calls.specs.Returning.{IsReturning, context_told, status_told, visit_told};
 ghost use Rattle.flt_calls.specs.Own.{AreOwn};
@@ -304,6 +304,7 @@ fn plan_return(
     ensures planned { IfOk result (λ plan. (p : List Filter) (t : List Event) (actors : List machine.Actor) (acts : List machine.Activation) (granted refused : List Statement) →
         AreLoaded p loaded.now → IsReturning t (world_of store.now actors acts) a status r →
         IsPlanned (world_of store.now actors acts) a plan [] granted refused (spec.returns p t (world_of store.now actors acts) a status)) }
+    ensures ends { IfOk result (λ plan. is_end plan.write ≡ true) }
     ensures own { IfOk result (λ plan. AreOwn a plan.events) }
     ensures possible { IfOk result (λ plan. IsPossible store.now plan.change) }
 {
@@ -348,6 +349,7 @@ pub(crate) fn returns(
     status: Option<Status>,
 ) -> Result<Plan, AllocError>
     ensures planned { IfOk result (λ plan. (p : List Filter) → AreLoaded p loaded.now → PlansBy store.now caller.now plan (λ t w granted refused. spec.returns p t w caller.now.activation status)) }
+    ensures ends { IfOk result (λ plan. is_end plan.write ≡ true) }
     ensures own { IfOk result (λ plan. AreOwn caller.now.activation plan.events) }
     ensures possible { IfOk result (λ plan. AreCounted store.now → IsPossible store.now plan.change) }
 {

@@ -1,16 +1,20 @@
-use Rattle.std.proofs.Common.{ℕ, ap, subst, sym, ◌∙◌}
+use Rattle.std.proofs.Common.{◌≡◌, false, [], List, ℕ, ap, subst, sym, ◌∙◌}
 use Rattle.std.specs.Prelude.{IfOk}
 use Rattle.std.proofs.lemmas.Option.{same_Some}
-use Rattle.std.proofs.lemmas.Result.{IfOk-weaker}
+use Rattle.std.proofs.lemmas.Result.{IfOk-at_ok, IfOk-weaker}
 use Rattle.flt_tree.specs.declared.filter.PlainCall.{PlainCall}
 use Rattle.flt_graph.specs.Instruction as invocation
 use Rattle.flt_graph.specs.declared.instruction.Invocation.{Invocation}
 use Rattle.flt_model.specs.Program.{callbacks_at}
 use Rattle.flt_model.specs.Steps as steps
 use Rattle.flt_calls.specs.Decoding.{asked_by, asked_of, asked_step, choice_of, plain_by}
-use Rattle.flt_calls.specs.Plans.{Plans}
+use Rattle.flt_calls.specs.Plans.{Plans, is_end}
+use Rattle.flt_tree.specs.declared.filter.Filter.{Filter}
+use Rattle.flt_frame.specs.Loading.{AreLoaded}
 use Rattle.flt_calls.specs.declared.plans.Plan.{Plan}
 use Rattle.flt_calls.proofs.Decoded.{asked_is, asked_planned, plain_of}
+use Rattle.flt_calls.proofs.Lasting.{asked_lasts, not_ended, plain_lasts}
+use Rattle.flt_calls.proofs.Planned.{if_ok}
 use Rattle.flt_calls.proofs.planning.plan_call.Goals as goal
 
 pub returns-in-Some-clause-plain : goal.returns-in-Some-clause-plain
@@ -30,4 +34,24 @@ returns-in-Some-asked_by-clause-fallible c = λ p t call loaded is.
     (λ (plan : Plan). Plans s caller plan (λ w granted refused. asked_step w caller.activation c.args.grant granted refused c.in-Some-asked_by.asked))
     (λ (plan : Plan). Plans s caller plan (λ w granted refused. steps.fallible_step p t w caller.activation (choice_of call c.args.grant) granted refused call))
     (λ plan held. asked_planned p t s caller plan c.in-Some-asked_by.asked call c.args.grant same held)
+    c.plan_asked.ensures.planned
+
+pub returns-in-Some-clause-lasts : goal.returns-in-Some-clause-lasts
+returns-in-Some-clause-lasts c =
+    let s = c.args.store.now in
+    let caller = c.args.caller.now in
+    if_ok c.plan_plain.result (λ (plan : Plan). (p : List Filter) → AreLoaded p c.args.loaded.now → is_end plan.write ≡ false)
+    (λ plan is p loaded. not_ended s caller plan (λ w granted refused. steps.plain_step p [] w caller.activation granted c.in-Some.call)
+    (IfOk-at_ok (λ (x : Plan). Plans s caller x (λ w granted refused. steps.plain_step p [] w caller.activation granted c.in-Some.call)) is (c.plan_plain.ensures.planned p [] loaded))
+    (λ w lives. plain_lasts w caller.activation lives p [] [] c.in-Some.call))
+
+pub returns-in-Some-asked_by-clause-lasts : goal.returns-in-Some-asked_by-clause-lasts
+returns-in-Some-asked_by-clause-lasts c =
+    let s = c.args.store.now in
+    let caller = c.args.caller.now in
+    IfOk-weaker c.plan_asked.result
+    (λ (plan : Plan). Plans s caller plan (λ w granted refused. asked_step w caller.activation c.args.grant granted refused c.in-Some-asked_by.asked))
+    (λ (plan : Plan). (p : List Filter) → AreLoaded p c.args.loaded.now → is_end plan.write ≡ false)
+    (λ plan held p loaded. not_ended s caller plan (λ w granted refused. asked_step w caller.activation c.args.grant granted refused c.in-Some-asked_by.asked) held
+    (λ w lives. asked_lasts w caller.activation lives c.args.grant [] [] c.in-Some-asked_by.asked))
     c.plan_asked.ensures.planned

@@ -1,7 +1,14 @@
-use Rattle.std.proofs.Common.{subst, sym, ◌∙◌}
+use Rattle.std.proofs.Common.{◌≡◌, List, true, false, ap, subst, sym, ◌∙◌}
+use Rattle.flt_graph.specs.declared.instruction.Instruction.{Instruction}
 use Rattle.flt_graph.specs.declared.instruction.Instruction.TheVariants as instruction
 use Rattle.flt_model.specs.Program.{callbacks_at}
 use Rattle.flt_frame.specs.Firsts.{Remains}
+use Rattle.std.proofs.lemmas.Result.{IfOk-weaker}
+use Rattle.flt_tree.specs.declared.filter.Filter.{Filter}
+use Rattle.flt_frame.specs.Loading.{AreLoaded, instruction_in}
+use Rattle.flt_calls.specs.Decoding.{is_ending}
+use Rattle.flt_calls.specs.Plans.{is_end}
+use Rattle.flt_calls.specs.declared.plans.Plan.{Plan}
 use Rattle.flt_calls.proofs.Planned.{Told, act_ends, test_ends, call_ends, return_ends, end_ends, repeat_ends}
 use Rattle.flt_calls.proofs.planning.plan_step.Goals as goal
 
@@ -46,3 +53,48 @@ returns-in-End-clause-planned c =
     subst (Remains (callbacks_at p c.args.caller.now.filter) c.args.caller.now.standing act.rest) (sym c.instruction.ensures ∙ c.in-End.is)
     (c.standings_have_points.ensures.told p c.args.loaded.now c.args.caller.now.filter c.args.caller.now.standing act loaded stands) in
     end_ends c.args.loaded.now c.args.store.now c.args.caller.now c.args.grant c.returns-in-End.result told c.returns-in-End.ensures.planned
+
+pub returns-in-Act-clause-ends : goal.returns-in-Act-clause-ends
+returns-in-Act-clause-ends c =
+    IfOk-weaker c.plan_action.result
+    (λ (plan : Plan). is_end plan.write ≡ false)
+    (λ (plan : Plan). (p : List Filter) → AreLoaded p c.args.loaded.now →
+    is_end plan.write ≡ is_ending (instruction_in c.args.loaded.now c.args.caller.now.filter c.args.caller.now.standing.callback c.args.caller.now.standing.point))
+    (λ plan held p loaded. held ∙ sym (ap (λ (i : Instruction). is_ending i) (sym c.instruction.ensures ∙ c.in-Act.is)))
+    c.plan_action.ensures.lasts
+
+pub returns-in-Test-clause-ends : goal.returns-in-Test-clause-ends
+returns-in-Test-clause-ends c =
+    IfOk-weaker c.plan_test.result
+    (λ (plan : Plan). is_end plan.write ≡ false)
+    (λ (plan : Plan). (p : List Filter) → AreLoaded p c.args.loaded.now →
+    is_end plan.write ≡ is_ending (instruction_in c.args.loaded.now c.args.caller.now.filter c.args.caller.now.standing.callback c.args.caller.now.standing.point))
+    (λ plan held p loaded. held ∙ sym (ap (λ (i : Instruction). is_ending i) (sym c.instruction.ensures ∙ c.in-Test.is)))
+    c.plan_test.ensures.lasts
+
+pub returns-in-Return-clause-ends : goal.returns-in-Return-clause-ends
+returns-in-Return-clause-ends c =
+    IfOk-weaker c.returns.result
+    (λ (plan : Plan). is_end plan.write ≡ true)
+    (λ (plan : Plan). (p : List Filter) → AreLoaded p c.args.loaded.now →
+    is_end plan.write ≡ is_ending (instruction_in c.args.loaded.now c.args.caller.now.filter c.args.caller.now.standing.callback c.args.caller.now.standing.point))
+    (λ plan held p loaded. held ∙ sym (ap (λ (i : Instruction). is_ending i) (sym c.instruction.ensures ∙ c.in-Return.is)))
+    c.returns.ensures.ends
+
+pub returns-in-End-clause-ends : goal.returns-in-End-clause-ends
+returns-in-End-clause-ends c =
+    IfOk-weaker c.returns-in-End.result
+    (λ (plan : Plan). is_end plan.write ≡ true)
+    (λ (plan : Plan). (p : List Filter) → AreLoaded p c.args.loaded.now →
+    is_end plan.write ≡ is_ending (instruction_in c.args.loaded.now c.args.caller.now.filter c.args.caller.now.standing.callback c.args.caller.now.standing.point))
+    (λ plan held p loaded. held ∙ sym (ap (λ (i : Instruction). is_ending i) (sym c.instruction.ensures ∙ c.in-End.is)))
+    c.returns-in-End.ensures.ends
+
+pub returns-in-Call-clause-ends : goal.returns-in-Call-clause-ends
+returns-in-Call-clause-ends c =
+    IfOk-weaker c.plan_call.result
+    (λ (plan : Plan). (p : List Filter) → AreLoaded p c.args.loaded.now → is_end plan.write ≡ false)
+    (λ (plan : Plan). (p : List Filter) → AreLoaded p c.args.loaded.now →
+    is_end plan.write ≡ is_ending (instruction_in c.args.loaded.now c.args.caller.now.filter c.args.caller.now.standing.callback c.args.caller.now.standing.point))
+    (λ plan held p loaded. held p loaded ∙ sym (ap (λ (i : Instruction). is_ending i) (sym c.instruction.ensures ∙ c.in-Call.is)))
+    c.plan_call.ensures.lasts
