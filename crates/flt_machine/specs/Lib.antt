@@ -1,4 +1,0 @@
-pub mod Situations
-pub mod Calls
-pub mod Counted
-pub mod Blocking
