@@ -27,6 +27,7 @@ use Rattle.flt_replay.specs.declared.monitor.Course.{Course as Code}
 use Rattle.flt_replay.specs.declared.monitor.Course.TheVariants as code
 use Rattle.flt_replay.specs.declared.monitor.Monitor.{Monitor}
 use Rattle.flt_replay.proofs.Machine.Frames.{stepped}
+use Rattle.flt_replay.proofs.Machine.Locals.{AreQuiet}
 use Rattle.flt_replay.proofs.Judging.Judgements.{least_of_both, rules_of_step, no_rule_of_move, exclusive_after}
 use Rattle.flt_replay.proofs.Counting.Ledgers.{agrees_unseen}
 use Rattle.flt_replay.proofs.Judging.RulesAfter.{alike_after}
@@ -168,12 +169,6 @@ module _ (p : List Filter) (m : Moment) (a : ℕ) (grant held : Bool) (old new :
 
 -- ---- steps that nobody else sees
 
--- local steps have no events, and break nothing that wasn't broken before
-pub record AreQuiet : Type 0 where
-  pub events : (p : List Filter) (m : Moment) (a : ℕ) (s : Step) → next p m (Local a) ≡ Some s → s.events ≡ []
-  pub breaks : (p : List Filter) (m : Moment) (a : ℕ) (s : Step) → next p m (Local a) ≡ Some s →
-      broken p m s ≡ (if one_owner m.world m.trace then (if locks_exclude m.world then None else Some V7) else Some V4)
-
 module _ (p : List Filter) (m : Moment) (a : ℕ) (old : Monitor) (u : World) (enabled : Bool) (at : IsAt old m)
     (h : (p : List Filter) → (t : List Event) → ComesOf (local p t old.world a) enabled u [] []) (ys : List Transition) where
   local_here : ComesOf (local p m.trace m.world a) enabled u [] []
@@ -188,7 +183,7 @@ module _ (p : List Filter) (m : Moment) (a : ℕ) (old : Monitor) (u : World) (e
     after m s,
     record {
       world = world;
-      counts = agrees_unseen p m a s old.ledger at.counts e (quiet.events p m a s e);
+      counts = agrees_unseen quiet p m a s old.ledger at.counts e;
       exclusive = stay.steps p m.world m.trace (Local a) s e at.exclusive;
     },
     rw (e, quiet.breaks p m a s e, at.counts.owned, at.exclusive) refl,
