@@ -1,5 +1,5 @@
 -- What comes of the monitor's steps, entry by entry.
-use Rattle.std.proofs.Common.{◌≡◌, ◌<◌, ◌-◌, ◌+◌, ℕ, zero, suc, Bool, true, false, List, [], ◌∷◌, ◌++◌, Option, Some, None, Result, Ok, Err, IfOk, find, not, if◌then◌else◌, replicate, drop, get_or, length, add-one, refl, sym, ◌∙◌, ap, subst, arith, sub-one}
+use Rattle.std.proofs.Common.{◌≡◌, ◌<◌, ◌-◌, ◌+◌, ℕ, zero, suc, Bool, true, false, List, [], ◌∷◌, ◌++◌, Option, Some, None, Result, Ok, Err, IfOk, find, not, replicate, drop, get_or, length, add-one, refl, sym, ◌∙◌, ap, subst, arith, sub-one}
 use Rattle.std.specs.List.{list_all}
 use Rattle.std.specs.Option.{option_or}
 use Rattle.std.specs.Prelude.{IsTrue}
@@ -10,14 +10,12 @@ use Rattle.flt_model.specs.declared.moves.JournalEntry.{JournalEntry}
 use Rattle.flt_model.specs.declared.moves.Move.{Move}
 use Rattle.flt_model.specs.declared.verdict.Verdict.{Verdict}
 use Rattle.flt_model.specs.declared.verdict.Violation.{Violation}
-use Rattle.flt_model.specs.declared.verdict.Violation.TheVariants.{V4, V7}
 use Rattle.flt_model.specs.Effects.{Step}
 use Rattle.flt_model.specs.Expansion.{Course, Reaches, Stops, Fails, unless_broken, course, go_on, entry_course, expansion, judged, verdict_from}
 use Rattle.flt_model.specs.Locks.{locks_exclude}
 use Rattle.flt_model.specs.Moves.{make}
 use Rattle.flt_model.specs.Runs.{Moment, start, after, next, broken}
 use Rattle.flt_model.specs.Steps.{Transition, Make, Local, Board, board, local, step}
-use Rattle.flt_model.specs.Violations.{one_owner}
 use Rattle.flt_model.specs.World.{World, activation_at, opening}
 use Rattle.flt_replay.specs.Judging.{Follows, first_of, of_holding, of_rules, with_locks, keeps_rule, is_by}
 use Rattle.flt_replay.specs.Ledger.{Agrees}

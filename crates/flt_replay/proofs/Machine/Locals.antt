@@ -1,5 +1,5 @@
 -- What the machine's law says of local steps, as the proofs hand it on.
-use Rattle.std.proofs.Common.{◌≡◌, ℕ, List, [], Option, Some, None}
+use Rattle.std.proofs.Common.{◌≡◌, ℕ, List, [], Some, None}
 use Rattle.std.specs.Prelude.{if◌then◌else◌}
 use Rattle.flt_tree.specs.declared.filter.Filter.{Filter}
 use Rattle.flt_model.specs.declared.verdict.Violation.TheVariants.{V4, V7}
