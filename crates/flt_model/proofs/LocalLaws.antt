@@ -1,4 +1,5 @@
--- A local step has no events. Each visit has as many owners after it as before, and each lock the same holders.
+-- A local step has no events and changes its activation alone, which goes on. Each visit has as many owners after it as before, and
+-- each lock the same holders.
 use Rattle.std.proofs.Common.{◌≡◌, ℕ, zero, suc, ◌+◌, Bool, true, false, List, [], ◌∷◌, ◌++◌, length, Option, Some, None, ap, sym, subst, refl, ◌∙◌}
 use Rattle.std.proofs.Math.ListN.{set, get_or}
 use Rattle.std.proofs.lemmas.List.{append-nil}
@@ -13,7 +14,7 @@ use Rattle.flt_model.specs.declared.event.Object.TheVariants.{Visit}
 use Rattle.flt_model.specs.declared.verdict.Violation.{Violation}
 use Rattle.flt_model.specs.declared.verdict.Violation.TheVariants.{V4, V7}
 use Rattle.flt_model.specs.Effects.{Step}
-use Rattle.flt_model.specs.LocalSteps.{after_action, goes_on_to, holds_condition, after_statement, local_step}
+use Rattle.flt_model.specs.LocalSteps.{after_action, goes_on_to, holds_condition, after_statement, local_step, GoesOnAlone}
 use Rattle.flt_model.specs.Locks.{locks_exclude}
 use Rattle.flt_model.specs.Runs.{Moment, next, broken}
 use Rattle.flt_model.specs.Steps.{Local, moved_on}
@@ -87,8 +88,9 @@ below_same (suc n) f g h = ap (λ b. b && all_below n f) (h n) ∙ ap (λ b. g n
 abbrev broken_by : Bool → Bool → Option Violation
 broken_by owned exclusive = if owned then (if exclusive then None else Some V7) else Some V4
 
-record Quiet (p : List Filter) (m : Moment) (s : Step) : Type 0 where
+record Quiet (p : List Filter) (m : Moment) (a : ℕ) (s : Step) : Type 0 where
   events : s.events ≡ []
+  alone : GoesOnAlone m.world a s.world
   breaks : broken p m s ≡ broken_by (one_owner m.world m.trace) (locks_exclude m.world)
 
 -- the same, as it is searched for
@@ -105,33 +107,40 @@ module _ (p : List Filter) (m : Moment) (a : ℕ) where
       ∙ below_same (length m.world.store.visits) (is_owned (moved_on p m.trace m.world a act).world m.trace) (is_owned m.world m.trace)
       (λ v. owned_same p m.world m.trace a act v h)
 
-  moved_quiet : (act : Activation) → act.ended ≡ (activation_at m.world a).ended → Quiet p m (moved_on p m.trace m.world a act)
-  moved_quiet act h =
+  moved_quiet : (act : Activation) → (activation_at m.world a).ended ≡ false → act.ended ≡ (activation_at m.world a).ended →
+      Quiet p m a (moved_on p m.trace m.world a act)
+  moved_quiet act went h =
       let none : Option Violation = None in
       let exclusive = locks_exclude m.world in
       record {
         events = refl;
+        alone = record { act = act; changes = refl; went_on = went; goes_on = h ∙ went };
         breaks = ap (λ b. cond (not b) (Some V4) (cond (not exclusive) (Some V7) none)) (owners_stay act h)
             ∙ searched (one_owner m.world m.trace) exclusive;
       }
 
-  quiet_by : (b : Bool) (o : Option Activation) (s : Step) →
+  quiet_by : (b : Bool) (o : Option Activation) (s : Step) → (activation_at m.world a).ended ≡ b →
       ((act : Activation) → o ≡ Some act → act.ended ≡ (activation_at m.world a).ended) →
-      (if b then None else option_map (moved_on p m.trace m.world a) o) ≡ Some s → Quiet p m s
-  quiet_by true o s kept e = absurd (cc)
-  quiet_by false None s kept e = absurd (cc)
-  quiet_by false (Some act) s kept e =
-      let same : moved_on p m.trace m.world a act ≡ s = cc in subst (λ q. Quiet p m q) same (moved_quiet act (kept act refl))
+      (if b then None else option_map (moved_on p m.trace m.world a) o) ≡ Some s → Quiet p m a s
+  quiet_by true o s went kept e = absurd (cc)
+  quiet_by false None s went kept e = absurd (cc)
+  quiet_by false (Some act) s went kept e =
+      let same : moved_on p m.trace m.world a act ≡ s = cc in
+      subst (λ q. Quiet p m a q) same (moved_quiet act went (kept act refl))
 
-  local_quiet_step : (s : Step) → next p m (Local a) ≡ Some s → Quiet p m s
+  local_quiet_step : (s : Step) → next p m (Local a) ≡ Some s → Quiet p m a s
   local_quiet_step s e =
       let act = activation_at m.world a in
       let draining = (actor_at m.world a).draining in
-      quiet_by act.ended (local_step draining act act.rest) s (λ n. step_ended draining act n act.rest) e
+      quiet_by act.ended (local_step draining act act.rest) s refl (λ n. step_ended draining act n act.rest) e
 
 -- a local step has no events
 pub local_silent : (p : List Filter) (m : Moment) (a : ℕ) (s : Step) → next p m (Local a) ≡ Some s → s.events ≡ []
 local_silent p m a s e = (local_quiet_step p m a s e).events
+
+-- a local step changes its activation alone, which goes on
+pub local_alone : (p : List Filter) (m : Moment) (a : ℕ) (s : Step) → next p m (Local a) ≡ Some s → GoesOnAlone m.world a s.world
+local_alone p m a s e = (local_quiet_step p m a s e).alone
 
 -- a local step breaks nothing but V4 and V7, and these where they were broken before
 pub local_breaks : (p : List Filter) (m : Moment) (a : ℕ) (s : Step) → next p m (Local a) ≡ Some s →

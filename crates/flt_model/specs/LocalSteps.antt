@@ -1,6 +1,6 @@
 -- The steps of an activation that nobody else can see: arithmetic, tests of its own variables, and the turns of a `repeat`.
 -- They change the activation alone. This project's own rule.
-use Rattle.std.specs.Prelude.{ℕ, zero, suc, Bool, ◌==◌, nat_lt, if◌then◌else◌, List, [], ◌∷◌, ◌++◌, Option, Some, None, is_some, option_map}
+use Rattle.std.specs.Prelude.{◌≡◌, ℕ, zero, suc, Bool, false, ◌==◌, nat_lt, if◌then◌else◌, List, [], ◌∷◌, ◌++◌, Option, Some, None, is_some, option_map, set}
 use Rattle.flt_tree.specs.declared.filter.Action.{Action}
 use Rattle.flt_tree.specs.declared.filter.Action.TheVariants as action
 use Rattle.flt_tree.specs.declared.filter.Condition.{Condition}
@@ -11,7 +11,7 @@ use Rattle.flt_tree.specs.declared.filter.Statement.TheVariants as tree
 use Rattle.flt_tree.specs.declared.filter.Test.{Test}
 use Rattle.flt_tree.specs.declared.filter.Test.TheVariants as test
 use Rattle.flt_tree.specs.declared.variable.OperationVariable.TheVariants.{Removed}
-use Rattle.flt_model.specs.World.{Activation}
+use Rattle.flt_model.specs.World.{World, Activation, activation_at}
 use Rattle.flt_model.specs.Variables.{number_in, context_in, operation_in, with_number, with_context_in, with_operation_in, atom_value, expression_value}
 
 -- a number is computed, or a variable becomes NULL; other actions are seen by others
@@ -57,3 +57,10 @@ after_statement draining act rest (Statement-F.Repeat line turns block) = Some (
 abbrev pub local_step : Bool → Activation → List Statement → Option Activation
 local_step draining act [] = None
 local_step draining act (s ∷ rest) = after_statement draining act rest (out-Statement s)
+
+-- the second world is the first but for one activation, which goes on in both
+pub record GoesOnAlone (w : World) (a : ℕ) (u : World) : Type 0 where
+  pub act : Activation
+  pub changes : u ≡ record w { activations = set w.activations a act }
+  pub went_on : (activation_at w a).ended ≡ false
+  pub goes_on : act.ended ≡ false

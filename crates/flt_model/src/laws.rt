@@ -6,6 +6,7 @@ ghost use Rattle.flt_tree.specs.declared.filter.Filter.{Filter};
 ghost use Rattle.flt_model.specs.Effects.{Step};
 ghost use Rattle.flt_model.specs.Expansion.{IsCleanRun, IsStoppedAt, IsBrokenAt, verdict};
 ghost use Rattle.flt_model.specs.JournalText.{Entries, IsFirstFault, IsJournal, spelling};
+ghost use Rattle.flt_model.specs.LocalSteps.{GoesOnAlone};
 ghost use Rattle.flt_model.specs.Locks.{locks_exclude};
 ghost use Rattle.flt_model.specs.Runs.{Moment, broken, next};
 ghost use Rattle.flt_model.specs.Steps.{Local, Transition, step};
@@ -33,11 +34,13 @@ pub fn first_faults_are_told()
         (verdict filters entries ≡ Breaks v n) ↔ IsBrokenAt filters entries v n }
 {}
 
-/// A local step has no events, and it breaks nothing that wasn't broken before it: V4, where a visit hadn't its owner
-/// already, V7, where a lock was held exclusively beside another activation, and otherwise nothing. It does nothing: its
-/// clauses are the law.
+/// A local step has no events and changes its activation alone, which goes on. And it breaks nothing that wasn't broken
+/// before it: V4, where a visit hadn't its owner already, V7, where a lock was held exclusively beside another activation, and
+/// otherwise nothing. It does nothing: its clauses are the law.
 pub fn local_steps_are_quiet()
     ensures events { (p : List Filter) (m : Moment) (a : ℕ) (s : Step) → next p m (Local a) ≡ Some s → s.events ≡ [] }
+    ensures alone { (p : List Filter) (m : Moment) (a : ℕ) (s : Step) → next p m (Local a) ≡ Some s →
+        GoesOnAlone m.world a s.world }
     ensures breaks { (p : List Filter) (m : Moment) (a : ℕ) (s : Step) → next p m (Local a) ≡ Some s →
         broken p m s ≡ (if one_owner m.world m.trace then (if locks_exclude m.world then None else Some V7) else Some V4) }
 {}

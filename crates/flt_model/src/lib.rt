@@ -25,7 +25,7 @@ pub use laws::{
     locks_stay_exclusive, one_first_fault_at_most,
 };
 pub use line_parts::{read_move, read_number};
-pub use moves::{JournalEntry, Key, Move};
+pub use moves::{JournalEntry, Key, Move, fits_mode};
 pub use program::{filters_have_places, first_repeated};
 pub use reader::{MAX_ENTRIES, read};
 pub use scanner::Stop;

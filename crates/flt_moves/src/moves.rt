@@ -8,22 +8,12 @@ ghost use Rattle.flt_world.specs.Happening.{ComesOf};
 
 use crate::starting::{start_post, start_pre};
 use crate::{teardown, waiting};
-use flt_model::{Event, Move};
+use flt_model::{Event, Move, fits_mode};
 use flt_records::{Arrival, Frame, Outcome, Position, Route};
 use flt_rules::{FinalStatus, Mode, Operation};
 use flt_world::{Stack, World};
 use sqlite_items::Items;
 use std::alloc::{AllocError, Global};
-
-/// Create and cleanup are I/O request packets.
-fn fits_mode(kind: Operation, mode: Mode) -> bool
-    ensures { result ≡ moves.fits_mode kind mode }
-{
-    match (kind, mode) {
-        (Operation::Create | Operation::Cleanup, Mode::Fast) => false,
-        _ => true,
-    }
-}
 
 // ---- operations arrive, go down and up, and are cancelled
 

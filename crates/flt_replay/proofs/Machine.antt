@@ -3,7 +3,7 @@ pub mod Apart
 pub mod EachStep
 pub mod Frames
 pub mod Handing
-pub mod LocalFrames
+pub mod Locals
 pub mod MoveCases
 pub mod MoveRules
 pub mod Onward

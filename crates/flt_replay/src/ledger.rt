@@ -18,7 +18,7 @@ ghost use Rattle.flt_records.specs.Counts.{count, occurs};
 ghost use Rattle.flt_replay.specs.Rows.{count_of};
 ghost use Rattle.flt_replay.specs.Ledger as spec;
 
-use flt_model::{Event, Object, Violation};
+use flt_model::{Event, Object, Violation, local_steps_are_quiet};
 use flt_records::Counts;
 use flt_world::World;
 use std::alloc::{AllocError, Global};
@@ -463,6 +463,7 @@ impl Ledger {
             Follows p m x s world.now events.now → (found ≡ first_of of_holding p m s)
             × (found ≡ None → spec.Agrees (after m s) self.new)) }
     {
+        local_steps_are_quiet();
         let mut touched = Vec::new(alloc);
         let first = self.take_events(alloc, world, events, &mut touched)?;
         if first.is_some() {

@@ -2,12 +2,11 @@
 
 ghost use Rattle.std.specs.Prelude.{◌≡◌, ◌==◌};
 ghost use Rattle.std.specs.List.{list_any};
-ghost use Rattle.flt_model.specs.Moves.{fits_mode};
 ghost use Rattle.flt_model.specs.Program.{filters_of};
 ghost use Rattle.flt_script.specs.ScriptText as spec;
 
 use crate::command::Command;
-use flt_rules::{Mode, Operation};
+use flt_model::fits_mode;
 use flt_tree::Tree;
 
 /// How many files there are.
@@ -15,15 +14,6 @@ const FILES: u32 = 1024;
 
 /// How many operations a stack takes.
 const OPERATIONS: u32 = 65536;
-
-fn fits_mode(operation: Operation, mode: Mode) -> bool
-    ensures { result ≡ fits_mode operation mode }
-{
-    match (operation, mode) {
-        (Operation::Create | Operation::Cleanup, Mode::Fast) => false,
-        _ => true,
-    }
-}
 
 /// Whether its mode and numbers are within their bounds.
 fn is_command(command: Command) -> bool

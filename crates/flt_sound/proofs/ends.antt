@@ -4,7 +4,7 @@ pub mod Board
 pub mod Completing
 pub mod Ending
 pub mod Frames
-pub mod Registering
 pub mod ReturnRules
 pub mod Returning
 pub mod Settling
+pub mod Tests

@@ -12,7 +12,7 @@ ghost use Rattle.flt_sound.specs.Soundness.{IsAccepted, AreAccepted, AcceptedRun
 ghost use Rattle.flt_sound.specs.Worked.{worked};
 ghost use Rattle.flt_tree.specs.declared.filter.Filter.{Filter};
 
-use flt_abs::{is_partial_order, transfer_follows_situations};
+use flt_abs::{graphs_are_registered_alike, is_partial_order, transfer_follows_situations};
 use flt_check::covering_is_faultless;
 use flt_graph::{
     callbacks_have_graphs, filters_have_graphs, instructions_are_served, lists_have_points,
@@ -27,6 +27,7 @@ pub fn accepted_runs_break_nothing()
     lists_have_points();
     callbacks_have_graphs();
     instructions_are_served();
+    graphs_are_registered_alike();
     transfer_follows_situations();
     is_partial_order();
     locks_stay_exclusive();

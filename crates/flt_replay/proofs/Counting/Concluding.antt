@@ -21,6 +21,7 @@ use Rattle.flt_model.specs.Violations.{holding, holders_from, owners, is_owned, 
 use Rattle.flt_model.specs.World.{World, Activation, activation_at, nobody, is_settled}
 use Rattle.flt_replay.proofs.Machine.Apart.{held_apart}
 use Rattle.flt_replay.proofs.Counting.Ones.{one_elsewhere}
+use Rattle.flt_replay.proofs.Machine.Locals.{AreQuiet}
 use Rattle.flt_replay.proofs.Machine.Onward.{Onward, Peopled, NobodyNew, OneNew, onward}
 use Rattle.flt_replay.proofs.Machine.Owners.{Tidy, Spared, tidy_after, one_owner_after, one_owner_at}
 use Rattle.flt_replay.proofs.Counting.Tallies.{held_is}
@@ -181,8 +182,8 @@ first_is p m s = least (no_stale_use s.world m.trace s.events) (no_leak m.trace 
 
 -- ---- a step whose events were taken in
 
-module _ (p : List Filter) (m : Moment) (x : Transition) (s : Step) (e : next p m x ≡ Some s) (old mid last new : Tally)
-    (some all : List ℕ) (agrees : Agrees m old)
+module _ (quiet : AreQuiet) (p : List Filter) (m : Moment) (x : Transition) (s : Step) (e : next p m x ≡ Some s)
+    (old mid last new : Tally) (some all : List ℕ) (agrees : Agrees m old)
     (j : Judged s.world m.trace s.events old mid [] some true true) (h : Halted s.events mid last some all)
     (n : Joined (length s.world.activations) last new) where
   tidy : Tidy m
@@ -194,7 +195,7 @@ module _ (p : List Filter) (m : Moment) (x : Transition) (s : Step) (e : next p 
   running_new : new.running ≡ going s.world.activations
   running_new =
       ap (λ (d : Tally). d.running) n.only
-      ∙ joined_is m.world s (onward p m x s e) last.running
+      ∙ joined_is m.world s (onward quiet p m x s e) last.running
       (h.size ∙ ap length running_mid ∙ length-map m.world.activations (λ (act : Activation). not act.ended))
       (λ a. h.flags a ∙ ap (λ (ons : List Bool). get_or ons a false && not (ends_in a s.events)) running_mid)
 
@@ -238,13 +239,13 @@ module _ (p : List Filter) (m : Moment) (x : Transition) (s : Step) (e : next p 
       owned_new v ∙ sym here ∙ any
 
   owned_each : list_all (owns_any new s.world) all ≡ true → one_owner s.world (m.trace ++ s.events) ≡ true
-  owned_each each = one_owner_after p m x s e tidy is_listed left (looked each) agrees.owned
+  owned_each each = one_owner_after quiet p m x s e tidy is_listed left (looked each) agrees.owned
 
   any_owned : one_owner s.world (m.trace ++ s.events) ≡ true → (v : ℕ) → owns_any new s.world v ≡ true
   any_owned one v =
       elim (cases_lt v (length s.world.store.visits)) [
         | inl within ↦ or_right (not (nat_lt v (length s.world.store.visits))) (owns new s.world v)
-            (sym (owned_new v) ∙ one_owner_at p m x s e tidy one v within)
+            (sym (owned_new v) ∙ one_owner_at quiet p m x s e tidy one v within)
         | inr past ↦ ap (λ b. not b || owns new s.world v) (le-ltb v (length s.world.store.visits) past)
       ]
 
@@ -253,7 +254,7 @@ module _ (p : List Filter) (m : Moment) (x : Transition) (s : Step) (e : next p 
 
   agrees_after : one_owner s.world (m.trace ++ s.events) ≡ true → Agrees (after m s) new
   agrees_after one =
-      let later = tidy_after p m x s e tidy in
+      let later = tidy_after quiet p m x s e tidy in
       record {
         tells = tells_new;
         counted = counted_new;
@@ -263,8 +264,8 @@ module _ (p : List Filter) (m : Moment) (x : Transition) (s : Step) (e : next p 
         strangers = later.strangers;
       }
 
-module _ (p : List Filter) (m : Moment) (x : Transition) (s : Step) (w : World) (es : List Event) (old mid last new : Tally)
-    (some all : List ℕ) (agrees : Agrees m old)
+module _ (quiet : AreQuiet) (p : List Filter) (m : Moment) (x : Transition) (s : Step) (w : World) (es : List Event)
+    (old mid last new : Tally) (some all : List ℕ) (agrees : Agrees m old)
     (f : Follows p m x s w es) (found : Option Violation) (no : is_some found ≡ false) (first : found ≡ first_broken w m.trace es)
     (was : List ℕ) (blank : was ≡ []) (taken : found ≡ None → Judged w m.trace es old mid was some true true)
     (h : Halted es mid last some all)
@@ -298,9 +299,9 @@ module _ (p : List Filter) (m : Moment) (x : Transition) (s : Step) (w : World) 
   -- each that was listed has its owner
   pub concluded : list_all (owns_any new w) all ≡ true → (None ≡ first_of of_holding p m s) × (nothing ≡ None → Agrees (after m s) new)
   concluded each =
-      let one = owned_each p m x s f.is old mid last new some all agrees judged_step halted_step joined_step
+      let one = owned_each quiet p m x s f.is old mid last new some all agrees judged_step halted_step joined_step
       (subst (λ (v : World). list_all (owns_any new v) all ≡ true) (sym f.world) each) in
-      (fourth_is true one, λ _. agrees_after p m x s f.is old mid last new some all agrees judged_step halted_step joined_step one)
+      (fourth_is true one, λ _. agrees_after quiet p m x s f.is old mid last new some all agrees judged_step halted_step joined_step one)
 
   -- one has not
   pub refuted : list_all (owns_any new w) all ≡ false → Some V4 ≡ first_of of_holding p m s
@@ -308,4 +309,4 @@ module _ (p : List Filter) (m : Moment) (x : Transition) (s : Step) (w : World) 
       fourth_is false (false_from_ne_true (one_owner s.world (m.trace ++ s.events)) (λ one.
       both_ways (list_all (owns_any new w) all) each
       (subst (λ (v : World). list_all (owns_any new v) all ≡ true) f.world
-      (all_owned p m x s f.is old mid last new some all agrees judged_step halted_step joined_step one))))
+      (all_owned quiet p m x s f.is old mid last new some all agrees judged_step halted_step joined_step one))))

@@ -11,13 +11,16 @@ use Rattle.flt_model.specs.Effects.{Step}
 use Rattle.flt_model.specs.Runs.{Moment, next, after}
 use Rattle.flt_model.specs.Steps.{Local}
 use Rattle.flt_model.specs.World.{Activation, nobody}
-use Rattle.flt_replay.proofs.Machine.LocalFrames.{local_moves}
+use Rattle.flt_replay.proofs.Machine.Locals.{AreQuiet}
 use Rattle.flt_replay.proofs.Machine.Owners.{Tidy, Spared, tidy_after, one_owner_after}
 use Rattle.flt_replay.specs.Apart.{is_apart, ends_in}
 use Rattle.flt_replay.specs.Ledger.{Tally, Tells, Agrees, going}
 
-module _ (p : List Filter) (m : Moment) (a : ℕ) (s : Step) (c : Tally) (agrees : Agrees m c) (e : next p m (Local a) ≡ Some s)
-    (none : s.events ≡ []) where
+module _ (quiet : AreQuiet) (p : List Filter) (m : Moment) (a : ℕ) (s : Step) (c : Tally) (agrees : Agrees m c)
+    (e : next p m (Local a) ≡ Some s) where
+  none : s.events ≡ []
+  none = quiet.events p m a s e
+
   tidy : Tidy m
   tidy = record { paired = agrees.paired; strangers = agrees.strangers }
 
@@ -26,9 +29,10 @@ module _ (p : List Filter) (m : Moment) (a : ℕ) (s : Step) (c : Tally) (agrees
 
   same_going : going s.world.activations ≡ going m.world.activations
   same_going =
-      let quiet = local_moves p m.trace m.world a s e in
-      ap (λ w. going w.activations) quiet.moved
-      ∙ map-set_same (λ (act : Activation). not act.ended) m.world.activations a quiet.act nobody (ap not quiet.ended)
+      let alone = quiet.alone p m a s e in
+      ap (λ w. going w.activations) alone.changes
+      ∙ map-set_same (λ (act : Activation). not act.ended) m.world.activations a alone.act nobody
+      (ap not (alone.goes_on ∙ sym alone.went_on))
 
   spared : (v : ℕ) → Spared m s v
   spared v = record {
@@ -38,12 +42,12 @@ module _ (p : List Filter) (m : Moment) (a : ℕ) (s : Step) (c : Tally) (agrees
 
   pub agrees_unseen : Agrees (after m s) c
   agrees_unseen =
-      let later = tidy_after p m (Local a) s e tidy in
+      let later = tidy_after quiet p m (Local a) s e tidy in
       record {
         tells = subst (λ (t : List Event). Tells t c) (sym same_trace) agrees.tells;
         counted = agrees.counted;
         running_is = agrees.running_is ∙ sym same_going;
-        owned = one_owner_after p m (Local a) s e tidy (λ v. false) (λ v _. spared v)
+        owned = one_owner_after quiet p m (Local a) s e tidy (λ v. false) (λ v _. spared v)
             (λ v within l. absurd (true≢false (sym l))) agrees.owned;
         paired = later.paired;
         strangers = later.strangers;

@@ -1,5 +1,5 @@
 -- What comes of the monitor's steps, entry by entry.
-use Rattle.std.proofs.Common.{◌≡◌, ◌<◌, ◌-◌, ◌+◌, ℕ, zero, suc, Bool, true, false, List, [], ◌∷◌, ◌++◌, Option, Some, None, Result, Ok, Err, IfOk, find, not, if◌then◌else◌, replicate, drop, get_or, length, add-one, refl, sym, ◌∙◌, ap, subst, arith, sub-one}
+use Rattle.std.proofs.Common.{◌≡◌, ◌<◌, ◌-◌, ◌+◌, ℕ, zero, suc, Bool, true, false, List, [], ◌∷◌, ◌++◌, Option, Some, None, Result, Ok, Err, IfOk, find, not, replicate, drop, get_or, length, add-one, refl, sym, ◌∙◌, ap, subst, arith, sub-one}
 use Rattle.std.specs.List.{list_all}
 use Rattle.std.specs.Option.{option_or}
 use Rattle.std.specs.Prelude.{IsTrue}
@@ -10,14 +10,12 @@ use Rattle.flt_model.specs.declared.moves.JournalEntry.{JournalEntry}
 use Rattle.flt_model.specs.declared.moves.Move.{Move}
 use Rattle.flt_model.specs.declared.verdict.Verdict.{Verdict}
 use Rattle.flt_model.specs.declared.verdict.Violation.{Violation}
-use Rattle.flt_model.specs.declared.verdict.Violation.TheVariants.{V4, V7}
 use Rattle.flt_model.specs.Effects.{Step}
 use Rattle.flt_model.specs.Expansion.{Course, Reaches, Stops, Fails, unless_broken, course, go_on, entry_course, expansion, judged, verdict_from}
 use Rattle.flt_model.specs.Locks.{locks_exclude}
 use Rattle.flt_model.specs.Moves.{make}
 use Rattle.flt_model.specs.Runs.{Moment, start, after, next, broken}
 use Rattle.flt_model.specs.Steps.{Transition, Make, Local, Board, board, local, step}
-use Rattle.flt_model.specs.Violations.{one_owner}
 use Rattle.flt_model.specs.World.{World, activation_at, opening}
 use Rattle.flt_replay.specs.Judging.{Follows, first_of, of_holding, of_rules, with_locks, keeps_rule, is_by}
 use Rattle.flt_replay.specs.Ledger.{Agrees}
@@ -27,6 +25,7 @@ use Rattle.flt_replay.specs.declared.monitor.Course.{Course as Code}
 use Rattle.flt_replay.specs.declared.monitor.Course.TheVariants as code
 use Rattle.flt_replay.specs.declared.monitor.Monitor.{Monitor}
 use Rattle.flt_replay.proofs.Machine.Frames.{stepped}
+use Rattle.flt_replay.proofs.Machine.Locals.{AreQuiet}
 use Rattle.flt_replay.proofs.Judging.Judgements.{least_of_both, rules_of_step, no_rule_of_move, exclusive_after}
 use Rattle.flt_replay.proofs.Counting.Ledgers.{agrees_unseen}
 use Rattle.flt_replay.proofs.Judging.RulesAfter.{alike_after}
@@ -168,12 +167,6 @@ module _ (p : List Filter) (m : Moment) (a : ℕ) (grant held : Bool) (old new :
 
 -- ---- steps that nobody else sees
 
--- local steps have no events, and break nothing that wasn't broken before
-pub record AreQuiet : Type 0 where
-  pub events : (p : List Filter) (m : Moment) (a : ℕ) (s : Step) → next p m (Local a) ≡ Some s → s.events ≡ []
-  pub breaks : (p : List Filter) (m : Moment) (a : ℕ) (s : Step) → next p m (Local a) ≡ Some s →
-      broken p m s ≡ (if one_owner m.world m.trace then (if locks_exclude m.world then None else Some V7) else Some V4)
-
 module _ (p : List Filter) (m : Moment) (a : ℕ) (old : Monitor) (u : World) (enabled : Bool) (at : IsAt old m)
     (h : (p : List Filter) → (t : List Event) → ComesOf (local p t old.world a) enabled u [] []) (ys : List Transition) where
   local_here : ComesOf (local p m.trace m.world a) enabled u [] []
@@ -188,7 +181,7 @@ module _ (p : List Filter) (m : Moment) (a : ℕ) (old : Monitor) (u : World) (e
     after m s,
     record {
       world = world;
-      counts = agrees_unseen p m a s old.ledger at.counts e (quiet.events p m a s e);
+      counts = agrees_unseen quiet p m a s old.ledger at.counts e;
       exclusive = stay.steps p m.world m.trace (Local a) s e at.exclusive;
     },
     rw (e, quiet.breaks p m a s e, at.counts.owned, at.exclusive) refl,

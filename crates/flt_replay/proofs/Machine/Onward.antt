@@ -10,13 +10,14 @@ use Rattle.flt_tree.specs.declared.filter.Filter.{Filter}
 use Rattle.flt_model.specs.declared.event.Event.{Event}
 use Rattle.flt_model.specs.declared.event.Event.TheVariants as event
 use Rattle.flt_model.specs.Effects.{Step}
+use Rattle.flt_model.specs.LocalSteps.{GoesOnAlone}
 use Rattle.flt_model.specs.Runs.{Moment, next}
 use Rattle.flt_model.specs.Steps.{Transition, Make, Local, Board}
 use Rattle.flt_model.specs.World.{World, Activation, activation_at, nobody}
 use Rattle.flt_replay.proofs.Machine.Apart.{Unmoved, unmoved_itself}
-use Rattle.flt_replay.proofs.Machine.Frames.{Stepped, stepped}
+use Rattle.flt_replay.proofs.Machine.Frames.{Stepped, stepped, there_from}
 use Rattle.flt_replay.proofs.Machine.Handing.{Handed, handed, is_handed_by}
-use Rattle.flt_replay.proofs.Machine.LocalFrames.{Quiet, local_moves}
+use Rattle.flt_replay.proofs.Machine.Locals.{AreQuiet}
 use Rattle.flt_replay.proofs.Machine.MoveRules.{all_pass, is_gain_or_free, gains_and_frees}
 use Rattle.flt_replay.proofs.Machine.Visits.{Grown, Same, Joined, Counted, AsMany, Moved, moved, numbers_apart}
 use Rattle.flt_replay.specs.Apart.{is_apart, is_anothers, is_end_of, ends_in}
@@ -116,13 +117,13 @@ module _ (w : World) (a : ℕ) (act : Activation) (within : a < length w.activat
     paired = λ paired. paired;
   }
 
-quiet_onward : (w : World) (a : ℕ) (s : Step) → Quiet w a s → Onward w s
-quiet_onward w a s h =
+quiet_onward : (w : World) (a : ℕ) (s : Step) → GoesOnAlone w a s.world → s.events ≡ [] → Onward w s
+quiet_onward w a s h none =
     let there : World = record w { activations = set w.activations a h.act } in
-    let from : Onward w (record { world = there; events = [] }) = moved_onward w a h.act h.within h.ended in
+    let from : Onward w (record { world = there; events = [] }) = moved_onward w a h.act (there_from w.activations a h.went_on) (h.goes_on ∙ sym h.went_on) in
     let second : Onward w (record { world = there; events = s.events }) =
-    subst (λ (es : List Event). Onward w (record { world = there; events = es })) (sym h.no_events) from in
-    subst (λ (u : World). Onward w (record { world = u; events = s.events })) (sym h.moved) second
+    subst (λ (es : List Event). Onward w (record { world = there; events = es })) (sym none) from in
+    subst (λ (u : World). Onward w (record { world = u; events = s.events })) (sym h.changes) second
 
 -- ---- a move
 
@@ -154,7 +155,7 @@ module _ (w : World) (s : Step) where
     paired = h.paired;
   }
 
-pub onward : (p : List Filter) (m : Moment) (x : Transition) (s : Step) → next p m x ≡ Some s → Onward m.world s
-onward p m (Make x) s e = move_onward m.world s (gains_and_frees p m.world x s e) (moved p m.world x s e)
-onward p m (Local a) s e = quiet_onward m.world a s (local_moves p m.trace m.world a s e)
-onward p m (Board a grant) s e = board_onward m.world a s (stepped p m.trace m.world a grant s e) (handed p m.trace m.world a grant s e)
+pub onward : AreQuiet → (p : List Filter) (m : Moment) (x : Transition) (s : Step) → next p m x ≡ Some s → Onward m.world s
+onward quiet p m (Make x) s e = move_onward m.world s (gains_and_frees p m.world x s e) (moved p m.world x s e)
+onward quiet p m (Local a) s e = quiet_onward m.world a s (quiet.alone p m a s e) (quiet.events p m a s e)
+onward quiet p m (Board a grant) s e = board_onward m.world a s (stepped p m.trace m.world a grant s e) (handed p m.trace m.world a grant s e)

@@ -15,6 +15,7 @@ use Rattle.flt_model.specs.Trace.{gains, loses, is_held}
 use Rattle.flt_model.specs.Violations.{holding, holders_from, owners, is_owned, all_below, one_owner}
 use Rattle.flt_model.specs.World.{World, Activation, activation_at, nobody, is_settled}
 use Rattle.flt_replay.proofs.Machine.Apart.{held_apart, held_others}
+use Rattle.flt_replay.proofs.Machine.Locals.{AreQuiet}
 use Rattle.flt_replay.proofs.Machine.Onward.{Onward, onward, Peopled, NobodyNew, OneNew}
 use Rattle.flt_replay.proofs.Machine.Visits.{Counted, AsMany, OneMore}
 use Rattle.flt_replay.specs.Apart.{is_apart, ends_in}
@@ -43,8 +44,8 @@ tidy_onward m s h tidy = record {
       ∙ tidy.strangers a v (omega (arith, past, no_fewer m.world s.world h.peopled));
 }
 
-pub tidy_after : (p : List Filter) (m : Moment) (x : Transition) (s : Step) → next p m x ≡ Some s → Tidy m → Tidy (after m s)
-tidy_after p m x s e tidy = tidy_onward m s (onward p m x s e) tidy
+pub tidy_after : AreQuiet → (p : List Filter) (m : Moment) (x : Transition) (s : Step) → next p m x ≡ Some s → Tidy m → Tidy (after m s)
+tidy_after quiet p m x s e tidy = tidy_onward m s (onward quiet p m x s e) tidy
 
 -- ---- holders
 
@@ -166,16 +167,16 @@ below_from zero f h = refl
 below_from (suc n) f h =
     and_from (f n) (all_below n f) (h n (omega arith)) (below_from n f (λ v within. h v (omega (arith, within))))
 
-module _ (p : List Filter) (m : Moment) (x : Transition) (s : Step) (e : next p m x ≡ Some s) (tidy : Tidy m) where
+module _ (quiet : AreQuiet) (p : List Filter) (m : Moment) (x : Transition) (s : Step) (e : next p m x ≡ Some s) (tidy : Tidy m) where
   pub owners_same : (v : ℕ) → Spared m s v → owners s.world (m.trace ++ s.events) v ≡ owners m.world m.trace v
-  owners_same v spared = owners_onward m s v (onward p m x s e) tidy spared
+  owners_same v spared = owners_onward m s v (onward quiet p m x s e) tidy spared
 
   pub owned_same : (v : ℕ) → Spared m s v → is_owned s.world (m.trace ++ s.events) v ≡ is_owned m.world m.trace v
-  owned_same v spared = owned_onward m s v (onward p m x s e) tidy spared
+  owned_same v spared = owned_onward m s v (onward quiet p m x s e) tidy spared
 
   -- a visit that no event names was there before
   pub visit_before : (v : ℕ) → Spared m s v → v < length s.world.store.visits → v < length m.world.store.visits
-  visit_before v spared within = there_before m s v (onward p m x s e) tidy spared (onward p m x s e).counted within
+  visit_before v spared within = there_before m s v (onward quiet p m x s e) tidy spared (onward quiet p m x s e).counted within
 
   owned_either : (v : ℕ) (b : Bool) → (b ≡ false → Spared m s v) → (b ≡ true → is_owned s.world (m.trace ++ s.events) v ≡ true) →
       (Spared m s v → is_owned m.world m.trace v ≡ true) → is_owned s.world (m.trace ++ s.events) v ≡ true

@@ -3,7 +3,7 @@
 -- A context that goes with the status finds its frame.
 -- p is the program, m the moment, a the activation, s its shadow; d is the variable, v the visit, st the status, c and x the
 -- status's context variable and its context, if it has one.
-use Rattle.std.proofs.Common.{◌≡◌, ℕ, Bool, true, false, List, [], ◌∷◌, ◌++◌, Option, Some, None, ap, sym, subst, refl, arith, append_assoc}
+use Rattle.std.proofs.Common.{◌≡◌, ℕ, Bool, true, false, List, [], ◌∷◌, ◌++◌, Option, Some, None, ap, sym, subst, refl, ◌∙◌, arith, append_assoc}
 use Rattle.std.specs.Prelude.{not, ◌&&◌, ◌||◌, if◌then◌else◌, is_some}
 use Rattle.std.proofs.Math.ListN.{set}
 use Rattle.std.proofs.lemmas.Bool.{and_from, and_parts, not-false}
@@ -58,7 +58,7 @@ use Rattle.flt_sound.proofs.points.Kept.{Good, IsAt}
 use Rattle.flt_sound.proofs.points.Legal.{spot, place_same, callbacks_there, Cleared}
 use Rattle.flt_sound.proofs.calls.Handing.{loses-named, frees-handed, settles-handed, HandOver, hand_good}
 use Rattle.flt_sound.proofs.calls.Effects.{GoodBehind, own_filter, own_place, GivenAt, given_as, in_place, has_owned_context, has_owned_visit}
-use Rattle.flt_sound.proofs.ends.Registering.{implied, needed, allowed, paired_same}
+use Rattle.flt_sound.proofs.ends.Tests.{implied, needed, allowed}
 use Rattle.flt_sound.proofs.ends.Settling.{has_post_of, frames_by, settled_parts}
 use Rattle.flt_sound.proofs.ends.Frames.{context_taken, reference_taken, owned_visit, frame_made}
 use Rattle.flt_sound.proofs.points.Handed.{names_has, named_own, Names}
@@ -285,7 +285,7 @@ module _ {p : List Filter} {m : Moment} {a : ℕ} {s : Shadow} (at : IsAt p m a 
   own_paired : (setting at).all_registered ≡ true → are_paired (callbacks_at p (own_filter at)) ≡ true
   own_paired h =
       let q = spot at in
-      rw (callbacks_there p (own_filter at) q.filter q.there) (paired_same q.filter.callbacks q.graph.callbacks q.lowered.callbacks h)
+      rw (callbacks_there p (own_filter at) q.filter q.there) (sym (q.laws.pairs q.filter.callbacks q.graph.callbacks q.lowered.callbacks) ∙ h)
 
   -- the machine's test of the status follows
   hand_legal : (d : OperationVariable) (v : ℕ) (st : Status) → operation_slot s d ≡ Owns v →

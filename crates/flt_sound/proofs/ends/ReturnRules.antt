@@ -47,7 +47,7 @@ use Rattle.flt_sound.proofs.points.Legal.{spot, place_same, callbacks_there}
 use Rattle.flt_sound.proofs.points.Placed.{Fine}
 use Rattle.flt_sound.proofs.points.Rows.{setting, state_of, was, operation_is}
 use Rattle.flt_sound.proofs.calls.Effects.{own_filter, own_place, GivenAt, given_as}
-use Rattle.flt_sound.proofs.ends.Registering.{allowed, post_same}
+use Rattle.flt_sound.proofs.ends.Tests.{allowed}
 use Rattle.flt_sound.proofs.points.Handed.{Names, handed}
 use Rattle.flt_sound.proofs.points.Stored.{given_is}
 
@@ -285,7 +285,7 @@ module _ {p : List Filter} {m : Moment} {a : ℕ} {s : Shadow} (at : IsAt p m a 
   has_post_by (place.Pre kind) v g h =
       let x = spot at in
       let posts : has_post x.filter.callbacks kind ≡ true =
-      sym (post_same x.filter.callbacks x.filter.callbacks x.graph.callbacks kind x.lowered.callbacks) ∙ h in
+      sym (x.laws.posts x.filter.callbacks x.filter.callbacks x.graph.callbacks kind x.lowered.callbacks) ∙ h in
       rw (g.kind_is, callbacks_there p (own_filter at) x.filter x.there) posts
   has_post_by (place.Post kind) v g h = absurd (cc)
   has_post_by place.Canceled v g h = absurd (cc)

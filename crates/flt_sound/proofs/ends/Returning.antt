@@ -50,7 +50,7 @@ use Rattle.flt_sound.proofs.calls.Effects.{own_filter, own_place, GivenAt, same_
 use Rattle.flt_sound.proofs.ends.Ending.{Ending, when, answer, used, lost_if, taken_if, settled_if, given_back, front, ending, in_turn, has_later, loses-used, loses-lost_if, front_does, ending_does, ending_turned}
 use Rattle.flt_sound.proofs.ends.Frames.{reference_taken, given_visit, frame_made}
 use Rattle.flt_sound.proofs.ends.ReturnRules.{AtReturn, no_locks, contexts_free, none_held, all_past, silent_free, returnable, held_asked, away_asked, stage_is, post_is, answer_legal}
-use Rattle.flt_sound.proofs.ends.Registering.{implied}
+use Rattle.flt_sound.proofs.ends.Tests.{implied}
 use Rattle.flt_sound.proofs.ends.Settling.{has_post_of, frames_by, settled_parts}
 use Rattle.flt_sound.proofs.points.Handed.{Names, names_has, named_own, handed, handed_values, handed_count}
 use Rattle.flt_sound.proofs.points.Opened.{Keeps}

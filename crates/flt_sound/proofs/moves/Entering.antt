@@ -27,7 +27,7 @@ use Rattle.flt_sound.specs.Soundness.{AreAccepted}
 use Rattle.flt_sound.proofs.sums.Shadows.{Unset, given, Shadow, plain, situation}
 use Rattle.flt_sound.proofs.points.Placed.{Laws, Placed}
 use Rattle.flt_sound.proofs.calls.Removing.{given_value}
-use Rattle.flt_sound.proofs.ends.Registering.{same_op}
+use Rattle.flt_sound.proofs.ends.Tests.{same_op}
 
 -- ---- the shadow of a new activation
 

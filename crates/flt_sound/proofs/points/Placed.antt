@@ -5,10 +5,12 @@
 use Rattle.std.proofs.Common.{◌≡◌, ℕ, zero, suc, ◌<◌, Bool, true, false, List, [], ◌∷◌, length, Option, Some, None, Ok, ap, sym, subst, refl, arith}
 use Rattle.std.specs.Prelude.{IsTrue, slice_get, slice_index_or, find, cond}
 use Rattle.std.proofs.Math.ListN.{get_or}
+use Rattle.flt_rules.specs.declared.place.Operation.{Operation}
 use Rattle.flt_rules.specs.declared.place.Place.{Place}
 use Rattle.flt_rules.specs.declared.rule.Rule.{Rule}
 use Rattle.flt_rules.specs.declared.rule.Rule.TheVariants.{R01, R02, R03, R04, R05, R06, R07, R08, R09, R10, R11, R13, R15}
 use Rattle.flt_tree.specs.Filter.{head_place}
+use Rattle.flt_tree.specs.Registered.{has_post, are_paired}
 use Rattle.flt_tree.specs.WellFormed.{IsWellFormed}
 use Rattle.flt_tree.specs.declared.filter.Action.{Action}
 use Rattle.flt_tree.specs.declared.filter.Callback.{Callback}
@@ -20,7 +22,7 @@ use Rattle.flt_tree.specs.declared.filter.Statement.TheOpen.{Statement-F}
 use Rattle.flt_tree.specs.declared.filter.Status.{Status}
 use Rattle.flt_graph.specs.Graph.{point_in, callback_at, place_at, instruction_at, points_at}
 use Rattle.flt_graph.specs.Instruction.{plain}
-use Rattle.flt_graph.specs.Lowering.{IsGraphOf, IsLowered, end_of}
+use Rattle.flt_graph.specs.Lowering.{AreGraphsOf, IsGraphOf, IsLowered, end_of}
 use Rattle.flt_graph.specs.Points.{Stands, StandsAt, IsFirst, IsLeftOf, instruction_of, choice, remaining, successor}
 use Rattle.flt_graph.specs.Served.{IsInstructionServed}
 use Rattle.flt_graph.specs.declared.graph.CallbackGraph.{CallbackGraph}
@@ -30,6 +32,7 @@ use Rattle.flt_graph.specs.declared.instruction.Instruction.{Instruction}
 use Rattle.flt_graph.specs.declared.instruction.Instruction.TheVariants as instruction
 use Rattle.flt_abs.specs.Breaks.{breaks, rules, first_broken}
 use Rattle.flt_abs.specs.Outcome.{may_come_out, leaves, side, Reaches}
+use Rattle.flt_abs.specs.Setting as abs
 use Rattle.flt_abs.specs.Setting.{setting_of}
 use Rattle.flt_abs.specs.declared.setting.Setting.{Setting}
 use Rattle.flt_abs.specs.State.{State, Situation, Means, IsBelow, is_below}
@@ -64,6 +67,11 @@ pub record Laws : Type 0 where
   -- what an instruction names is there
   pub served : (f : Filter) (g : Graph) (k n : ℕ) → IsWellFormed f → IsLowered f g →
       IsInstructionServed f.callbacks (place_at g k) (instruction_at g k n)
+  -- the graphs have the post callbacks of the callbacks
+  pub posts : (all cs : List Callback) (gs : List CallbackGraph) (kind : Operation) → AreGraphsOf all cs gs →
+      abs.has_post gs kind ≡ has_post cs kind
+  -- and are paired where the callbacks are
+  pub pairs : (cs : List Callback) (gs : List CallbackGraph) → AreGraphsOf cs cs gs → abs.are_paired gs ≡ are_paired cs
   -- a state that is computed to be below another means less
   pub below : (a b : State) → IsTrue (is_below a b) → IsBelow a b
 

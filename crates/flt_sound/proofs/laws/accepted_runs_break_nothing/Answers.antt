@@ -12,6 +12,8 @@ returns c =
       each = c.callbacks_have_graphs.ensures.each;
       served = c.instructions_are_served.ensures;
       follows = c.transfer_follows_situations.ensures;
+      posts = c.graphs_are_registered_alike.ensures.posts;
+      pairs = c.graphs_are_registered_alike.ensures.pairs;
       below = c.is_partial_order.ensures.computed;
     } in
     let locks : Excluding = record { opened = c.locks_stay_exclusive.ensures.opening; kept = c.locks_stay_exclusive.ensures.steps } in

@@ -1,13 +1,19 @@
 use Rattle.std.proofs.Common.{sym, ap, ◌∙◌}
 use Rattle.std.specs.List.{list_all}
 use Rattle.flt_replay.proofs.Counting.Concluding.{concluded, refuted}
+use Rattle.flt_replay.proofs.Machine.Locals.{AreQuiet}
 use Rattle.flt_replay.specs.Ledger.{owns_any}
 use Rattle.flt_replay.proofs.ledger.Ledger.take.Goals as goal
 
 pub returns-then-owns_each : goal.returns-then-owns_each
 returns-then-owns_each c = λ p m x s agrees f.
+    let quiet : AreQuiet = record {
+      events = c.local_steps_are_quiet.ensures.events;
+      alone = c.local_steps_are_quiet.ensures.alone;
+      breaks = c.local_steps_are_quiet.ensures.breaks;
+    } in
     let each = c.owns_each.ensures ∙ ap (list_all (owns_any c.follow_new.new.self c.args.world.now)) c.as_slice.ensures.value in
-    concluded p m x s c.args.world.now c.args.events.now c.args.self.now c.take_events.new.self c.follow_ends.new.self c.follow_new.new.self
+    concluded quiet p m x s c.args.world.now c.args.events.now c.args.self.now c.take_events.new.self c.follow_ends.new.self c.follow_new.new.self
     c.take_events.new.touched.items c.follow_ends.new.touched.items agrees f
     c.in_ok-first.first (sym c.is_some.ensures ∙ c.if-is_some.false) (c.in_ok-first.ensures.first m.trace agrees.tells agrees.counted)
     c.new-touched.result.items c.new-touched.ensures.items (λ e. c.in_ok-first.ensures.taken e m.trace agrees.tells agrees.counted)
@@ -15,8 +21,13 @@ returns-then-owns_each c = λ p m x s agrees f.
 
 pub returns : goal.returns
 returns c = λ p m x s agrees f.
+    let quiet : AreQuiet = record {
+      events = c.local_steps_are_quiet.ensures.events;
+      alone = c.local_steps_are_quiet.ensures.alone;
+      breaks = c.local_steps_are_quiet.ensures.breaks;
+    } in
     let each = c.owns_each.ensures ∙ ap (list_all (owns_any c.follow_new.new.self c.args.world.now)) c.as_slice.ensures.value in (
-      refuted p m x s c.args.world.now c.args.events.now c.args.self.now c.take_events.new.self c.follow_ends.new.self c.follow_new.new.self
+      refuted quiet p m x s c.args.world.now c.args.events.now c.args.self.now c.take_events.new.self c.follow_ends.new.self c.follow_new.new.self
           c.take_events.new.touched.items c.follow_ends.new.touched.items agrees f
           c.in_ok-first.first (sym c.is_some.ensures ∙ c.if-is_some.false) (c.in_ok-first.ensures.first m.trace agrees.tells agrees.counted)
           c.new-touched.result.items c.new-touched.ensures.items (λ e. c.in_ok-first.ensures.taken e m.trace agrees.tells agrees.counted)

@@ -1,13 +1,18 @@
 use Rattle.std.proofs.Common.{◌≡◌, ◌-◌, ◌+◌, ◌∙◌, ◌++◌, replicate, ap, arith}
 use Rattle.flt_model.specs.Expansion.{course}
 use Rattle.flt_model.specs.Steps.{Local}
-use Rattle.flt_replay.proofs.Judging.Courses.{AreQuiet, StayExclusive, one_less, unseen, not_unseen}
+use Rattle.flt_replay.proofs.Judging.Courses.{StayExclusive, one_less, unseen, not_unseen}
+use Rattle.flt_replay.proofs.Machine.Locals.{AreQuiet}
 use Rattle.flt_replay.proofs.monitor.Monitor.go_unseen.Goals as goal
 
 pub loop-preserved : goal.loop-preserved
 loop-preserved c p m xs at =
     let so_far = c.loop.invariant p m xs at in
-    let quiet : AreQuiet = record { events = c.local_steps_are_quiet.ensures.events; breaks = c.local_steps_are_quiet.ensures.breaks } in
+    let quiet : AreQuiet = record {
+      events = c.local_steps_are_quiet.ensures.events;
+      alone = c.local_steps_are_quiet.ensures.alone;
+      breaks = c.local_steps_are_quiet.ensures.breaks;
+    } in
     let stay : StayExclusive = record { opening = c.locks_stay_exclusive.ensures.opening; steps = c.locks_stay_exclusive.ensures.steps } in
     let step = unseen p so_far.0 c.args.a c.loop.self c.step_unseen.new.world c.in_ok-step_unseen.field-0 so_far.1
     c.in_ok-step_unseen.ensures (replicate (c.args.steps - (c.loop.counter + 1)) (Local c.args.a) ++ xs) quiet stay
