@@ -14,19 +14,9 @@ ghost use Rattle.flt_tree.specs.declared.filter.Filter.{Filter};
 use crate::decision::{Decision, Start};
 use crate::{teardown, waiting};
 use flt_frame::Loaded;
-use flt_model::Move;
+use flt_model::{Move, fits_mode};
 use flt_rules::{Mode, Operation, Place};
 use flt_store::{Change, Store};
-
-/// Create and cleanup are I/O request packets.
-fn fits_mode(kind: Operation, mode: Mode) -> bool
-    ensures { result ≡ moves.fits_mode kind mode }
-{
-    match (kind, mode) {
-        (Operation::Create | Operation::Cleanup, Mode::Fast) => false,
-        _ => true,
-    }
-}
 
 /// There are 1,024 files.
 fn arrive(kind: Operation, mode: Mode, file: u32) -> Option<Decision>
