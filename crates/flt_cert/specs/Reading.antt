@@ -3,6 +3,8 @@ use Rattle.std.specs.Prelude.{◌≡◌, ℕ, zero, suc, ◌+◌, ◌-◌, Bool,
 use Rattle.std.specs.Str.{bytes_eq}
 use Rattle.flt_rules.specs.Call.{lock_at}
 use Rattle.flt_rules.specs.Held.{held, holds_lock}
+use Rattle.flt_rules.specs.Parsing as parsing
+pub use Rattle.flt_rules.specs.Parsing.{and_then}
 use Rattle.flt_rules.specs.declared.call.LockNumber.{LockNumber}
 use Rattle.flt_rules.specs.declared.held.Access.{Access}
 use Rattle.flt_rules.specs.declared.held.Access.TheVariants.{Exclusive, Shared}
@@ -119,11 +121,7 @@ start text = record { number = 0; lines = lines_of text }
 
 -- what was read and the place after it, or the number of the first malformed line
 abbrev pub Outcome : Type 0 → Type 0
-Outcome A = Result (A × Place) ℕ
-
-abbrev pub and_then : {A B : Type 0} → Outcome A → (A × Place → Outcome B) → Outcome B
-and_then (Ok x) f = f x
-and_then (Err n) f = Err n
+Outcome = parsing.Outcome Place ℕ
 
 -- the next line
 abbrev pub line_at : ℕ → List Text → Outcome Text

@@ -1,5 +1,7 @@
 -- Reading a journal byte by byte, up to the first malformed byte.
 use Rattle.std.specs.Prelude.{◌≡◌, ◌≢◌, ℕ, zero, suc, ◌+◌, ◌-◌, ◌*◌, ◌^◌, Bool, true, false, ◌&&◌, ◌==◌, nat_lt, if◌then◌else◌, [], ◌∷◌, ◌++◌, length, codes, Option, Some, None, Result, Ok, Err}
+use Rattle.flt_rules.specs.Parsing as parsing
+pub use Rattle.flt_rules.specs.Parsing.{and_then, ◌>>=◌, ◌>>◌, pure}
 use Rattle.flt_rules.specs.declared.place.Operation.{Operation}
 use Rattle.flt_rules.specs.declared.place.Operation.TheVariants.{Create, Read, Write, Cleanup}
 use Rattle.flt_rules.specs.declared.place.Mode.{Mode}
@@ -19,30 +21,11 @@ use Rattle.flt_model.specs.declared.fault.JournalFault.TheVariants as faults
 
 -- what was read and the bytes behind it, or the bytes behind the first malformed one
 abbrev pub Outcome : Type 0 → Type 0
-Outcome A = Result (A × Text) Text
+Outcome = parsing.Outcome Text Text
 
 -- what reads the front of a text
 abbrev pub Parser : Type 0 → Type 0
-Parser A = Text → Outcome A
-
--- what follows where nothing was wrong
-abbrev pub and_then : {A B : Type 0} → Outcome A → (A × Text → Outcome B) → Outcome B
-and_then (Ok x) f = f x
-and_then (Err rest) f = Err rest
-
-infixl 10 ◌>>=◌
--- one parser, then another that may ask what the first one read
-abbrev pub ◌>>=◌ : {A B : Type 0} → Parser A → (A → Parser B) → Parser B
-p >>= f = λ text. and_then (p text) (λ q. f q.0 q.1)
-
-infixl 10 ◌>>◌
--- one parser, then another
-abbrev pub ◌>>◌ : {A B : Type 0} → Parser A → Parser B → Parser B
-p >> q = p >>= (λ _. q)
-
--- reads nothing
-abbrev pub pure : {A : Type 0} → A → Parser A
-pure a = λ text. Ok (a, text)
+Parser = parsing.Parser Text Text
 
 -- the latest byte is malformed
 abbrev pub wrong : {A : Type 0} → Parser A

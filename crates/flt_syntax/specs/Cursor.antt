@@ -1,5 +1,7 @@
 -- How the tokens of a text are read, from left to right, up to the first fault that is met.
 use Rattle.std.specs.Prelude.{◌≡◌, ℕ, Bool, true, false, not, ◌&&◌, if◌then◌else◌, List, [], ◌∷◌, length, min, slice_range, nat_le, Option, Some, None, Result, Ok, Err}
+use Rattle.flt_rules.specs.Parsing as parsing
+pub use Rattle.flt_rules.specs.Parsing.{and_then, ◌>>=◌, ◌>>◌, pure}
 use Rattle.flt_tree.specs.Names.{Text}
 use Rattle.flt_syntax.specs.Lex.{word, same_kind}
 use Rattle.flt_syntax.specs.declared.fault.FaultKind.{FaultKind}
@@ -68,30 +70,11 @@ bytes_of text t = let end = min t.end (length text) in slice_range text (min t.s
 
 -- what was read and what is left, or the first fault
 abbrev pub Outcome : Type 0 → Type 0
-Outcome A = Result (A × Input) SyntaxFault
+Outcome = parsing.Outcome Input SyntaxFault
 
 -- a parser reads from the front of the tokens
 abbrev pub Parser : Type 0 → Type 0
-Parser A = Input → Outcome A
-
--- what is read after what was read
-abbrev pub and_then : {A B : Type 0} → Outcome A → (A × Input → Outcome B) → Outcome B
-and_then (Ok p) f = f p
-and_then (Err e) f = Err e
-
-infixl 10 ◌>>=◌
--- one parser, then another that may ask what the first one read
-abbrev pub ◌>>=◌ : {A B : Type 0} → Parser A → (A → Parser B) → Parser B
-p >>= f = λ i. and_then (p i) (λ q. f q.0 q.1)
-
-infixl 10 ◌>>◌
--- one parser, then another
-abbrev pub ◌>>◌ : {A B : Type 0} → Parser A → Parser B → Parser B
-p >> q = p >>= (λ _. q)
-
--- reads nothing
-abbrev pub pure : {A : Type 0} → A → Parser A
-pure a = λ i. Ok (a, i)
+Parser = parsing.Parser Input SyntaxFault
 
 infixr 11 ◌<$>◌
 -- makes something of what is read
