@@ -45,7 +45,8 @@ fn plan_action(
     caller: &Caller,
     action: Action,
 ) -> Result<Plan, AllocError>
-    ensures planned { (p : List Filter) (t : List Event) (actors : List machine.Actor) (acts : List machine.Activation) (granted refused : List Statement) (step : Step) →
+    ensures planned { (p : List Filter) (t : List Event) (actors : List machine.Actor) (acts : List machine.Activation)
+        (granted refused : List Statement) (step : Step) →
         IsCaller actors acts caller.now → steps.act_step p t (world_of store.now actors acts) caller.now.activation granted action ≡ Some step →
         IfOk result (λ plan. IsPlanned (world_of store.now actors acts) caller.now.activation plan [] granted refused step) }
     ensures lasts { IfOk result (λ plan. is_end plan.write ≡ false) }
@@ -68,7 +69,8 @@ fn plan_action(
 
 /// The plan of a test that others see.
 fn plan_test(alloc: Global, store: &Store, caller: &Caller, test: Test) -> Result<Plan, AllocError>
-    ensures planned { (p : List Filter) (t : List Event) (actors : List machine.Actor) (acts : List machine.Activation) (granted refused : List Statement) (step : Step) →
+    ensures planned { (p : List Filter) (t : List Event) (actors : List machine.Actor) (acts : List machine.Activation)
+        (granted refused : List Statement) (step : Step) →
         IsCaller actors acts caller.now → steps.test_step p t (world_of store.now actors acts) caller.now.activation granted refused test ≡ Some step →
         IfOk result (λ plan. IsPlanned (world_of store.now actors acts) caller.now.activation plan [] granted refused step) }
     ensures lasts { IfOk result (λ plan. is_end plan.write ≡ false) }
@@ -159,7 +161,8 @@ fn plan_call(
 ) -> Result<Plan, AllocError>
     ensures plain { (p : List Filter) (t : List Event) (call : PlainCall) → AreLoaded p loaded.now → made ≡ invocation.plain call →
         IfOk result (λ plan. Plans store.now caller.now plan (λ w granted refused. steps.plain_step p t w caller.now.activation granted call)) }
-    ensures fallible { (p : List Filter) (t : List Event) (call : FallibleCall) → AreLoaded p loaded.now → made ≡ invocation.fallible (callbacks_at p caller.now.filter) call →
+    ensures fallible { (p : List Filter) (t : List Event) (call : FallibleCall) → AreLoaded p loaded.now →
+        made ≡ invocation.fallible (callbacks_at p caller.now.filter) call →
         IfOk result (λ plan. Plans store.now caller.now plan (λ w granted refused. steps.fallible_step p t w caller.now.activation (spec.choice_of call grant) granted refused call)) }
     ensures lasts { IfOk result (λ plan. (p : List Filter) → AreLoaded p loaded.now → is_end plan.write ≡ false) }
     ensures own { IfOk result (λ plan. AreOwn caller.now.activation plan.events) }
@@ -182,7 +185,8 @@ pub fn plan_step(
     caller: &Caller,
     grant: bool,
 ) -> Result<Plan, AllocError>
-    ensures planned { IfOk result (λ plan. (p : List Filter) (t : List Event) (actors : List machine.Actor) (acts : List machine.Activation) (choice : Bool) (step : Step) →
+    ensures planned { IfOk result (λ plan. (p : List Filter) (t : List Event) (actors : List machine.Actor)
+        (acts : List machine.Activation) (choice : Bool) (step : Step) →
         AreLoaded p loaded.now → IsCaller actors acts caller.now → IsCounted t caller.now.activation caller.now.standing →
         StandsFor (callbacks_at p caller.now.filter) caller.now.standing (get_or acts caller.now.activation machine.nobody) →
         choice ≡ choice_at (get_or acts caller.now.activation machine.nobody).rest grant →

@@ -114,7 +114,8 @@ fn plan_completion(
     a: usize,
     completion: Completion,
 ) -> Result<Plan, AllocError>
-    ensures planned { IfOk result (λ plan. (actors : List machine.Actor) (acts : List machine.Activation) (granted refused : List Statement) →
+    ensures planned { IfOk result (λ plan. (actors : List machine.Actor) (acts : List machine.Activation)
+        (granted refused : List Statement) →
         IsPlanned (world_of store.now actors acts) a plan [] granted refused (completes (world_of store.now actors acts) a completion granted)) }
     ensures possible { IfOk result (λ plan. IsPossible store.now plan.change) }
 {
@@ -194,7 +195,8 @@ pub(crate) fn complete_pre(
     operation: OperationVariable,
     status: Status,
 ) -> Result<Plan, AllocError>
-    ensures planned { IfOk result (λ plan. (p : List Filter) → AreLoaded p loaded.now → Plans store.now caller.now plan (λ w granted refused. calls.complete_pre w caller.now.activation p operation status granted)) }
+    ensures planned { IfOk result (λ plan. (p : List Filter) → AreLoaded p loaded.now →
+        Plans store.now caller.now plan (λ w granted refused. calls.complete_pre w caller.now.activation p operation status granted)) }
     ensures own { IfOk result (λ plan. AreOwn caller.now.activation plan.events) }
     ensures possible { IfOk result (λ plan. AreCounted store.now → IsPossible store.now plan.change) }
 {
@@ -219,7 +221,8 @@ pub(crate) fn complete_post(
     store: &Store,
     caller: &Caller,
 ) -> Result<Plan, AllocError>
-    ensures planned { IfOk result (λ plan. (p : List Filter) → AreLoaded p loaded.now → Plans store.now caller.now plan (λ w granted refused. calls.complete_post w caller.now.activation p granted)) }
+    ensures planned { IfOk result (λ plan. (p : List Filter) → AreLoaded p loaded.now →
+        Plans store.now caller.now plan (λ w granted refused. calls.complete_post w caller.now.activation p granted)) }
     ensures own { IfOk result (λ plan. AreOwn caller.now.activation plan.events) }
     ensures possible { IfOk result (λ plan. AreCounted store.now → IsPossible store.now plan.change) }
 {
@@ -301,7 +304,8 @@ fn plan_return(
     status: Option<Status>,
     r: Returning,
 ) -> Result<Plan, AllocError>
-    ensures planned { IfOk result (λ plan. (p : List Filter) (t : List Event) (actors : List machine.Actor) (acts : List machine.Activation) (granted refused : List Statement) →
+    ensures planned { IfOk result (λ plan. (p : List Filter) (t : List Event) (actors : List machine.Actor)
+        (acts : List machine.Activation) (granted refused : List Statement) →
         AreLoaded p loaded.now → IsReturning t (world_of store.now actors acts) a status r →
         IsPlanned (world_of store.now actors acts) a plan [] granted refused (spec.returns p t (world_of store.now actors acts) a status)) }
     ensures ends { IfOk result (λ plan. is_end plan.write ≡ true) }
@@ -348,7 +352,8 @@ pub(crate) fn returns(
     caller: &Caller,
     status: Option<Status>,
 ) -> Result<Plan, AllocError>
-    ensures planned { IfOk result (λ plan. (p : List Filter) → AreLoaded p loaded.now → PlansBy store.now caller.now plan (λ t w granted refused. spec.returns p t w caller.now.activation status)) }
+    ensures planned { IfOk result (λ plan. (p : List Filter) → AreLoaded p loaded.now →
+        PlansBy store.now caller.now plan (λ t w granted refused. spec.returns p t w caller.now.activation status)) }
     ensures ends { IfOk result (λ plan. is_end plan.write ≡ true) }
     ensures own { IfOk result (λ plan. AreOwn caller.now.activation plan.events) }
     ensures possible { IfOk result (λ plan. AreCounted store.now → IsPossible store.now plan.change) }

@@ -336,7 +336,8 @@ impl Store {
     /// The first key of a filter at which a context is linked: the instance, otherwise the stream with the least number.
     pub fn first_key(&self, filter: usize) -> Option<Key>
         ensures linked { IfSome result (λ key. is_some (spec.linked_at self.now (record { filter = filter; key = key })) ≡ true) }
-        ensures least { IfSome result (λ key. (other : Key) → is_some (spec.linked_at self.now (record { filter = filter; key = other })) ≡ true →
+        ensures least { IfSome result (λ key. (other : Key) →
+            is_some (spec.linked_at self.now (record { filter = filter; key = other })) ≡ true →
             order_of key ≤ order_of other) }
         ensures none { IfNone result (list_any (λ (c : spec.Context). moves.is_linked_by filter c.link) self.now.contexts ≡ false) }
     {
