@@ -1,5 +1,5 @@
 -- Locks that are added to a list which doesn't hold them.
-use Rattle.std.proofs.Common.{◌≡◌, ◌≤◌, Bool, true, false, if◌then◌else◌, not, ◌&&◌, List, [], ◌∷◌, ◌++◌, length, get_or, arith, ap, subst, sym, ◌∙◌}
+use Rattle.std.proofs.Common.{◌≡◌, ◌≤◌, Bool, true, false, if◌then◌else◌, not, ◌&&◌, List, [], ◌∷◌, ◌++◌, length, get_or, arith, ap, subst}
 use Rattle.std.proofs.lemmas.List.{append_cancel_left, length-append}
 use Rattle.flt_rules.specs.Held.{held, holds_lock, same_lock, without_last}
 use Rattle.flt_rules.specs.declared.call.LockNumber.{LockNumber}

@@ -112,16 +112,24 @@ module _ (s : Store) (c : Caller) (plan : Plan) (step : World → List Statement
       (subst (λ (act : Activation). AddsFresh (activation_at w c.activation).locks act.locks) same found.fresh))
 
 module _ (w : World) (a : ℕ) (lives : (activation_at w a).ended ≡ false) where
+  -- the like of another step that leads to the same activations
+  like : {x y : Step} → x.world.activations ≡ y.world.activations → Lasts w a x → Lasts w a y
+  like is h = record { act = h.act; is = sym is ∙ h.is; lives = h.lives; fresh = h.fresh }
+
+  -- its locks stay
+  kept : AddsFresh (activation_at w a).locks (activation_at w a).locks
+  kept = same_fresh (activation_at w a).locks
+
   on : (rest : List Statement) (s : Store) (es : List Event) → Lasts w a (goes_on w a (onward w a rest) s es)
-  on rest s es = record { act = onward w a rest; is = refl; lives = lives; fresh = same_fresh (activation_at w a).locks }
+  on rest s es = record { act = onward w a rest; is = refl; lives = lives; fresh = kept }
 
   gives : (old : Option ContextVariable) (x : Option ℕ) (rest : List Statement) (s : Store) (es : List Event) → Lasts w a (goes_on w a (with_old (onward w a rest) old x) s es)
   gives None x rest s es = on rest s es
-  gives (Some d) x rest s es = record { act = with_context_in (onward w a rest) d x; is = refl; lives = lives; fresh = same_fresh (activation_at w a).locks }
+  gives (Some d) x rest s es = record { act = with_context_in (onward w a rest) d x; is = refl; lives = lives; fresh = kept }
 
   got : (d : ContextVariable) (granted refused : List Statement) (x : Option ℕ) → Lasts w a (calls.got w a d granted refused x)
   got d granted refused None = gives (Some d) None refused w.store []
-  got d granted refused (Some x) = record { act = with_context_in (onward w a granted) d (Some x); is = refl; lives = lives; fresh = same_fresh (activation_at w a).locks }
+  got d granted refused (Some x) = record { act = with_context_in (onward w a granted) d (Some x); is = refl; lives = lives; fresh = kept }
 
   get_by : (d : ContextVariable) (granted refused : List Statement) (l : Option Link) → Lasts w a (calls.get_by w a d granted refused l)
   get_by d granted refused None = on refused w.store []
@@ -132,10 +140,10 @@ module _ (w : World) (a : ℕ) (lives : (activation_at w a).ended ≡ false) whe
   either false x y yes_lasts no_lasts = no_lasts
 
   set_there : (existing : Existing) (old : Option ContextVariable) (granted refused : List Statement) (x : ℕ) (l : Link) (y : Option ℕ) → Lasts w a (calls.set_there w a existing old granted refused x l y)
-  set_there existing old granted refused x l None = record { act = (gives old None granted w.store []).act; is = (gives old None granted w.store []).is; lives = (gives old None granted w.store []).lives; fresh = (gives old None granted w.store []).fresh }
+  set_there existing old granted refused x l None = like refl (gives old None granted w.store [])
   set_there Keep None granted refused x l (Some y) = on refused w.store []
   set_there Keep (Some d) granted refused x l (Some y) = got d refused refused (Some y)
-  set_there Replace old granted refused x l (Some y) = record { act = (gives old (Some y) granted w.store []).act; is = (gives old (Some y) granted w.store []).is; lives = (gives old (Some y) granted w.store []).lives; fresh = (gives old (Some y) granted w.store []).fresh }
+  set_there Replace old granted refused x l (Some y) = like refl (gives old (Some y) granted w.store [])
 
   set_by : (existing : Existing) (old : Option ContextVariable) (granted refused : List Statement) (x : Option ℕ) (l : Option Link) → Lasts w a (calls.set_by w a existing old granted refused x l)
   set_by existing old granted refused None l = on refused w.store []
@@ -149,14 +157,14 @@ module _ (w : World) (a : ℕ) (lives : (activation_at w a).ended ≡ false) whe
     where
       unlinked : (y : Option ℕ) → Lasts w a (calls.unlinked w a old granted refused y)
       unlinked None = gives old None refused w.store []
-      unlinked (Some y) = record { act = (gives old (Some y) granted w.store []).act; is = (gives old (Some y) granted w.store []).is; lives = (gives old (Some y) granted w.store []).lives; fresh = (gives old (Some y) granted w.store []).fresh }
+      unlinked (Some y) = like refl (gives old (Some y) granted w.store [])
 
   pub deleted : (rest : List Statement) (x : Option ℕ) → Lasts w a (calls.deleted w a rest x)
   deleted rest None = on rest w.store []
   deleted rest (Some x) = chosen (is_some (context_at w.store x).link)
     where
       chosen : (b : Bool) → Lasts w a (if b then goes_on w a (onward w a rest) (after_unlink w.store x None) (freed_by_drop w.store x) else unchanged w a rest)
-      chosen true = record { act = onward w a rest; is = refl; lives = lives; fresh = same_fresh (activation_at w a).locks }
+      chosen true = record { act = onward w a rest; is = refl; lives = lives; fresh = kept }
       chosen false = on rest w.store []
 
   pub referenced : (d : ContextVariable) (rest : List Statement) (x : Option ℕ) → Lasts w a (calls.referenced w a d rest x)
@@ -165,7 +173,7 @@ module _ (w : World) (a : ℕ) (lives : (activation_at w a).ended ≡ false) whe
 
   pub released : (rest : List Statement) (x : Option ℕ) → Lasts w a (calls.released w a rest x)
   released rest None = on rest w.store []
-  released rest (Some x) = record { act = onward w a rest; is = refl; lives = lives; fresh = same_fresh (activation_at w a).locks }
+  released rest (Some x) = record { act = onward w a rest; is = refl; lives = lives; fresh = kept }
 
   pub taken : (l : LockNumber) (access : Access) (rest : List Statement) → Lasts w a (calls.taken w a l access rest)
   taken l access rest = by_held (holds_lock l (activation_at w a).locks) refl
@@ -175,16 +183,29 @@ module _ (w : World) (a : ℕ) (lives : (activation_at w a).ended ≡ false) whe
 
       by_held : (b : Bool) → holds_lock l (activation_at w a).locks ≡ b → Lasts w a (if b then unchanged w a rest else other)
       by_held true is = on rest w.store []
-      by_held false is = record { act = record (onward w a rest) { locks = (activation_at w a).locks ++ held l access ∷ [] }; is = refl; lives = lives; fresh = one_fresh l access (activation_at w a).locks is }
+      by_held false is = record {
+        act = record (onward w a rest) { locks = (activation_at w a).locks ++ held l access ∷ [] };
+        is = refl;
+        lives = lives;
+        fresh = one_fresh l access (activation_at w a).locks is;
+      }
 
   pub given_up : (l : LockNumber) (rest : List Statement) → Lasts w a (calls.given_up w a l rest)
-  given_up l rest = either (holds_lock l (activation_at w a).locks) other (unchanged w a rest) (record { act = record (onward w a rest) { locks = without_last l (activation_at w a).locks }; is = refl; lives = lives; fresh = fewer_fresh l (activation_at w a).locks }) (on rest w.store [])
+  given_up l rest = either (holds_lock l (activation_at w a).locks) other (unchanged w a rest) others (on rest w.store [])
     where
       other : Step
       other = goes_on w a (record (onward w a rest) { locks = without_last l (activation_at w a).locks }) (without_holder w.store (actor_at w a).filter l a) []
 
+      others : Lasts w a other
+      others = record {
+        act = record (onward w a rest) { locks = without_last l (activation_at w a).locks };
+        is = refl;
+        lives = lives;
+        fresh = fewer_fresh l (activation_at w a).locks;
+      }
+
   enqueued : (granted refused : List Statement) (v : ℕ) (x : Option ℕ) → Lasts w a (calls.enqueued w a granted refused v x)
-  enqueued granted refused v x = either (is_attached (presence_at w.store (actor_at w a).filter)) other (unchanged w a refused) (record { act = onward w a granted; is = refl; lives = lives; fresh = same_fresh (activation_at w a).locks }) (on refused w.store [])
+  enqueued granted refused v x = either (is_attached (presence_at w.store (actor_at w a).filter)) other (unchanged w a refused) (record { act = onward w a granted; is = refl; lives = lives; fresh = kept }) (on refused w.store [])
     where
       other : Step
       other = goes_on w a (onward w a granted) (calls.with_entry w a (record { visit = v; context = x })) (event.Lose a (Visit v) ∷ loses_context a x)
@@ -196,11 +217,11 @@ module _ (w : World) (a : ℕ) (lives : (activation_at w a).ended ≡ false) whe
   insert_by granted refused (Some v) None = enqueued granted refused v None
 
   removed : (o : RemovedVariable) (d : ContextVariable) (granted refused : List Statement) (queue : List Entry) → Lasts w a (calls.removed w a o d granted refused queue)
-  removed o d granted refused [] = record { act = with_context_in (with_operation_in (onward w a refused) (Removed o) None) d None; is = refl; lives = lives; fresh = same_fresh (activation_at w a).locks }
-  removed o d granted refused (e ∷ queue) = record { act = with_context_in (with_operation_in (onward w a granted) (Removed o) (Some e.visit)) d e.context; is = refl; lives = lives; fresh = same_fresh (activation_at w a).locks }
+  removed o d granted refused [] = record { act = with_context_in (with_operation_in (onward w a refused) (Removed o) None) d None; is = refl; lives = lives; fresh = kept }
+  removed o d granted refused (e ∷ queue) = record { act = with_context_in (with_operation_in (onward w a granted) (Removed o) (Some e.visit)) d e.context; is = refl; lives = lives; fresh = kept }
 
   deferred : (routine : ℕ) (grant : Bool) (granted refused : List Statement) (v : ℕ) (x : Option ℕ) → Lasts w a (if grant then calls.deferred w a routine granted v x else unchanged w a refused)
-  deferred routine true granted refused v x = record { act = onward w a granted; is = refl; lives = lives; fresh = same_fresh (activation_at w a).locks }
+  deferred routine true granted refused v x = record { act = onward w a granted; is = refl; lives = lives; fresh = kept }
   deferred routine false granted refused v x = on refused w.store []
 
   defer_by : (routine : ℕ) (grant : Bool) (granted refused : List Statement) (v : Option ℕ) (c : Option (Option ℕ)) → Lasts w a (calls.defer_by w a routine grant granted refused v c)
@@ -211,27 +232,27 @@ module _ (w : World) (a : ℕ) (lives : (activation_at w a).ended ≡ false) whe
 
   queue_by : (routine : ℕ) (grant : Bool) (granted refused : List Statement) (c : Option (Option ℕ)) → Lasts w a (calls.queue_by w a routine grant granted refused c)
   queue_by routine grant granted refused (Some None) = on refused w.store []
-  queue_by routine true granted refused (Some (Some x)) = record { act = onward w a granted; is = refl; lives = lives; fresh = same_fresh (activation_at w a).locks }
+  queue_by routine true granted refused (Some (Some x)) = record { act = onward w a granted; is = refl; lives = lives; fresh = kept }
   queue_by routine false granted refused (Some (Some x)) = on refused w.store []
-  queue_by routine true granted refused None = record { act = onward w a granted; is = refl; lives = lives; fresh = same_fresh (activation_at w a).locks }
+  queue_by routine true granted refused None = record { act = onward w a granted; is = refl; lives = lives; fresh = kept }
   queue_by routine false granted refused None = on refused w.store []
 
   allocated : (d : ContextVariable) (grant : Bool) (granted refused : List Statement) → Lasts w a (if grant then calls.allocated w a d granted (length w.store.contexts) else gives_nothing w a (Some d) refused)
-  allocated d true granted refused = record { act = with_context_in (onward w a granted) d (Some (length w.store.contexts)); is = refl; lives = lives; fresh = same_fresh (activation_at w a).locks }
+  allocated d true granted refused = record { act = with_context_in (onward w a granted) d (Some (length w.store.contexts)); is = refl; lives = lives; fresh = kept }
   allocated d false granted refused = gives (Some d) None refused w.store []
 
   -- reads and the test
   pub read_value : (n : NumberVariable) (rest : List Statement) (x : Option ℕ) → Lasts w a (reads.read_value_of w a n rest x)
   read_value n rest None = on rest w.store []
-  read_value n rest (Some x) = record { act = with_number (onward w a rest) n (context_at w.store x).value; is = refl; lives = lives; fresh = same_fresh (activation_at w a).locks }
+  read_value n rest (Some x) = record { act = with_number (onward w a rest) n (context_at w.store x).value; is = refl; lives = lives; fresh = kept }
 
   pub read_file : (n : NumberVariable) (rest : List Statement) (v : Option ℕ) → Lasts w a (reads.read_file_of w a n rest v)
   read_file n rest None = on rest w.store []
-  read_file n rest (Some v) = record { act = with_number (onward w a rest) n (arrival_of w.store v).file; is = refl; lives = lives; fresh = same_fresh (activation_at w a).locks }
+  read_file n rest (Some v) = record { act = with_number (onward w a rest) n (arrival_of w.store v).file; is = refl; lives = lives; fresh = kept }
 
   pub write_value : (value : Atom) (rest : List Statement) (x : Option ℕ) → Lasts w a (reads.write_value_of w a value rest x)
   write_value value rest None = on rest w.store []
-  write_value value rest (Some x) = record { act = onward w a rest; is = refl; lives = lives; fresh = same_fresh (activation_at w a).locks }
+  write_value value rest (Some x) = record { act = onward w a rest; is = refl; lives = lives; fresh = kept }
 
   pub test_irp : (holds fails : List Statement) (v : Option ℕ) → Lasts w a (reads.test_irp_of w a holds fails v)
   test_irp holds fails None = on fails w.store []
@@ -239,7 +260,7 @@ module _ (w : World) (a : ℕ) (lives : (activation_at w a).ended ≡ false) whe
 
   -- the whole step of a call
   completed : (p : List Filter) (rest : List Statement) (v : ℕ) (x : Option ℕ) (answer : Answer) → Lasts w a (calls.completed w a p rest v x answer)
-  completed p rest v x answer = record { act = onward w a rest; is = refl; lives = lives; fresh = same_fresh (activation_at w a).locks }
+  completed p rest v x answer = record { act = onward w a rest; is = refl; lives = lives; fresh = kept }
 
   complete_by : (p : List Filter) (d : OperationVariable) (st : Status) (rest : List Statement) (v : Option ℕ) (c : Option (Option ℕ)) → Lasts w a (calls.complete_by w a p d st rest v c)
   complete_by p d st rest None c = on rest w.store []
@@ -253,7 +274,7 @@ module _ (w : World) (a : ℕ) (lives : (activation_at w a).ended ≡ false) whe
 
   -- what is told first changes no activation
   same_world : (x y : Step) → x.world ≡ y.world → Lasts w a x → Lasts w a y
-  same_world x y is h = record { act = h.act; is = sym (ap (λ (u : World). u.activations) is) ∙ h.is; lives = h.lives; fresh = h.fresh }
+  same_world x y is = like (ap (λ (u : World). u.activations) is)
 
   pub asked_lasts : (grant : Bool) (granted refused : List Statement) (x : Asked) → Lasts w a (asked_step w a grant granted refused x)
   asked_lasts grant granted refused (asked.Allocate d) = same_world (if grant then calls.allocated w a d granted (length w.store.contexts) else gives_nothing w a (Some d) refused) (calls.allocate w a d grant granted refused) refl (allocated d grant granted refused)
