@@ -1,12 +1,13 @@
 -- A step of a call, a read or a test leaves its activation going on.
-use Rattle.std.proofs.Common.{◌≡◌, ◌<◌, ℕ, ◌+◌, Bool, true, false, if◌then◌else◌, List, [], ◌∷◌, ◌++◌, length, Option, Some, None, get_or, set, is_some, arith, ap, sym, refl, ◌∙◌}
-use Rattle.std.proofs.lemmas.List.{get_or-replicate, get_or-set_same, length-replicate}
-use Rattle.flt_rules.specs.Held.{held, holds_lock, without_last}
+use Rattle.std.proofs.Common.{◌≡◌, ◌<◌, ◌≤◌, ℕ, ◌+◌, Bool, true, false, not, ◌&&◌, if◌then◌else◌, List, [], ◌∷◌, ◌++◌, length, Option, Some, None, get_or, set, is_some, arith, ap, sym, subst, refl, ◌∙◌}
+use Rattle.std.proofs.lemmas.List.{length-append, get_or-replicate, get_or-set_same, length-replicate}
+use Rattle.flt_rules.specs.Held.{held, holds_lock, same_lock, without_last}
 use Rattle.flt_rules.specs.Place.{is_irp}
 use Rattle.flt_rules.specs.declared.call.Existing.{Existing}
 use Rattle.flt_rules.specs.declared.call.Existing.TheVariants.{Keep, Replace}
 use Rattle.flt_rules.specs.declared.call.LockNumber.{LockNumber}
 use Rattle.flt_rules.specs.declared.held.Access.{Access}
+use Rattle.flt_rules.specs.declared.held.HeldLock.{HeldLock}
 use Rattle.flt_rules.specs.declared.held.Access.TheVariants.{Exclusive, Shared}
 use Rattle.flt_tree.specs.Filter.{context_of}
 use Rattle.flt_tree.specs.Variable.{whose}
@@ -44,11 +45,40 @@ use Rattle.flt_calls.specs.declared.plans.Write.{Write}
 use Rattle.flt_calls.specs.declared.plans.Write.TheVariants as write
 use Rattle.flt_calls.proofs.Called.{actors_with, activations_with, is_caller}
 
--- the activation is another one, which goes on
+-- ---- locks
+
+unchanged_free : (locks : List HeldLock) (l : LockNumber) (access : Access) → locks ≡ locks ++ held l access ∷ [] → holds_lock l locks ≡ false
+unchanged_free locks l access same = absurd (omega (arith, ap (λ (hs : List HeldLock). length hs) same, length-append locks (held l access ∷ [])))
+
+last_same : (locks : List HeldLock) (h k : HeldLock) → locks ++ h ∷ [] ≡ locks ++ k ∷ [] → h ≡ k
+last_same [] h k same = cc
+last_same (x ∷ locks) h k same = last_same locks h k (cc)
+
+taken_free : (locks : List HeldLock) (l : LockNumber) (access : Access) → holds_lock l locks ≡ false →
+    (k : LockNumber) (other : Access) → locks ++ held l access ∷ [] ≡ locks ++ held k other ∷ [] → holds_lock k locks ≡ false
+taken_free locks l access free k other same =
+    subst (λ (n : LockNumber). holds_lock n locks ≡ false) (ap (λ (h : HeldLock). h.lock) (last_same locks (held l access) (held k other) same)) free
+
+either_fewer : (n : ℕ) (b : Bool) (one other : List HeldLock) → length one ≤ n → length other ≤ n → length (if b then one else other) ≤ n
+either_fewer n true one other less more = less
+either_fewer n false one other less more = more
+
+fewer : (l : LockNumber) (locks : List HeldLock) → length (without_last l locks) ≤ length locks
+fewer l [] = omega arith
+fewer l (h ∷ locks) =
+    either_fewer (length (h ∷ locks)) (same_lock l h.lock && not (holds_lock l locks)) locks (h ∷ without_last l locks) (omega arith) (omega (arith, fewer l locks))
+
+given_up_free : (locks : List HeldLock) (l k : LockNumber) (access : Access) → without_last l locks ≡ locks ++ held k access ∷ [] → holds_lock k locks ≡ false
+given_up_free locks l k access same = absurd (omega (arith, ap (λ (hs : List HeldLock). length hs) same, length-append locks (held k access ∷ []), fewer l locks))
+
+-- ---- steps
+
+-- the activation is another one, which goes on; where it holds one lock more, it didn't hold that lock
 pub record Lasts (w : World) (a : ℕ) (step : Step) : Type 0 where
   pub act : Activation
   pub is : step.world.activations ≡ set w.activations a act
   pub lives : act.ended ≡ false
+  pub free : (l : LockNumber) (access : Access) → act.locks ≡ (activation_at w a).locks ++ held l access ∷ [] → holds_lock l (activation_at w a).locks ≡ false
 
 written_lives : (x : Write) (act : Activation) → (written x act).ended ≡ false → is_end x ≡ false
 written_lives write.End act h = h
@@ -87,15 +117,15 @@ not_ended s c plan step planned lasts = written_lives plan.write (onward w c.act
 
 module _ (w : World) (a : ℕ) (lives : (activation_at w a).ended ≡ false) where
   on : (rest : List Statement) (s : Store) (es : List Event) → Lasts w a (goes_on w a (onward w a rest) s es)
-  on rest s es = record { act = onward w a rest; is = refl; lives = lives }
+  on rest s es = record { act = onward w a rest; is = refl; lives = lives; free = unchanged_free (activation_at w a).locks }
 
   gives : (old : Option ContextVariable) (x : Option ℕ) (rest : List Statement) (s : Store) (es : List Event) → Lasts w a (goes_on w a (with_old (onward w a rest) old x) s es)
   gives None x rest s es = on rest s es
-  gives (Some d) x rest s es = record { act = with_context_in (onward w a rest) d x; is = refl; lives = lives }
+  gives (Some d) x rest s es = record { act = with_context_in (onward w a rest) d x; is = refl; lives = lives; free = unchanged_free (activation_at w a).locks }
 
   got : (d : ContextVariable) (granted refused : List Statement) (x : Option ℕ) → Lasts w a (calls.got w a d granted refused x)
   got d granted refused None = gives (Some d) None refused w.store []
-  got d granted refused (Some x) = record { act = with_context_in (onward w a granted) d (Some x); is = refl; lives = lives }
+  got d granted refused (Some x) = record { act = with_context_in (onward w a granted) d (Some x); is = refl; lives = lives; free = unchanged_free (activation_at w a).locks }
 
   get_by : (d : ContextVariable) (granted refused : List Statement) (l : Option Link) → Lasts w a (calls.get_by w a d granted refused l)
   get_by d granted refused None = on refused w.store []
@@ -106,10 +136,10 @@ module _ (w : World) (a : ℕ) (lives : (activation_at w a).ended ≡ false) whe
   either false x y yes_lasts no_lasts = no_lasts
 
   set_there : (existing : Existing) (old : Option ContextVariable) (granted refused : List Statement) (x : ℕ) (l : Link) (y : Option ℕ) → Lasts w a (calls.set_there w a existing old granted refused x l y)
-  set_there existing old granted refused x l None = record { act = (gives old None granted w.store []).act; is = (gives old None granted w.store []).is; lives = (gives old None granted w.store []).lives }
+  set_there existing old granted refused x l None = record { act = (gives old None granted w.store []).act; is = (gives old None granted w.store []).is; lives = (gives old None granted w.store []).lives; free = (gives old None granted w.store []).free }
   set_there Keep None granted refused x l (Some y) = on refused w.store []
   set_there Keep (Some d) granted refused x l (Some y) = got d refused refused (Some y)
-  set_there Replace old granted refused x l (Some y) = record { act = (gives old (Some y) granted w.store []).act; is = (gives old (Some y) granted w.store []).is; lives = (gives old (Some y) granted w.store []).lives }
+  set_there Replace old granted refused x l (Some y) = record { act = (gives old (Some y) granted w.store []).act; is = (gives old (Some y) granted w.store []).is; lives = (gives old (Some y) granted w.store []).lives; free = (gives old (Some y) granted w.store []).free }
 
   set_by : (existing : Existing) (old : Option ContextVariable) (granted refused : List Statement) (x : Option ℕ) (l : Option Link) → Lasts w a (calls.set_by w a existing old granted refused x l)
   set_by existing old granted refused None l = on refused w.store []
@@ -123,14 +153,14 @@ module _ (w : World) (a : ℕ) (lives : (activation_at w a).ended ≡ false) whe
     where
       unlinked : (y : Option ℕ) → Lasts w a (calls.unlinked w a old granted refused y)
       unlinked None = gives old None refused w.store []
-      unlinked (Some y) = record { act = (gives old (Some y) granted w.store []).act; is = (gives old (Some y) granted w.store []).is; lives = (gives old (Some y) granted w.store []).lives }
+      unlinked (Some y) = record { act = (gives old (Some y) granted w.store []).act; is = (gives old (Some y) granted w.store []).is; lives = (gives old (Some y) granted w.store []).lives; free = (gives old (Some y) granted w.store []).free }
 
   pub deleted : (rest : List Statement) (x : Option ℕ) → Lasts w a (calls.deleted w a rest x)
   deleted rest None = on rest w.store []
   deleted rest (Some x) = chosen (is_some (context_at w.store x).link)
     where
       chosen : (b : Bool) → Lasts w a (if b then goes_on w a (onward w a rest) (after_unlink w.store x None) (freed_by_drop w.store x) else unchanged w a rest)
-      chosen true = record { act = onward w a rest; is = refl; lives = lives }
+      chosen true = record { act = onward w a rest; is = refl; lives = lives; free = unchanged_free (activation_at w a).locks }
       chosen false = on rest w.store []
 
   pub referenced : (d : ContextVariable) (rest : List Statement) (x : Option ℕ) → Lasts w a (calls.referenced w a d rest x)
@@ -139,22 +169,26 @@ module _ (w : World) (a : ℕ) (lives : (activation_at w a).ended ≡ false) whe
 
   pub released : (rest : List Statement) (x : Option ℕ) → Lasts w a (calls.released w a rest x)
   released rest None = on rest w.store []
-  released rest (Some x) = record { act = onward w a rest; is = refl; lives = lives }
+  released rest (Some x) = record { act = onward w a rest; is = refl; lives = lives; free = unchanged_free (activation_at w a).locks }
 
   pub taken : (l : LockNumber) (access : Access) (rest : List Statement) → Lasts w a (calls.taken w a l access rest)
-  taken l access rest = either (holds_lock l (activation_at w a).locks) (unchanged w a rest) (other) (on rest w.store []) (record { act = record (onward w a rest) { locks = (activation_at w a).locks ++ held l access ∷ [] }; is = refl; lives = lives })
+  taken l access rest = by (holds_lock l (activation_at w a).locks) refl
     where
       other : Step
       other = goes_on w a (record (onward w a rest) { locks = (activation_at w a).locks ++ held l access ∷ [] }) (with_holder w.store (actor_at w a).filter l (record { activation = a; access = access })) []
 
+      by : (b : Bool) → holds_lock l (activation_at w a).locks ≡ b → Lasts w a (if b then unchanged w a rest else other)
+      by true holds = on rest w.store []
+      by false free = record { act = record (onward w a rest) { locks = (activation_at w a).locks ++ held l access ∷ [] }; is = refl; lives = lives; free = taken_free (activation_at w a).locks l access free }
+
   pub given_up : (l : LockNumber) (rest : List Statement) → Lasts w a (calls.given_up w a l rest)
-  given_up l rest = either (holds_lock l (activation_at w a).locks) other (unchanged w a rest) (record { act = record (onward w a rest) { locks = without_last l (activation_at w a).locks }; is = refl; lives = lives }) (on rest w.store [])
+  given_up l rest = either (holds_lock l (activation_at w a).locks) other (unchanged w a rest) (record { act = record (onward w a rest) { locks = without_last l (activation_at w a).locks }; is = refl; lives = lives; free = given_up_free (activation_at w a).locks l }) (on rest w.store [])
     where
       other : Step
       other = goes_on w a (record (onward w a rest) { locks = without_last l (activation_at w a).locks }) (without_holder w.store (actor_at w a).filter l a) []
 
   enqueued : (granted refused : List Statement) (v : ℕ) (x : Option ℕ) → Lasts w a (calls.enqueued w a granted refused v x)
-  enqueued granted refused v x = either (is_attached (presence_at w.store (actor_at w a).filter)) other (unchanged w a refused) (record { act = onward w a granted; is = refl; lives = lives }) (on refused w.store [])
+  enqueued granted refused v x = either (is_attached (presence_at w.store (actor_at w a).filter)) other (unchanged w a refused) (record { act = onward w a granted; is = refl; lives = lives; free = unchanged_free (activation_at w a).locks }) (on refused w.store [])
     where
       other : Step
       other = goes_on w a (onward w a granted) (calls.with_entry w a (record { visit = v; context = x })) (event.Lose a (Visit v) ∷ loses_context a x)
@@ -166,11 +200,11 @@ module _ (w : World) (a : ℕ) (lives : (activation_at w a).ended ≡ false) whe
   insert_by granted refused (Some v) None = enqueued granted refused v None
 
   removed : (o : RemovedVariable) (d : ContextVariable) (granted refused : List Statement) (queue : List Entry) → Lasts w a (calls.removed w a o d granted refused queue)
-  removed o d granted refused [] = record { act = with_context_in (with_operation_in (onward w a refused) (Removed o) None) d None; is = refl; lives = lives }
-  removed o d granted refused (e ∷ queue) = record { act = with_context_in (with_operation_in (onward w a granted) (Removed o) (Some e.visit)) d e.context; is = refl; lives = lives }
+  removed o d granted refused [] = record { act = with_context_in (with_operation_in (onward w a refused) (Removed o) None) d None; is = refl; lives = lives; free = unchanged_free (activation_at w a).locks }
+  removed o d granted refused (e ∷ queue) = record { act = with_context_in (with_operation_in (onward w a granted) (Removed o) (Some e.visit)) d e.context; is = refl; lives = lives; free = unchanged_free (activation_at w a).locks }
 
   deferred : (routine : ℕ) (grant : Bool) (granted refused : List Statement) (v : ℕ) (x : Option ℕ) → Lasts w a (if grant then calls.deferred w a routine granted v x else unchanged w a refused)
-  deferred routine true granted refused v x = record { act = onward w a granted; is = refl; lives = lives }
+  deferred routine true granted refused v x = record { act = onward w a granted; is = refl; lives = lives; free = unchanged_free (activation_at w a).locks }
   deferred routine false granted refused v x = on refused w.store []
 
   defer_by : (routine : ℕ) (grant : Bool) (granted refused : List Statement) (v : Option ℕ) (c : Option (Option ℕ)) → Lasts w a (calls.defer_by w a routine grant granted refused v c)
@@ -181,27 +215,27 @@ module _ (w : World) (a : ℕ) (lives : (activation_at w a).ended ≡ false) whe
 
   queue_by : (routine : ℕ) (grant : Bool) (granted refused : List Statement) (c : Option (Option ℕ)) → Lasts w a (calls.queue_by w a routine grant granted refused c)
   queue_by routine grant granted refused (Some None) = on refused w.store []
-  queue_by routine true granted refused (Some (Some x)) = record { act = onward w a granted; is = refl; lives = lives }
+  queue_by routine true granted refused (Some (Some x)) = record { act = onward w a granted; is = refl; lives = lives; free = unchanged_free (activation_at w a).locks }
   queue_by routine false granted refused (Some (Some x)) = on refused w.store []
-  queue_by routine true granted refused None = record { act = onward w a granted; is = refl; lives = lives }
+  queue_by routine true granted refused None = record { act = onward w a granted; is = refl; lives = lives; free = unchanged_free (activation_at w a).locks }
   queue_by routine false granted refused None = on refused w.store []
 
   allocated : (d : ContextVariable) (grant : Bool) (granted refused : List Statement) → Lasts w a (if grant then calls.allocated w a d granted (length w.store.contexts) else gives_nothing w a (Some d) refused)
-  allocated d true granted refused = record { act = with_context_in (onward w a granted) d (Some (length w.store.contexts)); is = refl; lives = lives }
+  allocated d true granted refused = record { act = with_context_in (onward w a granted) d (Some (length w.store.contexts)); is = refl; lives = lives; free = unchanged_free (activation_at w a).locks }
   allocated d false granted refused = gives (Some d) None refused w.store []
 
   -- reads and the test
   pub read_value : (n : NumberVariable) (rest : List Statement) (x : Option ℕ) → Lasts w a (reads.read_value_of w a n rest x)
   read_value n rest None = on rest w.store []
-  read_value n rest (Some x) = record { act = with_number (onward w a rest) n (context_at w.store x).value; is = refl; lives = lives }
+  read_value n rest (Some x) = record { act = with_number (onward w a rest) n (context_at w.store x).value; is = refl; lives = lives; free = unchanged_free (activation_at w a).locks }
 
   pub read_file : (n : NumberVariable) (rest : List Statement) (v : Option ℕ) → Lasts w a (reads.read_file_of w a n rest v)
   read_file n rest None = on rest w.store []
-  read_file n rest (Some v) = record { act = with_number (onward w a rest) n (arrival_of w.store v).file; is = refl; lives = lives }
+  read_file n rest (Some v) = record { act = with_number (onward w a rest) n (arrival_of w.store v).file; is = refl; lives = lives; free = unchanged_free (activation_at w a).locks }
 
   pub write_value : (value : Atom) (rest : List Statement) (x : Option ℕ) → Lasts w a (reads.write_value_of w a value rest x)
   write_value value rest None = on rest w.store []
-  write_value value rest (Some x) = record { act = onward w a rest; is = refl; lives = lives }
+  write_value value rest (Some x) = record { act = onward w a rest; is = refl; lives = lives; free = unchanged_free (activation_at w a).locks }
 
   pub test_irp : (holds fails : List Statement) (v : Option ℕ) → Lasts w a (reads.test_irp_of w a holds fails v)
   test_irp holds fails None = on fails w.store []
@@ -209,7 +243,7 @@ module _ (w : World) (a : ℕ) (lives : (activation_at w a).ended ≡ false) whe
 
   -- the whole step of a call
   completed : (p : List Filter) (rest : List Statement) (v : ℕ) (x : Option ℕ) (answer : Answer) → Lasts w a (calls.completed w a p rest v x answer)
-  completed p rest v x answer = record { act = onward w a rest; is = refl; lives = lives }
+  completed p rest v x answer = record { act = onward w a rest; is = refl; lives = lives; free = unchanged_free (activation_at w a).locks }
 
   complete_by : (p : List Filter) (d : OperationVariable) (st : Status) (rest : List Statement) (v : Option ℕ) (c : Option (Option ℕ)) → Lasts w a (calls.complete_by w a p d st rest v c)
   complete_by p d st rest None c = on rest w.store []
@@ -223,7 +257,7 @@ module _ (w : World) (a : ℕ) (lives : (activation_at w a).ended ≡ false) whe
 
   -- what is told first changes no activation
   same_world : (x y : Step) → x.world ≡ y.world → Lasts w a x → Lasts w a y
-  same_world x y is h = record { act = h.act; is = sym (ap (λ (u : World). u.activations) is) ∙ h.is; lives = h.lives }
+  same_world x y is h = record { act = h.act; is = sym (ap (λ (u : World). u.activations) is) ∙ h.is; lives = h.lives; free = h.free }
 
   pub asked_lasts : (grant : Bool) (granted refused : List Statement) (x : Asked) → Lasts w a (asked_step w a grant granted refused x)
   asked_lasts grant granted refused (asked.Allocate d) = same_world (if grant then calls.allocated w a d granted (length w.store.contexts) else gives_nothing w a (Some d) refused) (calls.allocate w a d grant granted refused) refl (allocated d grant granted refused)

@@ -18,7 +18,7 @@ use Rattle.flt_calls.specs.declared.plans.Write.TheVariants as write
 use Rattle.flt_frame.specs.Standings.{activation_with}
 use Rattle.flt_frame.specs.declared.standing.Standing.{Standing}
 use Rattle.flt_model.specs.World.{Activation}
-use Rattle.flt_machine.specs.Counted.{AreApart, AreDistinct, IsSmall}
+use Rattle.flt_machine.specs.Counted.{AreApart, AreDistinct, IsSmall, IsTakenFree}
 
 -- ---- locks
 
@@ -101,11 +101,6 @@ module _ (l : LockNumber) where
   given_up [] distinct = tt
   given_up (h ∷ locks) (one, others) =
       either_distinct (same_lock l h.lock && not (holds_lock l locks)) locks (h ∷ without_last l locks) others (still_apart (place_of h.lock) locks one, given_up locks others)
-
--- what is taken isn't held
-abbrev pub IsTakenFree : List HeldLock → Write → Type 0
-IsTakenFree locks (write.Take l access) = holds_lock l locks ≡ false
-IsTakenFree locks _ = Unit {0}
 
 written_locks : (x : Write) (s later : Standing) → is_end x ≡ false → IsTakenFree s.locks x → activation_with later [] ≡ written x (activation_with s []) → AreDistinct s.locks → AreDistinct later.locks
 written_locks x s later goes free same distinct = subst AreDistinct (sym (ap (λ (act : Activation). act.locks) same)) (by x goes free)
