@@ -221,8 +221,10 @@ fn renew(standings: &mut Vec<Option<Kept>>, activation: usize, later: Standing)
     requires { IsSome (get_or standings.old.items activation None) }
     ensures { standings.new.items ≡ set standings.old.items activation (Some later) }
 {
-    if let Some(Some(kept)) = standings.get_mut(activation) {
-        kept.set(later);
+    if activation < standings.len() {
+        if let Some(kept) = &mut standings[activation] {
+            kept.set(later);
+        }
     }
 }
 
