@@ -43,7 +43,7 @@ module _ (p : List Filter) (b : Situation) (advanced : Advanced) (grant : Bool) 
   abbrev pub middle : Moment
   middle = moved m advanced.frame.activation (advances p b advanced m at fresh advance).last
 
-  here : get_or (set m.world.activations advanced.frame.activation (advances p b advanced m at fresh advance).last) advanced.frame.activation nobody ≡ (advances p b advanced m at fresh advance).last
+  pub here : get_or (set m.world.activations advanced.frame.activation (advances p b advanced m at fresh advance).last) advanced.frame.activation nobody ≡ (advances p b advanced m at fresh advance).last
   here = get_or-set_same m.world.activations advanced.frame.activation (advances p b advanced m at fresh advance).last nobody (advances p b advanced m at fresh advance).within
 
   standing_there : standing_of (furthered b advanced.frame.activation (Some advanced.after)) advanced.frame.activation ≡ Some advanced.after
