@@ -23,17 +23,12 @@ use Rattle.flt_frame.specs.Standings.{StandsFor, activation_with}
 use Rattle.flt_frame.specs.declared.frame.Advanced.{Advanced}
 use Rattle.flt_frame.specs.declared.standing.Standing.{Standing}
 use Rattle.flt_machine.specs.Blocking.{is_blocked}
-use Rattle.flt_machine.specs.Calls.{Commits, IsFresh, IsRefusedAt, caller_of, local_steps, step_at}
+use Rattle.flt_machine.specs.Calls.{Commits, IsFresh, IsLater, IsRefusedAt, caller_of, local_steps, step_at}
 use Rattle.flt_machine.specs.Situations.{Situation, IsKept, IsAt, actor_of, standing_of}
 use Rattle.flt_machine.proofs.Local.{moved, furthered, IsReached, advances, kept_there, set_twice, goes_there}
 use Rattle.flt_machine.proofs.Stepped.{IsStepped, stepped, steps_on}
 use Rattle.flt_machine.proofs.Planned.{planned_on, planned_end}
 use Rattle.flt_machine.proofs.Blocked.{blocked_exact}
-
--- what is kept after a plan: nothing where it ends the activation, else a standing that is written so
-abbrev pub IsLater : List Callback → ℕ → Standing → List Statement → Plan → Option Standing → Type 0
-IsLater cs a s rest plan None = is_end plan.write ≡ true
-IsLater cs a s rest plan (Some later) = (is_end plan.write ≡ false) × (IsWritten cs s later plan rest × IsCountedOn a s later plan)
 
 -- the board after a commit
 abbrev pub committed : Situation → Advanced → Option Standing → Store → Bool → Situation
@@ -48,7 +43,7 @@ module _ (p : List Filter) (b : Situation) (advanced : Advanced) (grant : Bool) 
   abbrev pub middle : Moment
   middle = moved m advanced.frame.activation (advances p b advanced m at fresh advance).last
 
-  here : get_or (set m.world.activations advanced.frame.activation (advances p b advanced m at fresh advance).last) advanced.frame.activation nobody ≡ (advances p b advanced m at fresh advance).last
+  pub here : get_or (set m.world.activations advanced.frame.activation (advances p b advanced m at fresh advance).last) advanced.frame.activation nobody ≡ (advances p b advanced m at fresh advance).last
   here = get_or-set_same m.world.activations advanced.frame.activation (advances p b advanced m at fresh advance).last nobody (advances p b advanced m at fresh advance).within
 
   standing_there : standing_of (furthered b advanced.frame.activation (Some advanced.after)) advanced.frame.activation ≡ Some advanced.after

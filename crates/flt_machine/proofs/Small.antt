@@ -1,5 +1,5 @@
 -- Locks that differ are eight at most, and what a standing counts goes on little by little.
-use Rattle.std.proofs.Common.{◌≡◌, ℕ, ◌+◌, ◌*◌, Option, Some, None, ◌<◌, ◌≤◌, ◌==◌, Bool, true, false, not, ◌&&◌, ◌||◌, List, [], ◌∷◌, ◌++◌, length, map, if◌then◌else◌, ap, sym, subst, refl, ◌∙◌, inl, inr, arith}
+use Rattle.std.proofs.Common.{◌≡◌, ℕ, ◌+◌, ◌*◌, Option, Some, None, ◌<◌, ◌≤◌, ◌^◌, ◌==◌, Bool, true, false, not, ◌&&◌, ◌||◌, List, [], ◌∷◌, ◌++◌, length, map, if◌then◌else◌, ap, sym, subst, refl, ◌∙◌, inl, inr, arith}
 use Rattle.std.proofs.Math.Dec.{eqb}
 use Rattle.std.proofs.lemmas.Bool.{cases_eq, eq-eqb, ne_eqb}
 use Rattle.std.proofs.lemmas.List.{length-append, length-map}
@@ -12,13 +12,14 @@ use Rattle.flt_rules.specs.declared.call.LockNumber.{LockNumber}
 use Rattle.flt_rules.specs.declared.call.LockNumber.TheVariants.{L0, L1, L2, L3, L4, L5, L6, L7}
 use Rattle.flt_rules.specs.declared.held.Access.{Access}
 use Rattle.flt_rules.specs.declared.held.HeldLock.{HeldLock}
+use Rattle.flt_calls.specs.Continuing.{HasRoom}
 use Rattle.flt_calls.specs.Plans.{written, is_end}
 use Rattle.flt_calls.specs.declared.plans.Write.{Write}
 use Rattle.flt_calls.specs.declared.plans.Write.TheVariants as write
 use Rattle.flt_frame.specs.Standings.{activation_with}
 use Rattle.flt_frame.specs.declared.standing.Standing.{Standing}
 use Rattle.flt_model.specs.World.{Activation}
-use Rattle.flt_machine.specs.Counted.{AreApart, AreDistinct, IsSmall}
+use Rattle.flt_machine.specs.Counted.{AreApart, AreDistinct, IsSmall, IsTakenFree}
 
 -- ---- locks
 
@@ -102,11 +103,6 @@ module _ (l : LockNumber) where
   given_up (h ∷ locks) (one, others) =
       either_distinct (same_lock l h.lock && not (holds_lock l locks)) locks (h ∷ without_last l locks) others (still_apart (place_of h.lock) locks one, given_up locks others)
 
--- what is taken isn't held
-abbrev pub IsTakenFree : List HeldLock → Write → Type 0
-IsTakenFree locks (write.Take l access) = holds_lock l locks ≡ false
-IsTakenFree locks _ = Unit {0}
-
 written_locks : (x : Write) (s later : Standing) → is_end x ≡ false → IsTakenFree s.locks x → activation_with later [] ≡ written x (activation_with s []) → AreDistinct s.locks → AreDistinct later.locks
 written_locks x s later goes free same distinct = subst AreDistinct (sym (ap (λ (act : Activation). act.locks) same)) (by x goes free)
   where
@@ -132,3 +128,27 @@ written_small n x s later goes free same gained lost small = record {
 -- a standing stays small where entries come
 pub stays_small : (n : ℕ) (s : Standing) → IsSmall n s → IsSmall (n + 1) s
 stays_small n s small = record { gained = omega (arith, small.gained); lost = omega (arith, small.lost); locks = small.locks }
+
+-- there is room for what is written
+pub has_room : (s : Standing) (x : Write) → IsTakenFree s.locks x → AreDistinct s.locks → HasRoom s x
+has_room s (write.Take l access) free distinct = has_place l access s.locks distinct free
+has_room s write.Nothing free distinct = tt
+has_room s (write.Number n value) free distinct = tt
+has_room s (write.Output d x) free distinct = tt
+has_room s (write.Removed o v d x) free distinct = tt
+has_room s (write.GiveUp l) free distinct = tt
+has_room s write.End free distinct = tt
+
+-- counts that are so small grow
+pub counts_on : (n : ℕ) → n ≤ 16 * 1000000 → n + 16 < 2 ^ 64
+counts_on n few = omega (arith, few)
+
+-- what isn't the end doesn't end
+pub goes : (x : Write) → (x ≡ write.End → ⊥) → is_end x ≡ false
+goes write.Nothing not_end = refl
+goes (write.Number n value) not_end = refl
+goes (write.Output d x) not_end = refl
+goes (write.Removed o v d x) not_end = refl
+goes (write.Take l access) not_end = refl
+goes (write.GiveUp l) not_end = refl
+goes write.End not_end = absurd (not_end refl)

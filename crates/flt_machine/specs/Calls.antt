@@ -5,13 +5,17 @@ use Rattle.flt_rules.specs.declared.call.Call.TheVariants as call
 use Rattle.flt_rules.specs.declared.call.LockNumber.{LockNumber}
 use Rattle.flt_rules.specs.declared.held.Access.{Access}
 use Rattle.flt_rules.specs.declared.held.Access.TheVariants.{Exclusive, Shared}
+use Rattle.flt_tree.specs.declared.filter.Callback.{Callback}
 use Rattle.flt_tree.specs.declared.filter.Filter.{Filter}
-use Rattle.flt_calls.specs.Plans.{choice_at}
+use Rattle.flt_tree.specs.declared.filter.Statement.{Statement}
+use Rattle.flt_calls.specs.Plans.{choice_at, is_end, IsWritten, IsCountedOn}
 use Rattle.flt_calls.specs.declared.caller.Caller.{Caller}
-use Rattle.flt_frame.specs.Loading.{AreLoaded}
+use Rattle.flt_calls.specs.declared.plans.Plan.{Plan}
+use Rattle.flt_frame.specs.Loading.{AreLoaded, instruction_in}
 use Rattle.flt_frame.specs.Leads.{IsAdvance}
 use Rattle.flt_frame.specs.declared.frame.Advanced.{Advanced}
 use Rattle.flt_frame.specs.declared.loaded.Loaded.{Loaded}
+use Rattle.flt_frame.specs.declared.standing.Standing.{Standing}
 use Rattle.flt_model.specs.declared.event.Event.{Event}
 use Rattle.flt_model.specs.declared.moves.JournalEntry.TheVariants.{Go}
 use Rattle.flt_model.specs.declared.moves.Move.{Move}
@@ -92,6 +96,11 @@ pub record Commits (p : List Filter) (b later : Situation) (advanced : Advanced)
   pub written : later.entries
       ≡ b.entries ++ Go advanced.frame.activation (advanced.steps + 1) (choice_at (activation_at middle.world advanced.frame.activation).rest grant) ∷ []
 
+-- what is kept after a plan: nothing where it ends the activation, else a standing that is written so
+abbrev pub IsLater : List Callback → ℕ → Standing → List Statement → Plan → Option Standing → Type 0
+IsLater cs a s rest plan None = is_end plan.write ≡ true
+IsLater cs a s rest plan (Some later) = (is_end plan.write ≡ false) × (IsWritten cs s later plan rest × IsCountedOn a s later plan)
+
 -- ---- what a commit reads
 
 -- the activation as it was advanced
@@ -102,6 +111,10 @@ caller_of b advanced = record {
   place = (actor_of b advanced.frame.activation).place;
   standing = advanced.after;
 }
+
+-- the instruction at which it stands
+abbrev pub instruction_for : Loaded → Advanced → Instruction
+instruction_for l advanced = instruction_in l advanced.frame.filter advanced.after.callback advanced.after.point
 
 -- how a call asks for a lock, if it does
 abbrev pub access_of : Call → Option Access

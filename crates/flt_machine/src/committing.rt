@@ -1,22 +1,31 @@
 //! Steps of activations.
 
-ghost use Rattle.std.specs.Prelude.{◌≡◌, ◌≢◌, ◌↔◌, List, length, set, get_or, IsSome, IsTrue, Some, None, OnOk, OnErr, IfOk};
+ghost use Rattle.std.specs.Prelude.{◌≡◌, ◌≢◌, ◌↔◌, ◌<◌, ◌≤◌, ◌+◌, ◌++◌, ◌∷◌, [], ℕ, true, false, List, length, set, get_or, IsSome, IsTrue, Some, None, OnOk, OnErr, IfOk, IfSome};
+ghost use Rattle.flt_calls.specs.Continuing.{leads_on};
+ghost use Rattle.flt_calls.specs.Own.{AreOf};
+ghost use Rattle.flt_calls.specs.Plans.{is_end};
+ghost use Rattle.flt_frame.specs.Firsts.{Remains};
 ghost use Rattle.flt_frame.specs.Loading.{AreLoaded};
 ghost use Rattle.flt_machine.specs.Calls as spec;
 ghost use Rattle.flt_machine.specs.Calls.{IsAdvanced, IsBlocked, IsFresh};
-ghost use Rattle.flt_machine.specs.Situations.{IsBoard, IsOwn, Now};
+ghost use Rattle.flt_machine.specs.Counted.{IsSmall, IsTakenFree};
+ghost use Rattle.flt_machine.specs.Situations.{IsBoard, IsOwn, Now, standing_of};
 ghost use Rattle.flt_machine.specs.declared.committing.Commit.TheVariants as answer;
 ghost use Rattle.flt_machine.specs.declared.events.Events.{Events};
+ghost use Rattle.flt_store.specs.Changes.{after_change, IsPossible};
+ghost use Rattle.flt_tree.specs.declared.filter.Callback.{Callback};
 ghost use Rattle.flt_tree.specs.declared.filter.Filter.{Filter};
+ghost use Rattle.flt_tree.specs.declared.filter.Statement.{Statement};
 
 use crate::board::{Board, MAX_ENTRIES};
 use crate::events::Events;
 use crate::kept::Kept;
-use flt_calls::{Caller, Write, continued, plan_step};
-use flt_frame::{Advanced, Loaded, Standing};
+use flt_calls::{Caller, Plan, Write, continued, plan_step};
+use flt_frame::{Advanced, Loaded, Standing, standings_have_points};
 use flt_graph::Instruction;
 use flt_model::JournalEntry;
 use flt_rules::{Access, Call};
+use flt_store::Change;
 use std::alloc::{AllocError, Global};
 
 /// What a commit answers. After anything but `Committed` the board and its journal are as they were.
@@ -129,25 +138,72 @@ impl Board {
         instruction: Instruction,
         grant: bool,
     ) -> Result<Events, AllocError>
+        requires own { IsOwn loaded.now self.old }
+        requires advance { IsAdvanced loaded.now advanced.now }
+        requires fresh { IsFresh self.old advanced.now }
+        requires caller { caller.now ≡ spec.caller_of self.old advanced.now }
+        requires instruction { instruction ≡ spec.instruction_for loaded.now advanced.now }
+        requires free { spec.is_refused_lock self.old.store caller.now instruction ≡ false }
+        requires room { length self.old.entries < 1000000 }
+        ensures committed { IfOk result (λ events.
+            Now loaded.now self.old (λ p m. spec.Commits p self.old self.new advanced.now grant events.list m)) }
+        ensures refused { OnErr result (self.new ≡ self.old) }
     {
+        standings_have_points();
         let plan = plan_step(alloc, loaded, &self.store, caller, grant)?;
-        self.journal.push(JournalEntry::Go {
+        let later = standing_after(caller, instruction, &plan);
+        let entry = JournalEntry::Go {
             activation: advanced.frame.activation,
             steps: advanced.steps + 1,
             grant: grant || !leaves_choice(instruction),
-        })?;
-        if let Err(refused) = self.store.perform(plan.change) {
+        };
+        self.write_down(entry, plan.change)?;
+        self.put(caller.activation, later);
+        Ok(Events { list: plan.events })
+    }
+
+    /// A change is made, and one entry more says what happened; or nothing is.
+    fn write_down(&mut self, entry: JournalEntry, change: Change) -> Result<(), AllocError>
+        requires possible { IsPossible self.old.store change }
+        requires room { length self.old.entries < 1000000 }
+        ensures ok { OnOk result (self.new ≡
+            record self.old { store = after_change self.old.store change; entries = self.old.entries ++ entry ∷ [] }) }
+        ensures refused { OnErr result (self.new ≡ self.old) }
+    {
+        self.journal.push(entry)?;
+        if let Err(refused) = self.store.perform(change) {
             self.journal.pop();
             return Err(refused);
         }
-        match plan.write {
-            Write::End => end(&mut self.standings, caller.activation),
-            _ => {
-                let later = continued(&caller.standing, instruction, &plan);
-                renew(&mut self.standings, caller.activation, later);
-            }
+        Ok(())
+    }
+
+    /// How far an activation that goes on has come from now on, or that it has ended.
+    fn put(&mut self, activation: usize, later: Option<Standing>)
+        requires there { IsSome (standing_of self.old activation) }
+        requires small { IfSome later (λ s. IsSmall (length self.old.entries) s) }
+        ensures { self.new ≡ record self.old { standings = set self.old.standings activation later } }
+    {
+        match later {
+            Some(standing) => renew(&mut self.standings, activation, standing),
+            None => end(&mut self.standings, activation),
         }
-        Ok(Events { list: plan.events })
+    }
+}
+
+/// How far the caller has come after a plan's step; none where the step ends the activation.
+fn standing_after(caller: &Caller, instruction: Instruction, plan: &Plan) -> Option<Standing>
+    requires leads { is_end plan.now.write ≡ false → leads_on instruction ≡ true }
+    requires free { IsTakenFree caller.now.standing.locks plan.now.write }
+    requires small { IsSmall 1000000 caller.now.standing }
+    requires few { length plan.now.events ≤ 16 }
+    ensures later { (cs : List Callback) (a : ℕ) (rest : List Statement) → Remains cs caller.now.standing rest instruction →
+        AreOf a plan.now.events → spec.IsLater cs a caller.now.standing rest plan.now result }
+    ensures small { (entries : ℕ) → IsSmall entries caller.now.standing → IfSome result (λ s. IsSmall (entries + 1) s) }
+{
+    match plan.write {
+        Write::End => None,
+        _ => Some(continued(&caller.standing, instruction, plan)),
     }
 }
 
@@ -165,8 +221,10 @@ fn renew(standings: &mut Vec<Option<Kept>>, activation: usize, later: Standing)
     requires { IsSome (get_or standings.old.items activation None) }
     ensures { standings.new.items ≡ set standings.old.items activation (Some later) }
 {
-    if let Some(Some(kept)) = standings.get_mut(activation) {
-        kept.set(later);
+    if activation < standings.len() {
+        if let Some(kept) = &mut standings[activation] {
+            kept.set(later);
+        }
     }
 }
 
