@@ -1,6 +1,7 @@
 //! Moves.
 
 ghost use Rattle.std.specs.Prelude.{◌≡◌, ◌↔◌, ◌++◌, ◌∷◌, [], List, Err, is_some, IsTrue, IfOk, OnErr};
+ghost use Rattle.flt_dispatch.specs.Decisions.{IsActive};
 ghost use Rattle.flt_dispatch.specs.Turns as turns;
 ghost use Rattle.flt_frame.specs.Loading.{AreLoaded};
 ghost use Rattle.flt_machine.specs.Calls as spec;
@@ -74,6 +75,7 @@ impl Board {
 
     /// Whether an activation of the filter goes on whose teardown a move ends.
     fn is_active_for(&self, loaded: &Loaded, step: Move) -> bool
+        ensures { Now loaded.now self.now (λ p m. IsActive p step result m.world.actors m.world.activations) }
     {
         match step {
             Move::Detached { altitude } => self.has_active(loaded.number(altitude)),
