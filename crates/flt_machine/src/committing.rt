@@ -37,7 +37,13 @@ pub enum Commit {
 impl Board {
     /// Makes the local steps of an advance, and the step after them. `grant` is the system's choice, where that step leaves one.
     /// What was advanced must have been advanced on what is loaded.
-    pub fn commit(&mut self, alloc: Global, loaded: &Loaded, advanced: &Advanced, grant: bool) -> Commit
+    pub fn commit(
+        &mut self,
+        alloc: Global,
+        loaded: &Loaded,
+        advanced: &Advanced,
+        grant: bool,
+    ) -> Commit
         requires own { IsOwn loaded.now self.old }
         requires advance { IsAdvanced loaded.now advanced.now }
         ensures own { (p : List Filter) → AreLoaded p loaded.now → IsBoard p self.old → IsBoard p self.new }
@@ -128,8 +134,7 @@ impl Board {
         caller: &Caller,
         instruction: Instruction,
         grant: bool,
-    ) -> Result<Events, AllocError>
-    {
+    ) -> Result<Events, AllocError> {
         let plan = plan_step(alloc, loaded, &self.store, caller, grant)?;
         self.journal.push(JournalEntry::Go {
             activation: advanced.frame.activation,
