@@ -1,19 +1,21 @@
 -- A board after a move holds no more than may be.
-use Rattle.std.proofs.Common.{◌≡◌, ◌≢◌, ℕ, ◌+◌, ◌*◌, ◌<◌, ◌≤◌, List, [], ◌∷◌, ◌++◌, Option, Some, None, length, ap, sym, subst, refl, ◌∙◌, inl, inr, arith}
+use Rattle.std.proofs.Common.{◌≡◌, ◌≢◌, ℕ, ◌+◌, ◌*◌, ◌<◌, ◌≤◌, List, [], ◌∷◌, ◌++◌, Option, Some, None, length, ap, sym, subst, refl, ◌∙◌, inl, inr, arith, append-nil}
 use Rattle.std.proofs.Math.ListN.{get_or, get_or-append}
 use Rattle.std.proofs.Math.Seq.{get_or-append_seam}
 use Rattle.std.proofs.lemmas.Bool.{cases_eq, cases_lt}
 use Rattle.std.proofs.lemmas.List.{length-append, get_or_past}
 use Rattle.flt_tree.specs.declared.filter.Filter.{Filter}
 use Rattle.flt_model.specs.declared.moves.JournalEntry.{JournalEntry}
-use Rattle.flt_model.specs.World.{Activation}
+use Rattle.flt_model.specs.declared.moves.JournalEntry.TheVariants as journal_entry
+use Rattle.flt_model.specs.declared.moves.Move.{Move}
+use Rattle.flt_model.specs.World.{Store, Actor, Activation}
 use Rattle.flt_store.specs.Changes.{after_change, IsPossible}
 use Rattle.flt_dispatch.specs.Decisions.{actors_by}
 use Rattle.flt_dispatch.specs.declared.decision.Decision.{Decision}
 use Rattle.flt_dispatch.specs.declared.decision.Start.{Start}
 use Rattle.flt_frame.specs.declared.standing.Standing.{Standing}
 use Rattle.flt_machine.specs.Counted.{AreAtMost, AreDistinct, IsBounded, IsSmall}
-use Rattle.flt_machine.specs.Moving.{gained_by, Begins, standings_by, moved_by}
+use Rattle.flt_machine.specs.Moving.{gained_by, Begins, standings_by, moved_by, HasMoved}
 use Rattle.flt_machine.specs.Situations.{Situation, standing_of}
 use Rattle.flt_machine.proofs.Counting.{arrivals_after, references_after}
 use Rattle.flt_machine.proofs.Small.{stays_small}
@@ -73,3 +75,34 @@ moved_bounded p b d s e bounded room can begins = record {
 
     both : length b.actors + length (actors_by d.start) ≡ length b.standings + length (standings_by s)
     both = omega (arith, bounded.both, same_number p d.start s begins)
+
+-- ---- a move as it is made
+
+-- an activation starts
+pub starts : (b : Situation) (move : Move) (d : Decision) (start : Start) (s : Standing) (actors : List Actor) (standings : List (Option Standing)) (store : Store) (entries : List JournalEntry) →
+    d.start ≡ Some start → actors ≡ b.actors ++ record { filter = start.filter; place = start.place; draining = start.draining } ∷ [] → standings ≡ b.standings ++ Some s ∷ [] →
+    store ≡ after_change b.store d.change → entries ≡ b.entries ++ journal_entry.Move move ∷ [] → ((p : List Filter) → Begins p (Some start) (Some s)) →
+    HasMoved b (record { actors = actors; standings = standings; store = store; entries = entries }) move d
+starts b move d start s actors standings store entries some of_actors of_standings of_store of_entries begins = record {
+  standing = Some s;
+  begins = λ p. subst (λ (o : Option Start). Begins p o (Some s)) (sym some) (begins p);
+  same = rw (some, of_actors, of_standings, of_store, of_entries) refl;
+}
+
+-- none does
+pub only_writes : (b : Situation) (move : Move) (d : Decision) (store : Store) (entries : List JournalEntry) →
+    d.start ≡ None → store ≡ after_change b.store d.change → entries ≡ b.entries ++ journal_entry.Move move ∷ [] → HasMoved b (record b { store = store; entries = entries }) move d
+only_writes b move d store entries none of_store of_entries = record {
+  standing = None;
+  begins = λ p. subst (λ (o : Option Start). Begins p o None) (sym none) tt;
+  same = rw (none, of_store, of_entries, append-nil b.actors, append-nil b.standings) refl;
+}
+
+-- it leads from the board as it is seen
+pub seen : (b now later : Situation) (move : Move) (d : Decision) → b ≡ now → HasMoved b later move d → HasMoved now later move d
+seen b now later move d same moved = subst (λ (x : Situation). HasMoved x later move d) same moved
+
+-- the board after it is bounded
+pub bounded_after : (b later : Situation) (move : Move) (d : Decision) → IsBounded b → length b.entries < 1000000 → IsPossible b.store d.change → HasMoved b later move d → IsBounded later
+bounded_after b later move d bounded room can moved =
+    subst IsBounded (sym moved.same) (moved_bounded [] b d moved.standing (journal_entry.Move move) bounded room can (moved.begins []))
