@@ -1,5 +1,5 @@
 -- What is decided on a board's store is the move at each moment at which the board stands.
-use Rattle.std.proofs.Common.{◌≡◌, ℕ, Bool, true, false, List, [], ◌∷◌, ◌++◌, Option, Some, None, length, is_some, ap, subst, sym, refl, ◌∙◌}
+use Rattle.std.proofs.Common.{◌≡◌, ℕ, Bool, List, [], ◌∷◌, ◌++◌, Option, Some, None, length, is_some, ap, subst, sym, refl, ◌∙◌}
 use Rattle.flt_tree.specs.declared.filter.Filter.{Filter}
 use Rattle.flt_model.specs.declared.event.Event.{Event}
 use Rattle.flt_model.specs.declared.moves.JournalEntry.TheVariants as journal_entry

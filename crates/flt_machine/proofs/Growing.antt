@@ -1,5 +1,5 @@
 -- A board after a move holds no more than may be.
-use Rattle.std.proofs.Common.{◌≡◌, ◌≢◌, ℕ, ◌+◌, ◌*◌, ◌<◌, ◌≤◌, List, [], ◌∷◌, ◌++◌, Option, Some, None, length, ap, sym, subst, refl, ◌∙◌, inl, inr, arith, append-nil}
+use Rattle.std.proofs.Common.{◌≡◌, ℕ, ◌+◌, ◌<◌, ◌≤◌, List, [], ◌∷◌, ◌++◌, Option, Some, None, length, ap, sym, subst, refl, ◌∙◌, inl, inr, arith, append-nil}
 use Rattle.std.proofs.Math.ListN.{get_or, get_or-append}
 use Rattle.std.proofs.Math.Seq.{get_or-append_seam}
 use Rattle.std.proofs.lemmas.Bool.{cases_eq, cases_lt}
@@ -16,7 +16,7 @@ use Rattle.flt_dispatch.specs.declared.decision.Start.{Start}
 use Rattle.flt_frame.specs.declared.standing.Standing.{Standing}
 use Rattle.flt_machine.specs.Counted.{AreAtMost, AreDistinct, IsBounded, IsSmall}
 use Rattle.flt_machine.specs.Moving.{gained_by, Begins, standings_by, moved_by, HasMoved}
-use Rattle.flt_machine.specs.Situations.{Situation, standing_of}
+use Rattle.flt_machine.specs.Situations.{Situation}
 use Rattle.flt_machine.proofs.Counting.{arrivals_after, references_after}
 use Rattle.flt_machine.proofs.Small.{stays_small}
 

@@ -1,5 +1,5 @@
 -- A move: what is decided is made, and the board stands after it with an entry more.
-use Rattle.std.proofs.Common.{◌≡◌, ◌≢◌, ℕ, zero, suc, ◌+◌, ◌==◌, ◌<◌, ◌≤◌, Bool, true, false, List, [], ◌∷◌, ◌++◌, Option, Some, None, length, ap, sym, subst, refl, ◌∙◌, inl, inr, arith, append-nil}
+use Rattle.std.proofs.Common.{◌≡◌, ◌≢◌, ℕ, ◌+◌, ◌==◌, ◌≤◌, true, List, [], ◌∷◌, ◌++◌, Option, Some, None, length, ap, sym, subst, refl, ◌∙◌, inl, inr, arith, append-nil}
 use Rattle.std.proofs.Math.ListN.{get_or, get_or-append}
 use Rattle.std.proofs.Math.Seq.{get_or-append_seam}
 use Rattle.std.proofs.lemmas.Bool.{cases_eq, cases_lt, eq-eqb}
@@ -7,7 +7,7 @@ use Rattle.std.proofs.lemmas.List.{length-append, get_or_past}
 use Rattle.flt_tree.specs.declared.filter.Filter.{Filter}
 use Rattle.flt_model.specs.declared.event.Event.{Event}
 use Rattle.flt_model.specs.declared.event.Event.TheVariants as event
-use Rattle.flt_model.specs.declared.event.Object.TheVariants.{Context, Visit}
+use Rattle.flt_model.specs.declared.event.Object.TheVariants.{Visit}
 use Rattle.flt_model.specs.declared.moves.JournalEntry.{JournalEntry}
 use Rattle.flt_model.specs.declared.moves.Move.{Move}
 use Rattle.flt_model.specs.Effects.{Step}
@@ -21,15 +21,13 @@ use Rattle.flt_model.specs.Variables.{starting}
 use Rattle.flt_model.specs.World.{World, Store, Actor, Activation, no_actor, nobody, activation_at, actor_at}
 use Rattle.flt_store.specs.Changes.{after_change}
 use Rattle.flt_calls.specs.Own.{AreOf}
-use Rattle.flt_calls.specs.Plans.{IsCounted, given_of}
-use Rattle.flt_dispatch.specs.Decisions.{IsDecided, actors_by, activations_by, gains_by, frees_by, events_by, world_by}
+use Rattle.flt_dispatch.specs.Decisions.{IsDecided, actors_by, activations_by, gains_by, frees_by, events_by}
 use Rattle.flt_dispatch.specs.declared.decision.Decision.{Decision}
 use Rattle.flt_dispatch.specs.declared.decision.Start.{Start}
-use Rattle.flt_frame.specs.Standings.{StandsFor}
 use Rattle.flt_frame.specs.declared.standing.Standing.{Standing}
 use Rattle.flt_machine.specs.Calls.{Makes}
 use Rattle.flt_machine.specs.Situations.{Situation, IsKept, KeptFor, IsAt, standing_of}
-use Rattle.flt_machine.specs.Moving.{gained_by, Begins, standings_by, moved_by}
+use Rattle.flt_machine.specs.Moving.{gained_by, Begins, moved_by}
 use Rattle.flt_machine.proofs.Stepped.{gains-append, loses-append, gains_other, loses_other, other_kept}
 use Rattle.flt_machine.proofs.Local.{given_there}
 use Rattle.flt_machine.proofs.Planned.{filters_stay}

@@ -1,6 +1,5 @@
 -- An activation that isn't the filter's, or has ended, is passed.
-use Rattle.std.proofs.Common.{◌≡◌, ◌<◌, Bool, length, ap, subst, sym, ◌∙◌}
-use Rattle.std.specs.Option.{is_some}
+use Rattle.std.proofs.Common.{◌<◌, length, ap, subst, sym, ◌∙◌}
 use Rattle.flt_model.specs.World.{Actor}
 use Rattle.flt_machine.specs.Counted.{IsBounded}
 use Rattle.flt_machine.specs.Situations.{Situation}

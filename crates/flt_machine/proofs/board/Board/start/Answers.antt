@@ -1,6 +1,5 @@
 -- The actor and its standing come behind the others.
-use Rattle.std.proofs.Common.{List, Some, subst, sym, ◌∙◌}
-use Rattle.flt_tree.specs.declared.filter.Filter.{Filter}
+use Rattle.std.proofs.Common.{Some, subst, sym}
 use Rattle.flt_frame.specs.declared.standing.Standing.{Standing}
 use Rattle.flt_machine.specs.Counted.{IsBounded}
 use Rattle.flt_machine.specs.Moving.{Begins}
