@@ -112,17 +112,17 @@ module _ (p : List Filter) (b : Situation) (advanced : Advanced) (grant : Bool) 
       IsLater (callbacks_at p advanced.frame.filter) advanced.frame.activation advanced.after (activation_at middle.world advanced.frame.activation).rest plan later →
       Commits p b (committed b advanced later (after_change b.store plan.change) (choice_at (activation_at middle.world advanced.frame.activation).rest grant)) advanced grant plan.events m
   commits plan later step made planned own is = record {
-      middle = middle;
-      step = step;
-      reached = (advances p b advanced m at fresh advance).reached;
-      made = made;
-      told = planned.events;
-      at = subst (λ (store : Store). IsAt p (committed b advanced later (after_change store plan.change) (choice_at (activation_at middle.world advanced.frame.activation).rest grant)) (after middle step)) (sym at.store)
-          (subst (λ (l : List (Option Standing)). IsAt p (record (committed b advanced later (after_change m.world.store plan.change) (choice_at (activation_at middle.world advanced.frame.activation).rest grant)) { standings = l }) (after middle step))
-          (set_twice b.standings advanced.frame.activation (Some advanced.after) later)
-          (steps_on p (furthered b advanced.frame.activation (Some advanced.after)) middle advanced.frame.activation later (after_change m.world.store plan.change)
-          (b.entries ++ Go advanced.frame.activation (advanced.steps + 1) (choice_at (activation_at middle.world advanced.frame.activation).rest grant) ∷ []) step (advances p b advanced m at fresh advance).at
-          (subst (λ (n : ℕ). advanced.frame.activation < n) (sym (length-set m.world.activations advanced.frame.activation (advances p b advanced m at fresh advance).last)) (advances p b advanced m at fresh advance).within)
-          (stepped_there plan later step planned own is)));
-      written = refl;
-    }
+    middle = middle;
+    step = step;
+    reached = (advances p b advanced m at fresh advance).reached;
+    made = made;
+    told = planned.events;
+    at = subst (λ (store : Store). IsAt p (committed b advanced later (after_change store plan.change) (choice_at (activation_at middle.world advanced.frame.activation).rest grant)) (after middle step)) (sym at.store)
+        (subst (λ (l : List (Option Standing)). IsAt p (record (committed b advanced later (after_change m.world.store plan.change) (choice_at (activation_at middle.world advanced.frame.activation).rest grant)) { standings = l }) (after middle step))
+        (set_twice b.standings advanced.frame.activation (Some advanced.after) later)
+        (steps_on p (furthered b advanced.frame.activation (Some advanced.after)) middle advanced.frame.activation later (after_change m.world.store plan.change)
+        (b.entries ++ Go advanced.frame.activation (advanced.steps + 1) (choice_at (activation_at middle.world advanced.frame.activation).rest grant) ∷ []) step (advances p b advanced m at fresh advance).at
+        (subst (λ (n : ℕ). advanced.frame.activation < n) (sym (length-set m.world.activations advanced.frame.activation (advances p b advanced m at fresh advance).last)) (advances p b advanced m at fresh advance).within)
+        (stepped_there plan later step planned own is)));
+    written = refl;
+  }

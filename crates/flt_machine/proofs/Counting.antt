@@ -20,12 +20,12 @@ use Rattle.flt_machine.specs.Counted.{AreAtMost}
 
 one_set : (n : ℕ) (s : Store) (y : ℕ) (c : Context) → AreAtMost n s → c.references ≤ n → AreAtMost n (with_context s y c)
 one_set n s y c most less x = elim (cases_eq x y) [
-    | inl same ↦ elim (cases_lt y (length s.contexts)) [
-      | inl within ↦ subst (λ (k : ℕ). (get_or (set s.contexts y c) k no_context).references ≤ n) (sym same) (subst (λ (d : Context). d.references ≤ n) (sym (get_or-set_same s.contexts y c no_context within)) less)
-      | inr past ↦ subst (λ (d : Context). d.references ≤ n) (sym (get_or_past (set s.contexts y c) x no_context (subst (λ (k : ℕ). k ≤ x) (sym (length-set s.contexts y c)) (omega (arith, past, same))))) (omega arith)
-    ]
-    | inr differs ↦ subst (λ (d : Context). d.references ≤ n) (sym (get_or-set_other s.contexts y x c no_context differs)) (most x)
+  | inl same ↦ elim (cases_lt y (length s.contexts)) [
+    | inl within ↦ subst (λ (k : ℕ). (get_or (set s.contexts y c) k no_context).references ≤ n) (sym same) (subst (λ (d : Context). d.references ≤ n) (sym (get_or-set_same s.contexts y c no_context within)) less)
+    | inr past ↦ subst (λ (d : Context). d.references ≤ n) (sym (get_or_past (set s.contexts y c) x no_context (subst (λ (k : ℕ). k ≤ x) (sym (length-set s.contexts y c)) (omega (arith, past, same))))) (omega arith)
   ]
+  | inr differs ↦ subst (λ (d : Context). d.references ≤ n) (sym (get_or-set_other s.contexts y x c no_context differs)) (most x)
+]
 
 more : (n : ℕ) (s : Store) → AreAtMost n s → AreAtMost (n + 1) s
 more n s most x = omega (arith, most x)
@@ -62,12 +62,12 @@ settled_most n s v x way most =
 
 allocated : (n : ℕ) (cs : List Context) (c : Context) → ((x : ℕ) → (get_or cs x no_context).references ≤ n) → c.references ≤ n + 1 → (x : ℕ) → (get_or (cs ++ c ∷ []) x no_context).references ≤ n + 1
 allocated n cs c most less x = elim (cases_lt x (length cs)) [
-    | inl within ↦ subst (λ (d : Context). d.references ≤ n + 1) (sym (get_or-append cs (c ∷ []) no_context x within)) (omega (arith, most x))
-    | inr past ↦ elim (cases_eq x (length cs)) [
-      | inl same ↦ subst (λ (k : ℕ). (get_or (cs ++ c ∷ []) k no_context).references ≤ n + 1) (sym same) (subst (λ (d : Context). d.references ≤ n + 1) (sym (get_or-append_seam cs c [] no_context)) less)
-      | inr differs ↦ subst (λ (d : Context). d.references ≤ n + 1) (sym (get_or_past (cs ++ c ∷ []) x no_context (subst (λ (k : ℕ). k ≤ x) (sym (length-append cs (c ∷ []))) (omega (arith, past, differs))))) (omega arith)
-    ]
+  | inl within ↦ subst (λ (d : Context). d.references ≤ n + 1) (sym (get_or-append cs (c ∷ []) no_context x within)) (omega (arith, most x))
+  | inr past ↦ elim (cases_eq x (length cs)) [
+    | inl same ↦ subst (λ (k : ℕ). (get_or (cs ++ c ∷ []) k no_context).references ≤ n + 1) (sym same) (subst (λ (d : Context). d.references ≤ n + 1) (sym (get_or-append_seam cs c [] no_context)) less)
+    | inr differs ↦ subst (λ (d : Context). d.references ≤ n + 1) (sym (get_or_past (cs ++ c ∷ []) x no_context (subst (λ (k : ℕ). k ≤ x) (sym (length-append cs (c ∷ []))) (omega (arith, past, differs))))) (omega arith)
   ]
+]
 
 -- a change adds one reference at most to each context
 pub references_after : (n : ℕ) (s : Store) (c : Change) → AreAtMost n s → AreAtMost (n + 1) (after_change s c)

@@ -113,8 +113,10 @@ locals_run p a (suc n) m last goes e =
   where
     within : a < length m.world.activations
     within = there m.world.activations a goes
+
     made : (b : Activation) → local_step (actor_at m.world a).draining (activation_at m.world a) (activation_at m.world a).rest ≡ Some b → next p m (Local a) ≡ Some (moved_on p m.trace m.world a b)
     made b is = rw (goes, is) refl
+
     by : (o : Option Activation) → local_step (actor_at m.world a).draining (activation_at m.world a) (activation_at m.world a).rest ≡ o → StaysIn (activation_at m.world a) o → option_and_then (locally (actor_at m.world a).draining n) o ≡ Some last →
         ((b : Activation) → (activation_at (moved m a b).world a).ended ≡ false → locally (actor_at m.world a).draining n (activation_at (moved m a b).world a) ≡ Some last → run_from p (moved m a b) (replicate n (Local a)) ≡ Some (moved (moved m a b) a last)) →
         run_from p m (replicate (suc n) (Local a)) ≡ Some (moved m a last)
@@ -181,32 +183,41 @@ module _ (p : List Filter) (b : Situation) (m : Moment) (a : ℕ) (s : Option St
 -- a fresh advance leads to where the board stands with the later standing in place of the earlier
 pub advances : (p : List Filter) (b : Situation) (advanced : Advanced) (m : Moment) → IsAt p b m → IsFresh b advanced → IsAdvance p advanced → IsReached p b advanced m
 advances p b advanced m at fresh advance = record {
-    last = from.last;
-    reached = locals_run p a advanced.steps m from.last goes leads.steps_are;
-    within = within;
-    seen = leads.seen;
-    locks = stay.locks;
-    at = moves p b m a (Some advanced.after) from.last at within kept;
-  }
+  last = from.last;
+  reached = locals_run p a advanced.steps m from.last goes leads.steps_are;
+  within = within;
+  seen = leads.seen;
+  locks = stay.locks;
+  at = moves p b m a (Some advanced.after) from.last at within kept;
+}
   where
     a : ℕ
     a = advanced.frame.activation
+
     filter_is : (actor_at m.world advanced.frame.activation).filter ≡ advanced.frame.filter
     filter_is = rw (← at.actors) fresh.filter
+
     draining_is : (actor_at m.world advanced.frame.activation).draining ≡ advanced.frame.draining
     draining_is = rw (← at.actors) fresh.draining
+
     here : IsKept (callbacks_at p (actor_at m.world advanced.frame.activation).filter) m.trace advanced.frame.activation (activation_at m.world advanced.frame.activation) advanced.frame.standing
     here = kept_there p b m advanced.frame.activation advanced.frame.standing at fresh.standing
+
     goes : (activation_at m.world advanced.frame.activation).ended ≡ false
     goes = goes_there advanced.frame.standing (activation_at m.world advanced.frame.activation) here.stands.same
+
     within : advanced.frame.activation < length m.world.activations
     within = there m.world.activations advanced.frame.activation goes
+
     from : IsFrom (callbacks_at p (actor_at m.world advanced.frame.activation).filter) advanced (activation_at m.world advanced.frame.activation)
     from = rw filter_is (advance.leads (activation_at m.world advanced.frame.activation) (rw filter_is at here.stands))
+
     leads : Leads (actor_at m.world advanced.frame.activation).draining advanced.steps (activation_at m.world advanced.frame.activation) from.last
     leads = rw draining_is from.leads
+
     stay : Stays (activation_at m.world advanced.frame.activation) from.last
     stay = chain (actor_at m.world advanced.frame.activation).draining advanced.steps (activation_at m.world advanced.frame.activation) from.last leads.steps_are
+
     kept : KeptFor (callbacks_at p (actor_at m.world advanced.frame.activation).filter) m.trace advanced.frame.activation from.last (Some advanced.after)
     kept =
         let same : given_of advanced.after ≡ given_of advanced.frame.standing = given_there advanced.after from.last from.after.same ∙ stay.given ∙ sym (given_there advanced.frame.standing (activation_at m.world advanced.frame.activation) here.stands.same) in

@@ -1,5 +1,5 @@
 -- A move: what is decided is made, and the board stands after it with an entry more.
-use Rattle.std.proofs.Common.{◌≡◌, ◌≢◌, ℕ, zero, suc, ◌+◌, ◌==◌, ◌<◌, ◌≤◌, Bool, true, false, List, [], ◌∷◌, ◌++◌, Option, Some, None, length, ap, sym, subst, refl, ◌∙◌, inl, inr, arith, append-nil}
+use Rattle.std.proofs.Common.{◌≡◌, ◌≢◌, ℕ, ◌+◌, ◌==◌, ◌≤◌, true, List, [], ◌∷◌, ◌++◌, Option, Some, None, length, ap, sym, subst, refl, ◌∙◌, inl, inr, arith, append-nil}
 use Rattle.std.proofs.Math.ListN.{get_or, get_or-append}
 use Rattle.std.proofs.Math.Seq.{get_or-append_seam}
 use Rattle.std.proofs.lemmas.Bool.{cases_eq, cases_lt, eq-eqb}
@@ -7,7 +7,7 @@ use Rattle.std.proofs.lemmas.List.{length-append, get_or_past}
 use Rattle.flt_tree.specs.declared.filter.Filter.{Filter}
 use Rattle.flt_model.specs.declared.event.Event.{Event}
 use Rattle.flt_model.specs.declared.event.Event.TheVariants as event
-use Rattle.flt_model.specs.declared.event.Object.TheVariants.{Context, Visit}
+use Rattle.flt_model.specs.declared.event.Object.TheVariants.{Visit}
 use Rattle.flt_model.specs.declared.moves.JournalEntry.{JournalEntry}
 use Rattle.flt_model.specs.declared.moves.Move.{Move}
 use Rattle.flt_model.specs.Effects.{Step}
@@ -21,44 +21,16 @@ use Rattle.flt_model.specs.Variables.{starting}
 use Rattle.flt_model.specs.World.{World, Store, Actor, Activation, no_actor, nobody, activation_at, actor_at}
 use Rattle.flt_store.specs.Changes.{after_change}
 use Rattle.flt_calls.specs.Own.{AreOf}
-use Rattle.flt_calls.specs.Plans.{IsCounted, given_of}
-use Rattle.flt_dispatch.specs.Decisions.{IsDecided, actors_by, activations_by, gains_by, frees_by, events_by, world_by}
+use Rattle.flt_dispatch.specs.Decisions.{IsDecided, actors_by, activations_by, gains_by, frees_by, events_by}
 use Rattle.flt_dispatch.specs.declared.decision.Decision.{Decision}
 use Rattle.flt_dispatch.specs.declared.decision.Start.{Start}
-use Rattle.flt_frame.specs.Standings.{StandsFor}
 use Rattle.flt_frame.specs.declared.standing.Standing.{Standing}
 use Rattle.flt_machine.specs.Calls.{Makes}
 use Rattle.flt_machine.specs.Situations.{Situation, IsKept, KeptFor, IsAt, standing_of}
+use Rattle.flt_machine.specs.Moving.{gained_by, Begins, moved_by}
 use Rattle.flt_machine.proofs.Stepped.{gains-append, loses-append, gains_other, loses_other, other_kept}
 use Rattle.flt_machine.proofs.Local.{given_there}
 use Rattle.flt_machine.proofs.Planned.{filters_stay}
-
--- how often the new activation has gained the visit that it is given: once, where it is given one
-abbrev pub gained_by : Option ℕ → ℕ
-gained_by None = 0
-gained_by (Some v) = 1
-
--- what is kept of an activation that starts: nothing where none does
-abbrev pub Begins : List Filter → Option Start → Option Standing → Type 0
-Begins p None None = Unit {0}
-Begins p (Some start) (Some s) =
-    StandsFor (callbacks_at p start.filter) s (starting (body_at (callbacks_at p start.filter) start.callback) start.given start.arg)
-    × ((s.gained ≡ gained_by start.given) × (s.lost ≡ 0))
-Begins p _ _ = ⊥
-
--- it comes behind the others
-abbrev pub standings_by : Option Standing → List (Option Standing)
-standings_by None = []
-standings_by (Some s) = Some s ∷ []
-
--- the board after a move
-abbrev pub moved_by : Situation → Decision → Option Standing → List JournalEntry → Situation
-moved_by b d s entries = record {
-  actors = b.actors ++ actors_by d.start;
-  standings = b.standings ++ standings_by s;
-  store = after_change b.store d.change;
-  entries = entries;
-}
 
 -- ---- events
 
@@ -130,35 +102,44 @@ module _ {A : Type 0} (xs ys : List A) (d : A) where
 module _ (p : List Filter) (b : Situation) (m : Moment) (d : Decision) (step : Step) (at : IsAt p b m) (is : IsDecided p m.world d step) where
   nobody_starts : (entries : List JournalEntry) → d.start ≡ None → IsAt p (moved_by b d None entries) (after m step)
   nobody_starts entries none = record {
-      actors = actors;
-      count = count;
-      both = both;
-      filters = ap (λ (w : World). length w.store.presences) is.world ∙ filters_stay m.world.store d.change ∙ at.filters;
-      kept = kept;
-      store = ap (λ (s : Store). after_change s d.change) at.store ∙ sym (ap (λ (w : World). w.store) is.world);
-      young = young;
-    }
+    actors = actors;
+    count = count;
+    both = both;
+    filters = ap (λ (w : World). length w.store.presences) is.world ∙ filters_stay m.world.store d.change ∙ at.filters;
+    kept = kept;
+    store = ap (λ (s : Store). after_change s d.change) at.store ∙ sym (ap (λ (w : World). w.store) is.world);
+    young = young;
+  }
     where
       actors_same : step.world.actors ≡ m.world.actors
       actors_same = ap (λ (w : World). w.actors) is.world ∙ ap (λ (o : Option Start). m.world.actors ++ actors_by o) none ∙ append-nil m.world.actors
+
       acts_same : step.world.activations ≡ m.world.activations
       acts_same = ap (λ (w : World). w.activations) is.world ∙ ap (λ (o : Option Start). m.world.activations ++ activations_by p o) none ∙ append-nil m.world.activations
+
       events_are : step.events ≡ frees_by d.freed
       events_are = is.events ∙ ap (λ (o : Option Start). gains_by (length m.world.activations) o ++ frees_by d.freed) none
+
       standings_same : b.standings ++ [] ≡ b.standings
       standings_same = append-nil b.standings
+
       actors : b.actors ++ actors_by d.start ≡ step.world.actors
       actors = ap (λ (o : Option Start). b.actors ++ actors_by o) none ∙ append-nil b.actors ∙ at.actors ∙ sym actors_same
+
       count : length (b.standings ++ []) ≡ length step.world.activations
       count = ap (λ (l : List (Option Standing)). length l) standings_same ∙ at.count ∙ ap (λ (l : List Activation). length l) (sym acts_same)
+
       both : length step.world.actors ≡ length step.world.activations
       both = ap (λ (l : List Actor). length l) actors_same ∙ at.both ∙ ap (λ (l : List Activation). length l) (sym acts_same)
+
       quiet : (k v : ℕ) → (gains step.events k (Visit v) ≡ 0) × (loses step.events k (Visit v) ≡ 0)
       quiet k v = subst (λ (es : List Event). (gains es k (Visit v) ≡ 0) × (loses es k (Visit v) ≡ 0)) (sym events_are) (frees_gain k v d.freed)
+
       young : (k v : ℕ) → length step.world.activations ≤ k → (gains (m.trace ++ step.events) k (Visit v) ≡ 0) × (loses (m.trace ++ step.events) k (Visit v) ≡ 0)
       young k v past =
           let before = at.young k v (subst (λ (l : List Activation). length l ≤ k) acts_same past) in
           (omega (arith, before.0, gains-append m.trace step.events k (Visit v), (quiet k v).0), omega (arith, before.1, loses-append m.trace step.events k (Visit v), (quiet k v).1))
+
       on : (k : ℕ) (act : Activation) (s : Option Standing) (f : ℕ) → KeptFor (callbacks_at p f) m.trace k act s → KeptFor (callbacks_at p f) (m.trace ++ step.events) k act s
       on k act None f it = it
       on k act (Some s) f it = record {
@@ -168,6 +149,7 @@ module _ (p : List Filter) (b : Situation) (m : Moment) (d : Decision) (step : S
           lost = λ v given. omega (arith, it.counted.lost v given, loses-append m.trace step.events k (Visit v), (quiet k v).1);
         };
       }
+
       kept : (k : ℕ) → KeptFor (callbacks_at p (get_or step.world.actors k no_actor).filter) (m.trace ++ step.events) k (get_or step.world.activations k nobody) (get_or (b.standings ++ []) k None)
       kept k =
           subst (λ (l : List Actor). KeptFor (callbacks_at p (get_or l k no_actor).filter) (m.trace ++ step.events) k (get_or step.world.activations k nobody) (get_or (b.standings ++ []) k None)) (sym actors_same)
@@ -177,40 +159,51 @@ module _ (p : List Filter) (b : Situation) (m : Moment) (d : Decision) (step : S
 
   one_starts : (start : Start) (s : Standing) (entries : List JournalEntry) → d.start ≡ Some start → Begins p (Some start) (Some s) → IsAt p (moved_by b d (Some s) entries) (after m step)
   one_starts start s entries some (stands, (gained, lost)) = record {
-      actors = ap (λ (l : List Actor). l ++ actors_by d.start) at.actors ∙ sym (ap (λ (w : World). w.actors) is.world);
-      count = length-append b.standings (Some s ∷ []) ∙ ap (λ (n : ℕ). n + 1) at.count ∙ sym (length-append m.world.activations (new ∷ [])) ∙ ap (λ (l : List Activation). length l) (sym acts_are);
-      both = ap (λ (l : List Actor). length l) actors_are ∙ length-append m.world.actors (actor ∷ []) ∙ ap (λ (n : ℕ). n + 1) at.both ∙ sym (length-append m.world.activations (new ∷ [])) ∙ ap (λ (l : List Activation). length l) (sym acts_are);
-      filters = ap (λ (w : World). length w.store.presences) is.world ∙ filters_stay m.world.store d.change ∙ at.filters;
-      kept = kept;
-      store = ap (λ (s : Store). after_change s d.change) at.store ∙ sym (ap (λ (w : World). w.store) is.world);
-      young = young;
-    }
+    actors = ap (λ (l : List Actor). l ++ actors_by d.start) at.actors ∙ sym (ap (λ (w : World). w.actors) is.world);
+    count = length-append b.standings (Some s ∷ []) ∙ ap (λ (n : ℕ). n + 1) at.count ∙ sym (length-append m.world.activations (new ∷ [])) ∙ ap (λ (l : List Activation). length l) (sym acts_are);
+    both = ap (λ (l : List Actor). length l) actors_are ∙ length-append m.world.actors (actor ∷ []) ∙ ap (λ (n : ℕ). n + 1) at.both ∙ sym (length-append m.world.activations (new ∷ [])) ∙ ap (λ (l : List Activation). length l) (sym acts_are);
+    filters = ap (λ (w : World). length w.store.presences) is.world ∙ filters_stay m.world.store d.change ∙ at.filters;
+    kept = kept;
+    store = ap (λ (s : Store). after_change s d.change) at.store ∙ sym (ap (λ (w : World). w.store) is.world);
+    young = young;
+  }
     where
       n : ℕ
       n = length m.world.activations
+
       new : Activation
       new = starting (body_at (callbacks_at p start.filter) start.callback) start.given start.arg
+
       actor : Actor
       actor = record { filter = start.filter; place = start.place; draining = start.draining }
+
       actors_are : step.world.actors ≡ m.world.actors ++ actor ∷ []
       actors_are = ap (λ (w : World). w.actors) is.world ∙ ap (λ (o : Option Start). m.world.actors ++ actors_by o) some
+
       acts_are : step.world.activations ≡ m.world.activations ++ new ∷ []
       acts_are = ap (λ (w : World). w.activations) is.world ∙ ap (λ (o : Option Start). m.world.activations ++ activations_by p o) some
+
       events_are : step.events ≡ (gains_visit n start.given ++ gains_context n start.arg) ++ frees_by d.freed
       events_are = is.events ∙ ap (λ (o : Option Start). gains_by (length m.world.activations) o ++ frees_by d.freed) some
+
       own : AreOf n step.events
       own = subst (AreOf n) (sym (is.events)) (events_of n d.start d.freed)
+
       young : (k v : ℕ) → length step.world.activations ≤ k → (gains (m.trace ++ step.events) k (Visit v) ≡ 0) × (loses (m.trace ++ step.events) k (Visit v) ≡ 0)
       young k v past =
           let longer : length step.world.activations ≡ n + 1 = ap (λ (l : List Activation). length l) acts_are ∙ length-append m.world.activations (new ∷ []) in
           let apart : k ≢ n = λ same. absurd (omega (arith, past, longer, same)) in
-          let before = at.young k v (omega (arith, past, longer)) in
-          (omega (arith, before.0, gains-append m.trace step.events k (Visit v), gains_other n k (Visit v) step.events apart own),
-          omega (arith, before.1, loses-append m.trace step.events k (Visit v), loses_other n k (Visit v) step.events apart own))
+          let before = at.young k v (omega (arith, past, longer)) in (
+            omega (arith, before.0, gains-append m.trace step.events k (Visit v), gains_other n k (Visit v) step.events apart own),
+            omega (arith, before.1, loses-append m.trace step.events k (Visit v), loses_other n k (Visit v) step.events apart own),
+          )
+
       actor_there : get_or (m.world.actors ++ actor ∷ []) n no_actor ≡ actor
       actor_there = subst (λ (j : ℕ). get_or (m.world.actors ++ actor ∷ []) j no_actor ≡ actor) at.both (get_or-append_seam m.world.actors actor [] no_actor)
+
       standing_there : get_or (b.standings ++ Some s ∷ []) n None ≡ Some s
       standing_there = subst (λ (j : ℕ). get_or (b.standings ++ Some s ∷ []) j None ≡ Some s) at.count (get_or-append_seam b.standings (Some s) [] None)
+
       begun : IsKept (callbacks_at p start.filter) (m.trace ++ step.events) n new s
       begun = record {
         stands = stands;
@@ -229,19 +222,23 @@ module _ (p : List Filter) (b : Situation) (m : Moment) (d : Decision) (step : S
               omega (arith, lost, counts.1, none.1, told, loses-append m.trace step.events n (Visit v));
         };
       }
+
       Kept : ℕ → List Actor → List Activation → List (Option Standing) → Type 0
       Kept k actors acts standings = KeptFor (callbacks_at p (get_or actors k no_actor).filter) (m.trace ++ step.events) k (get_or acts k nobody) (get_or standings k None)
+
       fresh : KeptFor (callbacks_at p (get_or (m.world.actors ++ actor ∷ []) n no_actor).filter) (m.trace ++ step.events) n (get_or (m.world.activations ++ new ∷ []) n nobody) (get_or (b.standings ++ Some s ∷ []) n None)
       fresh =
           subst (λ (x : Actor). KeptFor (callbacks_at p x.filter) (m.trace ++ step.events) n (get_or (m.world.activations ++ new ∷ []) n nobody) (get_or (b.standings ++ Some s ∷ []) n None)) (sym actor_there)
           (subst (λ (x : Activation). KeptFor (callbacks_at p start.filter) (m.trace ++ step.events) n x (get_or (b.standings ++ Some s ∷ []) n None)) (sym (get_or-append_seam m.world.activations new [] nobody))
           (subst (KeptFor (callbacks_at p start.filter) (m.trace ++ step.events) n new) (sym standing_there) begun))
+
       others : (k : ℕ) → k ≢ n → KeptFor (callbacks_at p (get_or (m.world.actors ++ actor ∷ []) k no_actor).filter) (m.trace ++ step.events) k (get_or (m.world.activations ++ new ∷ []) k nobody) (get_or (b.standings ++ Some s ∷ []) k None)
       others k differs =
           subst (λ (x : Actor). KeptFor (callbacks_at p x.filter) (m.trace ++ step.events) k (get_or (m.world.activations ++ new ∷ []) k nobody) (get_or (b.standings ++ Some s ∷ []) k None)) (sym (grown_other m.world.actors (actor ∷ []) no_actor k refl (λ it. differs (it ∙ at.both))))
           (subst (λ (x : Activation). KeptFor (callbacks_at p (actor_at m.world k).filter) (m.trace ++ step.events) k x (get_or (b.standings ++ Some s ∷ []) k None)) (sym (grown_other m.world.activations (new ∷ []) nobody k refl differs))
           (subst (KeptFor (callbacks_at p (actor_at m.world k).filter) (m.trace ++ step.events) k (activation_at m.world k)) (sym (grown_other b.standings (Some s ∷ []) None k refl (λ it. differs (it ∙ at.count))))
           (other_kept (callbacks_at p (actor_at m.world k).filter) m.trace step.events n k (activation_at m.world k) (standing_of b k) differs own (at.kept k))))
+
       kept : (k : ℕ) → KeptFor (callbacks_at p (get_or step.world.actors k no_actor).filter) (m.trace ++ step.events) k (get_or step.world.activations k nobody) (get_or (b.standings ++ Some s ∷ []) k None)
       kept k =
           subst (λ (l : List Actor). KeptFor (callbacks_at p (get_or l k no_actor).filter) (m.trace ++ step.events) k (get_or step.world.activations k nobody) (get_or (b.standings ++ Some s ∷ []) k None)) (sym actors_are)

@@ -126,18 +126,19 @@ module _ (p : List Filter) (m : Moment) (a : ℕ) (cs : List Callback) (s : Stan
   pub kept_on : (later : Standing) → is_end plan.write ≡ false → IsWritten cs s later plan (activation_at m.world a).rest → IsCountedOn a s later plan →
       IsKept cs (m.trace ++ step.events) a (written plan.write (onward m.world a (if plan.granted then remaining_by (activation_at m.world a).rest true else remaining_by (activation_at m.world a).rest false))) later
   kept_on later goes w counts = record {
-      stands = subst (StandsFor cs later) (sym act_is) (record { same = refl; stands = stands });
-      counted = record {
-        gained = λ v is. let g = counts.gained v (sym w.given ∙ is) in let k = kept.counted.gained v (sym w.given ∙ is) in let e = ap (λ (es : List Event). gains es a (Visit v)) planned.events in omega (arith, g, k, e, gains-append m.trace step.events a (Visit v));
-        lost = λ v is. let g = counts.lost v (sym w.given ∙ is) in let k = kept.counted.lost v (sym w.given ∙ is) in let e = ap (λ (es : List Event). loses es a (Visit v)) planned.events in omega (arith, g, k, e, loses-append m.trace step.events a (Visit v));
-      };
-    }
+    stands = subst (StandsFor cs later) (sym act_is) (record { same = refl; stands = stands });
+    counted = record {
+      gained = λ v is. let g = counts.gained v (sym w.given ∙ is) in let k = kept.counted.gained v (sym w.given ∙ is) in let e = ap (λ (es : List Event). gains es a (Visit v)) planned.events in omega (arith, g, k, e, gains-append m.trace step.events a (Visit v));
+      lost = λ v is. let g = counts.lost v (sym w.given ∙ is) in let k = kept.counted.lost v (sym w.given ∙ is) in let e = ap (λ (es : List Event). loses es a (Visit v)) planned.events in omega (arith, g, k, e, loses-append m.trace step.events a (Visit v));
+    };
+  }
     where
       act_is : written plan.write (onward m.world a (if plan.granted then remaining_by (activation_at m.world a).rest true else remaining_by (activation_at m.world a).rest false)) ≡ activation_with later (remaining_by (activation_at m.world a).rest plan.granted)
       act_is =
           ap (λ (l : List Statement). written plan.write (onward m.world a l)) (chosen (activation_at m.world a).rest plan.granted) ∙
           ap (λ (act : Activation). written plan.write (record act { rest = remaining_by (activation_at m.world a).rest plan.granted })) kept.stands.same ∙
           written_with plan.write s later (remaining_by (activation_at m.world a).rest plan.granted) goes w.variables
+
       stands : StandsWith (body_of (slice_get cs later.callback)) later.point later.turns (remaining_by (activation_at m.world a).rest plan.granted)
       stands = subst (λ (k : ℕ). StandsWith (body_of (slice_get cs k)) later.point later.turns (remaining_by (activation_at m.world a).rest plan.granted)) (sym w.callback)
           w.stands

@@ -40,9 +40,9 @@ below L7 = omega arith
 all_below : (locks : List HeldLock) (q : ℕ) → list_any (eqb q) (places_of locks) ≡ true → q < 8
 all_below [] q is = absurd (cc)
 all_below (h ∷ locks) q is = elim (cases_eq q (place_of h.lock)) [
-    | inl same ↦ subst (λ (n : ℕ). n < 8) (sym same) (below h.lock)
-    | inr differs ↦ all_below locks q (ap (λ (b : Bool). b || list_any (eqb q) (places_of locks)) (sym (ne_eqb q (place_of h.lock) differs)) ∙ is)
-  ]
+  | inl same ↦ subst (λ (n : ℕ). n < 8) (sym same) (below h.lock)
+  | inr differs ↦ all_below locks q (ap (λ (b : Bool). b || list_any (eqb q) (places_of locks)) (sym (ne_eqb q (place_of h.lock) differs)) ∙ is)
+]
 
 places_apart : (n : ℕ) (locks : List HeldLock) → AreApart n locks → AllByRecursion (λ (y : ℕ). eqb n y ≡ false) (places_of locks)
 places_apart n [] apart = tt
@@ -67,9 +67,9 @@ second true c is = absurd (cc)
 module _ (l : LockNumber) (access : Access) where
   turned : (h : HeldLock) → same_lock l h.lock ≡ false → (place_of h.lock == place_of l) ≡ false
   turned h differs = elim (cases_eq (place_of h.lock) (place_of l)) [
-      | inl same ↦ absurd (let it : same_lock l h.lock ≡ true = eq-eqb (place_of l) (place_of h.lock) (sym same) in cc)
-      | inr other ↦ ne_eqb (place_of h.lock) (place_of l) other
-    ]
+    | inl same ↦ absurd (let it : same_lock l h.lock ≡ true = eq-eqb (place_of l) (place_of h.lock) (sym same) in cc)
+    | inr other ↦ ne_eqb (place_of h.lock) (place_of l) other
+  ]
 
   pushed_apart : (n : ℕ) (locks : List HeldLock) → (n == place_of l) ≡ false → AreApart n locks → AreApart n (locks ++ held l access ∷ [])
   pushed_apart n [] differs all = (differs, tt)

@@ -119,9 +119,11 @@ steps_on p b m a s store entries step at within is =
     young : (k v : ℕ) → length m.world.activations ≤ k → (gains (m.trace ++ step.events) k (Visit v) ≡ 0) × (loses (m.trace ++ step.events) k (Visit v) ≡ 0)
     young k v past =
         let apart : k ≢ a = λ same. absurd (omega (arith, past, within, same)) in
-        let before = at.young k v past in
-        (omega (arith, before.0, gains-append m.trace step.events k (Visit v), gains_other a k (Visit v) step.events apart is.own),
-        omega (arith, before.1, loses-append m.trace step.events k (Visit v), loses_other a k (Visit v) step.events apart is.own))
+        let before = at.young k v past in (
+          omega (arith, before.0, gains-append m.trace step.events k (Visit v), gains_other a k (Visit v) step.events apart is.own),
+          omega (arith, before.1, loses-append m.trace step.events k (Visit v), loses_other a k (Visit v) step.events apart is.own),
+        )
+
     each : (k : ℕ) → KeptFor (callbacks_at p (actor_at m.world k).filter) (m.trace ++ step.events) k (get_or (set m.world.activations a is.act) k nobody) (get_or (set b.standings a s) k None)
     each k = elim (cases_eq k a) [
       | inl same ↦ subst (λ (j : ℕ). KeptFor (callbacks_at p (actor_at m.world j).filter) (m.trace ++ step.events) j (get_or (set m.world.activations a is.act) j nobody) (get_or (set b.standings a s) j None)) (sym same)
@@ -163,17 +165,17 @@ expand_push (d ∷ es) e xs ys is last = by (expansion d) (expand es) refl is (�
 -- after a commit the board is still one of these filters
 pub commits_own : (p : List Filter) (b later : Situation) (advanced : Advanced) (grant : Bool) (events : List Event) → (own : IsBoard p b) → Commits p b later advanced grant events own.moment → IsBoard p later
 commits_own p b later advanced grant events own c = record {
-    transitions = own.transitions ++ (local_steps advanced ++ step_at advanced grant c.middle ∷ []);
-    moment = after c.middle c.step;
-    expanded = ap (λ (es : List JournalEntry). expand es) c.written ∙ (expand_push b.entries (Go advanced.frame.activation (advanced.steps + 1) choice) own.transitions (local_steps advanced ++ step_at advanced grant c.middle ∷ []) own.expanded (rw (add-one) refl));
-    runs =
+  transitions = own.transitions ++ (local_steps advanced ++ step_at advanced grant c.middle ∷ []);
+  moment = after c.middle c.step;
+  expanded = ap (λ (es : List JournalEntry). expand es) c.written ∙ (expand_push b.entries (Go advanced.frame.activation (advanced.steps + 1) choice) own.transitions (local_steps advanced ++ step_at advanced grant c.middle ∷ []) own.expanded (rw (add-one) refl));
+  runs =
       run_append p (start p) own.transitions (local_steps advanced ++ step_at advanced grant c.middle ∷ []) ∙
       ap (λ (o : Option Moment). option_and_then (λ r. run_from p r (local_steps advanced ++ step_at advanced grant c.middle ∷ [])) o) own.runs ∙
       run_append p own.moment (local_steps advanced) (step_at advanced grant c.middle ∷ []) ∙
       ap (λ (o : Option Moment). option_and_then (λ r. run_from p r (step_at advanced grant c.middle ∷ [])) o) c.reached ∙
       ap (λ (o : Option Step). option_and_then (λ s. Some (after c.middle s)) o) c.made;
-    at = c.at;
-  }
+  at = c.at;
+}
   where
     choice : Bool
     choice = choice_at (activation_at c.middle.world advanced.frame.activation).rest grant
@@ -182,18 +184,19 @@ commits_own p b later advanced grant events own c = record {
 pub makes_own : (p : List Filter) (b later : Situation) (move : Move) (events : List Event) → (own : IsBoard p b) → Makes p later [] (Make move) events own.moment →
     later.entries ≡ b.entries ++ journal_entry.Move move ∷ [] → IsBoard p later
 makes_own p b later move events own c written = record {
-    transitions = own.transitions ++ Make move ∷ [];
-    moment = after c.middle c.step;
-    expanded = ap (λ (es : List JournalEntry). expand es) written ∙ expand_push b.entries (journal_entry.Move move) own.transitions (Make move ∷ []) own.expanded refl;
-    runs =
+  transitions = own.transitions ++ Make move ∷ [];
+  moment = after c.middle c.step;
+  expanded = ap (λ (es : List JournalEntry). expand es) written ∙ expand_push b.entries (journal_entry.Move move) own.transitions (Make move ∷ []) own.expanded refl;
+  runs =
       run_append p (start p) own.transitions (Make move ∷ []) ∙
       ap (λ (o : Option Moment). option_and_then (λ r. run_from p r (Make move ∷ [])) o) own.runs ∙
       ap (λ (o : Option Step). option_and_then (λ s. Some (after own.moment s)) o) made ∙
       ap (λ (r : Moment). Some (after r c.step)) same;
-    at = c.at;
-  }
+  at = c.at;
+}
   where
     same : own.moment ≡ c.middle
     same = let it = c.reached in cc
+
     made : next p own.moment (Make move) ≡ Some c.step
     made = ap (λ (r : Moment). next p r (Make move)) same ∙ c.made

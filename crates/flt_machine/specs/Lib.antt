@@ -2,3 +2,4 @@ pub mod Situations
 pub mod Calls
 pub mod Counted
 pub mod Blocking
+pub mod Moving

@@ -1,15 +1,18 @@
 //! Moves.
 
-ghost use Rattle.std.specs.Prelude.{◌≡◌, ◌↔◌, ◌++◌, ◌∷◌, [], List, Err, is_some, IsTrue, IfOk, OnErr};
+ghost use Rattle.std.specs.Prelude.{◌≡◌, ◌↔◌, ◌<◌, ◌++◌, ◌∷◌, [], List, length, Some, Err, is_some, IsTrue, IfOk, OnOk, OnErr};
+ghost use Rattle.flt_dispatch.specs.Decisions.{IsActive, frees_by, gains_by};
 ghost use Rattle.flt_dispatch.specs.Turns as turns;
 ghost use Rattle.flt_frame.specs.Loading.{AreLoaded};
 ghost use Rattle.flt_machine.specs.Calls as spec;
 ghost use Rattle.flt_machine.specs.Calls.{IsDisabled, IsFullFor};
+ghost use Rattle.flt_machine.specs.Moving.{Begins, HasMoved};
 ghost use Rattle.flt_machine.specs.Situations.{IsBoard, IsOwn, Now};
 ghost use Rattle.flt_machine.specs.declared.fault.ApplyFault.TheVariants as fault;
 ghost use Rattle.flt_model.specs.Moves.{make};
 ghost use Rattle.flt_model.specs.Steps.{Make};
 ghost use Rattle.flt_model.specs.declared.moves.JournalEntry.TheVariants as journal_entry;
+ghost use Rattle.flt_store.specs.Changes.{after_change, IsPossible};
 ghost use Rattle.flt_tree.specs.declared.filter.Filter.{Filter};
 
 use crate::actor::Actor;
@@ -19,14 +22,20 @@ use crate::fault::ApplyFault;
 use crate::kept::Kept;
 use flt_dispatch::{Decision, Start, decide};
 use flt_frame::{Loaded, Standing};
-use flt_model::{Event, JournalEntry, Move};
+use flt_model::{Event, Journal, JournalEntry, Move};
 use flt_ops::MAX_OPERATIONS;
+use flt_store::{Change, Store};
 use sqlite_items::Items;
 use std::alloc::{AllocError, Global};
 
 impl Board {
     /// Makes a move.
-    pub fn apply(&mut self, alloc: Global, loaded: &Loaded, step: Move) -> Result<Events, ApplyFault>
+    pub fn apply(
+        &mut self,
+        alloc: Global,
+        loaded: &Loaded,
+        step: Move,
+    ) -> Result<Events, ApplyFault>
         requires own { IsOwn loaded.now self.old }
         ensures own { (p : List Filter) → AreLoaded p loaded.now → IsBoard p self.old → IsBoard p self.new }
         ensures made { IfOk result (λ events. Now loaded.now self.old (λ p m. spec.Makes p self.new [] (Make step) events.list m)) }
@@ -74,6 +83,7 @@ impl Board {
 
     /// Whether an activation of the filter goes on whose teardown a move ends.
     fn is_active_for(&self, loaded: &Loaded, step: Move) -> bool
+        ensures { Now loaded.now self.now (λ p m. IsActive p step result m.world.actors m.world.activations) }
     {
         match step {
             Move::Detached { altitude } => self.has_active(loaded.number(altitude)),
@@ -89,34 +99,45 @@ impl Board {
     }
 
     /// A decision is made, and one entry more says so; or nothing is.
-    fn make(&mut self, alloc: Global, step: Move, decision: &Decision) -> Result<Items<Event>, AllocError>
+    fn make(
+        &mut self,
+        alloc: Global,
+        step: Move,
+        decision: &Decision,
+    ) -> Result<Items<Event>, AllocError>
+        requires room { length self.old.entries < 1000000 }
+        requires possible { IsPossible self.old.store decision.now.change }
+        ensures events { IfOk result (λ events.
+            events ≡ gains_by (length self.old.standings) decision.now.start ++ frees_by decision.now.freed) }
+        ensures made { OnOk result (HasMoved self.old self.new step decision.now) }
+        ensures refused { OnErr result (self.new ≡ self.old) }
     {
         let list = events_of(alloc, self.standings.len(), decision)?;
         match decision.start {
             Some(start) => self.start(alloc, step, decision, start)?,
-            None => self.write(step, decision)?,
+            None => write(&mut self.journal, &mut self.store, step, decision.change)?,
         }
         Ok(list)
     }
 
-    /// The store's part of a move that starts no activation.
-    fn write(&mut self, step: Move, decision: &Decision) -> Result<(), AllocError>
-    {
-        self.journal.push(JournalEntry::Move(step))?;
-        if let Err(refused) = self.store.perform(decision.change) {
-            self.journal.pop();
-            return Err(refused);
-        }
-        Ok(())
-    }
-
     /// An activation starts.
-    fn start(&mut self, alloc: Global, step: Move, decision: &Decision, start: Start) -> Result<(), AllocError>
+    fn start(
+        &mut self,
+        alloc: Global,
+        step: Move,
+        decision: &Decision,
+        start: Start,
+    ) -> Result<(), AllocError>
+        requires start { decision.now.start ≡ Some start }
+        requires room { length self.old.entries < 1000000 }
+        requires possible { IsPossible self.old.store decision.now.change }
+        ensures made { OnOk result (HasMoved self.old self.new step decision.now) }
+        ensures refused { OnErr result (self.new ≡ self.old) }
     {
         self.actors.reserve(1)?;
         self.standings.reserve(1)?;
         let kept = Kept::new(alloc, standing_of(start))?;
-        self.write(step, decision)?;
+        write(&mut self.journal, &mut self.store, step, decision.change)?;
         self.actors.push_reserved(Actor {
             filter: start.filter,
             place: start.place,
@@ -127,8 +148,29 @@ impl Board {
     }
 }
 
+/// What a move changes of what activations share, with its entry.
+fn write(
+    journal: &mut Journal,
+    store: &mut Store,
+    step: Move,
+    change: Change,
+) -> Result<(), AllocError>
+    requires { IsPossible store.old change }
+    ensures entry { OnOk result (journal.new ≡ journal.old ++ journal_entry.Move step ∷ []) }
+    ensures change { OnOk result (store.new ≡ after_change store.old change) }
+    ensures refused { OnErr result ((journal.new ≡ journal.old) × (store.new ≡ store.old)) }
+{
+    journal.push(JournalEntry::Move(step))?;
+    if let Err(refused) = store.perform(change) {
+        journal.pop();
+        return Err(refused);
+    }
+    Ok(())
+}
+
 /// How far an activation that starts has come. It has gained the visit that it is given.
 fn standing_of(start: Start) -> Standing
+    ensures { (p : List Filter) → Begins p (Some start) (Some result) }
 {
     let mut standing = Standing::starting(start.callback, start.given, start.arg);
     if start.given.is_some() {

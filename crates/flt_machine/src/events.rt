@@ -16,7 +16,11 @@ pub struct Events {
 }
 
 /// The events of a move, where the number of the activation that it may start is this.
-pub(crate) fn events_of(alloc: Global, activation: usize, decision: &Decision) -> Result<Items<Event>, AllocError>
+pub(crate) fn events_of(
+    alloc: Global,
+    activation: usize,
+    decision: &Decision,
+) -> Result<Items<Event>, AllocError>
     ensures { IfOk result (λ events. events ≡ spec.gains_by activation decision.now.start ++ spec.frees_by decision.now.freed) }
 {
     let mut events = Items::new(alloc);
