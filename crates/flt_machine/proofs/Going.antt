@@ -236,3 +236,20 @@ pub small_after : (b written : Situation) (store : Store) (e : JournalEntry) (la
     IfSome later (λ s. IsSmall (length b.entries + 1) s) → IfSome later (λ s. IsSmall (length written.entries) s)
 small_after b written store e later is small =
     subst (λ (n : ℕ). IfSome later (λ s. IsSmall n s)) (sym (ap (λ (x : Situation). length x.entries) is ∙ length-append b.entries (e ∷ []))) small
+
+-- ---- a commit's answers
+
+module _ (l : Loaded) (b : Situation) (advanced : Advanced) (grant : Bool) (c : Caller) (i : Instruction) (law : Law) (own : IsOwn l b) (is : IsAdvanced l advanced) (fresh : IsFresh b advanced)
+    (who : c ≡ caller_of b advanced) (at_point : i ≡ instruction_in l c.filter c.standing.callback c.standing.point) where
+  pub points_there : i ≡ instruction_for l advanced
+  points_there = at_point ∙ ap (λ (d : Caller). instruction_in l d.filter d.standing.callback d.standing.point) who
+
+  pub is_blocked_so : true ≡ is_refused_lock b.store c i → IsBlocked l b advanced grant
+  is_blocked_so refused = blocked_is l b advanced grant c i law own is fresh who points_there (sym refused)
+
+  pub not_blocked : false ≡ is_refused_lock b.store c i → IsBlocked l b advanced grant → ⊥
+  not_blocked free blocked = let refused : is_refused_lock b.store c i ≡ true = blocked_from l b advanced grant c i law own is fresh who points_there blocked in absurd (cc)
+
+-- a board with no room has as many entries as may be
+pub all_entries : (b inside : Situation) (n : ℕ) → inside ≡ b → IsBounded inside → n ≡ length inside.entries → 1000000 ≤ n → length b.entries ≡ 1000000
+all_entries b inside n same bounded counted full = sym (ap (λ (x : Situation). length x.entries) same) ∙ omega (arith, bounded.entries, counted, full)

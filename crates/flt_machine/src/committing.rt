@@ -59,6 +59,7 @@ impl Board {
             × ((IsBlocked loaded.now self.old advanced.now grant → ⊥) × (length self.old.entries ≡ 1000000))) }
         ensures refused { ((events : Events) → result ≢ answer.Committed events) → self.new ≡ self.old }
     {
+        standings_have_points();
         if !self.is_fresh(advanced) {
             return Commit::Stale;
         }
