@@ -1,12 +1,16 @@
 -- What a commit goes by: the plan of the instruction at which the activation stands is a step where the local steps lead.
-use Rattle.std.proofs.Common.{◌≡◌, ◌≤◌, ℕ, ◌<◌, Bool, true, false, not, ◌||◌, if◌then◌else◌, List, [], ◌∷◌, ◌++◌, Option, Some, None, length, ap, sym, subst, refl, ◌∙◌, arith}
+use Rattle.std.proofs.Common.{◌≡◌, ◌≤◌, ℕ, ◌<◌, ◌+◌, ◌*◌, Bool, true, false, not, ◌||◌, if◌then◌else◌, List, [], ◌∷◌, ◌++◌, Option, Some, None, length, ap, sym, subst, refl, ◌∙◌, arith}
 use Rattle.std.proofs.Math.ListN.{set, get_or}
-use Rattle.std.proofs.lemmas.List.{length-set}
+use Rattle.std.proofs.lemmas.List.{length-append, length-set}
+use Rattle.std.specs.Prelude.{IfSome}
 use Rattle.flt_rules.specs.declared.held.HeldLock.{HeldLock}
+use Rattle.flt_tree.specs.declared.filter.Callback.{Callback}
 use Rattle.flt_tree.specs.declared.filter.Filter.{Filter}
 use Rattle.flt_tree.specs.declared.filter.Statement.{Statement}
 use Rattle.flt_graph.specs.declared.instruction.Instruction.{Instruction}
 use Rattle.flt_model.specs.declared.event.Event.{Event}
+use Rattle.flt_model.specs.declared.moves.JournalEntry.{JournalEntry}
+use Rattle.flt_model.specs.declared.moves.JournalEntry.TheVariants.{Go}
 use Rattle.flt_model.specs.Effects.{Step}
 use Rattle.flt_model.specs.Program.{callbacks_at}
 use Rattle.flt_model.specs.Runs.{Moment, next}
@@ -30,8 +34,8 @@ use Rattle.flt_calls.specs.declared.plans.Plan.{Plan}
 use Rattle.flt_calls.specs.declared.plans.Write.{Write}
 use Rattle.flt_calls.specs.declared.plans.Write.TheVariants as write
 use Rattle.flt_machine.specs.Blocking.{is_blocked}
-use Rattle.flt_machine.specs.Calls.{Commits, IsAdvanced, IsFresh, IsLater, IsRefusedAt, caller_of, instruction_for, is_refused_lock, leaves_choice_at, step_at}
-use Rattle.flt_machine.specs.Counted.{AreDistinct, IsSmall, IsTakenFree}
+use Rattle.flt_machine.specs.Calls.{Commits, IsAdvanced, IsBlocked, IsFresh, IsLater, IsRefusedAt, caller_of, instruction_for, is_refused_lock, leaves_choice_at, step_at}
+use Rattle.flt_machine.specs.Counted.{AreDistinct, IsBounded, IsSmall, IsTakenFree}
 use Rattle.flt_machine.specs.Situations.{Situation, IsAt, IsKept, IsOwn}
 use Rattle.flt_machine.proofs.Committed.{there, middle, caller_is, stands_there, counted_there, refused_there, blocked_there, made_there, commits, committed, here}
 use Rattle.flt_machine.proofs.Local.{goes_there, kept_there}
@@ -153,3 +157,99 @@ module _ (p : List Filter) (b : Situation) (advanced : Advanced) (grant : Bool) 
         subst (λ (c : Bool). Commits p b (committed b advanced later (after_change b.store plan.change) c) advanced grant plan.events m)
         (sym (chosen ∙ choice_is (callbacks_at p advanced.frame.filter) advanced.after act.rest (instruction_for l advanced) grant remains))
         (commits p b advanced grant m at fresh advance plan later made.0 made.1 planned is.own.of (after act.rest remains))
+
+-- ---- the board's own
+
+larger : (n k : ℕ) (s : Standing) → n ≤ k → IsSmall n s → IsSmall k s
+larger n k s less small = record { gained = omega (arith, less, small.gained); lost = omega (arith, less, small.lost); locks = small.locks }
+
+module _ (l : Loaded) (b : Situation) (advanced : Advanced) (grant : Bool) (c : Caller) (i : Instruction) (law : Law) (own : IsOwn l b) (is : IsAdvanced l advanced) (fresh : IsFresh b advanced)
+    (who : c ≡ caller_of b advanced) (at_point : i ≡ instruction_for l advanced) where
+  -- the caller's standing is small
+  pub small_before : IsBounded b → IsSmall (length b.entries) c.standing
+  small_before bounded =
+      subst (λ (d : Caller). IsSmall (length b.entries) d.standing) (sym who)
+      (small_there own.filters b advanced grant own.board.moment own.board.at fresh (is.advance own.filters own.loaded) l law own.loaded (length b.entries)
+      (bounded.standings advanced.frame.activation advanced.frame.standing fresh.standing))
+
+  -- and no larger than any may be
+  pub small_ever : IsBounded b → IsSmall 1000000 c.standing
+  small_ever bounded = larger (length b.entries) 1000000 c.standing bounded.entries (small_before bounded)
+
+  -- a lock that others hold so refuses the step
+  pub blocked_is : is_refused_lock b.store c i ≡ true → IsBlocked l b advanced grant
+  blocked_is refused p loaded m at =
+      refused_at p b advanced grant m at fresh (is.advance p loaded) l law loaded
+      (ap (λ (k : Instruction). is_refused_lock b.store (caller_of b advanced) k) (sym at_point) ∙ ap (λ (d : Caller). is_refused_lock b.store d i) (sym who) ∙ refused)
+
+  -- and nothing else does
+  pub blocked_from : IsBlocked l b advanced grant → is_refused_lock b.store c i ≡ true
+  blocked_from blocked =
+      ap (λ (d : Caller). is_refused_lock b.store d i) who ∙ ap (λ (k : Instruction). is_refused_lock b.store (caller_of b advanced) k) at_point ∙
+      refused_from own.filters b advanced grant own.board.moment own.board.at fresh (is.advance own.filters own.loaded) l law own.loaded (blocked own.filters own.loaded own.board.moment own.board.at)
+
+  module _ (plan : Plan) (of : IsPlanOf l b.store c i grant plan) where
+    pub goes_on : is_end plan.write ≡ false → leads_on i ≡ true
+    goes_on goes =
+        subst (λ (k : Instruction). leads_on k ≡ true) (sym at_point)
+        (leads_there own.filters b advanced grant own.board.moment own.board.at fresh (is.advance own.filters own.loaded) l law own.loaded plan (plan_of l b advanced c i grant plan who at_point of) goes)
+
+    pub takes_free : IsTakenFree c.standing.locks plan.write
+    takes_free =
+        subst (λ (d : Caller). IsTakenFree d.standing.locks plan.write) (sym who)
+        (free_there own.filters b advanced grant own.board.moment own.board.at fresh (is.advance own.filters own.loaded) l law own.loaded plan (plan_of l b advanced c i grant plan who at_point of))
+
+    module _ (later : Option Standing) (choice : Bool) (chosen : choice ≡ (grant || not (leaves_choice_at i)))
+        (after : (cs : List Callback) (a : ℕ) (rest : List Statement) → Remains cs c.standing rest i → AreOf a plan.events → IsLater cs a c.standing rest plan later) where
+      commits_at : (p : List Filter) → AreLoaded p l → (m : Moment) → IsAt p b m → Commits p b (committed b advanced later (after_change b.store plan.change) choice) advanced grant plan.events m
+      commits_at p loaded m at =
+          commits_so p b advanced grant m at fresh (is.advance p loaded) l law loaded plan (plan_of l b advanced c i grant plan who at_point of) later choice
+          (chosen ∙ ap (λ (k : Instruction). grant || not (leaves_choice_at k)) at_point)
+          (λ rest remains. by (callbacks_at p advanced.frame.filter) rest remains)
+        where
+          by : (cs : List Callback) (rest : List Statement) → Remains cs advanced.after rest (instruction_for l advanced) → IsLater cs advanced.frame.activation advanced.after rest plan later
+          by cs rest remains =
+              subst (λ (d : Caller). IsLater cs d.activation d.standing rest plan later) who
+              (after cs c.activation rest
+              (subst (λ (d : Caller). Remains cs d.standing rest i) (sym who) (subst (Remains cs advanced.after rest) (sym at_point) remains)) of.own.of)
+
+      -- what is written down and put leads to the board after a commit
+      pub commits_to : (e : JournalEntry) (written later_board : Situation) → e ≡ Go advanced.frame.activation (advanced.steps + 1) choice →
+          written ≡ record b { store = after_change b.store plan.change; entries = b.entries ++ e ∷ [] } → later_board ≡ record written { standings = set written.standings c.activation later } →
+          (p : List Filter) → AreLoaded p l → (m : Moment) → IsAt p b m → Commits p b later_board advanced grant plan.events m
+      commits_to e written later_board same first second p loaded m at =
+          subst (λ (x : Situation). Commits p b x advanced grant plan.events m)
+          (sym (second ∙ ap (λ (x : Situation). record x { standings = set x.standings c.activation later }) first ∙
+          ap (λ (y : JournalEntry). record b { standings = set b.standings c.activation later; store = after_change b.store plan.change; entries = b.entries ++ y ∷ [] }) same ∙
+          ap (λ (d : Caller). committed_by d.activation) who))
+          (commits_at p loaded m at)
+        where
+          committed_by : ℕ → Situation
+          committed_by a = record b {
+            standings = set b.standings a later;
+            store = after_change b.store plan.change;
+            entries = b.entries ++ Go advanced.frame.activation (advanced.steps + 1) choice ∷ [];
+          }
+
+-- after one entry more a standing may be larger
+pub small_after : (b written : Situation) (store : Store) (e : JournalEntry) (later : Option Standing) → written ≡ record b { store = store; entries = b.entries ++ e ∷ [] } →
+    IfSome later (λ s. IsSmall (length b.entries + 1) s) → IfSome later (λ s. IsSmall (length written.entries) s)
+small_after b written store e later is small =
+    subst (λ (n : ℕ). IfSome later (λ s. IsSmall n s)) (sym (ap (λ (x : Situation). length x.entries) is ∙ length-append b.entries (e ∷ []))) small
+
+-- ---- a commit's answers
+
+module _ (l : Loaded) (b : Situation) (advanced : Advanced) (grant : Bool) (c : Caller) (i : Instruction) (law : Law) (own : IsOwn l b) (is : IsAdvanced l advanced) (fresh : IsFresh b advanced)
+    (who : c ≡ caller_of b advanced) (at_point : i ≡ instruction_in l c.filter c.standing.callback c.standing.point) where
+  pub points_there : i ≡ instruction_for l advanced
+  points_there = at_point ∙ ap (λ (d : Caller). instruction_in l d.filter d.standing.callback d.standing.point) who
+
+  pub is_blocked_so : true ≡ is_refused_lock b.store c i → IsBlocked l b advanced grant
+  is_blocked_so refused = blocked_is l b advanced grant c i law own is fresh who points_there (sym refused)
+
+  pub not_blocked : false ≡ is_refused_lock b.store c i → IsBlocked l b advanced grant → ⊥
+  not_blocked free blocked = let refused : is_refused_lock b.store c i ≡ true = blocked_from l b advanced grant c i law own is fresh who points_there blocked in absurd (cc)
+
+-- a board with no room has as many entries as may be
+pub all_entries : (b inside : Situation) (n : ℕ) → inside ≡ b → IsBounded inside → n ≡ length inside.entries → 1000000 ≤ n → length b.entries ≡ 1000000
+all_entries b inside n same bounded counted full = sym (ap (λ (x : Situation). length x.entries) same) ∙ omega (arith, bounded.entries, counted, full)

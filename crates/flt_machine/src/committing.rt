@@ -1,6 +1,6 @@
 //! Steps of activations.
 
-ghost use Rattle.std.specs.Prelude.{◌≡◌, ◌≢◌, ◌↔◌, ◌<◌, ◌≤◌, ◌+◌, ◌++◌, ◌∷◌, [], ℕ, true, false, List, length, set, get_or, IsSome, IsTrue, Some, None, OnOk, OnErr, IfOk, IfSome};
+ghost use Rattle.std.specs.Prelude.{◌≡◌, ◌≢◌, ◌↔◌, ◌||◌, not, ◌<◌, ◌≤◌, ◌+◌, ◌++◌, ◌∷◌, [], ℕ, true, false, List, length, set, get_or, IsSome, IsTrue, Some, None, OnOk, OnErr, IfOk, IfSome};
 ghost use Rattle.flt_calls.specs.Continuing.{leads_on};
 ghost use Rattle.flt_calls.specs.Own.{AreOf};
 ghost use Rattle.flt_calls.specs.Plans.{is_end};
@@ -12,6 +12,7 @@ ghost use Rattle.flt_machine.specs.Counted.{IsSmall, IsTakenFree};
 ghost use Rattle.flt_machine.specs.Situations.{IsBoard, IsOwn, Now, standing_of};
 ghost use Rattle.flt_machine.specs.declared.committing.Commit.TheVariants as answer;
 ghost use Rattle.flt_machine.specs.declared.events.Events.{Events};
+ghost use Rattle.flt_model.specs.declared.moves.JournalEntry.TheVariants.{Go};
 ghost use Rattle.flt_store.specs.Changes.{after_change, IsPossible};
 ghost use Rattle.flt_tree.specs.declared.filter.Callback.{Callback};
 ghost use Rattle.flt_tree.specs.declared.filter.Filter.{Filter};
@@ -58,6 +59,7 @@ impl Board {
             × ((IsBlocked loaded.now self.old advanced.now grant → ⊥) × (length self.old.entries ≡ 1000000))) }
         ensures refused { ((events : Events) → result ≢ answer.Committed events) → self.new ≡ self.old }
     {
+        standings_have_points();
         if !self.is_fresh(advanced) {
             return Commit::Stale;
         }
@@ -152,12 +154,7 @@ impl Board {
         standings_have_points();
         let plan = plan_step(alloc, loaded, &self.store, caller, grant)?;
         let later = standing_after(caller, instruction, &plan);
-        let entry = JournalEntry::Go {
-            activation: advanced.frame.activation,
-            steps: advanced.steps + 1,
-            grant: grant || !leaves_choice(instruction),
-        };
-        self.write_down(entry, plan.change)?;
+        self.write_down(entry_of(advanced, instruction, grant), plan.change)?;
         self.put(caller.activation, later);
         Ok(Events { list: plan.events })
     }
@@ -188,6 +185,18 @@ impl Board {
             Some(standing) => renew(&mut self.standings, activation, standing),
             None => end(&mut self.standings, activation),
         }
+    }
+}
+
+/// The entry that says what a commit does.
+fn entry_of(advanced: &Advanced, instruction: Instruction, grant: bool) -> JournalEntry
+    requires { advanced.now.steps ≤ 1000000 }
+    ensures { result ≡ Go advanced.now.frame.activation (advanced.now.steps + 1) (grant || not (spec.leaves_choice_at instruction)) }
+{
+    JournalEntry::Go {
+        activation: advanced.frame.activation,
+        steps: advanced.steps + 1,
+        grant: grant || !leaves_choice(instruction),
     }
 }
 
