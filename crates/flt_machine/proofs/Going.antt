@@ -28,19 +28,19 @@ use Rattle.flt_frame.specs.declared.standing.Standing.{Standing}
 use Rattle.flt_calls.specs.Continuing.{leads_on}
 use Rattle.flt_calls.specs.Decoding.{is_ending}
 use Rattle.flt_calls.specs.Own.{AreOf, AreOwn}
-use Rattle.flt_calls.specs.Plans.{IsCaller, IsCounted, IsPlanned, choice_at, is_end, remaining_by}
+use Rattle.flt_calls.specs.Plans.{IsCaller, IsCounted, IsPlanned, TakesNone, choice_at, is_end, remaining_by}
 use Rattle.flt_calls.specs.declared.caller.Caller.{Caller}
 use Rattle.flt_calls.specs.declared.plans.Plan.{Plan}
 use Rattle.flt_calls.specs.declared.plans.Write.{Write}
 use Rattle.flt_calls.specs.declared.plans.Write.TheVariants as write
 use Rattle.flt_machine.specs.Blocking.{is_blocked}
 use Rattle.flt_machine.specs.Calls.{Commits, IsAdvanced, IsBlocked, IsFresh, IsLater, IsRefusedAt, caller_of, instruction_for, is_refused_lock, leaves_choice_at, step_at}
-use Rattle.flt_machine.specs.Counted.{AreDistinct, IsBounded, IsSmall, IsTakenFree}
+use Rattle.flt_machine.specs.Counted.{AreDistinct, IsBounded, IsSmall}
 use Rattle.flt_machine.specs.Situations.{Situation, IsAt, IsKept, IsOwn}
 use Rattle.flt_machine.proofs.Committed.{there, middle, caller_is, stands_there, counted_there, refused_there, blocked_there, made_there, commits, committed, here}
 use Rattle.flt_machine.proofs.Local.{goes_there, kept_there}
 use Rattle.flt_machine.proofs.Read.{refused_is, choice_is}
-use Rattle.flt_machine.proofs.Taken.{leads, lasts, taken_free}
+use Rattle.flt_machine.proofs.Leading.{leads}
 
 -- the law of standings: what remains is what the instruction says
 abbrev pub Law : Type 0
@@ -59,6 +59,7 @@ pub record IsPlanOf (l : Loaded) (s : Store) (c : Caller) (i : Instruction) (gra
   pub free : is_refused_lock s c i ≡ false
   pub planned : PlannedBy l s c grant plan
   pub ends : (p : List Filter) → AreLoaded p l → is_end plan.write ≡ is_ending (instruction_in l c.filter c.standing.callback c.standing.point)
+  pub takes : TakesNone c.standing.locks plan.write
   pub own : AreOwn c.activation plan.events
 
 -- the same of the caller and the instruction of an advance
@@ -66,15 +67,6 @@ pub plan_of : (l : Loaded) (b : Situation) (advanced : Advanced) (c : Caller) (i
     IsPlanOf l b.store c i grant plan → IsPlanOf l b.store (caller_of b advanced) (instruction_for l advanced) grant plan
 plan_of l b advanced c i grant plan who at_point is =
     subst (λ (k : Instruction). IsPlanOf l b.store (caller_of b advanced) k grant plan) at_point (subst (λ (d : Caller). IsPlanOf l b.store d i grant plan) who is)
-
-ended_free : (locks : List HeldLock) (x : Write) → is_end x ≡ true → IsTakenFree locks x
-ended_free locks write.Nothing ends = tt
-ended_free locks (write.Number n value) ends = tt
-ended_free locks (write.Output d x) ends = tt
-ended_free locks (write.Removed o v d x) ends = tt
-ended_free locks (write.Take l access) ends = absurd (cc)
-ended_free locks (write.GiveUp l) ends = tt
-ended_free locks write.End ends = tt
 
 module _ (p : List Filter) (b : Situation) (advanced : Advanced) (grant : Bool) (m : Moment) (at : IsAt p b m) (fresh : IsFresh b advanced) (advance : IsAdvance p advanced)
     (l : Loaded) (law : Law) (loaded : AreLoaded p l) where
@@ -136,18 +128,6 @@ module _ (p : List Filter) (b : Situation) (advanced : Advanced) (grant : Bool) 
         leads p mid.trace mid.world advanced.frame.activation (choice_at act.rest grant) made.0 lives made.1 (callbacks_at p advanced.frame.filter) advanced.after (instruction_for l advanced) remains
         (sym (is.ends p loaded) ∙ goes)
 
-    -- the plan takes no lock that is held
-    pub free_there : IsTakenFree advanced.after.locks plan.write
-    free_there = subst (λ (locks : List HeldLock). IsTakenFree locks plan.write) (ap (λ (x : Activation). x.locks) stands.same) (by (is_ending (instruction_for l advanced)) refl)
-      where
-        by : (ending : Bool) → is_ending (instruction_for l advanced) ≡ ending → IsTakenFree act.locks plan.write
-        by true e = ended_free act.locks plan.write (is.ends p loaded ∙ e)
-        by false e =
-            taken_free mid.world advanced.frame.activation plan (remaining_by act.rest true) (remaining_by act.rest false) made.0
-            (subst (λ (n : ℕ). advanced.frame.activation < n) (sym (length-set m.world.activations advanced.frame.activation (there p b advanced grant m at fresh advance).last)) (there p b advanced grant m at fresh advance).within)
-            planned
-            (lasts p mid.trace mid.world advanced.frame.activation (choice_at act.rest grant) made.0 lives made.1 (callbacks_at p advanced.frame.filter) advanced.after grant (instruction_for l advanced) remains refl e)
-
     -- the board that it leads to is that after a commit
     pub commits_so : (later : Option Standing) (choice : Bool) → choice ≡ (grant || not (leaves_choice_at (instruction_for l advanced))) →
         ((rest : List Statement) → Remains (callbacks_at p advanced.frame.filter) advanced.after rest (instruction_for l advanced) →
@@ -194,10 +174,8 @@ module _ (l : Loaded) (b : Situation) (advanced : Advanced) (grant : Bool) (c : 
         subst (λ (k : Instruction). leads_on k ≡ true) (sym at_point)
         (leads_there own.filters b advanced grant own.board.moment own.board.at fresh (is.advance own.filters own.loaded) l law own.loaded plan (plan_of l b advanced c i grant plan who at_point of) goes)
 
-    pub takes_free : IsTakenFree c.standing.locks plan.write
-    takes_free =
-        subst (λ (d : Caller). IsTakenFree d.standing.locks plan.write) (sym who)
-        (free_there own.filters b advanced grant own.board.moment own.board.at fresh (is.advance own.filters own.loaded) l law own.loaded plan (plan_of l b advanced c i grant plan who at_point of))
+    pub takes_free : TakesNone c.standing.locks plan.write
+    takes_free = of.takes
 
     module _ (later : Option Standing) (choice : Bool) (chosen : choice ≡ (grant || not (leaves_choice_at i)))
         (after : (cs : List Callback) (a : ℕ) (rest : List Statement) → Remains cs c.standing rest i → AreOf a plan.events → IsLater cs a c.standing rest plan later) where

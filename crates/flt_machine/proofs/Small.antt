@@ -13,13 +13,13 @@ use Rattle.flt_rules.specs.declared.call.LockNumber.TheVariants.{L0, L1, L2, L3,
 use Rattle.flt_rules.specs.declared.held.Access.{Access}
 use Rattle.flt_rules.specs.declared.held.HeldLock.{HeldLock}
 use Rattle.flt_calls.specs.Continuing.{HasRoom}
-use Rattle.flt_calls.specs.Plans.{written, is_end}
+use Rattle.flt_calls.specs.Plans.{TakesNone, written, is_end}
 use Rattle.flt_calls.specs.declared.plans.Write.{Write}
 use Rattle.flt_calls.specs.declared.plans.Write.TheVariants as write
 use Rattle.flt_frame.specs.Standings.{activation_with}
 use Rattle.flt_frame.specs.declared.standing.Standing.{Standing}
 use Rattle.flt_model.specs.World.{Activation}
-use Rattle.flt_machine.specs.Counted.{AreApart, AreDistinct, IsSmall, IsTakenFree}
+use Rattle.flt_machine.specs.Counted.{AreApart, AreDistinct, IsSmall}
 
 -- ---- locks
 
@@ -103,10 +103,10 @@ module _ (l : LockNumber) where
   given_up (h ∷ locks) (one, others) =
       either_distinct (same_lock l h.lock && not (holds_lock l locks)) locks (h ∷ without_last l locks) others (still_apart (place_of h.lock) locks one, given_up locks others)
 
-written_locks : (x : Write) (s later : Standing) → is_end x ≡ false → IsTakenFree s.locks x → activation_with later [] ≡ written x (activation_with s []) → AreDistinct s.locks → AreDistinct later.locks
+written_locks : (x : Write) (s later : Standing) → is_end x ≡ false → TakesNone s.locks x → activation_with later [] ≡ written x (activation_with s []) → AreDistinct s.locks → AreDistinct later.locks
 written_locks x s later goes free same distinct = subst AreDistinct (sym (ap (λ (act : Activation). act.locks) same)) (by x goes free)
   where
-    by : (x : Write) → is_end x ≡ false → IsTakenFree s.locks x → AreDistinct (written x (activation_with s [])).locks
+    by : (x : Write) → is_end x ≡ false → TakesNone s.locks x → AreDistinct (written x (activation_with s [])).locks
     by write.Nothing goes free = distinct
     by (write.Number n value) goes free = distinct
     by (write.Output None x) goes free = distinct
@@ -117,7 +117,7 @@ written_locks x s later goes free same distinct = subst AreDistinct (sym (ap (λ
     by write.End goes free = absurd (cc)
 
 -- a standing that is written stays small, where one entry more comes
-pub written_small : (n : ℕ) (x : Write) (s later : Standing) → is_end x ≡ false → IsTakenFree s.locks x → activation_with later [] ≡ written x (activation_with s []) →
+pub written_small : (n : ℕ) (x : Write) (s later : Standing) → is_end x ≡ false → TakesNone s.locks x → activation_with later [] ≡ written x (activation_with s []) →
     later.gained ≤ s.gained + 16 → later.lost ≤ s.lost + 16 → IsSmall n s → IsSmall (n + 1) later
 written_small n x s later goes free same gained lost small = record {
   gained = omega (arith, gained, small.gained);
@@ -130,7 +130,7 @@ pub stays_small : (n : ℕ) (s : Standing) → IsSmall n s → IsSmall (n + 1) s
 stays_small n s small = record { gained = omega (arith, small.gained); lost = omega (arith, small.lost); locks = small.locks }
 
 -- there is room for what is written
-pub has_room : (s : Standing) (x : Write) → IsTakenFree s.locks x → AreDistinct s.locks → HasRoom s x
+pub has_room : (s : Standing) (x : Write) → TakesNone s.locks x → AreDistinct s.locks → HasRoom s x
 has_room s (write.Take l access) free distinct = has_place l access s.locks distinct free
 has_room s write.Nothing free distinct = tt
 has_room s (write.Number n value) free distinct = tt

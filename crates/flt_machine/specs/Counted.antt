@@ -1,10 +1,7 @@
 -- What a board never holds too much of. This project's own limits.
 use Rattle.std.specs.Prelude.{◌≡◌, ◌≤◌, ◌*◌, ◌==◌, ℕ, false, List, [], ◌∷◌, length, Some}
 use Rattle.flt_rules.specs.Call.{place_of}
-use Rattle.flt_rules.specs.Held.{holds_lock}
 use Rattle.flt_rules.specs.declared.held.HeldLock.{HeldLock}
-use Rattle.flt_calls.specs.declared.plans.Write.{Write}
-use Rattle.flt_calls.specs.declared.plans.Write.TheVariants as write
 use Rattle.flt_frame.specs.declared.standing.Standing.{Standing}
 use Rattle.flt_model.specs.World.{Store, context_at}
 use Rattle.flt_machine.specs.Situations.{Situation, standing_of}
@@ -24,11 +21,6 @@ pub record IsSmall (entries : ℕ) (s : Standing) : Type 0 where
   pub gained : s.gained ≤ 16 * entries
   pub lost : s.lost ≤ 16 * entries
   pub locks : AreDistinct s.locks
-
--- what is taken isn't held
-abbrev pub IsTakenFree : List HeldLock → Write → Type 0
-IsTakenFree locks (write.Take l access) = holds_lock l locks ≡ false
-IsTakenFree locks _ = Unit {0}
 
 -- no context has more references
 abbrev pub AreAtMost : ℕ → Store → Type 0

@@ -3,12 +3,12 @@
 ghost use Rattle.std.specs.Prelude.{◌≡◌, ◌≢◌, ◌↔◌, ◌||◌, not, ◌<◌, ◌≤◌, ◌+◌, ◌++◌, ◌∷◌, [], ℕ, true, false, List, length, set, get_or, IsSome, IsTrue, Some, None, OnOk, OnErr, IfOk, IfSome};
 ghost use Rattle.flt_calls.specs.Continuing.{leads_on};
 ghost use Rattle.flt_calls.specs.Own.{AreOf};
-ghost use Rattle.flt_calls.specs.Plans.{is_end};
+ghost use Rattle.flt_calls.specs.Plans.{TakesNone, is_end};
 ghost use Rattle.flt_frame.specs.Firsts.{Remains};
 ghost use Rattle.flt_frame.specs.Loading.{AreLoaded};
 ghost use Rattle.flt_machine.specs.Calls as spec;
 ghost use Rattle.flt_machine.specs.Calls.{IsAdvanced, IsBlocked, IsFresh};
-ghost use Rattle.flt_machine.specs.Counted.{IsSmall, IsTakenFree};
+ghost use Rattle.flt_machine.specs.Counted.{IsSmall};
 ghost use Rattle.flt_machine.specs.Situations.{IsBoard, IsOwn, Now, standing_of};
 ghost use Rattle.flt_machine.specs.declared.committing.Commit.TheVariants as answer;
 ghost use Rattle.flt_machine.specs.declared.events.Events.{Events};
@@ -203,7 +203,7 @@ fn entry_of(advanced: &Advanced, instruction: Instruction, grant: bool) -> Journ
 /// How far the caller has come after a plan's step; none where the step ends the activation.
 fn standing_after(caller: &Caller, instruction: Instruction, plan: &Plan) -> Option<Standing>
     requires leads { is_end plan.now.write ≡ false → leads_on instruction ≡ true }
-    requires free { IsTakenFree caller.now.standing.locks plan.now.write }
+    requires free { TakesNone caller.now.standing.locks plan.now.write }
     requires small { IsSmall 1000000 caller.now.standing }
     requires few { length plan.now.events ≤ 16 }
     ensures later { (cs : List Callback) (a : ℕ) (rest : List Statement) → Remains cs caller.now.standing rest instruction →
