@@ -1,5 +1,6 @@
--- A step of a call, a read or a test leaves its activation going on.
-use Rattle.std.proofs.Common.{◌≡◌, ◌<◌, ℕ, ◌+◌, Bool, true, false, if◌then◌else◌, List, [], ◌∷◌, ◌++◌, length, Option, Some, None, get_or, set, is_some, arith, ap, sym, refl, ◌∙◌}
+-- A step of a call, a read or a test leaves its activation going on, and adds no lock that the activation holds already.
+use Rattle.std.proofs.Common.{◌≡◌, ◌<◌, ℕ, ◌+◌, Bool, true, false, if◌then◌else◌, List, [], ◌∷◌, ◌++◌, length, Option, Some, None, get_or, set, is_some, arith, ap, subst, sym, refl, ◌∙◌}
+use Rattle.std.proofs.lemmas.Bool.{false≢true}
 use Rattle.std.proofs.lemmas.List.{get_or-replicate, get_or-set_same, length-replicate}
 use Rattle.flt_rules.specs.Held.{held, holds_lock, without_last}
 use Rattle.flt_rules.specs.Place.{is_irp}
@@ -7,6 +8,7 @@ use Rattle.flt_rules.specs.declared.call.Existing.{Existing}
 use Rattle.flt_rules.specs.declared.call.Existing.TheVariants.{Keep, Replace}
 use Rattle.flt_rules.specs.declared.call.LockNumber.{LockNumber}
 use Rattle.flt_rules.specs.declared.held.Access.{Access}
+use Rattle.flt_rules.specs.declared.held.HeldLock.{HeldLock}
 use Rattle.flt_rules.specs.declared.held.Access.TheVariants.{Exclusive, Shared}
 use Rattle.flt_tree.specs.Filter.{context_of}
 use Rattle.flt_tree.specs.Variable.{whose}
@@ -35,7 +37,7 @@ use Rattle.flt_model.specs.declared.event.Event.{Event}
 use Rattle.flt_model.specs.declared.event.Event.TheVariants as event
 use Rattle.flt_model.specs.declared.event.Object.TheVariants.{Visit}
 use Rattle.flt_calls.specs.Decoding.{asked_step}
-use Rattle.flt_calls.specs.Plans.{Plans, is_end, world_of, written}
+use Rattle.flt_calls.specs.Plans.{Plans, TakesNone, is_end, world_of, written}
 use Rattle.flt_calls.specs.declared.caller.Caller.{Caller}
 use Rattle.flt_calls.specs.declared.decoding.Asked.{Asked}
 use Rattle.flt_calls.specs.declared.decoding.Asked.TheVariants as asked
@@ -43,12 +45,14 @@ use Rattle.flt_calls.specs.declared.plans.Plan.{Plan}
 use Rattle.flt_calls.specs.declared.plans.Write.{Write}
 use Rattle.flt_calls.specs.declared.plans.Write.TheVariants as write
 use Rattle.flt_calls.proofs.Called.{actors_with, activations_with, is_caller}
+use Rattle.flt_calls.proofs.Fresh.{AddsFresh, same_fresh, one_fresh, fewer_fresh}
 
--- the activation is another one, which goes on
+-- the activation is another one, which goes on; a lock that it holds more wasn't held
 pub record Lasts (w : World) (a : ℕ) (step : Step) : Type 0 where
   pub act : Activation
   pub is : step.world.activations ≡ set w.activations a act
   pub lives : act.ended ≡ false
+  pub fresh : AddsFresh (activation_at w a).locks act.locks
 
 written_lives : (x : Write) (act : Activation) → (written x act).ended ≡ false → is_end x ≡ false
 written_lives write.End act h = h
@@ -59,43 +63,73 @@ written_lives (write.Removed o v d x) act h = refl
 written_lives (write.Take l access) act h = refl
 written_lives (write.GiveUp l) act h = refl
 
--- a plan of a step that leaves the activation going on doesn't end it
-pub not_ended : (s : Store) (c : Caller) (plan : Plan) (step : World → List Statement → List Statement → Step) → Plans s c plan step →
-    ((w : World) → (activation_at w c.activation).ended ≡ false → Lasts w c.activation (step w [] [])) → is_end plan.write ≡ false
-not_ended s c plan step planned lasts = written_lives plan.write (onward w c.activation (if plan.granted then [] else [])) (ap (λ (act : Activation). act.ended) (sym same) ∙ found.lives)
-  where
-    w : World
-    w = world_of s (actors_with c) (activations_with c)
+takes_by : (locks : List HeldLock) (x : Write) (act : Activation) → act.locks ≡ locks → AddsFresh locks (written x act).locks → TakesNone locks x
+takes_by locks (write.Take l access) act is fresh = fresh l access (ap (λ (hs : List HeldLock). hs ++ held l access ∷ []) is)
+takes_by locks write.Nothing act is fresh = tt
+takes_by locks (write.Number n value) act is fresh = tt
+takes_by locks (write.Output d x) act is fresh = tt
+takes_by locks (write.Removed o v d x) act is fresh = tt
+takes_by locks (write.GiveUp l) act is fresh = tt
+takes_by locks write.End act is fresh = tt
 
-    here : get_or (activations_with c) c.activation nobody ≡ activation_with c.standing []
-    here = get_or-replicate (c.activation + 1) c.activation (activation_with c.standing []) nobody (omega arith)
+module _ (s : Store) (c : Caller) (plan : Plan) (step : World → List Statement → List Statement → Step) (planned : Plans s c plan step)
+    (lasts : (w : World) → (activation_at w c.activation).ended ≡ false → Lasts w c.activation (step w [] [])) where
+  abbrev w : World
+  w = world_of s (actors_with c) (activations_with c)
 
-    found : Lasts w c.activation (step w [] [])
-    found = lasts w (ap (λ (act : Activation). act.ended) here)
+  here : get_or (activations_with c) c.activation nobody ≡ activation_with c.standing []
+  here = get_or-replicate (c.activation + 1) c.activation (activation_with c.standing []) nobody (omega arith)
 
-    within : c.activation < length (activations_with c)
-    within = omega (arith, length-replicate (c.activation + 1) (activation_with c.standing []))
+  found : Lasts w c.activation (step w [] [])
+  found = lasts w (ap (λ (act : Activation). act.ended) here)
 
-    there : (act : Activation) → get_or (set (activations_with c) c.activation act) c.activation nobody ≡ act
-    there act = get_or-set_same (activations_with c) c.activation act nobody within
+  abbrev later : Activation
+  later = onward w c.activation (if plan.granted then [] else [])
 
-    both : set (activations_with c) c.activation found.act ≡ set (activations_with c) c.activation (written plan.write (onward w c.activation (if plan.granted then [] else [])))
-    both = sym found.is ∙ ap (λ (x : World). x.activations) (planned (actors_with c) (activations_with c) [] [] (is_caller c)).world
+  within : c.activation < length (activations_with c)
+  within = omega (arith, length-replicate (c.activation + 1) (activation_with c.standing []))
 
-    same : found.act ≡ written plan.write (onward w c.activation (if plan.granted then [] else []))
-    same = sym (there found.act) ∙ ap (λ (l : List Activation). get_or l c.activation nobody) both ∙ there (written plan.write (onward w c.activation (if plan.granted then [] else [])))
+  there : (act : Activation) → get_or (set (activations_with c) c.activation act) c.activation nobody ≡ act
+  there act = get_or-set_same (activations_with c) c.activation act nobody within
+
+  both : set (activations_with c) c.activation found.act ≡ set (activations_with c) c.activation (written plan.write later)
+  both = sym found.is ∙ ap (λ (x : World). x.activations) (planned (actors_with c) (activations_with c) [] [] (is_caller c)).world
+
+  same : found.act ≡ written plan.write later
+  same = sym (there found.act) ∙ ap (λ (l : List Activation). get_or l c.activation nobody) both ∙ there (written plan.write later)
+
+  -- a plan of a step that leaves the activation going on doesn't end it
+  pub not_ended : is_end plan.write ≡ false
+  not_ended = written_lives plan.write later (ap (λ (act : Activation). act.ended) (sym same) ∙ found.lives)
+
+  locks_are : (activation_at w c.activation).locks ≡ c.standing.locks
+  locks_are = ap (λ (act : Activation). act.locks) here
+
+  -- and takes no lock that the caller holds
+  pub takes_none : TakesNone c.standing.locks plan.write
+  takes_none = takes_by c.standing.locks plan.write later locks_are
+      (subst (λ (hs : List HeldLock). AddsFresh hs (written plan.write later).locks) locks_are
+      (subst (λ (act : Activation). AddsFresh (activation_at w c.activation).locks act.locks) same found.fresh))
 
 module _ (w : World) (a : ℕ) (lives : (activation_at w a).ended ≡ false) where
+  -- the like of another step that leads to the same activations
+  like : {x y : Step} → x.world.activations ≡ y.world.activations → Lasts w a x → Lasts w a y
+  like is h = record { act = h.act; is = sym is ∙ h.is; lives = h.lives; fresh = h.fresh }
+
+  -- its locks stay
+  kept : AddsFresh (activation_at w a).locks (activation_at w a).locks
+  kept = same_fresh (activation_at w a).locks
+
   on : (rest : List Statement) (s : Store) (es : List Event) → Lasts w a (goes_on w a (onward w a rest) s es)
-  on rest s es = record { act = onward w a rest; is = refl; lives = lives }
+  on rest s es = record { act = onward w a rest; is = refl; lives = lives; fresh = kept }
 
   gives : (old : Option ContextVariable) (x : Option ℕ) (rest : List Statement) (s : Store) (es : List Event) → Lasts w a (goes_on w a (with_old (onward w a rest) old x) s es)
   gives None x rest s es = on rest s es
-  gives (Some d) x rest s es = record { act = with_context_in (onward w a rest) d x; is = refl; lives = lives }
+  gives (Some d) x rest s es = record { act = with_context_in (onward w a rest) d x; is = refl; lives = lives; fresh = kept }
 
   got : (d : ContextVariable) (granted refused : List Statement) (x : Option ℕ) → Lasts w a (calls.got w a d granted refused x)
   got d granted refused None = gives (Some d) None refused w.store []
-  got d granted refused (Some x) = record { act = with_context_in (onward w a granted) d (Some x); is = refl; lives = lives }
+  got d granted refused (Some x) = record { act = with_context_in (onward w a granted) d (Some x); is = refl; lives = lives; fresh = kept }
 
   get_by : (d : ContextVariable) (granted refused : List Statement) (l : Option Link) → Lasts w a (calls.get_by w a d granted refused l)
   get_by d granted refused None = on refused w.store []
@@ -106,10 +140,10 @@ module _ (w : World) (a : ℕ) (lives : (activation_at w a).ended ≡ false) whe
   either false x y yes_lasts no_lasts = no_lasts
 
   set_there : (existing : Existing) (old : Option ContextVariable) (granted refused : List Statement) (x : ℕ) (l : Link) (y : Option ℕ) → Lasts w a (calls.set_there w a existing old granted refused x l y)
-  set_there existing old granted refused x l None = record { act = (gives old None granted w.store []).act; is = (gives old None granted w.store []).is; lives = (gives old None granted w.store []).lives }
+  set_there existing old granted refused x l None = like refl (gives old None granted w.store [])
   set_there Keep None granted refused x l (Some y) = on refused w.store []
   set_there Keep (Some d) granted refused x l (Some y) = got d refused refused (Some y)
-  set_there Replace old granted refused x l (Some y) = record { act = (gives old (Some y) granted w.store []).act; is = (gives old (Some y) granted w.store []).is; lives = (gives old (Some y) granted w.store []).lives }
+  set_there Replace old granted refused x l (Some y) = like refl (gives old (Some y) granted w.store [])
 
   set_by : (existing : Existing) (old : Option ContextVariable) (granted refused : List Statement) (x : Option ℕ) (l : Option Link) → Lasts w a (calls.set_by w a existing old granted refused x l)
   set_by existing old granted refused None l = on refused w.store []
@@ -123,14 +157,14 @@ module _ (w : World) (a : ℕ) (lives : (activation_at w a).ended ≡ false) whe
     where
       unlinked : (y : Option ℕ) → Lasts w a (calls.unlinked w a old granted refused y)
       unlinked None = gives old None refused w.store []
-      unlinked (Some y) = record { act = (gives old (Some y) granted w.store []).act; is = (gives old (Some y) granted w.store []).is; lives = (gives old (Some y) granted w.store []).lives }
+      unlinked (Some y) = like refl (gives old (Some y) granted w.store [])
 
   pub deleted : (rest : List Statement) (x : Option ℕ) → Lasts w a (calls.deleted w a rest x)
   deleted rest None = on rest w.store []
   deleted rest (Some x) = chosen (is_some (context_at w.store x).link)
     where
       chosen : (b : Bool) → Lasts w a (if b then goes_on w a (onward w a rest) (after_unlink w.store x None) (freed_by_drop w.store x) else unchanged w a rest)
-      chosen true = record { act = onward w a rest; is = refl; lives = lives }
+      chosen true = record { act = onward w a rest; is = refl; lives = lives; fresh = kept }
       chosen false = on rest w.store []
 
   pub referenced : (d : ContextVariable) (rest : List Statement) (x : Option ℕ) → Lasts w a (calls.referenced w a d rest x)
@@ -139,22 +173,39 @@ module _ (w : World) (a : ℕ) (lives : (activation_at w a).ended ≡ false) whe
 
   pub released : (rest : List Statement) (x : Option ℕ) → Lasts w a (calls.released w a rest x)
   released rest None = on rest w.store []
-  released rest (Some x) = record { act = onward w a rest; is = refl; lives = lives }
+  released rest (Some x) = record { act = onward w a rest; is = refl; lives = lives; fresh = kept }
 
   pub taken : (l : LockNumber) (access : Access) (rest : List Statement) → Lasts w a (calls.taken w a l access rest)
-  taken l access rest = either (holds_lock l (activation_at w a).locks) (unchanged w a rest) (other) (on rest w.store []) (record { act = record (onward w a rest) { locks = (activation_at w a).locks ++ held l access ∷ [] }; is = refl; lives = lives })
+  taken l access rest = by_held (holds_lock l (activation_at w a).locks) refl
     where
       other : Step
       other = goes_on w a (record (onward w a rest) { locks = (activation_at w a).locks ++ held l access ∷ [] }) (with_holder w.store (actor_at w a).filter l (record { activation = a; access = access })) []
 
+      by_held : (b : Bool) → holds_lock l (activation_at w a).locks ≡ b → Lasts w a (if b then unchanged w a rest else other)
+      by_held true is = on rest w.store []
+      by_held false is = record {
+        act = record (onward w a rest) { locks = (activation_at w a).locks ++ held l access ∷ [] };
+        is = refl;
+        lives = lives;
+        fresh = one_fresh l access (activation_at w a).locks is;
+      }
+
   pub given_up : (l : LockNumber) (rest : List Statement) → Lasts w a (calls.given_up w a l rest)
-  given_up l rest = either (holds_lock l (activation_at w a).locks) other (unchanged w a rest) (record { act = record (onward w a rest) { locks = without_last l (activation_at w a).locks }; is = refl; lives = lives }) (on rest w.store [])
+  given_up l rest = either (holds_lock l (activation_at w a).locks) other (unchanged w a rest) others (on rest w.store [])
     where
       other : Step
       other = goes_on w a (record (onward w a rest) { locks = without_last l (activation_at w a).locks }) (without_holder w.store (actor_at w a).filter l a) []
 
+      others : Lasts w a other
+      others = record {
+        act = record (onward w a rest) { locks = without_last l (activation_at w a).locks };
+        is = refl;
+        lives = lives;
+        fresh = fewer_fresh l (activation_at w a).locks;
+      }
+
   enqueued : (granted refused : List Statement) (v : ℕ) (x : Option ℕ) → Lasts w a (calls.enqueued w a granted refused v x)
-  enqueued granted refused v x = either (is_attached (presence_at w.store (actor_at w a).filter)) other (unchanged w a refused) (record { act = onward w a granted; is = refl; lives = lives }) (on refused w.store [])
+  enqueued granted refused v x = either (is_attached (presence_at w.store (actor_at w a).filter)) other (unchanged w a refused) (record { act = onward w a granted; is = refl; lives = lives; fresh = kept }) (on refused w.store [])
     where
       other : Step
       other = goes_on w a (onward w a granted) (calls.with_entry w a (record { visit = v; context = x })) (event.Lose a (Visit v) ∷ loses_context a x)
@@ -166,11 +217,11 @@ module _ (w : World) (a : ℕ) (lives : (activation_at w a).ended ≡ false) whe
   insert_by granted refused (Some v) None = enqueued granted refused v None
 
   removed : (o : RemovedVariable) (d : ContextVariable) (granted refused : List Statement) (queue : List Entry) → Lasts w a (calls.removed w a o d granted refused queue)
-  removed o d granted refused [] = record { act = with_context_in (with_operation_in (onward w a refused) (Removed o) None) d None; is = refl; lives = lives }
-  removed o d granted refused (e ∷ queue) = record { act = with_context_in (with_operation_in (onward w a granted) (Removed o) (Some e.visit)) d e.context; is = refl; lives = lives }
+  removed o d granted refused [] = record { act = with_context_in (with_operation_in (onward w a refused) (Removed o) None) d None; is = refl; lives = lives; fresh = kept }
+  removed o d granted refused (e ∷ queue) = record { act = with_context_in (with_operation_in (onward w a granted) (Removed o) (Some e.visit)) d e.context; is = refl; lives = lives; fresh = kept }
 
   deferred : (routine : ℕ) (grant : Bool) (granted refused : List Statement) (v : ℕ) (x : Option ℕ) → Lasts w a (if grant then calls.deferred w a routine granted v x else unchanged w a refused)
-  deferred routine true granted refused v x = record { act = onward w a granted; is = refl; lives = lives }
+  deferred routine true granted refused v x = record { act = onward w a granted; is = refl; lives = lives; fresh = kept }
   deferred routine false granted refused v x = on refused w.store []
 
   defer_by : (routine : ℕ) (grant : Bool) (granted refused : List Statement) (v : Option ℕ) (c : Option (Option ℕ)) → Lasts w a (calls.defer_by w a routine grant granted refused v c)
@@ -181,27 +232,27 @@ module _ (w : World) (a : ℕ) (lives : (activation_at w a).ended ≡ false) whe
 
   queue_by : (routine : ℕ) (grant : Bool) (granted refused : List Statement) (c : Option (Option ℕ)) → Lasts w a (calls.queue_by w a routine grant granted refused c)
   queue_by routine grant granted refused (Some None) = on refused w.store []
-  queue_by routine true granted refused (Some (Some x)) = record { act = onward w a granted; is = refl; lives = lives }
+  queue_by routine true granted refused (Some (Some x)) = record { act = onward w a granted; is = refl; lives = lives; fresh = kept }
   queue_by routine false granted refused (Some (Some x)) = on refused w.store []
-  queue_by routine true granted refused None = record { act = onward w a granted; is = refl; lives = lives }
+  queue_by routine true granted refused None = record { act = onward w a granted; is = refl; lives = lives; fresh = kept }
   queue_by routine false granted refused None = on refused w.store []
 
   allocated : (d : ContextVariable) (grant : Bool) (granted refused : List Statement) → Lasts w a (if grant then calls.allocated w a d granted (length w.store.contexts) else gives_nothing w a (Some d) refused)
-  allocated d true granted refused = record { act = with_context_in (onward w a granted) d (Some (length w.store.contexts)); is = refl; lives = lives }
+  allocated d true granted refused = record { act = with_context_in (onward w a granted) d (Some (length w.store.contexts)); is = refl; lives = lives; fresh = kept }
   allocated d false granted refused = gives (Some d) None refused w.store []
 
   -- reads and the test
   pub read_value : (n : NumberVariable) (rest : List Statement) (x : Option ℕ) → Lasts w a (reads.read_value_of w a n rest x)
   read_value n rest None = on rest w.store []
-  read_value n rest (Some x) = record { act = with_number (onward w a rest) n (context_at w.store x).value; is = refl; lives = lives }
+  read_value n rest (Some x) = record { act = with_number (onward w a rest) n (context_at w.store x).value; is = refl; lives = lives; fresh = kept }
 
   pub read_file : (n : NumberVariable) (rest : List Statement) (v : Option ℕ) → Lasts w a (reads.read_file_of w a n rest v)
   read_file n rest None = on rest w.store []
-  read_file n rest (Some v) = record { act = with_number (onward w a rest) n (arrival_of w.store v).file; is = refl; lives = lives }
+  read_file n rest (Some v) = record { act = with_number (onward w a rest) n (arrival_of w.store v).file; is = refl; lives = lives; fresh = kept }
 
   pub write_value : (value : Atom) (rest : List Statement) (x : Option ℕ) → Lasts w a (reads.write_value_of w a value rest x)
   write_value value rest None = on rest w.store []
-  write_value value rest (Some x) = record { act = onward w a rest; is = refl; lives = lives }
+  write_value value rest (Some x) = record { act = onward w a rest; is = refl; lives = lives; fresh = kept }
 
   pub test_irp : (holds fails : List Statement) (v : Option ℕ) → Lasts w a (reads.test_irp_of w a holds fails v)
   test_irp holds fails None = on fails w.store []
@@ -209,7 +260,7 @@ module _ (w : World) (a : ℕ) (lives : (activation_at w a).ended ≡ false) whe
 
   -- the whole step of a call
   completed : (p : List Filter) (rest : List Statement) (v : ℕ) (x : Option ℕ) (answer : Answer) → Lasts w a (calls.completed w a p rest v x answer)
-  completed p rest v x answer = record { act = onward w a rest; is = refl; lives = lives }
+  completed p rest v x answer = record { act = onward w a rest; is = refl; lives = lives; fresh = kept }
 
   complete_by : (p : List Filter) (d : OperationVariable) (st : Status) (rest : List Statement) (v : Option ℕ) (c : Option (Option ℕ)) → Lasts w a (calls.complete_by w a p d st rest v c)
   complete_by p d st rest None c = on rest w.store []
@@ -223,7 +274,7 @@ module _ (w : World) (a : ℕ) (lives : (activation_at w a).ended ≡ false) whe
 
   -- what is told first changes no activation
   same_world : (x y : Step) → x.world ≡ y.world → Lasts w a x → Lasts w a y
-  same_world x y is h = record { act = h.act; is = sym (ap (λ (u : World). u.activations) is) ∙ h.is; lives = h.lives }
+  same_world x y is = like (ap (λ (u : World). u.activations) is)
 
   pub asked_lasts : (grant : Bool) (granted refused : List Statement) (x : Asked) → Lasts w a (asked_step w a grant granted refused x)
   asked_lasts grant granted refused (asked.Allocate d) = same_world (if grant then calls.allocated w a d granted (length w.store.contexts) else gives_nothing w a (Some d) refused) (calls.allocate w a d grant granted refused) refl (allocated d grant granted refused)
@@ -280,3 +331,20 @@ module _ (w : World) (a : ℕ) (lives : (activation_at w a).ended ≡ false) whe
 
   pub test_lasts : (holds fails : List Statement) → Lasts w a (reads.test_irp w a holds fails)
   test_lasts holds fails = let v = operation_in (activation_at w a) Data in same_world (reads.test_irp_of w a holds fails v) (reads.test_irp w a holds fails) refl (test_irp holds fails v)
+
+module _ (s : Store) (c : Caller) (plan : Plan) where
+  pub plain_takes : (call : PlainCall) → Plans s c plan (λ w granted refused. plain_step [] [] w c.activation granted call) → TakesNone c.standing.locks plan.write
+  plain_takes call planned = takes_none s c plan (λ w granted refused. plain_step [] [] w c.activation granted call) planned (λ w lives. plain_lasts w c.activation lives [] [] [] call)
+
+  pub asked_takes : (grant : Bool) (x : Asked) → Plans s c plan (λ w granted refused. asked_step w c.activation grant granted refused x) → TakesNone c.standing.locks plan.write
+  asked_takes grant x planned = takes_none s c plan (λ w granted refused. asked_step w c.activation grant granted refused x) planned (λ w lives. asked_lasts w c.activation lives grant [] [] x)
+
+-- what ends the activation takes no lock
+pub end_takes : (locks : List HeldLock) (x : Write) → is_end x ≡ true → TakesNone locks x
+end_takes locks write.End h = tt
+end_takes locks write.Nothing h = absurd (false≢true h)
+end_takes locks (write.Number n value) h = absurd (false≢true h)
+end_takes locks (write.Output d x) h = absurd (false≢true h)
+end_takes locks (write.Removed o v d x) h = absurd (false≢true h)
+end_takes locks (write.Take l access) h = absurd (false≢true h)
+end_takes locks (write.GiveUp l) h = absurd (false≢true h)

@@ -2,6 +2,7 @@ pub mod Answering
 pub mod Called
 pub mod Completed
 pub mod Decoded
+pub mod Fresh
 pub mod Lasting
 pub mod Owned
 pub mod Planned

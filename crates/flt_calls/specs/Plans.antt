@@ -1,6 +1,7 @@
 -- Plans: what a step that others see comes to, found out by reading alone.
 use Rattle.std.specs.Prelude.{◌≡◌, ℕ, ◌+◌, Bool, true, false, List, [], ◌∷◌, ◌++◌, Option, Some, None, set, get_or, if◌then◌else◌}
-use Rattle.flt_rules.specs.Held.{held, without_last}
+use Rattle.flt_rules.specs.Held.{held, holds_lock, without_last}
+use Rattle.flt_rules.specs.declared.held.HeldLock.{HeldLock}
 use Rattle.flt_tree.specs.declared.filter.Callback.{Callback}
 use Rattle.flt_tree.specs.declared.filter.Statement.{Statement, out-Statement}
 use Rattle.flt_tree.specs.declared.filter.Statement.TheOpen.{Statement-F}
@@ -40,6 +41,11 @@ written write.End act = record act { rest = []; ended = true }
 abbrev pub is_end : Write → Bool
 is_end write.End = true
 is_end _ = false
+
+-- a lock that is taken wasn't held
+abbrev pub TakesNone : List HeldLock → Write → Type 0
+TakesNone locks (write.Take l access) = holds_lock l locks ≡ false
+TakesNone locks _ = Unit {0}
 
 -- ---- worlds in which the activation makes the step
 

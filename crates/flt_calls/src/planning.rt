@@ -3,7 +3,8 @@
 ghost use Rattle.std.specs.Prelude.{◌≡◌, [], List, Bool, true, false, Some, IfOk, get_or};
 ghost use Rattle.flt_calls.specs.Decoding as spec;
 ghost use Rattle.flt_calls.specs.Own.{AreOwn};
-ghost use Rattle.flt_calls.specs.Plans.{IsCaller, IsCounted, IsPlanned, Plans, choice_at, is_end, remaining_by, world_of};
+ghost use Rattle.flt_calls.specs.Plans.{IsCaller, IsCounted, IsPlanned, Plans, TakesNone, choice_at, is_end, remaining_by, world_of};
+ghost use Rattle.flt_calls.specs.declared.plans.Write.TheVariants as write;
 ghost use Rattle.flt_frame.specs.Loading.{AreLoaded, instruction_in};
 ghost use Rattle.flt_frame.specs.Standings.{StandsFor};
 ghost use Rattle.flt_graph.specs.Instruction as invocation;
@@ -34,6 +35,7 @@ fn nothing(alloc: Global) -> Plan
     ensures events { result.events ≡ [] }
     ensures change { result.change ≡ Nothing }
     ensures lasts { is_end result.write ≡ false }
+    ensures write { result.write ≡ write.Nothing }
 {
     made_plan(Vec::new(alloc), true, Write::Nothing, Change::Nothing)
 }
@@ -50,6 +52,7 @@ fn plan_action(
         IsCaller actors acts caller.now → steps.act_step p t (world_of store.now actors acts) caller.now.activation granted action ≡ Some step →
         IfOk result (λ plan. IsPlanned (world_of store.now actors acts) caller.now.activation plan [] granted refused step) }
     ensures lasts { IfOk result (λ plan. is_end plan.write ≡ false) }
+    ensures takes { IfOk result (λ plan. TakesNone caller.now.standing.locks plan.write) }
     ensures own { IfOk result (λ plan. AreOwn caller.now.activation plan.events) }
     ensures possible { IfOk result (λ plan. AreCounted store.now → IsPossible store.now plan.change) }
 {
@@ -74,6 +77,7 @@ fn plan_test(alloc: Global, store: &Store, caller: &Caller, test: Test) -> Resul
         IsCaller actors acts caller.now → steps.test_step p t (world_of store.now actors acts) caller.now.activation granted refused test ≡ Some step →
         IfOk result (λ plan. IsPlanned (world_of store.now actors acts) caller.now.activation plan [] granted refused step) }
     ensures lasts { IfOk result (λ plan. is_end plan.write ≡ false) }
+    ensures takes { IfOk result (λ plan. TakesNone caller.now.standing.locks plan.write) }
     ensures own { IfOk result (λ plan. AreOwn caller.now.activation plan.events) }
     ensures possible { IfOk result (λ plan. AreCounted store.now → IsPossible store.now plan.change) }
 {
@@ -93,6 +97,7 @@ fn plan_plain(
 ) -> Result<Plan, AllocError>
     ensures planned { (p : List Filter) (t : List Event) → AreLoaded p loaded.now →
         IfOk result (λ plan. Plans store.now caller.now plan (λ w granted refused. steps.plain_step p t w caller.now.activation granted call)) }
+    ensures takes { IfOk result (λ plan. TakesNone caller.now.standing.locks plan.write) }
     ensures own { IfOk result (λ plan. AreOwn caller.now.activation plan.events) }
     ensures possible { IfOk result (λ plan. AreCounted store.now → IsPossible store.now plan.change) }
 {
@@ -165,6 +170,7 @@ fn plan_call(
         made ≡ invocation.fallible (callbacks_at p caller.now.filter) call →
         IfOk result (λ plan. Plans store.now caller.now plan (λ w granted refused. steps.fallible_step p t w caller.now.activation (spec.choice_of call grant) granted refused call)) }
     ensures lasts { IfOk result (λ plan. (p : List Filter) → AreLoaded p loaded.now → is_end plan.write ≡ false) }
+    ensures takes { IfOk result (λ plan. TakesNone caller.now.standing.locks plan.write) }
     ensures own { IfOk result (λ plan. AreOwn caller.now.activation plan.events) }
     ensures possible { IfOk result (λ plan. AreCounted store.now → IsPossible store.now plan.change) }
 {
@@ -196,6 +202,7 @@ pub fn plan_step(
         (remaining_by (get_or acts caller.now.activation machine.nobody).rest false) step) }
     ensures ends { IfOk result (λ plan. (p : List Filter) → AreLoaded p loaded.now →
         is_end plan.write ≡ spec.is_ending (instruction_in loaded.now caller.now.filter caller.now.standing.callback caller.now.standing.point)) }
+    ensures takes { IfOk result (λ plan. TakesNone caller.now.standing.locks plan.write) }
     ensures own { IfOk result (λ plan. AreOwn caller.now.activation plan.events) }
     ensures possible { IfOk result (λ plan. AreCounted store.now → IsPossible store.now plan.change) }
 {

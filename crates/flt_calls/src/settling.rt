@@ -2,6 +2,7 @@
 
 ghost use Rattle.std.specs.Prelude.{◌≡◌, true, ◌++◌, [], List, Some, IfOk, OnOk, nat_lt, option_map};
 ghost use Rattle.flt_rules.specs.Place.{answers};
+ghost use Rattle.flt_rules.specs.declared.held.HeldLock.{HeldLock};
 ghost use Rattle.flt_model.specs.Calls as calls;
 ghost use Rattle.flt_model.specs.Returns as spec;
 ghost use Rattle.flt_model.specs.Settling as settling;
@@ -18,7 +19,7 @@ ghost use Rattle.flt_tree.specs.Variable.{whose};
 ghost use Rattle.flt_tree.specs.declared.filter.Filter.{Filter};
 ghost use Rattle.flt_tree.specs.declared.filter.Statement.{Statement};
 ghost use Rattle.flt_tree.specs.declared.variable.OperationVariable.TheVariants.{Data};
-ghost use Rattle.flt_calls.specs.Plans.{IsPlanned, is_end, Plans, PlansBy, world_of};
+ghost use Rattle.flt_calls.specs.Plans.{IsPlanned, TakesNone, is_end, Plans, PlansBy, world_of};
 ghost use Rattle.flt_calls.specs.Completing.{IsSettledBy, completes, completion_told, settled_told};
 ghost use Rattle.flt_calls.specs.Returning.{IsReturning, context_told, status_told, visit_told};
 ghost use Rattle.flt_calls.specs.Own.{AreOwn};
@@ -117,6 +118,7 @@ fn plan_completion(
     ensures planned { IfOk result (λ plan. (actors : List machine.Actor) (acts : List machine.Activation)
         (granted refused : List Statement) →
         IsPlanned (world_of store.now actors acts) a plan [] granted refused (completes (world_of store.now actors acts) a completion granted)) }
+    ensures takes { IfOk result (λ plan. (locks : List HeldLock) → TakesNone locks plan.write) }
     ensures possible { IfOk result (λ plan. IsPossible store.now plan.change) }
 {
     let mut events = Vec::new(alloc);
@@ -197,6 +199,7 @@ pub(crate) fn complete_pre(
 ) -> Result<Plan, AllocError>
     ensures planned { IfOk result (λ plan. (p : List Filter) → AreLoaded p loaded.now →
         Plans store.now caller.now plan (λ w granted refused. calls.complete_pre w caller.now.activation p operation status granted)) }
+    ensures takes { IfOk result (λ plan. TakesNone caller.now.standing.locks plan.write) }
     ensures own { IfOk result (λ plan. AreOwn caller.now.activation plan.events) }
     ensures possible { IfOk result (λ plan. AreCounted store.now → IsPossible store.now plan.change) }
 {
@@ -223,6 +226,7 @@ pub(crate) fn complete_post(
 ) -> Result<Plan, AllocError>
     ensures planned { IfOk result (λ plan. (p : List Filter) → AreLoaded p loaded.now →
         Plans store.now caller.now plan (λ w granted refused. calls.complete_post w caller.now.activation p granted)) }
+    ensures takes { IfOk result (λ plan. TakesNone caller.now.standing.locks plan.write) }
     ensures own { IfOk result (λ plan. AreOwn caller.now.activation plan.events) }
     ensures possible { IfOk result (λ plan. AreCounted store.now → IsPossible store.now plan.change) }
 {

@@ -1,10 +1,10 @@
 -- What a move of the machine comes to, found out by reading alone.
-use Rattle.std.specs.Prelude.{◌≡◌, ℕ, Bool, List, [], ◌∷◌, ◌++◌, length, Option, Some, None}
+use Rattle.std.specs.Prelude.{◌≡◌, ◌<◌, ℕ, Bool, List, [], ◌∷◌, ◌++◌, length, Option, Some, None}
 use Rattle.flt_tree.specs.declared.filter.Filter.{Filter}
 use Rattle.flt_model.specs.declared.event.Event.{Event}
 use Rattle.flt_model.specs.declared.event.Event.TheVariants as event
 use Rattle.flt_model.specs.declared.moves.Move.{Move}
-use Rattle.flt_model.specs.declared.moves.Move.TheVariants.{Detached}
+use Rattle.flt_model.specs.declared.moves.Move.TheVariants.{Arrive, Detached}
 use Rattle.flt_model.specs.Effects.{Step, gains_context}
 use Rattle.flt_model.specs.Moves.{gains_visit, has_active}
 use Rattle.flt_model.specs.Program.{body_at, callbacks_at, filter_of}
@@ -80,3 +80,8 @@ DecidesAnywhere s decision step =
 abbrev pub IsActive : List Filter → Move → Bool → List Actor → List Activation → Type 0
 IsActive p (Detached altitude) active actors activations = active ≡ has_active (filter_of p altitude) actors activations
 IsActive p _ active actors activations = Unit {0}
+
+-- where one operation more arrives: there is room for it. This project's own limit
+abbrev pub HasRoom : Store → Move → Type 0
+HasRoom s (Arrive kind mode file) = length s.arrivals < 65536
+HasRoom s _ = Unit {0}

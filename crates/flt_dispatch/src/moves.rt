@@ -2,7 +2,7 @@
 
 ghost use Rattle.std.specs.Prelude.{◌≡◌, ◌<◌, List, length, IfSome};
 ghost use Rattle.flt_store.specs.Stores.{world_of};
-ghost use Rattle.flt_dispatch.specs.Decisions.{Decides, DecidesAnywhere, DecidesIn, IsActive};
+ghost use Rattle.flt_dispatch.specs.Decisions.{Decides, DecidesAnywhere, DecidesIn, HasRoom, IsActive};
 ghost use Rattle.flt_frame.specs.Loading.{AreLoaded};
 ghost use Rattle.flt_model.specs.Moves as moves;
 ghost use Rattle.flt_model.specs.Moves.{make};
@@ -131,7 +131,7 @@ pub fn decide(loaded: &Loaded, store: &Store, step: Move, active: bool) -> Optio
     ensures decided { (p : List Filter) (actors : List Actor) (activations : List Activation) → AreLoaded p loaded.now →
         length store.now.presences ≡ length p → IsActive p step active actors activations →
         Decides p (world_of store.now actors activations) result (make p (world_of store.now actors activations) step) }
-    ensures possible { IfSome result (λ d. length store.now.arrivals < 65536 → IsPossible store.now d.change) }
+    ensures possible { IfSome result (λ d. HasRoom store.now step → IsPossible store.now d.change) }
 {
     match step {
         Move::Arrive {

@@ -4,9 +4,9 @@ use Rattle.std.proofs.lemmas.Result.{IfOk-weaker}
 use Rattle.flt_tree.specs.declared.filter.Action.{Action}
 use Rattle.flt_model.specs.Reads as reads
 use Rattle.flt_model.specs.Steps as steps
-use Rattle.flt_calls.specs.Plans.{is_end, IsPlanned, Plans, world_of}
+use Rattle.flt_calls.specs.Plans.{is_end, IsPlanned, Plans, TakesNone, world_of}
 use Rattle.flt_calls.specs.declared.plans.Plan.{Plan}
-use Rattle.flt_calls.proofs.Lasting.{not_ended, value_lasts, file_lasts, write_lasts}
+use Rattle.flt_calls.proofs.Lasting.{not_ended, takes_none, value_lasts, file_lasts, write_lasts}
 use Rattle.flt_calls.proofs.planning.plan_action.Goals as goal
 
 pub returns-in-ReadValue-clause-planned : goal.returns-in-ReadValue-clause-planned
@@ -76,4 +76,34 @@ returns-in-WriteValue-clause-lasts c =
     (λ (plan : Plan). Plans s caller plan (λ w granted refused. reads.write_value w caller.activation c.in-WriteValue.context c.in-WriteValue.value granted))
     (λ (plan : Plan). is_end plan.write ≡ false)
     (λ plan held. not_ended s caller plan (λ w granted refused. reads.write_value w caller.activation c.in-WriteValue.context c.in-WriteValue.value granted) held (λ w lives. write_lasts w caller.activation lives c.in-WriteValue.context c.in-WriteValue.value []))
+    c.write_value.ensures.planned
+
+pub returns-in-ReadValue-clause-takes : goal.returns-in-ReadValue-clause-takes
+returns-in-ReadValue-clause-takes c =
+    let s = c.args.store.now in
+    let caller = c.args.caller.now in
+    IfOk-weaker c.read_value.result
+    (λ (plan : Plan). Plans s caller plan (λ w granted refused. reads.read_value w caller.activation c.in-ReadValue.number c.in-ReadValue.context granted))
+    (λ (plan : Plan). TakesNone caller.standing.locks plan.write)
+    (λ plan held. takes_none s caller plan (λ w granted refused. reads.read_value w caller.activation c.in-ReadValue.number c.in-ReadValue.context granted) held (λ w lives. value_lasts w caller.activation lives c.in-ReadValue.number c.in-ReadValue.context []))
+    c.read_value.ensures.planned
+
+pub returns-in-ReadFile-clause-takes : goal.returns-in-ReadFile-clause-takes
+returns-in-ReadFile-clause-takes c =
+    let s = c.args.store.now in
+    let caller = c.args.caller.now in
+    IfOk-weaker c.read_file.result
+    (λ (plan : Plan). Plans s caller plan (λ w granted refused. reads.read_file w caller.activation c.in-ReadFile.number c.in-ReadFile.operation granted))
+    (λ (plan : Plan). TakesNone caller.standing.locks plan.write)
+    (λ plan held. takes_none s caller plan (λ w granted refused. reads.read_file w caller.activation c.in-ReadFile.number c.in-ReadFile.operation granted) held (λ w lives. file_lasts w caller.activation lives c.in-ReadFile.number c.in-ReadFile.operation []))
+    c.read_file.ensures.planned
+
+pub returns-in-WriteValue-clause-takes : goal.returns-in-WriteValue-clause-takes
+returns-in-WriteValue-clause-takes c =
+    let s = c.args.store.now in
+    let caller = c.args.caller.now in
+    IfOk-weaker c.write_value.result
+    (λ (plan : Plan). Plans s caller plan (λ w granted refused. reads.write_value w caller.activation c.in-WriteValue.context c.in-WriteValue.value granted))
+    (λ (plan : Plan). TakesNone caller.standing.locks plan.write)
+    (λ plan held. takes_none s caller plan (λ w granted refused. reads.write_value w caller.activation c.in-WriteValue.context c.in-WriteValue.value granted) held (λ w lives. write_lasts w caller.activation lives c.in-WriteValue.context c.in-WriteValue.value []))
     c.write_value.ensures.planned

@@ -8,12 +8,12 @@ use Rattle.flt_graph.specs.declared.instruction.Invocation.{Invocation}
 use Rattle.flt_model.specs.Program.{callbacks_at}
 use Rattle.flt_model.specs.Steps as steps
 use Rattle.flt_calls.specs.Decoding.{asked_by, asked_of, asked_step, choice_of, plain_by}
-use Rattle.flt_calls.specs.Plans.{Plans, is_end}
+use Rattle.flt_calls.specs.Plans.{Plans, TakesNone, is_end}
 use Rattle.flt_tree.specs.declared.filter.Filter.{Filter}
 use Rattle.flt_frame.specs.Loading.{AreLoaded}
 use Rattle.flt_calls.specs.declared.plans.Plan.{Plan}
 use Rattle.flt_calls.proofs.Decoded.{asked_is, asked_planned, plain_of}
-use Rattle.flt_calls.proofs.Lasting.{asked_lasts, not_ended, plain_lasts}
+use Rattle.flt_calls.proofs.Lasting.{asked_lasts, asked_takes, not_ended, plain_lasts}
 use Rattle.flt_calls.proofs.Planned.{if_ok}
 use Rattle.flt_calls.proofs.planning.plan_call.Goals as goal
 
@@ -54,4 +54,14 @@ returns-in-Some-asked_by-clause-lasts c =
     (λ (plan : Plan). (p : List Filter) → AreLoaded p c.args.loaded.now → is_end plan.write ≡ false)
     (λ plan held p loaded. not_ended s caller plan (λ w granted refused. asked_step w caller.activation c.args.grant granted refused c.in-Some-asked_by.asked) held
     (λ w lives. asked_lasts w caller.activation lives c.args.grant [] [] c.in-Some-asked_by.asked))
+    c.plan_asked.ensures.planned
+
+pub returns-in-Some-asked_by-clause-takes : goal.returns-in-Some-asked_by-clause-takes
+returns-in-Some-asked_by-clause-takes c =
+    let s = c.args.store.now in
+    let caller = c.args.caller.now in
+    IfOk-weaker c.plan_asked.result
+    (λ (plan : Plan). Plans s caller plan (λ w granted refused. asked_step w caller.activation c.args.grant granted refused c.in-Some-asked_by.asked))
+    (λ (plan : Plan). TakesNone caller.standing.locks plan.write)
+    (λ plan held. asked_takes s caller plan c.args.grant c.in-Some-asked_by.asked held)
     c.plan_asked.ensures.planned

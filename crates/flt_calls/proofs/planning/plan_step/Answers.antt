@@ -7,8 +7,9 @@ use Rattle.std.proofs.lemmas.Result.{IfOk-weaker}
 use Rattle.flt_tree.specs.declared.filter.Filter.{Filter}
 use Rattle.flt_frame.specs.Loading.{AreLoaded, instruction_in}
 use Rattle.flt_calls.specs.Decoding.{is_ending}
-use Rattle.flt_calls.specs.Plans.{is_end}
+use Rattle.flt_calls.specs.Plans.{TakesNone, is_end}
 use Rattle.flt_calls.specs.declared.plans.Plan.{Plan}
+use Rattle.flt_calls.proofs.Lasting.{end_takes}
 use Rattle.flt_calls.proofs.Planned.{Told, act_ends, test_ends, call_ends, return_ends, end_ends, repeat_ends}
 use Rattle.flt_calls.proofs.planning.plan_step.Goals as goal
 
@@ -98,3 +99,19 @@ returns-in-Call-clause-ends c =
     is_end plan.write ≡ is_ending (instruction_in c.args.loaded.now c.args.caller.now.filter c.args.caller.now.standing.callback c.args.caller.now.standing.point))
     (λ plan held p loaded. held p loaded ∙ sym (ap (λ (i : Instruction). is_ending i) (sym c.instruction.ensures ∙ c.in-Call.is)))
     c.plan_call.ensures.lasts
+
+pub returns-in-Return-clause-takes : goal.returns-in-Return-clause-takes
+returns-in-Return-clause-takes c =
+    IfOk-weaker c.returns.result
+    (λ (plan : Plan). is_end plan.write ≡ true)
+    (λ (plan : Plan). TakesNone c.args.caller.now.standing.locks plan.write)
+    (λ plan held. end_takes c.args.caller.now.standing.locks plan.write held)
+    c.returns.ensures.ends
+
+pub returns-in-End-clause-takes : goal.returns-in-End-clause-takes
+returns-in-End-clause-takes c =
+    IfOk-weaker c.returns-in-End.result
+    (λ (plan : Plan). is_end plan.write ≡ true)
+    (λ (plan : Plan). TakesNone c.args.caller.now.standing.locks plan.write)
+    (λ plan held. end_takes c.args.caller.now.standing.locks plan.write held)
+    c.returns-in-End.ensures.ends

@@ -2,6 +2,7 @@ use Rattle.std.proofs.Common.{List, [], ap, subst, sym, ◌∙◌}
 use Rattle.std.proofs.lemmas.Result.{IfOk-weaker}
 use Rattle.flt_rules.specs.declared.call.Call.TheVariants as call
 use Rattle.flt_tree.specs.Filter.{context_of}
+use Rattle.flt_rules.specs.declared.held.HeldLock.{HeldLock}
 use Rattle.flt_tree.specs.declared.filter.Filter.{Filter}
 use Rattle.flt_tree.specs.declared.filter.Statement.{Statement}
 use Rattle.flt_frame.specs.Loading.{AreLoaded}
@@ -11,7 +12,7 @@ use Rattle.flt_model.specs.Variables.{named_in, operation_in}
 use Rattle.flt_model.specs.World as machine
 use Rattle.flt_calls.specs.Completing.{completes}
 use Rattle.flt_calls.specs.Own.{AreOwn}
-use Rattle.flt_calls.specs.Plans.{IsPlanned, Plans, world_of}
+use Rattle.flt_calls.specs.Plans.{IsPlanned, Plans, TakesNone, world_of}
 use Rattle.flt_calls.specs.declared.effects.Named.{Named}
 use Rattle.flt_calls.specs.declared.plans.Plan.{Plan}
 use Rattle.flt_calls.specs.declared.settling.Completion.{Completion}
@@ -51,3 +52,11 @@ returns-clause-own c =
     (λ (plan : Plan). AreOwn a plan.events)
     (λ plan held. completion_own s a completion plan held)
     c.plan_completion.ensures.planned
+
+pub returns-clause-takes : goal.returns-clause-takes
+returns-clause-takes c =
+    IfOk-weaker c.plan_completion.result
+    (λ (plan : Plan). (locks : List HeldLock) → TakesNone locks plan.write)
+    (λ (plan : Plan). TakesNone c.args.caller.now.standing.locks plan.write)
+    (λ plan held. held c.args.caller.now.standing.locks)
+    c.plan_completion.ensures.takes

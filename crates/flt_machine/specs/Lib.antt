@@ -1,0 +1,5 @@
+pub mod Situations
+pub mod Calls
+pub mod Counted
+pub mod Blocking
+pub mod Moving

@@ -1,0 +1,180 @@
+//! Moves.
+
+ghost use Rattle.std.specs.Prelude.{◌≡◌, ◌↔◌, ◌<◌, ◌++◌, ◌∷◌, [], List, length, Some, Err, is_some, IsTrue, IfOk, OnOk, OnErr};
+ghost use Rattle.flt_dispatch.specs.Decisions.{IsActive, frees_by, gains_by};
+ghost use Rattle.flt_dispatch.specs.Turns as turns;
+ghost use Rattle.flt_frame.specs.Loading.{AreLoaded};
+ghost use Rattle.flt_machine.specs.Calls as spec;
+ghost use Rattle.flt_machine.specs.Calls.{IsDisabled, IsFullFor};
+ghost use Rattle.flt_machine.specs.Moving.{Begins, HasMoved};
+ghost use Rattle.flt_machine.specs.Situations.{IsBoard, IsOwn, Now};
+ghost use Rattle.flt_machine.specs.declared.fault.ApplyFault.TheVariants as fault;
+ghost use Rattle.flt_model.specs.Moves.{make};
+ghost use Rattle.flt_model.specs.Steps.{Make};
+ghost use Rattle.flt_model.specs.declared.moves.JournalEntry.TheVariants as journal_entry;
+ghost use Rattle.flt_store.specs.Changes.{after_change, IsPossible};
+ghost use Rattle.flt_tree.specs.declared.filter.Filter.{Filter};
+
+use crate::actor::Actor;
+use crate::board::{Board, MAX_ENTRIES};
+use crate::events::{Events, events_of};
+use crate::fault::ApplyFault;
+use crate::kept::Kept;
+use flt_dispatch::{Decision, Start, decide};
+use flt_frame::{Loaded, Standing};
+use flt_model::{Event, Journal, JournalEntry, Move};
+use flt_ops::MAX_OPERATIONS;
+use flt_store::{Change, Store};
+use sqlite_items::Items;
+use std::alloc::{AllocError, Global};
+
+impl Board {
+    /// Makes a move.
+    pub fn apply(
+        &mut self,
+        alloc: Global,
+        loaded: &Loaded,
+        step: Move,
+    ) -> Result<Events, ApplyFault>
+        requires own { IsOwn loaded.now self.old }
+        ensures own { (p : List Filter) → AreLoaded p loaded.now → IsBoard p self.old → IsBoard p self.new }
+        ensures made { IfOk result (λ events. Now loaded.now self.old (λ p m. spec.Makes p self.new [] (Make step) events.list m)) }
+        ensures written { IfOk result (λ events. self.new.entries ≡ self.old.entries ++ journal_entry.Move step ∷ []) }
+        ensures disabled { (result ≡ Err fault.NotEnabled) ↔ IsDisabled loaded.now self.old step }
+        ensures full { (result ≡ Err fault.Full) ↔ ((IsDisabled loaded.now self.old step → ⊥) × IsFullFor self.old step) }
+        ensures refused { OnErr result (self.new ≡ self.old) }
+    {
+        let active = self.is_active_for(loaded, step);
+        let Some(decision) = decide(loaded, &self.store, step, active) else {
+            return Err(ApplyFault::NotEnabled);
+        };
+        if self.is_full_for(step) {
+            return Err(ApplyFault::Full);
+        }
+        let list = self.make(alloc, step, &decision)?;
+        Ok(Events { list })
+    }
+
+    /// Whether a move is enabled.
+    pub fn enabled(&self, loaded: &Loaded, step: Move) -> bool
+        requires own { IsOwn loaded.now self.now }
+        ensures { Now loaded.now self.now (λ p m. result ≡ is_some (make p m.world step)) }
+    {
+        decide(loaded, &self.store, step, self.is_active_for(loaded, step)).is_some()
+    }
+
+    /// The enabled one of an operation's own moves: pre, skip, lower or post.
+    pub fn next_move(&self, loaded: &Loaded, serial: u32) -> Option<Move>
+        requires own { IsOwn loaded.now self.now }
+        ensures { Now loaded.now self.now (λ p m. result ≡ turns.next_of p m.world serial) }
+    {
+        flt_dispatch::next_of(loaded, &self.store, serial)
+    }
+
+    /// The move of the teardown of the filter at an altitude; none where it isn't being detached, or where only its activations are
+    /// left.
+    pub fn next_detach(&self, loaded: &Loaded, altitude: u32) -> Option<Move>
+        requires own { IsOwn loaded.now self.now }
+        ensures { Now loaded.now self.now (λ p m. turns.ComesNextOf p m.world altitude result) }
+    {
+        let active = self.has_active(loaded.number(altitude));
+        flt_dispatch::next_of_teardown(loaded, &self.store, altitude, active)
+    }
+
+    /// Whether an activation of the filter goes on whose teardown a move ends.
+    fn is_active_for(&self, loaded: &Loaded, step: Move) -> bool
+        ensures { Now loaded.now self.now (λ p m. IsActive p step result m.world.actors m.world.activations) }
+    {
+        match step {
+            Move::Detached { altitude } => self.has_active(loaded.number(altitude)),
+            _ => false,
+        }
+    }
+
+    fn is_full_for(&self, step: Move) -> bool
+        ensures { IsTrue result ↔ IsFullFor self.now step }
+    {
+        self.journal.len() >= MAX_ENTRIES
+            || (matches!(step, Move::Arrive { .. }) && self.store.operations() >= MAX_OPERATIONS)
+    }
+
+    /// A decision is made, and one entry more says so; or nothing is.
+    fn make(
+        &mut self,
+        alloc: Global,
+        step: Move,
+        decision: &Decision,
+    ) -> Result<Items<Event>, AllocError>
+        requires room { length self.old.entries < 1000000 }
+        requires possible { IsPossible self.old.store decision.now.change }
+        ensures events { IfOk result (λ events.
+            events ≡ gains_by (length self.old.standings) decision.now.start ++ frees_by decision.now.freed) }
+        ensures made { OnOk result (HasMoved self.old self.new step decision.now) }
+        ensures refused { OnErr result (self.new ≡ self.old) }
+    {
+        let list = events_of(alloc, self.standings.len(), decision)?;
+        match decision.start {
+            Some(start) => self.start(alloc, step, decision, start)?,
+            None => write(&mut self.journal, &mut self.store, step, decision.change)?,
+        }
+        Ok(list)
+    }
+
+    /// An activation starts.
+    fn start(
+        &mut self,
+        alloc: Global,
+        step: Move,
+        decision: &Decision,
+        start: Start,
+    ) -> Result<(), AllocError>
+        requires start { decision.now.start ≡ Some start }
+        requires room { length self.old.entries < 1000000 }
+        requires possible { IsPossible self.old.store decision.now.change }
+        ensures made { OnOk result (HasMoved self.old self.new step decision.now) }
+        ensures refused { OnErr result (self.new ≡ self.old) }
+    {
+        self.actors.reserve(1)?;
+        self.standings.reserve(1)?;
+        let kept = Kept::new(alloc, standing_of(start))?;
+        write(&mut self.journal, &mut self.store, step, decision.change)?;
+        self.actors.push_reserved(Actor {
+            filter: start.filter,
+            place: start.place,
+            draining: start.draining,
+        });
+        self.standings.push_reserved(Some(kept));
+        Ok(())
+    }
+}
+
+/// What a move changes of what activations share, with its entry.
+fn write(
+    journal: &mut Journal,
+    store: &mut Store,
+    step: Move,
+    change: Change,
+) -> Result<(), AllocError>
+    requires { IsPossible store.old change }
+    ensures entry { OnOk result (journal.new ≡ journal.old ++ journal_entry.Move step ∷ []) }
+    ensures change { OnOk result (store.new ≡ after_change store.old change) }
+    ensures refused { OnErr result ((journal.new ≡ journal.old) × (store.new ≡ store.old)) }
+{
+    journal.push(JournalEntry::Move(step))?;
+    if let Err(refused) = store.perform(change) {
+        journal.pop();
+        return Err(refused);
+    }
+    Ok(())
+}
+
+/// How far an activation that starts has come. It has gained the visit that it is given.
+fn standing_of(start: Start) -> Standing
+    ensures { (p : List Filter) → Begins p (Some start) (Some result) }
+{
+    let mut standing = Standing::starting(start.callback, start.given, start.arg);
+    if start.given.is_some() {
+        standing.gained = 1;
+    }
+    standing
+}

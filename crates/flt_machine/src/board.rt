@@ -1,0 +1,152 @@
+//! The board, and what is there.
+
+ghost use Rattle.std.specs.Prelude.{◌≡◌, ◌↔◌, ◌≤◌, ℕ, true, List, length, option_map, Some, None, IfOk, MatchOption, if◌then◌else◌};
+ghost use Rattle.std.specs.List.{list_any};
+ghost use Rattle.flt_dispatch.specs.Turns as turns;
+ghost use Rattle.flt_frame.specs.Loading.{AreLoaded};
+ghost use Rattle.flt_frame.specs.Standings.{StandsFor};
+ghost use Rattle.flt_machine.specs.Situations as spec;
+ghost use Rattle.flt_machine.specs.Situations.{IsBoard, IsAt, Now};
+ghost use Rattle.flt_model.specs.Moves.{make};
+ghost use Rattle.flt_model.specs.Program.{callbacks_at};
+ghost use Rattle.flt_model.specs.Runs.{Moment};
+ghost use Rattle.flt_model.specs.World as machine;
+ghost use Rattle.flt_ops.specs.Parts.{outcome_of};
+ghost use Rattle.flt_tree.specs.declared.filter.Filter.{Filter};
+
+use crate::actor::Actor;
+use crate::kept::Kept;
+use flt_frame::{Frame, Loaded, Standing};
+use flt_model::{Journal, Move};
+use flt_rules::Place;
+use flt_store::{Outcome, Store};
+use std::alloc::{AllocError, Global};
+use std::marker::Model;
+
+/// How many entries a journal may have.
+pub const MAX_ENTRIES: usize = 1_000_000;
+
+/// A machine of one thread, with its journal. It holds no texts: each call that needs the filters is lent what is loaded, and its
+/// condition is that this is the board's own.
+#[derive(Drop)]
+pub struct Board {
+    pub(crate) actors: Vec<Actor>,
+    pub(crate) standings: Vec<Option<Kept>>,
+    pub(crate) store: Store,
+    pub(crate) journal: Journal,
+}
+
+impl Model for Board {
+    ghost use Rattle.flt_machine.specs.Situations.{Situation};
+    ghost use Rattle.flt_machine.specs.Counted.{IsBounded};
+
+    ghost Value = { Situation };
+
+    ghost view = { λ b. record {
+      actors = b.actors.items;
+      standings = b.standings.items;
+      store = b.store;
+      entries = b.journal;
+    } };
+
+    ghost invariant = { λ b. IsBounded (record {
+      actors = b.actors.items;
+      standings = b.standings.items;
+      store = b.store;
+      entries = b.journal;
+    }) };
+}
+
+impl Board {
+    /// The board before the first move.
+    pub fn new(alloc: Global, loaded: &Loaded) -> Result<Board, AllocError>
+        ensures opening { IfOk result (λ b. (p : List Filter) → AreLoaded p loaded.now → b ≡ spec.opening (length p)) }
+        ensures own { IfOk result (λ b. (p : List Filter) → AreLoaded p loaded.now → IsBoard p b) }
+    {
+        Ok(Board {
+            actors: Vec::new(alloc),
+            standings: Vec::new(alloc),
+            store: Store::new(alloc, loaded.filters())?,
+            journal: Journal::new(alloc),
+        })
+    }
+
+    // ---- activations
+
+    pub(crate) fn standing(&self, activation: usize) -> Option<Standing>
+        ensures { result ≡ spec.standing_of self.now activation }
+    {
+        match self.standings.get(activation) {
+            Some(Some(kept)) => Some(*kept.get()),
+            _ => None,
+        }
+    }
+
+    pub(crate) fn actor(&self, activation: usize) -> Actor
+        ensures { result ≡ spec.actor_of self.now activation }
+    {
+        match self.actors.get(activation) {
+            Some(actor) => *actor,
+            None => Actor {
+                filter: 0,
+                place: Place::Generic,
+                draining: false,
+            },
+        }
+    }
+
+    /// An activation as it is, where it has started and not ended.
+    pub fn checkout(&self, activation: u32) -> Option<Frame>
+        ensures frame { result ≡ option_map (spec.frame_of self.now activation) (spec.standing_of self.now activation) }
+        ensures stands { (p : List Filter) (m : Moment) → IsAt p self.now m →
+            MatchOption result ((machine.activation_at m.world activation).ended ≡ true)
+            (λ frame. StandsFor (callbacks_at p frame.filter) frame.standing (machine.activation_at m.world activation)) }
+    {
+        let standing = self.standing(activation as usize)?;
+        let actor = self.actor(activation as usize);
+        Some(Frame {
+            activation,
+            filter: actor.filter,
+            draining: actor.draining,
+            standing,
+        })
+    }
+
+    /// Whether an activation of the filter goes on.
+    pub(crate) fn has_active(&self, filter: usize) -> bool
+        ensures { result ≡ spec.has_standing filter self.now.actors self.now.standings }
+    {
+        let mut activation = 0;
+        while activation < self.standings.len() {
+            if self.actor(activation).filter == filter && self.standing(activation).is_some() {
+                return true;
+            }
+            activation += 1;
+        }
+        false
+    }
+
+    // ---- what is there
+
+    /// How many references a context has, or `None` once it is freed.
+    pub fn references(&self, context: usize) -> Option<u64>
+        ensures { result ≡ (if machine.is_freed (machine.context_at self.now.store context) then None
+            else Some (machine.context_at self.now.store context).references) }
+    {
+        self.store.references(context)
+    }
+
+    /// How an operation ended at its lowest point, from the moment at which it goes up.
+    pub fn outcome(&self, serial: u32) -> Option<Outcome>
+        ensures { option_map outcome_of result ≡ (machine.route_at self.now.store serial).outcome }
+    {
+        self.store.outcome(serial)
+    }
+
+    /// What happened.
+    pub fn journal(&self) -> &Journal
+        ensures { result.now ≡ self.now.entries }
+    {
+        &self.journal
+    }
+}

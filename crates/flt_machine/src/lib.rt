@@ -1,0 +1,21 @@
+//! The board: an executable machine of one thread, with a journal.
+//!
+//! Each call of a board is exactly the machine's step, for any texts, accepted or not. What a call does is found out first, by reading
+//! alone; then what may need memory grows; then the change is made. So a refusal leaves board and journal as they were.
+#![tactic(auto)]
+
+mod actor;
+mod applying;
+mod board;
+mod committing;
+mod events;
+mod fault;
+mod kept;
+
+pub use board::{Board, MAX_ENTRIES};
+pub use committing::Commit;
+pub use events::Events;
+pub use fault::ApplyFault;
+pub use flt_frame::{Advanced, Frame, Loaded, LoadedFault, advance};
+/// What a call answers that was refused memory.
+pub use std::alloc::AllocError as OutOfMemory;
