@@ -14,6 +14,7 @@ mod reader;
 mod scanner;
 mod spelled;
 mod streams;
+mod subject;
 mod verdict;
 mod writer;
 
@@ -31,5 +32,6 @@ pub use reader::{MAX_ENTRIES, read};
 pub use scanner::Stop;
 pub use spelled::one_journal_is_spelled;
 pub use streams::{ReadFault, Sink, Source, WriteFault, put_all};
+pub use subject::Subject;
 pub use verdict::{Verdict, Violation};
 pub use writer::write;
