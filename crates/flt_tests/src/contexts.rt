@@ -105,12 +105,7 @@ impl Rows {
     }
 
     fn linked_at(&self, key: Key) -> Option<usize> {
-        for context in 0..MOST_CONTEXTS {
-            if self.at(context).link == Some(key) {
-                return Some(context);
-            }
-        }
-        None
+        self.rows.iter().position(|row| row.link == Some(key))
     }
 
     fn alloc(&mut self) -> Result<usize, AllocError> {
@@ -388,30 +383,85 @@ const SETTINGS: [Setting; 8] = [
     (false, true, true, REPLACED, Some(1), Some(2)),
 ];
 
+/// A call, with what it should answer.
+#[derive(Clone, Copy)]
+enum Call {
+    Get(Key, Option<usize>),
+    Alloc(usize, usize),
+    Set(Key, usize, bool, bool, SetAnswer),
+    Release(usize, Release),
+    Reference(usize),
+    SetValue(usize, u64),
+    Close(usize),
+    DeleteAt(Key, Unlinked),
+    References(usize, Option<u64>),
+    Value(usize, u64),
+    FirstKey(usize, Option<Key>),
+    LinkedAt(Key, Option<usize>),
+}
+
+/// Makes a call, and says whether it answers what it should.
+fn answers(contexts: &mut Contexts, call: Call) -> Result<bool, AllocError> {
+    match call {
+        Call::Get(key, wanted) => Ok(get(contexts, key) == wanted),
+        Call::Alloc(filter, wanted) => Ok(contexts.alloc(filter)? == wanted),
+        Call::Set(key, context, keep, want_old, wanted) => {
+            Ok(set(contexts, key, context, keep, want_old)? == Some(wanted))
+        }
+        Call::Release(context, wanted) => Ok(contexts.release(context) == wanted),
+        Call::Reference(context) => {
+            reference(contexts, context);
+            Ok(true)
+        }
+        Call::SetValue(context, value) => {
+            contexts.set_value(context, value);
+            Ok(true)
+        }
+        Call::Close(filter) => {
+            contexts.close(filter);
+            Ok(true)
+        }
+        Call::DeleteAt(key, wanted) => Ok(contexts.delete_at(key, false) == Some(wanted)),
+        Call::References(context, wanted) => Ok(contexts.references(context) == wanted),
+        Call::Value(context, wanted) => Ok(contexts.value(context) == wanted),
+        Call::FirstKey(filter, wanted) => Ok(contexts.first_key(filter) == wanted),
+        Call::LinkedAt(key, wanted) => Ok(contexts.linked_at(key) == wanted),
+    }
+}
+
+/// The first of these calls on the contexts of so many filters that doesn't answer what it should.
+fn wrong_call(alloc: Global, filters: usize, calls: &[Call]) -> Result<Option<usize>, AllocError> {
+    let mut contexts = Contexts::new(alloc, filters)?;
+    for (at, call) in calls.iter().enumerate() {
+        if !answers(&mut contexts, *call)? {
+            return Ok(Some(at));
+        }
+    }
+    Ok(None)
+}
+
 /// Whether context 1 is set over context 0 as the row says.
 fn is_set(alloc: Global, key: Key, setting: Setting) -> Result<bool, AllocError> {
     let (keep, want_old, released, answer, first, second) = setting;
-    let mut contexts = Contexts::new(alloc, FILTERS)?;
-    if contexts.alloc(1)? != 0
-        || contexts.alloc(1)? != 1
-        || set(&mut contexts, key, 0, keep, want_old)? != Some(SetAnswer::Done(None))
-        || set(&mut contexts, key, 0, keep, want_old)? != Some(SetAnswer::Linked)
-    {
-        return Ok(false);
-    }
-    if released && contexts.release(0) != Release::Alive {
-        return Ok(false);
-    }
-    if set(&mut contexts, key, 1, keep, want_old)? != Some(answer)
-        || contexts.references(0) != first
-        || contexts.references(1) != second
-        || contexts.linked_at(key) != Some(if keep { 0 } else { 1 })
-        || contexts.first_key(1) != Some(key)
-    {
-        return Ok(false);
-    }
-    contexts.close(1);
-    Ok(set(&mut contexts, key, 1, keep, want_old)? == Some(SetAnswer::Deleting))
+    let calls = [
+        Call::Alloc(1, 0),
+        Call::Alloc(1, 1),
+        Call::Set(key, 0, keep, want_old, SetAnswer::Done(None)),
+        Call::Set(key, 0, keep, want_old, SetAnswer::Linked),
+        if released {
+            Call::Release(0, Release::Alive)
+        } else {
+            Call::LinkedAt(key, Some(0))
+        },
+        Call::Set(key, 1, keep, want_old, answer),
+        Call::References(0, first),
+        Call::References(1, second),
+        Call::LinkedAt(key, Some(if keep { 0 } else { 1 })),
+        Call::FirstKey(1, Some(key)),
+        Call::Close(1),
+        Call::Set(key, 1, keep, want_old, SetAnswer::Deleting),
+    ];
+    Ok(wrong_call(alloc, FILTERS, &calls)?.is_none())
 }
 
 /// The first row that isn't so, whichever object it is for.
@@ -443,29 +493,13 @@ const INSTANCE: Key = Key {
     target: Target::Instance,
 };
 
-/// A call, with what it should answer.
-#[derive(Clone, Copy)]
-enum Call {
-    Get(Key, Option<usize>),
-    Alloc(usize),
-    Set(Key, usize, bool, bool, SetAnswer),
-    Release(usize, Release),
-    Reference(usize),
-    SetValue(usize, u64),
-    Close(usize),
-    DeleteAt(Key, Unlinked),
-    References(usize, Option<u64>),
-    Value(usize, u64),
-    FirstKey(Option<Key>),
-}
-
 /// Two operations on one stream look for a context, allocate one each, and set it: the second gets that of the first. What is linked goes
 /// at the filter's teardown, the instance's context first. A freed context stays as it was.
 const SHARED: [Call; 26] = [
     Call::Get(STREAM, None),
     Call::Get(STREAM, None),
-    Call::Alloc(0),
-    Call::Alloc(1),
+    Call::Alloc(0, 0),
+    Call::Alloc(0, 1),
     Call::Set(STREAM, 0, true, true, SetAnswer::Done(None)),
     Call::Set(STREAM, 1, true, true, SetAnswer::Defined(0)),
     Call::Release(0, Release::Alive),
@@ -473,11 +507,11 @@ const SHARED: [Call; 26] = [
     Call::Release(1, Release::Freed),
     Call::References(0, Some(1)),
     Call::References(1, None),
-    Call::Alloc(2),
+    Call::Alloc(0, 2),
     Call::Set(INSTANCE, 2, false, false, SetAnswer::Done(None)),
     Call::SetValue(2, 7),
     Call::Close(0),
-    Call::FirstKey(Some(INSTANCE)),
+    Call::FirstKey(0, Some(INSTANCE)),
     Call::DeleteAt(
         INSTANCE,
         Unlinked {
@@ -485,7 +519,7 @@ const SHARED: [Call; 26] = [
             release: Release::Alive,
         },
     ),
-    Call::FirstKey(Some(STREAM)),
+    Call::FirstKey(0, Some(STREAM)),
     Call::DeleteAt(
         STREAM,
         Unlinked {
@@ -493,7 +527,7 @@ const SHARED: [Call; 26] = [
             release: Release::Freed,
         },
     ),
-    Call::FirstKey(None),
+    Call::FirstKey(0, None),
     Call::Release(2, Release::Freed),
     Call::SetValue(2, 8),
     Call::Reference(2),
@@ -502,47 +536,8 @@ const SHARED: [Call; 26] = [
     Call::Release(2, Release::Alive),
 ];
 
-/// Makes a call, and says whether it answers what it should.
-fn answers(contexts: &mut Contexts, call: Call) -> Result<bool, AllocError> {
-    match call {
-        Call::Get(key, wanted) => Ok(get(contexts, key) == wanted),
-        Call::Alloc(wanted) => Ok(contexts.alloc(0)? == wanted),
-        Call::Set(key, context, keep, want_old, wanted) => {
-            Ok(set(contexts, key, context, keep, want_old)? == Some(wanted))
-        }
-        Call::Release(context, wanted) => Ok(contexts.release(context) == wanted),
-        Call::Reference(context) => {
-            reference(contexts, context);
-            Ok(true)
-        }
-        Call::SetValue(context, value) => {
-            contexts.set_value(context, value);
-            Ok(true)
-        }
-        Call::Close(filter) => {
-            contexts.close(filter);
-            Ok(true)
-        }
-        Call::DeleteAt(key, wanted) => Ok(contexts.delete_at(key, false) == Some(wanted)),
-        Call::References(context, wanted) => Ok(contexts.references(context) == wanted),
-        Call::Value(context, wanted) => Ok(contexts.value(context) == wanted),
-        Call::FirstKey(wanted) => Ok(contexts.first_key(0) == wanted),
-    }
-}
-
-/// The first of these calls that doesn't answer what it should.
-fn wrong_call(alloc: Global, calls: &[Call]) -> Result<Option<usize>, AllocError> {
-    let mut contexts = Contexts::new(alloc, 1)?;
-    for (at, call) in calls.iter().enumerate() {
-        if !answers(&mut contexts, *call)? {
-            return Ok(Some(at));
-        }
-    }
-    Ok(None)
-}
-
 #[test]
 fn two_operations_share_a_context(rt: HostRuntime) -> Result<(), Fail> {
-    assert_eq!(rt; wrong_call(rt.alloc(), &SHARED)?, None);
+    assert_eq!(rt; wrong_call(rt.alloc(), 1, &SHARED)?, None);
     Ok(())
 }

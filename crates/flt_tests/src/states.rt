@@ -56,31 +56,45 @@ fn are_apart(one: &Abs, other: &Abs) -> bool {
     join(one, other).is_err() && !leq(one, other) && !leq(other, one)
 }
 
-/// Whether states with more statuses are above those with fewer, and states with other locks beside each other; and no state has none.
+/// Whether states with more statuses are above those with fewer.
 fn are_ordered(alloc: Global) -> Option<bool> {
     let both = [alone(LockNumber::L1), shared(LockNumber::L0)];
+    let held = state(alloc, 2, 1, &both)?;
+    let stale = state(alloc, 4, 2, &both)?;
+    let either = state(alloc, 6, 3, &both)?;
+    Some(is_least(&held, &stale, &either))
+}
+
+/// Whether a state with these locks stands beside one whose locks are `L1`, held alone, and `L0`, held beside others.
+fn stands_beside(alloc: Global, locks: &[HeldLock]) -> Option<bool> {
+    let one = state(
+        alloc,
+        1,
+        1,
+        &[alone(LockNumber::L1), shared(LockNumber::L0)],
+    )?;
+    let other = state(alloc, 1, 1, locks)?;
+    Some(are_apart(&one, &other))
+}
+
+#[test]
+fn order_and_join(rt: HostRuntime) {
     let turned = [shared(LockNumber::L0), alone(LockNumber::L1)];
     let both_alone = [alone(LockNumber::L1), alone(LockNumber::L0)];
+    assert!(rt; are_ordered(rt.alloc()) == Some(true));
+    assert!(rt; stands_beside(rt.alloc(), &turned) == Some(true));
+    assert!(rt; stands_beside(rt.alloc(), &both_alone) == Some(true));
+}
+
+/// Digits of no state, and locks of which one stands twice.
+#[test]
+fn no_states(rt: HostRuntime) {
     let twice = [
         alone(LockNumber::L3),
         alone(LockNumber::L4),
         shared(LockNumber::L3),
     ];
-    let held = state(alloc, 2, 1, &both)?;
-    let stale = state(alloc, 4, 2, &both)?;
-    let either = state(alloc, 6, 3, &both)?;
-    let one = state(alloc, 1, 1, &both)?;
-    Some(
-        is_least(&held, &stale, &either)
-            && are_apart(&one, &state(alloc, 1, 1, &turned)?)
-            && are_apart(&one, &state(alloc, 1, 1, &both_alone)?)
-            && state(alloc, 0, 1, &[]).is_none()
-            && state(alloc, 1, 0, &[]).is_none()
-            && list_of(alloc, &twice).is_none(),
-    )
-}
-
-#[test]
-fn order_and_join(rt: HostRuntime) {
-    assert!(rt; are_ordered(rt.alloc()) == Some(true));
+    assert!(rt; state(rt.alloc(), 0, 1, &[]).is_none());
+    assert!(rt; state(rt.alloc(), 1, 0, &[]).is_none());
+    assert!(rt; list_of(rt.alloc(), &twice).is_none());
 }
