@@ -1,0 +1,6 @@
+mod Costs
+mod Leaving
+mod Spending
+mod Starting
+mod Journals
+mod Starts
