@@ -80,7 +80,8 @@ module _ (p : List Filter) (a : ℕ) (m : Moment) (s : Step) where
       by true h =
           let equal : a ≡ b = eqb-true a b h in
           let now_there : get_or s.world.activations b nobody ≡ spends.act =
-          ap (λ (acts : List Activation). get_or acts b nobody) spends.acts_are ∙ get_or-set_same m.world.activations b spends.act nobody within in
+          ap (λ (acts : List Activation). get_or acts b nobody) spends.acts_are
+          ∙ get_or-set_same m.world.activations b spends.act nobody within in
           let less = spends.less in
           let now_left : left_at (after m s) b ≡ left_in spends.act = ap left_in now_there in
           let own_one : own a b ≡ 1 = ap (λ (x : Bool). if x then 1 else 0) h in
@@ -93,7 +94,8 @@ module _ (p : List Filter) (a : ℕ) (m : Moment) (s : Step) where
           let own_none : own a b ≡ 0 = ap (λ (x : Bool). if x then 1 else 0) h in
           let differs : a ≢ b = λ equal. absurd (let yes_equal = eq-eqb a b equal in cc) in
           let as_before : get_or s.world.activations a nobody ≡ get_or m.world.activations a nobody =
-          ap (λ (acts : List Activation). get_or acts a nobody) spends.acts_are ∙ get_or-set_other m.world.activations b a spends.act nobody differs in
+          ap (λ (acts : List Activation). get_or acts a nobody) spends.acts_are
+          ∙ get_or-set_other m.world.activations b a spends.act nobody differs in
           let left_same : left_at (after m s) a ≡ left_at m a = ap left_in as_before in
           record { there = λ is. omega arith; stays = omega (arith, as_many); absent = λ past. own_none }
 
@@ -177,6 +179,7 @@ halves p m n (x ∷ xs) ys e = by (next p m x) refl e (λ s h. halves p (after m
           then_runs = half.then_runs;
         }
 
+-- two runs of which one leads to where the other begins are one
 pub joined : (p : List Filter) (m n o : Moment) (xs ys : List Transition) → run_from p m xs ≡ Some n → run_from p n ys ≡ Some o →
     run_from p m (xs ++ ys) ≡ Some o
 joined p m n o [] ys e h = let equal : m ≡ n = cc in subst (λ (k : Moment). run_from p k ys ≡ Some o) (sym equal) h
@@ -188,8 +191,9 @@ joined p m n o (x ∷ xs) ys e h = by (next p m x) e (λ s k. joined p (after m 
     by None k ih = absurd (cc)
     by (Some s) k ih = ih s k
 
-pub parts : (p : List Filter) (m n : Moment) (e : JournalEntry) (es : List JournalEntry) (xs : List Transition) → expand (e ∷ es) ≡ Some xs →
-    run_from p m xs ≡ Some n → Parts p m n e es xs
+-- where the transitions of a journal lead, by its first entry
+pub parts : (p : List Filter) (m n : Moment) (e : JournalEntry) (es : List JournalEntry) (xs : List Transition) →
+    expand (e ∷ es) ≡ Some xs → run_from p m xs ≡ Some n → Parts p m n e es xs
 parts p m n e es xs x r = by (expansion e) (expand es) refl refl x
   where
     by : (f b : Option (List Transition)) → expansion e ≡ f → expand es ≡ b →

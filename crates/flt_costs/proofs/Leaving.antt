@@ -42,6 +42,7 @@ left_by : (b : Bool) (n : ℕ) → (if b then 0 else n) ≤ n
 left_by true n = omega arith
 left_by false n = omega arith
 
+-- that is at most what remains, and the end
 pub left_below : (act : Activation) → left_in act ≤ cost act.rest + 1
 left_below act = left_by act.ended (cost act.rest + 1)
 
@@ -51,6 +52,7 @@ pub record Leaves (w : World) (a n : ℕ) (acts : List Activation) : Type 0 wher
   pub acts_are : acts ≡ set w.activations a act
   pub less : left_in act ≤ n
 
+-- a greater bound is a bound
 pub leaves_more : (w : World) (a n k : ℕ) (acts : List Activation) → n ≤ k → Leaves w a n acts → Leaves w a k acts
 leaves_more w a n k acts h l = let below = l.less in record { act = l.act; acts_are = l.acts_are; less = omega arith }
 
@@ -110,6 +112,7 @@ module _ (w : World) (a n : ℕ) where
       complete_post_to None = goes _ h
       complete_post_to (Some v) = goes _ h
 
+      -- a call that always succeeds
       pub plain_to : (t : List Event) (c : PlainCall) → To (plain_step p t w a rest c)
       plain_to t (plain.DeleteContext c) = deleted_to (context_in here c)
       plain_to t (plain.ReferenceContext c d) = referenced_to d (context_in here c)
@@ -206,6 +209,7 @@ module _ (w : World) (a n : ℕ) where
     queue_to routine grant (Some (Some x)) = if_to grant _ _ (goes _ g) (goes _ r)
     queue_to routine grant None = if_to grant _ _ (goes _ g) (goes _ r)
 
+    -- a call that can fail
     pub fallible_to : (p : List Filter) (t : List Event) (grant : Bool) (c : FallibleCall) →
         To (fallible_step p t w a grant granted refused c)
     fallible_to p t grant (fallible.AllocateContext d) = allocate_to d grant

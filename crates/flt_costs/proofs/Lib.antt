@@ -4,3 +4,4 @@ mod Spending
 mod Starting
 mod Journals
 mod Starts
+mod Worked

@@ -110,6 +110,7 @@ module _ (p : List Filter) (t : List Event) (w : World) (a : ℕ) where
       let less = l.less in
       record { act = l.act; acts_are = l.acts_are; less = omega arith }
 
+  -- a step that others see
   pub board_spends : (grant : Bool) (s : Step) → board p t w a grant ≡ Some s → Spends w a s.world.activations
   board_spends grant s e =
       spent_by now.ended (cost now.rest) s (list_step p t w a now.rest grant) refl e (λ h. list_within now.rest grant s h)
@@ -122,6 +123,7 @@ module _ (p : List Filter) (t : List Event) (w : World) (a : ℕ) where
       some_within n (moved_on p t w a act) s
       (let below = left_below act in record { act = act; acts_are = refl; less = omega arith }) e
 
+  -- a local step
   pub local_spends : (s : Step) → local p t w a ≡ Some s → Spends w a s.world.activations
   local_spends s e =
       let draining = (actor_at w a).draining in

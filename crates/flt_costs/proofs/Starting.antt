@@ -21,7 +21,8 @@ pub data Comes (p : List Filter) (before later : World) : Type 0 where
   same : later.activations ≡ before.activations → Comes p before later
 
 -- the callback for something stands at a number
-body_there : (wanted : Head → Bool) (cs : List Callback) → body_for wanted cs ≡ body_at cs (position_or_len (λ (c : Callback). wanted c.head) cs)
+body_there : (wanted : Head → Bool) (cs : List Callback) →
+    body_for wanted cs ≡ body_at cs (position_or_len (λ (c : Callback). wanted c.head) cs)
 body_there wanted cs = ap body_of (find_at (λ (c : Callback). wanted c.head) cs)
 
 module _ (p : List Filter) (w : World) where
@@ -60,7 +61,8 @@ module _ (p : List Filter) (w : World) where
   pre_comes o kind Up s e = absurd (cc)
 
   skip_comes : (o : ℕ) (kind : Operation) (at : Position) (s : Step) → skip_at p w o kind at ≡ Some s → Came s
-  skip_comes o kind (Down f) s e = when_came (nat_lt f (length p) && not (calls_pre p w.store f kind)) _ s (λ k. some_came _ s (same refl) k) e
+  skip_comes o kind (Down f) s e =
+      when_came (nat_lt f (length p) && not (calls_pre p w.store f kind)) _ s (λ k. some_came _ s (same refl) k) e
   skip_comes o kind Visiting s e = absurd (cc)
   skip_comes o kind Up s e = absurd (cc)
 
@@ -128,6 +130,7 @@ module _ (p : List Filter) (w : World) where
   unlink_comes None s e = absurd (cc)
   unlink_comes (Some x) s e = some_came _ s (same refl) e
 
+  -- what a move brings
   pub make_comes : (x : Move) (s : Step) → make p w x ≡ Some s → Came s
   make_comes (Arrive kind mode file) s e = when_came (fits_mode kind mode && nat_lt file 1024) _ s (λ k. some_came _ s (same refl) k) e
   make_comes (Pre o) s e = pre_comes o (arrival_at w.store o).kind (route_at w.store o).position s e

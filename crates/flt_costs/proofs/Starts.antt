@@ -97,6 +97,7 @@ module _ (p : List Filter) (a filter callback : ℕ) where
   made_run : (m : Moment) (move : moves.Move) (s : Step) → make p m.world move ≡ Some s → run_from p m (Make move ∷ []) ≡ Some (after m s)
   made_run m move s h = ap (λ (o : Option Step). option_and_then (λ r. run_from p (after m r) []) o) h
 
+  -- where an entry starts it, the entries before give it no steps, and those after no more than its callback costs
   pub few : (entries : List JournalEntry) (m : Moment) → IsRunTo p entries m → IsStarted p entries a filter callback →
       steps_of a entries ≤ callback_cost p filter callback
   few entries m r h =
@@ -162,7 +163,8 @@ module _ (p : List Filter) (a : ℕ) where
       count_at m ≤ a → a < count_at n → StartsIn p m (Move move ∷ es) a
   move_starts m n move es e old new = by_step (make p m.world move) refl e
     where
-      by : (s : Step) → make p m.world move ≡ Some s → a < length s.world.activations → Comes p m.world s.world → StartsIn p m (Move move ∷ es) a
+      by : (s : Step) → make p m.world move ≡ Some s → a < length s.world.activations → Comes p m.world s.world →
+          StartsIn p m (Move move ∷ es) a
       by s made there (one number filter callback h) =
           let more = one_more p number filter callback m s h in
           let first = h.number_is in
@@ -185,7 +187,8 @@ module _ (p : List Filter) (a : ℕ) where
           )
       by s made there (same h) = let as_before = ap (λ (l : List Activation). length l) h in absurd (omega arith)
 
-      by_step : (o : Option Step) → make p m.world move ≡ o → option_and_then (λ s. Some (after m s)) o ≡ Some n → StartsIn p m (Move move ∷ es) a
+      by_step : (o : Option Step) → make p m.world move ≡ o → option_and_then (λ s. Some (after m s)) o ≡ Some n →
+          StartsIn p m (Move move ∷ es) a
       by_step None is h = absurd (cc)
       by_step (Some s) is h =
           let equal : after m s ≡ n = cc in
@@ -211,7 +214,8 @@ module _ (p : List Filter) (a : ℕ) where
       let as_before = ap (λ (k : Moment). count_at k) stays in
       absurd (omega arith)
   entries_start m n (e ∷ es) xs x r old new =
-      let q = parts p m n e es xs x r in by q (cases_lt a (count_at q.middle)) (λ past. entries_start q.middle n es q.back q.back_is q.then_runs past new)
+      let q = parts p m n e es xs x r in
+      by q (cases_lt a (count_at q.middle)) (λ past. entries_start q.middle n es q.back q.back_is q.then_runs past new)
     where
       by : (q : Parts p m n e es xs) → (a < count_at q.middle) ⊎ (count_at q.middle ≤ a) →
           (count_at q.middle ≤ a → StartsIn p q.middle es a) → StartsIn p m (e ∷ es) a
