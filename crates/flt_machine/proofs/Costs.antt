@@ -18,7 +18,8 @@ pub runs_to : (p : List Filter) (b : Situation) → (h : IsBoard p b) → IsRunT
 runs_to p b h = record { transitions = h.transitions; expanded = h.expanded; runs = h.runs }
 
 -- what is on the board is there at the end of that run
-pub there_then : (p : List Filter) (b : Situation) (a : ℕ) → (h : IsBoard p b) → a < length b.standings → a < length h.moment.world.activations
+pub there_then : (p : List Filter) (b : Situation) (a : ℕ) → (h : IsBoard p b) → a < length b.standings →
+    a < length h.moment.world.activations
 there_then p b a h is = subst (λ (n : ℕ). a < n) h.at.count is
 
 -- what is loaded keeps the limits
