@@ -63,7 +63,7 @@ impl Loaded {
     pub fn breaks_nothing(&self)
         ensures { (transitions : List Transition) → breaks self.now transitions ≡ None }
     {
-        let _trees = self.trees.as_slice();
+        let _trees = &self.trees;
         accepted_runs_break_nothing();
     }
 
