@@ -6,4 +6,5 @@ returns-clause-clean c = clean_board _ _ c.filters-filters.ensures.ordered c.bre
 
 pub returns-clause-legal : goal.returns-clause-legal
 returns-clause-legal c =
-    (c.legal_journals_are_clean_runs.ensures.law _ _).1 (clean_board _ _ c.filters-filters.ensures.ordered c.breaks_nothing.ensures c.requires.own)
+    (c.legal_journals_are_clean_runs.ensures.law _ _).1
+    (clean_board _ _ c.filters-filters.ensures.ordered c.breaks_nothing.ensures c.requires.own)
