@@ -1,5 +1,5 @@
 -- A board keeps its bounds: where a change is written down, and where an activation's standing is another.
-use Rattle.std.proofs.Common.{◌≡◌, ℕ, ◌+◌, ◌<◌, ◌≤◌, List, [], ◌∷◌, ◌++◌, Option, Some, None, length, ap, sym, subst, refl, ◌∙◌, inl, inr, arith}
+use Rattle.std.proofs.Common.{◌≡◌, ℕ, ◌+◌, ◌<◌, List, [], ◌∷◌, ◌++◌, Option, Some, None, length, ap, sym, subst, ◌∙◌, inl, inr, arith}
 use Rattle.std.specs.Prelude.{IfSome}
 use Rattle.std.proofs.Math.ListN.{set, get_or}
 use Rattle.std.proofs.lemmas.Bool.{cases_eq, cases_lt}
@@ -10,7 +10,7 @@ use Rattle.flt_model.specs.World.{Store}
 use Rattle.flt_store.specs.Changes.{after_change, IsPossible}
 use Rattle.flt_store.specs.declared.change.Change.{Change}
 use Rattle.flt_machine.specs.Counted.{AreAtMost, IsBounded, IsSmall}
-use Rattle.flt_machine.specs.Situations.{Situation, standing_of}
+use Rattle.flt_machine.specs.Situations.{Situation}
 use Rattle.flt_machine.proofs.Counting.{references_after, arrivals_after, items_after, queues_after}
 use Rattle.flt_machine.proofs.Small.{stays_small}
 

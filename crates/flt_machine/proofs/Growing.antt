@@ -33,7 +33,7 @@ begun_small n p start s (stands, (gained, lost)) = record {
     once (Some v) = omega arith
 
 -- as many standings come as actors
-same_number : (p : List Filter) (o : Option Start) (s : Option Standing) → Begins p o s → length (actors_by o) ≡ length (standings_by s)
+pub same_number : (p : List Filter) (o : Option Start) (s : Option Standing) → Begins p o s → length (actors_by o) ≡ length (standings_by s)
 same_number p None None begins = refl
 same_number p None (Some s) begins = absurd begins
 same_number p (Some start) None begins = absurd begins

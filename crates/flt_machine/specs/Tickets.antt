@@ -6,6 +6,7 @@ use Rattle.flt_model.specs.declared.subject.Subject.{Subject}
 use Rattle.flt_model.specs.declared.subject.Subject.TheVariants as subject
 use Rattle.flt_model.specs.Effects.{Step}
 use Rattle.flt_model.specs.Moves.{is_done, is_entry_of}
+use Rattle.flt_model.specs.Settling.{Way, Passes, Frames, Ends, Rises, Stays}
 use Rattle.flt_model.specs.World.{World, Store, Position, Down, Visiting, Up, is_detaching, presence_at, queue_at, route_at}
 
 -- ---- numbers
@@ -20,9 +21,9 @@ abbrev pub newcomer : (ℕ → Subject) → ℕ → ℕ → List Subject
 newcomer make before after = if nat_lt before after then make before ∷ [] else []
 
 -- what may be there
-abbrev pub one_of : (ℕ → Subject) → Option ℕ → List Subject
-one_of make None = []
-one_of make (Some n) = make n ∷ []
+abbrev pub one_of : Option Subject → List Subject
+one_of None = []
+one_of (Some one) = one ∷ []
 
 -- ---- operations
 
@@ -35,6 +36,14 @@ goes_on Visiting (Down g) = true
 goes_on Visiting Visiting = false
 goes_on Visiting Up = true
 goes_on Up to = false
+
+-- where an operation is once a visit of a filter is settled so
+abbrev pub lands : ℕ → Way → Position → Position
+lands f Passes from = Down (f + 1)
+lands f Frames from = Down (f + 1)
+lands f (Ends outcome) from = Up
+lands f Rises from = Up
+lands f Stays from = from
 
 -- the step has left an operation neither in a visit nor done
 abbrev pub is_left : Store → Store → ℕ → Bool
@@ -89,9 +98,8 @@ abbrev pub after_move : List ℕ → Store → Store → ℕ → ℕ → List Su
 after_move altitudes s t before after = subjects altitudes s t (newcomer subject.Activation before after)
 
 -- an activation's own step, after which it goes on or has ended
-abbrev pub after_go : {A : Type 0} → List ℕ → Store → Store → ℕ → Option A → List Subject
-after_go altitudes s t a None = subjects altitudes s t []
-after_go altitudes s t a (Some standing) = subjects altitudes s t (subject.Activation a ∷ [])
+abbrev pub after_go : List ℕ → Store → Store → ℕ → Bool → List Subject
+after_go altitudes s t a goes = subjects altitudes s t (if goes then subject.Activation a ∷ [] else [])
 
 -- a move of the machine; one that isn't enabled gives nothing
 abbrev pub by_move : List ℕ → World → Option Step → List Subject

@@ -41,6 +41,8 @@ impl Board {
         requires own { IsOwn loaded.now self.old }
         ensures own { (p : List Filter) → AreLoaded p loaded.now → IsBoard p self.old → IsBoard p self.new }
         ensures made { IfOk result (λ events. Now loaded.now self.old (λ p m. spec.Makes p self.new [] (Make step) events.list m)) }
+        ensures next { IfOk result (λ events. events.next.items ≡ tickets.after_move loaded.now.altitudes self.old.store self.new.store
+            (length self.old.standings) (length self.new.standings)) }
         ensures written { IfOk result (λ events. self.new.entries ≡ self.old.entries ++ journal_entry.Move step ∷ []) }
         ensures disabled { (result ≡ Err fault.NotEnabled) ↔ IsDisabled loaded.now self.old step }
         ensures full { (result ≡ Err fault.Full) ↔ ((IsDisabled loaded.now self.old step → ⊥) × IsFullFor self.old step) }
@@ -73,6 +75,8 @@ impl Board {
         step: Move,
     ) -> Result<Vec<Subject>, AllocError>
         requires own { IsOwn loaded.now self.now }
+        ensures { IfOk result (λ next. Now loaded.now self.now
+            (λ p m. next.items ≡ tickets.by_move loaded.now.altitudes m.world (make p m.world step))) }
     {
         let active = self.is_active_for(loaded, step);
         let Some(decision) = decide(loaded, &self.store, step, active) else {
@@ -83,22 +87,23 @@ impl Board {
             next.push(Subject::Operation(self.store.operations() as u32))?;
             return Ok(next);
         }
-        subjects_by(
+        let next = subjects_by(
             alloc,
             loaded,
             &self.store,
             decision.change,
             self.starting(&decision),
-        )
+        )?;
+        Ok(next)
     }
 
     /// The activation that a move starts.
-    fn starting(&self, decision: &Decision) -> Option<u32>
-        ensures { tickets.one_of subject.Activation result ≡ tickets.newcomer subject.Activation (length self.now.standings)
-            (length self.now.standings + length (actors_by decision.now.start)) }
+    fn starting(&self, decision: &Decision) -> Option<Subject>
+        ensures { tickets.newcomer subject.Activation (length self.now.standings)
+            (length self.now.standings + length (actors_by decision.now.start)) ≡ tickets.one_of result }
     {
         match decision.start {
-            Some(_) => Some(self.standings.len() as u32),
+            Some(_) => Some(Subject::Activation(self.standings.len() as u32)),
             None => None,
         }
     }
@@ -150,6 +155,9 @@ impl Board {
         requires possible { IsPossible self.old.store decision.now.change }
         ensures events { IfOk result (λ events.
             events.list ≡ gains_by (length self.old.standings) decision.now.start ++ frees_by decision.now.freed) }
+        ensures next { IfOk result (λ events. events.next.items ≡ tickets.subjects loaded.now.altitudes self.old.store
+            (after_change self.old.store decision.now.change) (tickets.newcomer subject.Activation (length self.old.standings)
+            (length self.old.standings + length (actors_by decision.now.start)))) }
         ensures made { OnOk result (HasMoved self.old self.new step decision.now) }
         ensures refused { OnErr result (self.new ≡ self.old) }
     {

@@ -3,7 +3,7 @@
 ghost use Rattle.std.specs.Prelude.{◌≡◌, ℕ, ◌+◌, ◌≤◌, ◌&&◌, ◌++◌, true, false, not, nat_lt, length, map, get_or, Option, OnOk, IfOk};
 ghost use Rattle.std.specs.List.{list_any};
 ghost use Rattle.flt_machine.specs.Tickets as spec;
-ghost use Rattle.flt_model.specs.Moves.{is_entry_of};
+ghost use Rattle.flt_model.specs.Moves.{is_entry_of, is_up};
 ghost use Rattle.flt_model.specs.World as machine;
 ghost use Rattle.flt_model.specs.declared.subject.Subject.TheVariants as subject;
 ghost use Rattle.flt_ops.specs.Parts.{position_of, way_of};
@@ -21,43 +21,48 @@ pub(crate) fn subjects_by(
     loaded: &Loaded,
     store: &Store,
     change: Change,
-    activation: Option<u32>,
+    activation: Option<Subject>,
 ) -> Result<Vec<Subject>, AllocError>
     requires possible { IsPossible store.now change }
     requires few { length store.now.arrivals ≤ 65536 }
     requires items { length store.now.items ≤ 1000000 }
     requires queues { length store.now.queues ≡ length store.now.presences }
+    ensures { IfOk result (λ next. next.items ≡ spec.subjects loaded.now.altitudes store.now (after_change store.now change)
+        (spec.one_of activation)) }
 {
     let mut next = Vec::new(alloc);
-    if let Some(serial) = operation_by(store, change) {
-        next.push(Subject::Operation(serial))?;
-    }
-    if let Some(activation) = activation {
-        next.push(Subject::Activation(activation))?;
-    }
-    if matches!(change, Change::Queue(..)) {
-        next.push(Subject::Item(store.items() as u32))?;
-    }
+    push_one(operation_by(store, change), &mut next)?;
+    push_one(activation, &mut next)?;
+    push_one(item_by(store, change), &mut next)?;
     push_entries(alloc, loaded, store, change, &mut next)?;
-    if let Some(altitude) = teardown_by(loaded, change) {
-        next.push(Subject::Detach(altitude))?;
-    }
+    push_one(teardown_by(loaded, change), &mut next)?;
     Ok(next)
 }
 
+/// What may be there.
+fn push_one(one: Option<Subject>, next: &mut Vec<Subject>) -> Result<(), AllocError>
+    ensures { OnOk result (next.new.items ≡ next.old.items ++ spec.one_of one) }
+{
+    if let Some(one) = one {
+        next.push(one)?;
+    }
+    Ok(())
+}
+
 /// The operation that a change leaves neither in a visit nor done.
-fn operation_by(store: &Store, change: Change) -> Option<u32>
+fn operation_by(store: &Store, change: Change) -> Option<Subject>
     requires possible { IsPossible store.now change }
     requires few { length store.now.arrivals ≤ 65536 }
+    ensures { spec.operations store.now (after_change store.now change) ≡ spec.one_of result }
 {
     match change {
-        Change::Arrive(..) => Some(store.operations() as u32),
-        Change::Skip(serial, _) => Some(serial),
+        Change::Arrive(..) => Some(Subject::Operation(store.operations() as u32)),
+        Change::Skip(serial, _) => Some(Subject::Operation(serial)),
         Change::Lower(serial) => {
             if store.is_spent(serial) {
                 None
             } else {
-                Some(serial)
+                Some(Subject::Operation(serial))
             }
         }
         Change::Settle(visit, _, way) => settled_operation(store, visit, way),
@@ -65,30 +70,45 @@ fn operation_by(store: &Store, change: Change) -> Option<u32>
     }
 }
 
+/// The work item that a change queues.
+fn item_by(store: &Store, change: Change) -> Option<Subject>
+    requires items { length store.now.items ≤ 1000000 }
+    ensures { spec.newcomer subject.Item (length store.now.items) (length (after_change store.now change).items) ≡ spec.one_of result }
+{
+    match change {
+        Change::Queue(..) => Some(Subject::Item(store.items() as u32)),
+        _ => None,
+    }
+}
+
 /// The operation of a visit, where settling it so leaves that operation neither in a visit nor done.
-fn settled_operation(store: &Store, visit: usize, way: Way) -> Option<u32>
+fn settled_operation(store: &Store, visit: usize, way: Way) -> Option<Subject>
+    ensures { (x : Option ℕ) → spec.operations store.now (after_change store.now (change.Settle visit x way)) ≡ spec.one_of result }
 {
     if !store.is_led(visit) {
         return None;
     }
     let seen = store.visit(visit);
-    let serial = seen.operation;
+    let from = store.position(seen.operation);
+    let spent = store.is_spent_after(seen.operation, visit);
+    if leads_on(from, seen.filter, way, spent) {
+        Some(Subject::Operation(seen.operation))
+    } else {
+        None
+    }
+}
+
+/// Whether an operation there goes on that is led so from a filter, and isn't over: it is once it is up, where it is spent.
+fn leads_on(from: Position, filter: usize, way: Way, spent: bool) -> bool
+    ensures { result ≡ (spec.goes_on (position_of from) (spec.lands filter (way_of way) (position_of from))
+        && not (is_up (spec.lands filter (way_of way) (position_of from)) && spent)) }
+{
     match way {
-        Way::Stays => None,
-        Way::Passes | Way::Frames => {
-            if goes_below(store.position(serial), seen.filter) {
-                Some(serial)
-            } else {
-                None
-            }
-        }
-        Way::Ends(_) | Way::Rises => {
-            if goes_up(store.position(serial)) && !store.is_spent_after(serial, visit) {
-                Some(serial)
-            } else {
-                None
-            }
-        }
+        Way::Passes => goes_below(from, filter),
+        Way::Frames => goes_below(from, filter),
+        Way::Ends(_) => goes_up(from) && !spent,
+        Way::Rises => goes_up(from) && !spent,
+        Way::Stays => false,
     }
 }
 
@@ -121,6 +141,8 @@ fn push_entries(
     requires possible { IsPossible store.now change }
     requires few { length store.now.arrivals ≤ 65536 }
     requires queues { length store.now.queues ≡ length store.now.presences }
+    ensures { OnOk result (next.new.items ≡ next.old.items
+        ++ spec.by_altitude (spec.entries_of store.now (after_change store.now change)) 0 loaded.now.altitudes) }
 {
     match change {
         Change::Cancel(serial) => push_cancelled(loaded, store, serial, next),
@@ -130,10 +152,26 @@ fn push_entries(
     }
 }
 
-/// Whether an entry of an operation that is there stands in a filter's queue.
-fn has_entry(store: &Store, filter: usize, serial: u32) -> bool
+/// Whether an entry of an operation stands in a filter's queue.
+fn stands(store: &Store, filter: usize, serial: u32) -> bool
+    ensures { result ≡ list_any (is_entry_of store.now serial) (machine.queue_at store.now filter) }
 {
-    (serial as usize) < store.operations() && store.first_entry(filter, serial).is_some()
+    store.first_entry(filter, serial).is_some()
+}
+
+/// Whether there is an operation of the number.
+fn is_there(store: &Store, serial: u32) -> bool
+    ensures { result ≡ nat_lt serial (length store.now.arrivals) }
+{
+    (serial as usize) < store.operations()
+}
+
+/// Whether a filter gets an entry of an operation that is cancelled.
+fn is_cancelled_at(store: &Store, filter: usize, serial: u32) -> bool
+    ensures { result ≡ ((nat_lt serial (length store.now.arrivals) && list_any (is_entry_of store.now serial) (machine.queue_at store.now filter))
+        && not (machine.is_detaching (machine.presence_at store.now filter))) }
+{
+    is_there(store, serial) && stands(store, filter, serial) && !store.is_detaching(filter)
 }
 
 /// The entries of an operation that is cancelled, but where the filter is being detached.
@@ -144,12 +182,14 @@ fn push_cancelled(
     next: &mut Vec<Subject>,
 ) -> Result<(), AllocError>
     requires possible { IsPossible store.now (change.Cancel serial) }
+    ensures { OnOk result (next.new.items ≡ next.old.items
+        ++ spec.by_altitude (spec.entries_of store.now (after_change store.now (change.Cancel serial))) 0 loaded.now.altitudes) }
 {
     let altitudes = loaded.altitudes.as_slice();
     let mut filter = altitudes.len();
     while filter > 0 {
         filter -= 1;
-        if has_entry(store, filter, serial) && !store.is_detaching(filter) {
+        if is_cancelled_at(store, filter, serial) {
             next.push(Subject::Entry {
                 altitude: altitudes[filter],
                 serial,
@@ -157,6 +197,14 @@ fn push_cancelled(
         }
     }
     Ok(())
+}
+
+/// Whether an operation is cancelled, and no entry of it stands in a filter's queue.
+fn is_new(store: &Store, filter: usize, serial: u32) -> bool
+    ensures { result ≡ (nat_lt serial (length store.now.arrivals) && ((machine.route_at store.now serial).cancelled
+        && not (list_any (is_entry_of store.now serial) (machine.queue_at store.now filter)))) }
+{
+    is_there(store, serial) && store.cancelled(serial) && !stands(store, filter, serial)
 }
 
 /// An entry that comes to a queue where its operation is cancelled already, unless one of that operation stands there.
@@ -169,18 +217,18 @@ fn push_inserted(
 ) -> Result<(), AllocError>
     requires possible { machine.is_attached (machine.presence_at store.now filter) ≡ true }
     requires queues { length store.now.queues ≡ length store.now.presences }
+    ensures { (x : Option ℕ) → OnOk result (next.new.items ≡ next.old.items
+        ++ spec.by_altitude (spec.entries_of store.now (after_change store.now (change.Insert filter visit x))) 0 loaded.now.altitudes) }
 {
     let serial = store.visit(visit).operation;
-    if (serial as usize) < store.operations()
-        && store.cancelled(serial)
-        && store.first_entry(filter, serial).is_none()
-    {
-        if let Some(altitude) = loaded.altitudes.get(filter) {
-            next.push(Subject::Entry {
-                altitude: *altitude,
-                serial,
-            })?;
-        }
+    if !is_new(store, filter, serial) {
+        return Ok(());
+    }
+    if let Some(altitude) = loaded.altitudes.get(filter) {
+        next.push(Subject::Entry {
+            altitude: *altitude,
+            serial,
+        })?;
     }
     Ok(())
 }
@@ -195,6 +243,8 @@ fn push_detached(
 ) -> Result<(), AllocError>
     requires possible { machine.is_attached (machine.presence_at store.now filter) ≡ true }
     requires few { length store.now.arrivals ≤ 65536 }
+    ensures { OnOk result (next.new.items ≡ next.old.items
+        ++ spec.by_altitude (spec.entries_of store.now (after_change store.now (change.Detach filter))) 0 loaded.now.altitudes) }
 {
     let Some(altitude) = loaded.altitudes.get(filter) else {
         return Ok(());
@@ -211,6 +261,8 @@ fn push_marked(
     next: &mut Vec<Subject>,
 ) -> Result<(), AllocError>
     requires few { length marks.now ≤ 65536 }
+    ensures { OnOk result (next.new.items ≡ next.old.items ++ map (subject.Entry altitude)
+        (spec.passing (λ o. get_or marks.now o false && not (machine.route_at store.now o).cancelled) (length marks.now))) }
 {
     let mut serial = 0;
     while serial < marks.len() {
@@ -225,11 +277,16 @@ fn push_marked(
     Ok(())
 }
 
-/// The filter whose teardown a change begins, by its altitude.
-fn teardown_by(loaded: &Loaded, change: Change) -> Option<u32>
+/// The teardown that a change begins.
+fn teardown_by(loaded: &Loaded, change: Change) -> Option<Subject>
+    ensures { (s : machine.Store) → IsPossible s change →
+        spec.by_altitude (spec.teardown_of s (after_change s change)) 0 loaded.now.altitudes ≡ spec.one_of result }
 {
     match change {
-        Change::Detach(filter) => loaded.altitudes.get(filter).copied(),
+        Change::Detach(filter) => match loaded.altitudes.get(filter) {
+            Some(altitude) => Some(Subject::Detach(*altitude)),
+            None => None,
+        },
         _ => None,
     }
 }

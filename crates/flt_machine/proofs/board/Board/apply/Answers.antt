@@ -2,6 +2,7 @@
 use Rattle.std.proofs.Common.{rules, ◌≡◌, Err, Some, None, refl}
 use Rattle.flt_machine.specs.declared.fault.ApplyFault.TheVariants as fault
 use Rattle.flt_machine.proofs.Decided.{decided_now, disabled_now, not_disabled, makes_now, own_now}
+use Rattle.flt_machine.proofs.Given.{moved_next}
 use Rattle.flt_machine.proofs.board.Board.apply.Goals as goal
 
 pub returns-in_default-clause-full : goal.returns-in_default-clause-full
@@ -58,3 +59,7 @@ returns-clause-disabled c =
     decided_now c.args.loaded.now _ c.args.self.now c.args.step c.is_active_for-active.result (Some c.in-Some.decision) c.self.view_is c.is_active_for-active.ensures
     c.in-Some.ensures.decided in
     (λ same. absurd (cc), λ disabled. absurd (not_disabled c.args.loaded.now c.args.self.now c.args.step c.in-Some.decision c.requires.own decides disabled))
+
+pub returns-clause-next : goal.returns-clause-next
+returns-clause-next c =
+    moved_next c.args.loaded.now.altitudes c.args.self.now _ c.args.step c.in-Some.decision c.in_ok-events.events.next.items c.in_ok-events.ensures.made c.in_ok-events.ensures.next
