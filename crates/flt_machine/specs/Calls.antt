@@ -27,7 +27,7 @@ use Rattle.flt_model.specs.Locks.{holders_of, is_free_for}
 use Rattle.flt_model.specs.Runs.{Moment, after, next, run_from}
 use Rattle.flt_model.specs.Steps.{Transition, Make, Local, Board}
 use Rattle.flt_model.specs.World.{Store, activation_at}
-use Rattle.flt_machine.specs.Situations.{Situation, IsAt, IsBoard, Now, actor_of, standing_of}
+use Rattle.flt_machine.specs.Situations.{Situation, IsAt, Now, actor_of, standing_of}
 
 -- transitions lead from where one board stands to where another stands, the last with these events
 pub record Makes (p : List Filter) (later : Situation) (before : List Transition) (last : Transition) (events : List Event) (m : Moment) : Type 0 where
