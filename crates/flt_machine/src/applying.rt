@@ -23,11 +23,11 @@ use crate::events::{Events, events_of};
 use crate::fault::ApplyFault;
 use crate::kept::Kept;
 use crate::tickets::subjects_by;
+use crate::writing::write;
 use flt_dispatch::{Decision, Start, decide};
 use flt_frame::{Loaded, Standing};
-use flt_model::{Journal, JournalEntry, Move, Subject};
+use flt_model::{JournalEntry, Move, Subject};
 use flt_ops::MAX_OPERATIONS;
-use flt_store::{Change, Store};
 use std::alloc::{AllocError, Global};
 
 impl Board {
@@ -171,7 +171,12 @@ impl Board {
         let list = events_of(alloc, self.standings.len(), decision)?;
         match decision.start {
             Some(start) => self.start(alloc, step, decision, start)?,
-            None => write(&mut self.journal, &mut self.store, step, decision.change)?,
+            None => write(
+                &mut self.journal,
+                &mut self.store,
+                JournalEntry::Move(step),
+                decision.change,
+            )?,
         }
         Ok(Events { list, next })
     }
@@ -193,7 +198,12 @@ impl Board {
         self.actors.reserve(1)?;
         self.standings.reserve(1)?;
         let kept = Kept::new(alloc, standing_of(start))?;
-        write(&mut self.journal, &mut self.store, step, decision.change)?;
+        write(
+            &mut self.journal,
+            &mut self.store,
+            JournalEntry::Move(step),
+            decision.change,
+        )?;
         self.actors.push_reserved(Actor {
             filter: start.filter,
             place: start.place,
@@ -202,26 +212,6 @@ impl Board {
         self.standings.push_reserved(Some(kept));
         Ok(())
     }
-}
-
-/// What a move changes of what activations share, with its entry.
-fn write(
-    journal: &mut Journal,
-    store: &mut Store,
-    step: Move,
-    change: Change,
-) -> Result<(), AllocError>
-    requires { IsPossible store.old change }
-    ensures entry { OnOk result (journal.new ≡ journal.old ++ journal_entry.Move step ∷ []) }
-    ensures change { OnOk result (store.new ≡ after_change store.old change) }
-    ensures refused { OnErr result ((journal.new ≡ journal.old) × (store.new ≡ store.old)) }
-{
-    journal.push(JournalEntry::Move(step))?;
-    if let Err(refused) = store.perform(change) {
-        journal.pop();
-        return Err(refused);
-    }
-    Ok(())
 }
 
 /// How far an activation that starts has come. It has gained the visit that it is given.

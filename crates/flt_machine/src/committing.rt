@@ -24,6 +24,7 @@ use crate::board::{Board, MAX_ENTRIES};
 use crate::events::Events;
 use crate::kept::Kept;
 use crate::tickets::subjects_by;
+use crate::writing::write;
 use flt_calls::{Caller, Plan, Write, continued, plan_step};
 use flt_frame::{Advanced, Loaded, Standing, standings_have_points};
 use flt_graph::Instruction;
@@ -186,11 +187,7 @@ impl Board {
             record self.old { store = after_change self.old.store change; entries = self.old.entries ++ entry ∷ [] }) }
         ensures refused { OnErr result (self.new ≡ self.old) }
     {
-        self.journal.push(entry)?;
-        if let Err(refused) = self.store.perform(change) {
-            self.journal.pop();
-            return Err(refused);
-        }
+        write(&mut self.journal, &mut self.store, entry, change)?;
         Ok(())
     }
 

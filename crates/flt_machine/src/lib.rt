@@ -12,6 +12,7 @@ mod events;
 mod fault;
 mod kept;
 mod tickets;
+mod writing;
 
 pub use board::{Board, MAX_ENTRIES};
 pub use committing::Commit;

@@ -168,7 +168,8 @@ fn is_there(store: &Store, serial: u32) -> bool
 
 /// Whether a filter gets an entry of an operation that is cancelled.
 fn is_cancelled_at(store: &Store, filter: usize, serial: u32) -> bool
-    ensures { result ≡ ((nat_lt serial (length store.now.arrivals) && list_any (is_entry_of store.now serial) (machine.queue_at store.now filter))
+    ensures { result ≡ ((nat_lt serial (length store.now.arrivals)
+        && list_any (is_entry_of store.now serial) (machine.queue_at store.now filter))
         && not (machine.is_detaching (machine.presence_at store.now filter))) }
 {
     is_there(store, serial) && stands(store, filter, serial) && !store.is_detaching(filter)
