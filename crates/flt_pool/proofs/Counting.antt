@@ -25,7 +25,8 @@ taken_weigh ticket [] = refl
 taken_weigh ticket (v ∷ views) = omega (arith, times_weigh ticket v.taken, taken_weigh ticket views)
 
 pub none_taken_twice : NoneIsTakenTwice
-none_taken_twice left hands balanced ticket = omega (arith, put_weigh ticket hands, taken_weigh ticket hands, times_weigh ticket left, balanced (one_for ticket))
+none_taken_twice left hands balanced ticket =
+    omega (arith, put_weigh ticket hands, taken_weigh ticket hands, times_weigh ticket left, balanced (one_for ticket))
 
 both : (a b : Bool) → (a && b) ≡ true → (a ≡ true) × (b ≡ true)
 both true b e = (refl, e)

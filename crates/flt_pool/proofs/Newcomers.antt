@@ -1,11 +1,13 @@
 -- The hands of a new seat.
-use Rattle.std.proofs.Common.{◌≡◌, List, ◌∷◌, All}
+use Rattle.std.proofs.Common.{◌≡◌, List, ◌∷◌}
 use Rattle.std.proofs.lemmas.List.Elements.{All-cons}
-use Rattle.flt_pool.specs.Hands.{newcomer}
+use Rattle.flt_pool.specs.Hands.{AreNewcomers, newcomer}
 use Rattle.flt_pool.specs.declared.hand.Hand.{Hand}
 
-abbrev pub IsNew : Hand → Type 0
-IsNew v = v ≡ newcomer
+abbrev is_new : Hand → Type 0
+is_new v = v ≡ newcomer
 
-pub all_new : (own inlet : Hand) (ways : List Hand) → IsNew own → IsNew inlet → All IsNew ways → All IsNew (own ∷ inlet ∷ ways)
-all_new own inlet ways e f h = All-cons IsNew own (inlet ∷ ways) e (All-cons IsNew inlet ways f h)
+-- nothing went through a seat whose deque, pass and ways are new
+pub all_new : (own inlet : Hand) (ways : List Hand) → own ≡ newcomer → inlet ≡ newcomer → AreNewcomers ways
+    → AreNewcomers (own ∷ inlet ∷ ways)
+all_new own inlet ways e f h = All-cons is_new own (inlet ∷ ways) e (All-cons is_new inlet ways f h)

@@ -13,14 +13,18 @@ weigh-append h [] ys = omega arith
 weigh-append h (x ∷ xs) ys = omega (arith, weigh-append h xs ys)
 
 -- where one hand becomes another, the sums change by what it had and what it has
-put_set : (h : Subject → ℕ) (views : List Hand) (port : ℕ) (v w : Hand) → get_elem? views port ≡ some v → weigh_put h (set views port w) + weigh h v.put ≡ weigh_put h views + weigh h w.put
+put_set : (h : Subject → ℕ) (views : List Hand) (port : ℕ) (v w : Hand) → get_elem? views port ≡ some v
+    → weigh_put h (set views port w) + weigh h v.put ≡ weigh_put h views + weigh h w.put
 put_set h [] port v w at = absurd (some-ne-none v (sym at))
-put_set h (u ∷ us) zero v w at = let e : weigh h u.put ≡ weigh h v.put = ap (λ (x : Hand). weigh h x.put) (some-injective u v at) in omega arith
+put_set h (u ∷ us) zero v w at =
+    let e : weigh h u.put ≡ weigh h v.put = ap (λ (x : Hand). weigh h x.put) (some-injective u v at) in omega arith
 put_set h (u ∷ us) (suc port) v w at = omega (arith, put_set h us port v w at)
 
-taken_set : (h : Subject → ℕ) (views : List Hand) (port : ℕ) (v w : Hand) → get_elem? views port ≡ some v → weigh_taken h (set views port w) + weigh h v.taken ≡ weigh_taken h views + weigh h w.taken
+taken_set : (h : Subject → ℕ) (views : List Hand) (port : ℕ) (v w : Hand) → get_elem? views port ≡ some v
+    → weigh_taken h (set views port w) + weigh h v.taken ≡ weigh_taken h views + weigh h w.taken
 taken_set h [] port v w at = absurd (some-ne-none v (sym at))
-taken_set h (u ∷ us) zero v w at = let e : weigh h u.taken ≡ weigh h v.taken = ap (λ (x : Hand). weigh h x.taken) (some-injective u v at) in omega arith
+taken_set h (u ∷ us) zero v w at =
+    let e : weigh h u.taken ≡ weigh h v.taken = ap (λ (x : Hand). weigh h x.taken) (some-injective u v at) in omega arith
 taken_set h (u ∷ us) (suc port) v w at = omega (arith, taken_set h us port v w at)
 
 -- a newcomer adds nothing
@@ -60,6 +64,13 @@ takes port v xs items views _ _ b at = let w : Hand = record { put = v.put; take
 pub pops : (port : ℕ) (v : Hand) → Pops Balanced port v (HasTaken v)
 pops port v x items views b at = let w : Hand = record { put = v.put; taken = v.taken ++ x ∷ [] } in (
   w,
-  (λ h. omega (arith, put_set h views port v w at, taken_set h views port v w at, b h, weigh-append h v.taken (x ∷ []), weigh-append h items (x ∷ []))),
+  (λ h. omega (
+    arith,
+    put_set h views port v w at,
+    taken_set h views port v w at,
+    b h,
+    weigh-append h v.taken (x ∷ []),
+    weigh-append h items (x ∷ []),
+  )),
   refl,
 )

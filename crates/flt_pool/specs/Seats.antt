@@ -47,7 +47,7 @@ IsPutSeatOf pool seat = IsInjectorPassOf pool.inlet seat.pass
 abbrev pub IsTakeSeatOf : Pool → TakeSeat → Type 0
 IsTakeSeatOf pool seat = IsInjectorPassOf pool.inlet seat.pass
 
--- what tells one deque from another: two numbers that no two deques share, and where it takes its memory
+-- what contracts name a deque by: two numbers, and where it takes its memory
 abbrev pub DequeId : Type 0
 DequeId = (ℕ × ℕ) × Global
 

@@ -1,7 +1,7 @@
 //! Opening a pool: its seats, and the ways between the deques.
 ghost use Rattle.std.specs.Prelude.{◌≡◌, ◌<◌, ◌+◌, ◌++◌, All, IfOk, OnOk, drop, length, map, take};
 ghost use Rattle.crossbeam_deque.specs.Handles.{stealer_deque, worker_deque, worker_view};
-ghost use Rattle.flt_pool.specs.Hands.{newcomer};
+ghost use Rattle.flt_pool.specs.Hands.{AreNewcomers, newcomer};
 ghost use Rattle.flt_pool.specs.Seats.{deque_of, hands, hands_of_ways, IsPutSeatOf, IsTakeSeatOf, put_hand, reached, ReachesOthers};
 
 use crate::OutOfMemory;
@@ -38,7 +38,7 @@ pub(crate) fn take_seats(
     count: usize,
 ) -> Result<Vec<TakeSeat>, OutOfMemory>
     ensures count { IfOk result (λ seats. length seats.items ≡ count) }
-    ensures seats { IfOk result (λ seats. All (λ seat. IsTakeSeatOf pool.now seat × All (λ v. v ≡ newcomer) (hands seat)) seats.items) }
+    ensures seats { IfOk result (λ seats. All (λ seat. IsTakeSeatOf pool.now seat × AreNewcomers (hands seat)) seats.items) }
     ensures ways { IfOk result (λ seats. All (ReachesOthers (map deque_of seats.items)) seats.items) }
 {
     let (mut deques, thieves) = empty_deques(alloc, count)?;
@@ -70,8 +70,9 @@ fn empty_deques(alloc: Global, count: usize) -> Result<(VecDeque<Deque>, Vec<Thi
 /// A way to each of these deques but the one at the place.
 fn ways_past(alloc: Global, thieves: &[Thief], place: usize) -> Result<Vec<Way>, OutOfMemory>
     requires { place < length thieves.now }
-    ensures deques { IfOk result (λ ways. reached ways.items ≡ take place (map stealer_deque thieves.now) ++ drop (place + 1) (map stealer_deque thieves.now)) }
-    ensures hands { IfOk result (λ ways. All (λ v. v ≡ newcomer) (hands_of_ways ways.items)) }
+    ensures deques { IfOk result (λ ways. reached ways.items
+        ≡ take place (map stealer_deque thieves.now) ++ drop (place + 1) (map stealer_deque thieves.now)) }
+    ensures hands { IfOk result (λ ways. AreNewcomers (hands_of_ways ways.items)) }
 {
     let mut ways = Vec::with_capacity(alloc, thieves.len())?;
     add_ways(&mut ways, &thieves[..place])?;
@@ -82,7 +83,7 @@ fn ways_past(alloc: Global, thieves: &[Thief], place: usize) -> Result<Vec<Way>,
 /// Adds a way to each of these deques.
 fn add_ways(ways: &mut Vec<Way>, thieves: &[Thief]) -> Result<(), OutOfMemory>
     ensures deques { OnOk result (reached ways.new.items ≡ reached ways.old.items ++ map stealer_deque thieves.now) }
-    ensures hands { OnOk result (All (λ v. v ≡ newcomer) (hands_of_ways ways.old.items) → All (λ v. v ≡ newcomer) (hands_of_ways ways.new.items)) }
+    ensures hands { OnOk result (AreNewcomers (hands_of_ways ways.old.items) → AreNewcomers (hands_of_ways ways.new.items)) }
 {
     for thief in thieves {
         ways.push(Way::new(thief.clone()?))?;

@@ -1,7 +1,7 @@
 //! The pool: opening it, putting and taking.
 ghost use Rattle.std.specs.Prelude.{◌≡◌, ◌≤◌, All, IfErr, IfNone, IfOk, IfSome, OnOk, length, map};
 ghost use Rattle.crossbeam_deque.specs.Injected.{injector_view, IsInjectorPassOf};
-ghost use Rattle.flt_pool.specs.Hands.{having_put, having_taken, newcomer};
+ghost use Rattle.flt_pool.specs.Hands.{AreNewcomers, having_put, having_taken, newcomer};
 ghost use Rattle.flt_pool.specs.Seats.{deque_of, hands, IsPutSeatOf, IsTakenOf, IsTakeSeatOf, put_hand, reached, ReachesOthers};
 
 use crate::opening::{put_seats, take_seats};
@@ -35,7 +35,7 @@ impl Pool {
         requires workers { (1 ≤ workers) × (workers ≤ 16) }
         ensures counts { IfOk result (λ opened. (length opened.1.items ≡ callers) × (length opened.2.items ≡ workers)) }
         ensures callers { IfOk result (λ opened. All (λ seat. IsPutSeatOf opened.0 seat × (put_hand seat ≡ newcomer)) opened.1.items) }
-        ensures workers { IfOk result (λ opened. All (λ seat. IsTakeSeatOf opened.0 seat × All (λ v. v ≡ newcomer) (hands seat)) opened.2.items) }
+        ensures workers { IfOk result (λ opened. All (λ seat. IsTakeSeatOf opened.0 seat × AreNewcomers (hands seat)) opened.2.items) }
         ensures ways { IfOk result (λ opened. All (ReachesOthers (map deque_of opened.2.items)) opened.2.items) }
     {
         let (inlet, _) = Inlet::new_as(alloc)?;
@@ -45,7 +45,7 @@ impl Pool {
         Ok((pool, put_seats, take_seats))
     }
 
-    /// Puts a ticket into the injector. Where there is no memory for it, it comes back.
+    /// Puts a ticket into the injector. It comes back where there is no memory for it, or after nearly 2^62 tickets.
     pub fn put<R: Wait>(&self, rt: &R, seat: &mut PutSeat, ticket: Ticket) -> Result<(), Ticket>
         requires { IsPutSeatOf self.now seat.old }
         ensures seat { IsPutSeatOf self.now seat.new }
@@ -56,8 +56,9 @@ impl Pool {
         self.inlet.push_as::<Puts, R>(rt, &mut seat.pass, ticket)
     }
 
-    /// Takes a ticket: of the seat's own deque, where there is none of the injector, and where there is none of another worker's deque,
-    /// the front one each time. It answers none only once it has found each of them empty.
+    /// Takes the front ticket of the seat's own deque; where that is empty, of the injector; and where that is empty too, of the first of
+    /// the others' deques that isn't, in the order of the workers. It answers none only once it has found each of them empty, though
+    /// not all at one moment.
     pub fn take<R: Wait>(&self, rt: &R, seat: &mut TakeSeat) -> Option<Ticket>
         requires { IsTakeSeatOf self.now seat.old }
         ensures seat { IsTakeSeatOf self.now seat.new }

@@ -26,8 +26,8 @@ pub struct TakeSeat {
 }
 
 impl TakeSeat {
-    /// Puts a ticket at the back of the seat's own deque. It waits for nobody. Where there is no memory for the ticket, which is never
-    /// so for the first 64 of a seat, the ticket comes back.
+    /// Puts a ticket at the back of the seat's own deque. It waits for nobody. The ticket comes back where there is no memory for it, which
+    /// the first 64 tickets of a seat don't need, or after 2^62 tickets.
     pub fn push(&mut self, ticket: Ticket) -> Result<(), Ticket>
         ensures pushed { OnOk result (hands self.new ≡ having_put ticket (own_hand self.old) ∷ other_hands self.old) }
         ensures back { IfErr result (λ t. t ≡ ticket) }

@@ -3,11 +3,11 @@ use Rattle.std.proofs.lemmas.List.{append_assoc, append-nil, length-map, nil_fro
 use Rattle.std.proofs.lemmas.List.Elements.{All-tail}
 use Rattle.crossbeam_deque.specs.Handles.{stealer_deque, worker_deque, worker_view}
 use Rattle.crossbeam_deque.specs.Injected.{injector_view}
-use Rattle.flt_pool.specs.Hands.{newcomer}
+use Rattle.flt_pool.specs.Hands.{AreNewcomers, newcomer}
 use Rattle.flt_pool.specs.Seats.{deque_of, hands, hands_of_ways, IsTakeSeatOf, ReachesOthers, DequeId}
 use Rattle.flt_pool.specs.declared.deque.Deque.{Deque}
 use Rattle.flt_pool.specs.declared.seats.TakeSeat.{TakeSeat}
-use Rattle.flt_pool.proofs.Newcomers.{IsNew, all_new}
+use Rattle.flt_pool.proofs.Newcomers.{all_new}
 use Rattle.flt_pool.proofs.Pushes.{longer, all_more, map_more}
 use Rattle.flt_pool.proofs.Splits.{without}
 use Rattle.flt_pool.proofs.opening.take_seats.Goals as goal
@@ -35,13 +35,14 @@ loop-deque-preserved c =
     ∙ without earlier later (id_of deque) c.len.result _ place (ap (map stealer_deque) c.as_slice.ensures.value ∙ split) in (
       omega (arith, longer _ _ _ more, ap (λ (ds : List Deque). length ds) front, c.loop-deque.invariant.0),
       All-tail IsFresh deque rest fresh,
-      all_more _ _ _ more (λ (seat : TakeSeat). IsTakeSeatOf c.args.pool.now seat × All IsNew (hands seat))
+      all_more _ _ _ more (λ (seat : TakeSeat). IsTakeSeatOf c.args.pool.now seat × AreNewcomers (hands seat))
           c.loop-deque.invariant.2 (
             c.pass-pass.ensures.0,
             all_new (worker_view deque.owner) (injector_view c.pass-pass.result) (hands_of_ways c.in_ok-ways.ways.items)
                 (fresh 0 deque (omega arith)) c.pass-pass.ensures.1 c.in_ok-ways.ensures.hands,
           ),
-      split ∙ sym (append_assoc earlier (id_of deque ∷ []) later) ∙ ap (λ (xs : List DequeId). xs ++ later) (sym (map_more _ _ _ more deque_of)),
+      split ∙ sym (append_assoc earlier (id_of deque ∷ []) later)
+          ∙ ap (λ (xs : List DequeId). xs ++ later) (sym (map_more _ _ _ more deque_of)),
       all_more _ _ _ more (ReachesOthers ids) c.loop-deque.invariant.4 (earlier, later, split, reaches),
     )
 

@@ -17,13 +17,16 @@ returns-in-Some-clause-some g c =
 
 pub returns-in-Some-clause-deques : goal.returns-in-Some-clause-deques
 returns-in-Some-clause-deques g c =
-    map-set_same (λ (way : Way). stealer_deque way.thief) c.loop-k.ways c.loop-k.k c.steal.new.self c.index-ways-k.result c.in-Some.ensures.deque
+    map-set_same (λ (way : Way). stealer_deque way.thief) c.loop-k.ways c.loop-k.k c.steal.new.self c.index-ways-k.result
+    c.in-Some.ensures.deque
     ∙ c.loop-k.invariant.2
 
 pub loop-k-preserved : goal.loop-k-preserved
 loop-k-preserved g c =
     let d = c.index-ways-k.result in (
       length-set c.loop-k.ways c.loop-k.k c.steal.new.self ∙ c.loop-k.invariant.0,
-      map-set_same (λ (way : Way). view way.pass) c.loop-k.ways c.loop-k.k c.steal.new.self d c.in_default.ensures.none ∙ c.loop-k.invariant.1,
-      map-set_same (λ (way : Way). stealer_deque way.thief) c.loop-k.ways c.loop-k.k c.steal.new.self d c.in_default.ensures.deque ∙ c.loop-k.invariant.2,
+      map-set_same (λ (way : Way). view way.pass) c.loop-k.ways c.loop-k.k c.steal.new.self d c.in_default.ensures.none
+          ∙ c.loop-k.invariant.1,
+      map-set_same (λ (way : Way). stealer_deque way.thief) c.loop-k.ways c.loop-k.k c.steal.new.self d c.in_default.ensures.deque
+          ∙ c.loop-k.invariant.2,
     )

@@ -11,15 +11,17 @@ pub returns-in-Some-clause-taken : goal.returns-in-Some-clause-taken
 returns-in-Some-clause-taken g c = at_first _ _ _ _ c.in-Some.ensures.some
 
 pub returns-in-Some-take_out-clause-taken : goal.returns-in-Some-take_out-clause-taken
-returns-in-Some-take_out-clause-taken g c = at_another _ _ _ _ _ c.in_default.ensures.none (at_first _ _ _ _ c.in-Some-take_out.ensures.some)
+returns-in-Some-take_out-clause-taken g c =
+    at_another _ _ _ _ _ c.in_default.ensures.none (at_first _ _ _ _ c.in-Some-take_out.ensures.some)
 
 pub returns-clause-taken : goal.returns-clause-taken
 returns-clause-taken g c =
     let ways = c.args.seat.now.ways in
+    let later = c.steal_any.new.ways in
     let kept = with_items_is ways c.steal_any.new.ways (c.steal_any.auto.ways ∙ c.as_mut_slice.ensures.len) in
     if_taken c.steal_any.result _ _ _ _ _ _ c.in_default.ensures.none c.in_default-take_out.ensures.none
     (subst (λ (after : List Way). IfSome c.steal_any.result (λ (t : Subject). IsTakenOf t (hands_of_ways ways.items) (hands_of_ways after)))
     (sym kept)
-    (subst (λ (before : List Way). IfSome c.steal_any.result (λ (t : Subject). IsTakenOf t (hands_of_ways before) (hands_of_ways c.steal_any.new.ways)))
+    (subst (λ (before : List Way). IfSome c.steal_any.result (λ (t : Subject). IsTakenOf t (hands_of_ways before) (hands_of_ways later)))
     c.as_mut_slice.ensures.value
     c.steal_any.ensures.some))
