@@ -1,0 +1,3 @@
+mod Few
+mod Gone
+mod Own
