@@ -10,6 +10,7 @@ ghost use Rattle.flt_machine.specs.Calls as spec;
 ghost use Rattle.flt_machine.specs.Calls.{IsAdvanced, IsBlocked, IsFresh};
 ghost use Rattle.flt_machine.specs.Counted.{IsSmall};
 ghost use Rattle.flt_machine.specs.Situations.{IsBoard, IsOwn, Now, standing_of};
+ghost use Rattle.flt_machine.specs.Tickets as tickets;
 ghost use Rattle.flt_machine.specs.declared.committing.Commit.TheVariants as answer;
 ghost use Rattle.flt_machine.specs.declared.events.Events.{Events};
 ghost use Rattle.flt_model.specs.declared.moves.JournalEntry.TheVariants.{Go};
@@ -21,6 +22,7 @@ ghost use Rattle.flt_tree.specs.declared.filter.Statement.{Statement};
 use crate::board::{Board, MAX_ENTRIES};
 use crate::events::Events;
 use crate::kept::Kept;
+use crate::tickets::subjects_by;
 use flt_calls::{Caller, Plan, Write, continued, plan_step};
 use flt_frame::{Advanced, Loaded, Standing, standings_have_points};
 use flt_graph::Instruction;
@@ -160,9 +162,19 @@ impl Board {
         standings_have_points();
         let plan = plan_step(alloc, loaded, &self.store, caller, grant)?;
         let later = standing_after(caller, instruction, &plan);
+        let activation = advanced.frame.activation;
+        let going = if later.is_some() {
+            Some(activation)
+        } else {
+            None
+        };
+        let next = subjects_by(alloc, loaded, &self.store, plan.change, going)?;
         self.write_down(entry_of(advanced, instruction, grant), plan.change)?;
         self.put(caller.activation, later);
-        Ok(Events { list: plan.events })
+        Ok(Events {
+            list: plan.events,
+            next,
+        })
     }
 
     /// A change is made, and one entry more says what happened; or nothing is.

@@ -11,6 +11,7 @@ mod committing;
 mod events;
 mod fault;
 mod kept;
+mod tickets;
 
 pub use board::{Board, MAX_ENTRIES};
 pub use committing::Commit;

@@ -30,8 +30,8 @@ returns-then-is_full_for-clause-full c =
       λ _. refl,
     )
 
-pub returns-in_err-list-clause-disabled : goal.returns-in_err-list-clause-disabled
-returns-in_err-list-clause-disabled c =
+pub returns-in_err-events-clause-disabled : goal.returns-in_err-events-clause-disabled
+returns-in_err-events-clause-disabled c =
     let decides =
     decided_now c.args.loaded.now _ c.args.self.now c.args.step c.is_active_for-active.result (Some c.in-Some.decision) c.self.view_is c.is_active_for-active.ensures
     c.in-Some.ensures.decided in
@@ -43,14 +43,14 @@ returns-clause-own c =
     let decides =
     decided_now c.args.loaded.now _ c.args.self.now c.args.step c.is_active_for-active.result (Some c.in-Some.decision) c.self.view_is c.is_active_for-active.ensures
     c.in-Some.ensures.decided in
-    own_now c.args.loaded.now c.args.self.now _ c.args.step c.in-Some.decision decides c.in_ok-list.ensures.made
+    own_now c.args.loaded.now c.args.self.now _ c.args.step c.in-Some.decision decides c.in_ok-events.ensures.made
 
 pub returns-clause-made : goal.returns-clause-made
 returns-clause-made c =
     let decides =
     decided_now c.args.loaded.now _ c.args.self.now c.args.step c.is_active_for-active.result (Some c.in-Some.decision) c.self.view_is c.is_active_for-active.ensures
     c.in-Some.ensures.decided in
-    makes_now c.args.loaded.now c.args.self.now _ c.args.step c.in-Some.decision decides c.in_ok-list.ensures.made c.in_ok-list.list c.in_ok-list.ensures.events
+    makes_now c.args.loaded.now c.args.self.now _ c.args.step c.in-Some.decision decides c.in_ok-events.ensures.made c.in_ok-events.events.list c.in_ok-events.ensures.events
 
 pub returns-clause-disabled : goal.returns-clause-disabled
 returns-clause-disabled c =
