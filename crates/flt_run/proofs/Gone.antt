@@ -1,13 +1,13 @@
 -- What came of an activation's turn.
-use Rattle.std.proofs.Common.{◌≡◌, ℕ, Bool, true, false, List, Option, Some, None, option_map, sym, subst, refl}
+use Rattle.std.proofs.Common.{◌≡◌, ℕ, Bool, true, false, List, Option, Some, None, option_map, inr, sym, subst, refl}
 use Rattle.flt_frame.specs.declared.frame.Advanced.{Advanced}
 use Rattle.flt_frame.specs.declared.frame.Frame.{Frame}
 use Rattle.flt_frame.specs.declared.loaded.Loaded.{Loaded}
 use Rattle.flt_frame.specs.declared.standing.Standing.{Standing}
 use Rattle.flt_machine.specs.Calls.{Commits, IsBlocked, IsFresh, instruction_for, leaves_choice_at}
-use Rattle.flt_machine.specs.Situations.{Situation, Now, actor_of, frame_of, standing_of}
+use Rattle.flt_machine.specs.Situations.{Situation, IsOwn, Now, actor_of, frame_of, standing_of}
 use Rattle.flt_model.specs.declared.event.Event.{Event}
-use Rattle.flt_run.specs.Turns.{HasGone, Takes, counted, is_granted}
+use Rattle.flt_run.specs.Turns.{GoesOn, HasGone, Takes, counted, is_granted}
 use Rattle.flt_run.specs.Turns.HasGone.{ended, waits, went}
 use Rattle.flt_run.specs.declared.choices.Choices.{Choices}
 
@@ -46,3 +46,9 @@ pub has_waited : (l : Loaded) (b later : Situation) (c : Choices) (a : ℕ) (adv
 has_waited l b later c a advanced grant stays takes same blocked unchanged goes =
     subst (λ (s : Bool). HasGone l b later c c a s) (sym goes)
     (waits advanced takes (subst (λ (g : Bool). IsBlocked l b advanced g) same blocked) unchanged refl)
+
+-- a commit adds an entry
+pub commit_goes_on : (l : Loaded) (b later : Situation) (advanced : Advanced) (grant : Bool) (events : List Event) → IsOwn l b →
+    Now l b (λ p m. Commits p b later advanced grant events m) → GoesOn b later
+commit_goes_on l b later advanced grant events own commits =
+    inr (_, (commits own.filters own.loaded own.board.moment own.board.at).written)

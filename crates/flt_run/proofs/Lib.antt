@@ -1,3 +1,3 @@
-mod Few
+mod Following
 mod Gone
 mod Own

@@ -6,7 +6,7 @@ use Rattle.flt_dispatch.specs.Turns.{ComesNextOf, next_of}
 use Rattle.flt_frame.specs.Loading.{AreLoaded}
 use Rattle.flt_frame.specs.declared.frame.Advanced.{Advanced}
 use Rattle.flt_frame.specs.declared.loaded.Loaded.{Loaded}
-use Rattle.flt_machine.specs.Calls.{Commits, IsAdvanced, IsBlocked, IsDisabled, Makes, instruction_for, is_arrival, gives_few, leaves_choice_at}
+use Rattle.flt_machine.specs.Calls.{Commits, IsAdvanced, IsBlocked, IsDisabled, Makes, instruction_for, is_arrival, leaves_choice_at}
 use Rattle.flt_machine.specs.Situations.{Situation, IsBoard, Now, frame_of, standing_of}
 use Rattle.flt_model.specs.Steps.{Make}
 use Rattle.flt_model.specs.World.{World}
@@ -44,9 +44,9 @@ AsksFor p w (subject.Item item) move = move ≡ Some (Work item)
 AsksFor p w (subject.Entry altitude serial) move = move ≡ Some (Canceled altitude serial)
 AsksFor p w (subject.Detach altitude) move = ComesNextOf p w altitude move
 
--- a move that is neither an arrival nor a cancellation, and begins no teardown
+-- a move that is no arrival
 abbrev pub IsFollowing : Move → Type 0
-IsFollowing move = (gives_few move ≡ true) × (is_arrival move ≡ false)
+IsFollowing move = is_arrival move ≡ false
 
 -- the board is as it was, or one move led from it to another, with one entry more
 abbrev pub HasMade : Loaded → Situation → Situation → Option Move → Type 0

@@ -65,7 +65,12 @@ impl Worker {
     }
 
     /// Makes a move where it is enabled. What it names is none where it isn't.
-    fn make(&mut self, alloc: Global, loaded: &Loaded, step: Move) -> Result<Option<Vec<Subject>>, TurnFault>
+    fn make(
+        &mut self,
+        alloc: Global,
+        loaded: &Loaded,
+        step: Move,
+    ) -> Result<Option<Vec<Subject>>, TurnFault>
         requires own { IsOwn loaded.now self.old.board }
         ensures own { RemainsBoard loaded.now self.old.board self.new.board }
         ensures full { result ≡ Err fault.Full → spec.IsFull self.new.board }
@@ -179,7 +184,12 @@ impl Worker {
     }
 
     /// Each command is given once the one before it has been worked off.
-    fn follow(&mut self, alloc: Global, loaded: &Loaded, commands: &[Command]) -> Result<(), TurnFault>
+    fn follow(
+        &mut self,
+        alloc: Global,
+        loaded: &Loaded,
+        commands: &[Command],
+    ) -> Result<(), TurnFault>
         requires own { IsOwn loaded.now self.old.board }
         ensures own { RemainsBoard loaded.now self.old.board self.new.board }
         ensures full { result ≡ Err fault.Full → spec.IsFull self.new.board }
@@ -192,9 +202,8 @@ impl Worker {
     }
 }
 
-/// Drives a new board by a script, by one worker. Each command is given once no ticket is left, or 1,000,000 were taken for the command before it. The
-/// worker takes the tickets of its own moves first, then those of the script's.
-/// What is loaded must be that for some filters.
+/// Drives a new board by a script, by one worker. Each command is given once no ticket is left, or 1,000,000 were taken for the command
+/// before it. The worker takes the tickets of its own moves first, then those of the script's. What is loaded must be that of some filters.
 pub fn drive(alloc: Global, loaded: &Loaded, script: &Script) -> Result<Driven, AllocError>
     requires loaded { (p : List Filter) × AreLoaded p loaded.now }
     ensures own { IfOk result (λ d. (p : List Filter) → AreLoaded p loaded.now → IsBoard p d.board) }

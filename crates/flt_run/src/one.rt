@@ -41,7 +41,7 @@ impl Turned {
 fn asked_by(board: &Board, loaded: &Loaded, subject: Subject) -> Option<Move>
     requires own { IsOwn loaded.now board.now }
     ensures asks { Now loaded.now board.now (λ p m. spec.AsksFor p m.world subject result) }
-    ensures few { IfSome result spec.IsFollowing }
+    ensures following { IfSome result spec.IsFollowing }
 {
     match subject {
         Subject::Operation(serial) => board.next_move(loaded, serial),
@@ -72,6 +72,7 @@ fn move_on(
 ) -> Result<Turned, TurnFault>
     requires own { IsOwn loaded.now board.old }
     ensures own { spec.RemainsBoard loaded.now board.old board.new }
+    ensures entries { spec.GoesOn board.old board.new }
     ensures moved { IfOk result (λ t. spec.HasMoved loaded.now board.old board.new subject t.stays) }
     ensures full { result ≡ Err fault.Full → length board.old.entries ≡ 1000000 }
     ensures refused { OnErr result (board.new ≡ board.old) }
@@ -100,6 +101,7 @@ fn go_on(
 ) -> Result<Turned, TurnFault>
     requires own { IsOwn loaded.now board.old }
     ensures own { spec.RemainsBoard loaded.now board.old board.new }
+    ensures entries { spec.GoesOn board.old board.new }
     ensures gone { IfOk result (λ t. spec.HasGone loaded.now board.old board.new choices.old choices.new activation t.stays) }
     ensures full { result ≡ Err fault.Full → length board.old.entries ≡ 1000000 }
     ensures refused { OnErr result ((board.new ≡ board.old) × (choices.new ≡ choices.old)) }
@@ -134,6 +136,7 @@ fn go(
 ) -> Result<Turned, TurnFault>
     requires own { IsOwn loaded.now board.old }
     ensures own { spec.RemainsBoard loaded.now board.old board.new }
+    ensures entries { spec.GoesOn board.old board.new }
     ensures had { IfOk result (λ t. spec.HasHad loaded.now board.old board.new choices.old choices.new subject t.stays) }
     ensures full { result ≡ Err fault.Full → length board.old.entries ≡ 1000000 }
     ensures refused { OnErr result ((board.new ≡ board.old) × (choices.new ≡ choices.old)) }
@@ -176,9 +179,9 @@ fn put_behind(subjects: &mut VecDeque<Subject>, first: Subject, turned: Turned)
 }
 
 /// The first subject of a list has its turn. An operation, a work item or an entry makes its move, where it has one that is enabled; an
-/// activation makes its local steps and the step after them. Then the subject goes. It comes to the end of the list instead where it is an activation that is blocked,
-/// or a teardown; a teardown goes once it has ended its filter. What the move or the step names comes to the end first. It answers false where there is no subject.
-/// What is loaded is the board's own.
+/// activation makes its local steps and the step after them. Then the subject goes. It comes to the end of the list instead where it is
+/// an activation that is blocked, or a teardown; a teardown goes once it has ended its filter. What the move or the step names comes to
+/// the end first. It answers false where there is no subject. What is loaded must be the board's own.
 pub fn turn(
     alloc: Global,
     board: &mut Board,
@@ -188,9 +191,12 @@ pub fn turn(
 ) -> Result<bool, TurnFault>
     requires own { IsOwn loaded.now board.old }
     ensures own { spec.RemainsBoard loaded.now board.old board.new }
-    ensures turned { result ≡ Ok true → spec.IsTurn loaded.now board.old board.new choices.old choices.new subjects.old.items subjects.new.items }
+    ensures entries { spec.GoesOn board.old board.new }
+    ensures turned { result ≡ Ok true →
+        spec.IsTurn loaded.now board.old board.new choices.old choices.new subjects.old.items subjects.new.items }
     ensures empty { (result ≡ Ok false) ↔ (subjects.old.items ≡ []) }
-    ensures idle { result ≡ Ok false → (board.new ≡ board.old) × ((subjects.new.items ≡ subjects.old.items) × (choices.new ≡ choices.old)) }
+    ensures idle { result ≡ Ok false →
+        (board.new ≡ board.old) × ((subjects.new.items ≡ subjects.old.items) × (choices.new ≡ choices.old)) }
     ensures full { result ≡ Err fault.Full → length board.old.entries ≡ 1000000 }
     ensures refused { OnErr result ((board.new ≡ board.old) × ((subjects.new.items ≡ subjects.old.items) × (choices.new ≡ choices.old))) }
 {

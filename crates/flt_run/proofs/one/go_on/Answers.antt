@@ -1,6 +1,6 @@
-use Rattle.std.proofs.Common.{◌≡◌, Some, true, ap, sym, ◌∙◌, option_map}
+use Rattle.std.proofs.Common.{◌≡◌, Some, ap, sym, ◌∙◌, option_map}
 use Rattle.flt_machine.specs.Situations.{frame_of, standing_of}
-use Rattle.flt_run.proofs.Gone.{has_ended, has_gone, has_waited, is_fresh}
+use Rattle.flt_run.proofs.Gone.{commit_goes_on, has_ended, has_gone, has_waited, is_fresh}
 use Rattle.flt_run.proofs.one.go_on.Goals as goal
 
 pub returns-in_default-clause-gone : goal.returns-in_default-clause-gone
@@ -35,3 +35,8 @@ returns-in-Blocked-clause-gone c =
     c.alone-in-Blocked.result.stays
     (record { taken = taken; advances = record { few = c.advance-advanced.ensures.few; advance = c.advance-advanced.ensures.advance } })
     c.next.ensures (c.commit.ensures.blocked.0 blocked).1 (c.commit.ensures.refused (λ events same. absurd (cc))) c.alone-in-Blocked.ensures
+
+pub returns-in-Committed-clause-entries : goal.returns-in-Committed-clause-entries
+returns-in-Committed-clause-entries c =
+    commit_goes_on c.args.loaded.now c.args.board.now c.commit.new.self c.advance-advanced.result c.next.result c.in-Committed.events.list c.requires.own
+    (c.commit.ensures.committed c.in-Committed.events c.in-Committed.is)
