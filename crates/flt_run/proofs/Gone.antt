@@ -41,8 +41,8 @@ pub has_gone : (l : Loaded) (b later : Situation) (c d : Choices) (a : ℕ) (adv
 has_gone l b later c d a advanced grant events takes same commits counts =
     went advanced takes (events, subst (λ (g : Bool). Now l b (λ p m. Commits p b later advanced g events m)) same commits) counts
 
-pub has_waited : (l : Loaded) (b later : Situation) (c : Choices) (a : ℕ) (advanced : Advanced) (grant stays : Bool) → Takes l b a advanced →
-    grant ≡ is_granted c → IsBlocked l b advanced grant → later ≡ b → stays ≡ true → HasGone l b later c c a stays
+pub has_waited : (l : Loaded) (b later : Situation) (c : Choices) (a : ℕ) (advanced : Advanced) (grant stays : Bool) →
+    Takes l b a advanced → grant ≡ is_granted c → IsBlocked l b advanced grant → later ≡ b → stays ≡ true → HasGone l b later c c a stays
 has_waited l b later c a advanced grant stays takes same blocked unchanged goes =
     subst (λ (s : Bool). HasGone l b later c c a s) (sym goes)
     (waits advanced takes (subst (λ (g : Bool). IsBlocked l b advanced g) same blocked) unchanged refl)

@@ -36,7 +36,8 @@ counted c left = if left then record c { made = min (c.made + 1) (2 ^ 64 - 1) } 
 
 -- ---- moves
 
--- the move that a subject asks for: an operation's own; a work item's start; that an entry is taken out of its queue; the next of a teardown
+-- the move that a subject asks for: an operation's own; a work item's start; that an entry is taken out of its queue; the next of a
+-- teardown
 abbrev pub AsksFor : List Filter → World → Subject → Option Move → Type 0
 AsksFor p w (subject.Operation serial) move = move ≡ next_of p w serial
 AsksFor p w (subject.Activation a) move = move ≡ None
@@ -88,7 +89,8 @@ pub data HasGone (l : Loaded) (b later : Situation) (c d : Choices) (a : ℕ) : 
   -- it has ended
   ended : standing_of b a ≡ None → later ≡ b → d ≡ c → HasGone l b later c d a false
   -- others hold the lock that its next step asks for
-  waits : (advanced : Advanced) → Takes l b a advanced → IsBlocked l b advanced (is_granted c) → later ≡ b → d ≡ c → HasGone l b later c d a true
+  waits : (advanced : Advanced) → Takes l b a advanced → IsBlocked l b advanced (is_granted c) → later ≡ b → d ≡ c →
+      HasGone l b later c d a true
   -- it has gone on
   went : (advanced : Advanced) → Takes l b a advanced →
       ((events : List Event) × Now l b (λ p m. Commits p b later advanced (is_granted c) events m)) →

@@ -38,5 +38,6 @@ returns-in-Blocked-clause-gone c =
 
 pub returns-in-Committed-clause-entries : goal.returns-in-Committed-clause-entries
 returns-in-Committed-clause-entries c =
-    commit_goes_on c.args.loaded.now c.args.board.now c.commit.new.self c.advance-advanced.result c.next.result c.in-Committed.events.list c.requires.own
+    commit_goes_on c.args.loaded.now c.args.board.now c.commit.new.self c.advance-advanced.result c.next.result c.in-Committed.events.list
+    c.requires.own
     (c.commit.ensures.committed c.in-Committed.events c.in-Committed.is)
