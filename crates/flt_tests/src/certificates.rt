@@ -1,6 +1,7 @@
 //! The format on texts that are as asked and on texts that aren't.
 
-use flt_cert::{CertFault, read, write};
+use flt_cert::{Cert, CertFault, read, write};
+use std::alloc::Global;
 use std::test::Fail;
 
 const WORKED: &str =
@@ -84,48 +85,63 @@ const REFUSED: [(&str, usize); 38] = [
     ("fltcert 1\ncallback 0 1\n0 !\nend\nx", 5),
 ];
 
-fn line_of(rt: &HostRuntime, text: &[u8]) -> usize {
-    match read(rt.alloc(), text) {
+fn line_of(alloc: Global, text: &[u8]) -> usize {
+    match read(alloc, text) {
         Err(CertFault::Line(line)) => line,
         _ => 0,
     }
 }
 
-#[test]
-fn worked_certificate(rt: HostRuntime) -> Result<(), Fail> {
-    let cert = read(rt.alloc(), WORKED.as_bytes())
-        .ok()
-        .ok_or("it is a certificate")?;
-    assert_eq!(rt; cert.callbacks().len(), 2);
-    assert_eq!(rt; cert.points(1).len(), 4);
-    assert!(rt; cert.state(0, 4).is_none());
-    assert!(rt; cert.state(1, 3).is_some());
-    let text = write(rt.alloc(), &cert)?;
-    assert_eq!(rt; text.as_slice(), WORKED.as_bytes());
-    Ok(())
+/// The first text of which another line is told.
+fn wrong_row(alloc: Global) -> Option<usize> {
+    for (row, (text, line)) in REFUSED.iter().enumerate() {
+        if line_of(alloc, text.as_bytes()) != *line {
+            return Some(row);
+        }
+    }
+    None
+}
+
+/// The length of the first text that lacks a certificate's last bytes and of which another line than its last is told.
+fn wrong_length(alloc: Global) -> Option<usize> {
+    let whole = WORKED.as_bytes();
+    let mut line = 1usize;
+    for (len, byte) in whole.iter().enumerate() {
+        if line_of(alloc, &whole[..len]) != line {
+            return Some(len);
+        }
+        if *byte == b'\n' {
+            line = line.saturating_add(1);
+        }
+    }
+    None
+}
+
+/// Whether a certificate has the points and states of the worked one.
+fn is_worked(cert: &Cert) -> bool {
+    cert.callbacks().len() == 2
+        && cert.points(1).len() == 4
+        && cert.state(0, 4).is_none()
+        && cert.state(1, 3).is_some()
+}
+
+/// Whether a certificate is written as it was read, and whether it is as the worked one.
+fn comes_back(alloc: Global, text: &str) -> Result<(bool, bool), CertFault> {
+    let cert = read(alloc, text.as_bytes())?;
+    let written = write(alloc, &cert)?;
+    Ok((written.as_slice() == text.as_bytes(), is_worked(&cert)))
 }
 
 /// `tools/refuse-allocations.sh tests flt_tests memory` refuses each request for memory in turn.
 #[test]
 fn reads_and_writes_within_memory(rt: HostRuntime) -> Result<(), Fail> {
-    for own in [WORKED, SHARED] {
-        let cert = read(rt.alloc(), own.as_bytes())?;
-        let text = write(rt.alloc(), &cert)?;
-        assert_eq!(rt; text.as_slice(), own.as_bytes());
-    }
+    assert_eq!(rt; comes_back(rt.alloc(), WORKED)?, (true, true));
+    assert_eq!(rt; comes_back(rt.alloc(), SHARED)?, (true, false));
     Ok(())
 }
 
-/// Also the texts that lack a certificate's last bytes.
 #[test]
 fn a_bad_line_is_told(rt: HostRuntime) {
-    for (text, line) in REFUSED {
-        assert_eq!(rt; line_of(&rt, text.as_bytes()), line, "{text}");
-    }
-    let worked = WORKED.as_bytes();
-    for len in 0..worked.len() {
-        let text = &worked[..len];
-        let lines = text.iter().filter(|b| **b == b'\n').count();
-        assert_eq!(rt; line_of(&rt, text), lines + 1);
-    }
+    assert_eq!(rt; wrong_row(rt.alloc()), None);
+    assert_eq!(rt; wrong_length(rt.alloc()), None);
 }

@@ -93,12 +93,24 @@ impl Rows {
         }
     }
 
+    /// Has another row stand for a context that is there.
+    fn put(&mut self, context: usize, row: Plain) {
+        if let Some(place) = self.rows.get_mut(context) {
+            *place = row;
+        }
+    }
+
     fn is_closed(&self, filter: usize) -> bool {
         filter >= FILTERS || self.closed.contains(&filter)
     }
 
     fn linked_at(&self, key: Key) -> Option<usize> {
-        self.rows.iter().position(|row| row.link == Some(key))
+        for context in 0..MOST_CONTEXTS {
+            if self.at(context).link == Some(key) {
+                return Some(context);
+            }
+        }
+        None
     }
 
     fn alloc(&mut self) -> Result<usize, AllocError> {
@@ -111,30 +123,37 @@ impl Rows {
     }
 
     fn reference(&mut self, context: usize) {
-        if let Some(row) = self.rows.get_mut(context) {
-            if row.references > 0 {
-                row.references = row.references.saturating_add(1);
-            }
+        let mut row = self.at(context);
+        if row.references > 0 {
+            row.references = row.references.saturating_add(1);
+            self.put(context, row);
         }
     }
 
     fn release(&mut self, context: usize) -> Release {
-        if let Some(row) = self.rows.get_mut(context) {
-            if row.references == 1 {
-                row.references = 0;
-                return Release::Freed;
-            }
-            row.references = row.references.saturating_sub(1);
+        let mut row = self.at(context);
+        let is_last = row.references == 1;
+        row.references = row.references.saturating_sub(1);
+        self.put(context, row);
+        if is_last {
+            Release::Freed
+        } else {
+            Release::Alive
         }
-        Release::Alive
     }
 
     fn set_value(&mut self, context: usize, value: u64) {
-        if let Some(row) = self.rows.get_mut(context) {
-            if row.references > 0 {
-                row.value = value;
-            }
+        let mut row = self.at(context);
+        if row.references > 0 {
+            row.value = value;
+            self.put(context, row);
         }
+    }
+
+    fn set_link(&mut self, context: usize, link: Option<Key>) {
+        let mut row = self.at(context);
+        row.link = link;
+        self.put(context, row);
     }
 
     fn get(&mut self, key: Key) -> Option<usize> {
@@ -144,9 +163,7 @@ impl Rows {
     }
 
     fn unlink(&mut self, context: usize, want_old: bool) -> Release {
-        if let Some(row) = self.rows.get_mut(context) {
-            row.link = None;
-        }
+        self.set_link(context, None);
         if want_old {
             return Release::Alive;
         }
@@ -185,9 +202,7 @@ impl Rows {
         }
         let old = self.delete_at(key, want_old);
         self.reference(context);
-        if let Some(row) = self.rows.get_mut(context) {
-            row.link = Some(key);
-        }
+        self.set_link(context, Some(key));
         SetAnswer::Done(old)
     }
 
@@ -319,28 +334,30 @@ fn step(contexts: &mut Contexts, rows: &mut Rows, dice: &mut Dice) -> Result<boo
     }
 }
 
-#[test]
-fn does_what_the_plain_program_does(rt: HostRuntime) -> Result<(), Fail> {
+/// The first script and turn at which the programs differ.
+fn difference(alloc: Global) -> Result<Option<(usize, usize)>, AllocError> {
     let mut dice = Dice { state: 20261123 };
     for script in 0..300 {
-        let mut contexts = Contexts::new(rt.alloc(), FILTERS)?;
+        let mut contexts = Contexts::new(alloc, FILTERS)?;
         let mut rows = Rows {
-            rows: Vec::new(rt.alloc()),
-            closed: Vec::new(rt.alloc()),
+            rows: Vec::new(alloc),
+            closed: Vec::new(alloc),
         };
         for turn in 0..40 {
-            let same = step(&mut contexts, &mut rows, &mut dice)?;
-            assert!(rt; same, "script {script}, turn {turn}");
-            assert!(rt;
-                same_contexts(&contexts, &rows),
-                "script {script}, turn {turn}"
-            );
-            assert!(rt;
-                same_links(&contexts, &rows),
-                "script {script}, turn {turn}"
-            );
+            let same = step(&mut contexts, &mut rows, &mut dice)?
+                && same_contexts(&contexts, &rows)
+                && same_links(&contexts, &rows);
+            if !same {
+                return Ok(Some((script, turn)));
+            }
         }
     }
+    Ok(None)
+}
+
+#[test]
+fn does_what_the_plain_program_does(rt: HostRuntime) -> Result<(), Fail> {
+    assert_eq!(rt; difference(rt.alloc())?, None);
     Ok(())
 }
 
@@ -356,9 +373,11 @@ const FREED: SetAnswer = SetAnswer::Done(Some(Unlinked {
     release: Release::Freed,
 }));
 
+type Setting = (bool, bool, bool, SetAnswer, Option<u64>, Option<u64>);
+
 /// Context 1 is set where context 0 is linked. First whether it is to be kept, whether the caller wants the old one, and whether the
 /// link's is its only reference; then the answer, and the references of both afterwards.
-const SETTINGS: [(bool, bool, bool, SetAnswer, Option<u64>, Option<u64>); 8] = [
+const SETTINGS: [Setting; 8] = [
     (true, false, false, KEPT, Some(2), Some(1)),
     (true, true, false, KEPT, Some(3), Some(1)),
     (false, false, false, REPLACED, Some(1), Some(2)),
@@ -369,89 +388,161 @@ const SETTINGS: [(bool, bool, bool, SetAnswer, Option<u64>, Option<u64>); 8] = [
     (false, true, true, REPLACED, Some(1), Some(2)),
 ];
 
+/// Whether context 1 is set over context 0 as the row says.
+fn is_set(alloc: Global, key: Key, setting: Setting) -> Result<bool, AllocError> {
+    let (keep, want_old, released, answer, first, second) = setting;
+    let mut contexts = Contexts::new(alloc, FILTERS)?;
+    if contexts.alloc(1)? != 0
+        || contexts.alloc(1)? != 1
+        || set(&mut contexts, key, 0, keep, want_old)? != Some(SetAnswer::Done(None))
+        || set(&mut contexts, key, 0, keep, want_old)? != Some(SetAnswer::Linked)
+    {
+        return Ok(false);
+    }
+    if released && contexts.release(0) != Release::Alive {
+        return Ok(false);
+    }
+    if set(&mut contexts, key, 1, keep, want_old)? != Some(answer)
+        || contexts.references(0) != first
+        || contexts.references(1) != second
+        || contexts.linked_at(key) != Some(if keep { 0 } else { 1 })
+        || contexts.first_key(1) != Some(key)
+    {
+        return Ok(false);
+    }
+    contexts.close(1);
+    Ok(set(&mut contexts, key, 1, keep, want_old)? == Some(SetAnswer::Deleting))
+}
+
+/// The first row that isn't so, whichever object it is for.
+fn wrong_setting(alloc: Global, rows: &[Setting]) -> Result<Option<usize>, AllocError> {
+    for (row, setting) in rows.iter().enumerate() {
+        for target in TARGETS {
+            if !is_set(alloc, Key { filter: 1, target }, *setting)? {
+                return Ok(Some(row));
+            }
+        }
+    }
+    Ok(None)
+}
+
 /// `tools/refuse-allocations.sh tests flt_tests memory` refuses each request for memory in turn.
 #[test]
 fn contexts_are_set_within_memory(rt: HostRuntime) -> Result<(), Fail> {
-    for (row, setting) in SETTINGS.iter().enumerate() {
-        let (keep, want_old, released, answer, first, second) = *setting;
-        for target in TARGETS {
-            let key = Key { filter: 1, target };
-            let mut contexts = Contexts::new(rt.alloc(), FILTERS)?;
-            assert!(rt; contexts.alloc(1)? == 0);
-            assert!(rt; contexts.alloc(1)? == 1);
-            assert!(rt; set(&mut contexts, key, 0, keep, want_old)? == Some(SetAnswer::Done(None)));
-            assert!(rt; set(&mut contexts, key, 0, keep, want_old)? == Some(SetAnswer::Linked));
-            if released {
-                assert!(rt; contexts.release(0) == Release::Alive);
-            }
-            assert!(rt;
-                set(&mut contexts, key, 1, keep, want_old)? == Some(answer),
-                "row {row}"
-            );
-            assert!(rt; contexts.references(0) == first, "row {row}");
-            assert!(rt; contexts.references(1) == second, "row {row}");
-            assert!(rt;
-                contexts.linked_at(key) == Some(if keep { 0 } else { 1 }),
-                "row {row}"
-            );
-            assert!(rt; contexts.first_key(1) == Some(key), "row {row}");
-            contexts.close(1);
-            assert!(rt; set(&mut contexts, key, 1, keep, want_old)? == Some(SetAnswer::Deleting));
-        }
-    }
+    assert_eq!(rt; wrong_setting(rt.alloc(), &SETTINGS)?, None);
     Ok(())
 }
 
-/// Two operations on one stream look for a context, allocate one each, and set it: the second gets that of the first.
+const STREAM: Key = Key {
+    filter: 0,
+    target: Target::Stream(0),
+};
+
+const INSTANCE: Key = Key {
+    filter: 0,
+    target: Target::Instance,
+};
+
+/// A call, with what it should answer.
+#[derive(Clone, Copy)]
+enum Call {
+    Get(Key, Option<usize>),
+    Alloc(usize),
+    Set(Key, usize, bool, bool, SetAnswer),
+    Release(usize, Release),
+    Reference(usize),
+    SetValue(usize, u64),
+    Close(usize),
+    DeleteAt(Key, Unlinked),
+    References(usize, Option<u64>),
+    Value(usize, u64),
+    FirstKey(Option<Key>),
+}
+
+/// Two operations on one stream look for a context, allocate one each, and set it: the second gets that of the first. What is linked goes
+/// at the filter's teardown, the instance's context first. A freed context stays as it was.
+const SHARED: [Call; 26] = [
+    Call::Get(STREAM, None),
+    Call::Get(STREAM, None),
+    Call::Alloc(0),
+    Call::Alloc(1),
+    Call::Set(STREAM, 0, true, true, SetAnswer::Done(None)),
+    Call::Set(STREAM, 1, true, true, SetAnswer::Defined(0)),
+    Call::Release(0, Release::Alive),
+    Call::Release(0, Release::Alive),
+    Call::Release(1, Release::Freed),
+    Call::References(0, Some(1)),
+    Call::References(1, None),
+    Call::Alloc(2),
+    Call::Set(INSTANCE, 2, false, false, SetAnswer::Done(None)),
+    Call::SetValue(2, 7),
+    Call::Close(0),
+    Call::FirstKey(Some(INSTANCE)),
+    Call::DeleteAt(
+        INSTANCE,
+        Unlinked {
+            context: 2,
+            release: Release::Alive,
+        },
+    ),
+    Call::FirstKey(Some(STREAM)),
+    Call::DeleteAt(
+        STREAM,
+        Unlinked {
+            context: 0,
+            release: Release::Freed,
+        },
+    ),
+    Call::FirstKey(None),
+    Call::Release(2, Release::Freed),
+    Call::SetValue(2, 8),
+    Call::Reference(2),
+    Call::Value(2, 7),
+    Call::References(2, None),
+    Call::Release(2, Release::Alive),
+];
+
+/// Makes a call, and says whether it answers what it should.
+fn answers(contexts: &mut Contexts, call: Call) -> Result<bool, AllocError> {
+    match call {
+        Call::Get(key, wanted) => Ok(get(contexts, key) == wanted),
+        Call::Alloc(wanted) => Ok(contexts.alloc(0)? == wanted),
+        Call::Set(key, context, keep, want_old, wanted) => {
+            Ok(set(contexts, key, context, keep, want_old)? == Some(wanted))
+        }
+        Call::Release(context, wanted) => Ok(contexts.release(context) == wanted),
+        Call::Reference(context) => {
+            reference(contexts, context);
+            Ok(true)
+        }
+        Call::SetValue(context, value) => {
+            contexts.set_value(context, value);
+            Ok(true)
+        }
+        Call::Close(filter) => {
+            contexts.close(filter);
+            Ok(true)
+        }
+        Call::DeleteAt(key, wanted) => Ok(contexts.delete_at(key, false) == Some(wanted)),
+        Call::References(context, wanted) => Ok(contexts.references(context) == wanted),
+        Call::Value(context, wanted) => Ok(contexts.value(context) == wanted),
+        Call::FirstKey(wanted) => Ok(contexts.first_key(0) == wanted),
+    }
+}
+
+/// The first of these calls that doesn't answer what it should.
+fn wrong_call(alloc: Global, calls: &[Call]) -> Result<Option<usize>, AllocError> {
+    let mut contexts = Contexts::new(alloc, 1)?;
+    for (at, call) in calls.iter().enumerate() {
+        if !answers(&mut contexts, *call)? {
+            return Ok(Some(at));
+        }
+    }
+    Ok(None)
+}
+
 #[test]
 fn two_operations_share_a_context(rt: HostRuntime) -> Result<(), Fail> {
-    let stream = Key {
-        filter: 0,
-        target: Target::Stream(0),
-    };
-    let mut contexts = Contexts::new(rt.alloc(), 1)?;
-    assert!(rt; get(&mut contexts, stream).is_none());
-    assert!(rt; get(&mut contexts, stream).is_none());
-    assert!(rt; contexts.alloc(0)? == 0);
-    assert!(rt; contexts.alloc(0)? == 1);
-    assert!(rt; set(&mut contexts, stream, 0, true, true)? == Some(SetAnswer::Done(None)));
-    assert!(rt; set(&mut contexts, stream, 1, true, true)? == Some(SetAnswer::Defined(0)));
-    assert!(rt; contexts.release(0) == Release::Alive);
-    assert!(rt; contexts.release(0) == Release::Alive);
-    assert!(rt; contexts.release(1) == Release::Freed);
-    assert!(rt; contexts.references(0) == Some(1));
-    assert!(rt; contexts.references(1).is_none());
-    // What is linked goes at the filter's teardown, the instance's context first.
-    let instance = Key {
-        filter: 0,
-        target: Target::Instance,
-    };
-    assert!(rt; contexts.alloc(0)? == 2);
-    assert!(rt; set(&mut contexts, instance, 2, false, false)? == Some(SetAnswer::Done(None)));
-    contexts.set_value(2, 7);
-    contexts.close(0);
-    assert!(rt; contexts.first_key(0) == Some(instance));
-    assert!(rt;
-        contexts.delete_at(instance, false)
-            == Some(Unlinked {
-                context: 2,
-                release: Release::Alive
-            })
-    );
-    assert!(rt; contexts.first_key(0) == Some(stream));
-    assert!(rt;
-        contexts.delete_at(stream, false)
-            == Some(Unlinked {
-                context: 0,
-                release: Release::Freed
-            })
-    );
-    assert!(rt; contexts.first_key(0).is_none());
-    assert!(rt; contexts.release(2) == Release::Freed);
-    contexts.set_value(2, 8);
-    reference(&mut contexts, 2);
-    assert!(rt; contexts.value(2) == 7);
-    assert!(rt; contexts.references(2).is_none());
-    assert!(rt; contexts.release(2) == Release::Alive);
+    assert_eq!(rt; wrong_call(rt.alloc(), &SHARED)?, None);
     Ok(())
 }

@@ -22,7 +22,6 @@ fn load(alloc: Global, texts: &[&str]) -> Result<Result<Loaded, LoadedFault>, Fa
 }
 
 /// What is read of the filter of a number.
-#[derive(Clone, Copy)]
 struct Row {
     altitude: Option<u32>,
     /// Which of the operations have a pre callback, and which a post callback: create, read, write, cleanup.
@@ -88,66 +87,86 @@ const ROWS: [Row; 4] = [
     },
 ];
 
-/// Whichever order the texts have.
-#[test]
-fn filters_are_read_by_number(rt: HostRuntime) -> Result<(), Fail> {
-    for texts in [
-        [LOW, HIGH, MIDDLE],
-        [HIGH, MIDDLE, LOW],
-        [MIDDLE, LOW, HIGH],
-    ] {
-        let loaded = load(rt.alloc(), &texts)?.ok().ok_or("they are loaded")?;
-        assert_eq!(rt; loaded.filters(), 3);
-        for (number, row) in ROWS.iter().enumerate() {
-            assert!(rt; loaded.altitude(number) == row.altitude);
-            for (place, kind) in OPERATIONS.iter().enumerate() {
-                assert!(rt; row.pre.get(place).copied() == Some(loaded.has_pre(number, *kind)));
-                assert!(rt; row.post.get(place).copied() == Some(loaded.has_post(number, *kind)));
-            }
-            assert_eq!(rt; loaded.pre(number, Operation::Write), row.pre_write);
-            assert_eq!(rt; loaded.post(number, Operation::Write), row.post_write);
-            assert_eq!(rt; loaded.canceled(number), row.canceled);
-            let place = loaded.place(number, 0);
-            assert_eq!(rt;
-                matches!(place, Place::Pre(_) | Place::Post(_)),
-                row.is_pre_or_post
-            );
-            let instruction = loaded.instruction(number, 0, 0);
-            assert_eq!(rt;
-                matches!(instruction, Instruction::Return(Some(_))),
-                row.returns
-            );
+/// Whether a filter is read as its row says.
+fn is_read(loaded: &Loaded, number: usize, row: &Row) -> bool {
+    for (place, kind) in OPERATIONS.iter().enumerate() {
+        if row.pre.get(place).copied() != Some(loaded.has_pre(number, *kind))
+            || row.post.get(place).copied() != Some(loaded.has_post(number, *kind))
+        {
+            return false;
         }
     }
-    Ok(())
+    let place = loaded.place(number, 0);
+    let instruction = loaded.instruction(number, 0, 0);
+    loaded.altitude(number) == row.altitude
+        && loaded.pre(number, Operation::Write) == row.pre_write
+        && loaded.post(number, Operation::Write) == row.post_write
+        && loaded.canceled(number) == row.canceled
+        && matches!(place, Place::Pre(_) | Place::Post(_)) == row.is_pre_or_post
+        && matches!(instruction, Instruction::Return(Some(_))) == row.returns
 }
 
-/// An altitude, and the number of its filter.
-#[test]
-fn filters_have_their_altitudes(rt: HostRuntime) -> Result<(), Fail> {
-    let loaded = load(rt.alloc(), &[LOW, HIGH, MIDDLE])?
-        .ok()
-        .ok_or("they are loaded")?;
-    for (altitude, number) in [(4_294_967_295, 0), (200, 1), (100, 2), (101, 3), (0, 3)] {
-        assert_eq!(rt; loaded.number(altitude), number);
+/// Altitudes, and the number of the filter that each has.
+const NUMBERS: [(u32, usize); 5] = [(4_294_967_295, 0), (200, 1), (100, 2), (101, 3), (0, 3)];
+
+/// The first row that is wrong, in `ROWS` and `NUMBERS`.
+fn wrong_row(loaded: &Loaded) -> Option<usize> {
+    for (row, (altitude, number)) in NUMBERS.iter().enumerate() {
+        if loaded.number(*altitude) != *number {
+            return Some(row);
+        }
     }
-    Ok(())
+    for (number, row) in ROWS.iter().enumerate() {
+        if !is_read(loaded, number, row) {
+            return Some(number);
+        }
+    }
+    None
 }
 
 /// Texts, and the first one whose altitude an earlier one has.
-#[test]
-fn an_altitude_is_had_once(rt: HostRuntime) -> Result<(), Fail> {
-    let cases: [(&[&str], &str); 4] = [
-        (&[LOW, LOW], "altitude file 1"),
-        (&[LOW, HIGH, HIGH, LOW], "altitude file 2"),
-        (&[HIGH, MIDDLE, LOW, HIGH], "altitude file 3"),
-        (&[HIGH, MIDDLE, LOW, MIDDLE, HIGH], "altitude file 3"),
-    ];
-    for (texts, told) in cases {
-        let fault = load(rt.alloc(), texts)?.err().ok_or("one is repeated")?;
-        let text = format!(in rt.alloc(); "{fault}")?;
-        assert!(rt; text.as_str() == told);
+const REPEATED: [(&[&str], &str); 4] = [
+    (&[LOW, LOW], "altitude file 1"),
+    (&[LOW, HIGH, HIGH, LOW], "altitude file 2"),
+    (&[HIGH, MIDDLE, LOW, HIGH], "altitude file 3"),
+    (&[HIGH, MIDDLE, LOW, MIDDLE, HIGH], "altitude file 3"),
+];
+
+/// The first row that is wrong, if the texts are loaded in this order.
+fn wrong_in_order(alloc: Global, texts: &[&str]) -> Result<Option<usize>, Fail> {
+    let loaded = load(alloc, texts)?.ok().ok_or("they are loaded")?;
+    if loaded.filters() != 3 {
+        return Ok(Some(3));
     }
-    assert!(rt; load(rt.alloc(), &[])?.is_ok());
+    Ok(wrong_row(&loaded))
+}
+
+/// What is said of texts that aren't loaded.
+fn fault_of(alloc: Global, texts: &[&str]) -> Result<String, Fail> {
+    let fault = load(alloc, texts)?.err().ok_or("one is repeated")?;
+    Ok(format!(in alloc; "{fault}")?)
+}
+
+fn wrong_fault(alloc: Global, table: &[(&[&str], &str)]) -> Result<Option<usize>, Fail> {
+    for (row, (texts, told)) in table.iter().enumerate() {
+        if fault_of(alloc, texts)?.as_str() != *told {
+            return Ok(Some(row));
+        }
+    }
+    Ok(None)
+}
+
+fn none_are_loaded(alloc: Global) -> Result<bool, Fail> {
+    Ok(load(alloc, &[])?.is_ok())
+}
+
+/// Whichever order the texts have; and no altitude comes twice.
+#[test]
+fn filters_are_read_by_number(rt: HostRuntime) -> Result<(), Fail> {
+    assert_eq!(rt; wrong_in_order(rt.alloc(), &[LOW, HIGH, MIDDLE])?, None);
+    assert_eq!(rt; wrong_in_order(rt.alloc(), &[HIGH, MIDDLE, LOW])?, None);
+    assert_eq!(rt; wrong_in_order(rt.alloc(), &[MIDDLE, LOW, HIGH])?, None);
+    assert_eq!(rt; wrong_fault(rt.alloc(), &REPEATED)?, None);
+    assert!(rt; none_are_loaded(rt.alloc())?);
     Ok(())
 }

@@ -6,7 +6,6 @@ use std::alloc::Global;
 use std::test::Fail;
 
 /// A callback of one filter, and what is expected of its local steps from the entry on.
-#[derive(Clone, Copy)]
 struct Case {
     text: &'static str,
     callback: usize,
@@ -86,39 +85,54 @@ fn frame(standing: Standing, draining: bool) -> Frame {
     }
 }
 
-/// Each case, from its callback's entry.
-#[test]
-fn steps_lead_to_the_next_seen_one(rt: HostRuntime) -> Result<(), Fail> {
-    for case in CASES {
-        let loaded = filter_of(rt.alloc(), case.text)?;
-        let standing = Standing::starting(case.callback, Some(5), None);
-        let advanced = advance(&loaded, frame(standing, case.draining));
-        assert!(rt; advanced.steps == case.steps);
-        assert!(rt; advanced.after.point == case.point);
-        let [n0, n1, _, _, _, _, _, _] = advanced.after.numbers;
-        assert!(rt; n0 == case.numbers[0] && n1 == case.numbers[1]);
-        assert!(rt; advanced.frame.standing.is_same(&standing));
-    }
-    Ok(())
+/// Whether a case's steps lead where they should, from its callback's entry.
+fn is_stepped(loaded: &Loaded, case: &Case) -> bool {
+    let standing = Standing::starting(case.callback, Some(5), None);
+    let advanced = advance(loaded, frame(standing, case.draining));
+    let [n0, n1, _, _, _, _, _, _] = advanced.after.numbers;
+    advanced.steps == case.steps
+        && advanced.after.point == case.point
+        && n0 == case.numbers[0]
+        && n1 == case.numbers[1]
+        && advanced.frame.standing.is_same(&standing)
 }
 
-/// A frame that stops in the turns of two repeats goes on where each seen test leads: the turns that are left go with it.
-#[test]
-fn turns_go_with_a_standing(rt: HostRuntime) -> Result<(), Fail> {
-    let loaded = filter_of(rt.alloc(), STOPS_IN_A_TURN)?;
+/// Whether a frame that stops in the turns of two repeats goes on where each seen test leads: the turns that are left go with it.
+fn turns_go_along(loaded: &Loaded) -> bool {
     let mut standing = Standing::starting(0, Some(5), None);
     for steps in [3, 2, 2, 4, 2, 2] {
-        let advanced = advance(&loaded, frame(standing, false));
-        assert!(rt; advanced.steps == steps);
-        assert!(rt; advanced.after.point == 3);
+        let advanced = advance(loaded, frame(standing, false));
+        if advanced.steps != steps || advanced.after.point != 3 {
+            return false;
+        }
         standing = advanced.after;
         standing.point = 1;
     }
-    let advanced = advance(&loaded, frame(standing, false));
-    assert!(rt; advanced.steps == 2);
-    assert!(rt; advanced.after.point == 4);
+    let advanced = advance(loaded, frame(standing, false));
     let [n0, _, _, _, _, _, _, _] = advanced.after.numbers;
-    assert!(rt; n0 == 18_446_744_073_709_551_610);
-    assert!(rt; !advanced.after.is_same(&standing));
+    advanced.steps == 2
+        && advanced.after.point == 4
+        && n0 == 18_446_744_073_709_551_610
+        && !advanced.after.is_same(&standing)
+}
+
+/// The first of these cases whose steps lead elsewhere.
+fn wrong_case(alloc: Global, cases: &[Case]) -> Result<Option<usize>, Fail> {
+    for (row, case) in cases.iter().enumerate() {
+        if !is_stepped(&filter_of(alloc, case.text)?, case) {
+            return Ok(Some(row));
+        }
+    }
+    Ok(None)
+}
+
+fn turns_go_with_it(alloc: Global) -> Result<bool, Fail> {
+    Ok(turns_go_along(&filter_of(alloc, STOPS_IN_A_TURN)?))
+}
+
+#[test]
+fn steps_lead_to_the_next_seen_one(rt: HostRuntime) -> Result<(), Fail> {
+    assert_eq!(rt; wrong_case(rt.alloc(), &CASES)?, None);
+    assert!(rt; turns_go_with_it(rt.alloc())?);
     Ok(())
 }

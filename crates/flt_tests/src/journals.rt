@@ -6,7 +6,6 @@ use flt_model::{
 };
 use flt_rules::{Mode, Operation};
 use std::alloc::{AllocError, Global};
-use std::process::Abort;
 use std::test::Fail;
 
 /// A reader of these bytes. It fails at a call, counted from 0.
@@ -263,101 +262,146 @@ fn line_of(alloc: Global, text: &[u8]) -> usize {
     }
 }
 
-/// The text reads as these entries, and they are written so.
-fn both_ways(
-    rt: &impl Abort,
-    alloc: Global,
-    text: &str,
-    entries: &[JournalEntry],
-) -> Result<(), Fail> {
-    let journal = read_text(alloc, text.as_bytes())
-        .ok()
-        .ok_or("it is a journal")?;
-    assert!(rt; journal.entries() == entries);
+/// Whether the journal is written as this text.
+fn is_written(alloc: Global, journal: &Journal, text: &str) -> bool {
+    let mut out = Kept::new(alloc, None);
+    write(journal, &mut out).is_ok() && out.bytes.as_slice() == text.as_bytes()
+}
+
+/// A journal of these entries.
+fn made_of(alloc: Global, entries: &[JournalEntry]) -> Result<Journal, JournalFault> {
     let mut made = Journal::new(alloc);
     for entry in entries {
         made.push(*entry)?;
     }
-    assert_eq!(rt; made.len(), entries.len());
-    assert!(rt; made.entry(0) == entries.first().copied());
-    assert!(rt; made.entry(entries.len()).is_none());
-    let mut out = Kept::new(alloc, None);
-    assert!(rt; write(&made, &mut out).is_ok());
-    assert_eq!(rt; out.bytes.as_slice(), text.as_bytes());
+    Ok(made)
+}
+
+/// Whether a journal has these entries and no more.
+fn has(journal: &Journal, entries: &[JournalEntry]) -> bool {
+    journal.len() == entries.len()
+        && journal.entries() == entries
+        && journal.entry(0) == entries.first().copied()
+        && journal.entry(entries.len()).is_none()
+}
+
+/// Whether all entries can be taken out of a journal, the last one first.
+fn gives_back(journal: &mut Journal, entries: &[JournalEntry]) -> bool {
     for entry in entries.iter().rev() {
-        assert!(rt; made.pop() == Some(*entry));
+        if journal.pop() != Some(*entry) {
+            return false;
+        }
     }
-    assert!(rt; made.pop().is_none());
-    Ok(())
+    journal.pop().is_none()
+}
+
+/// Whether the text reads as these entries, and they are written so.
+fn goes_both_ways(
+    alloc: Global,
+    text: &str,
+    entries: &[JournalEntry],
+) -> Result<bool, JournalFault> {
+    let journal = read_text(alloc, text.as_bytes())?;
+    let mut made = made_of(alloc, entries)?;
+    Ok(
+        has(&journal, entries)
+            && has(&made, entries)
+            && is_written(alloc, &made, text)
+            && gives_back(&mut made, entries),
+    )
+}
+
+/// The first of the whole runs that isn't written as it was read.
+fn wrong_run(alloc: Global) -> Result<Option<usize>, JournalFault> {
+    for (row, text) in WORKED.iter().enumerate() {
+        let journal = read_text(alloc, text.as_bytes())?;
+        if !is_written(alloc, &journal, text) {
+            return Ok(Some(row));
+        }
+    }
+    Ok(None)
 }
 
 #[test]
 fn journals_both_ways(rt: HostRuntime) -> Result<(), Fail> {
-    both_ways(&rt, rt.alloc(), CANCELLED, &CANCELLED_ENTRIES)?;
-    both_ways(&rt, rt.alloc(), EACH_KIND, &EACH_KIND_ENTRIES)?;
-    for text in WORKED {
-        let journal = read_text(rt.alloc(), text.as_bytes())
-            .ok()
-            .ok_or("it is a journal")?;
-        let mut out = Kept::new(rt.alloc(), None);
-        assert!(rt; write(&journal, &mut out).is_ok());
-        assert_eq!(rt; out.bytes.as_slice(), text.as_bytes());
-    }
+    assert!(rt; goes_both_ways(rt.alloc(), CANCELLED, &CANCELLED_ENTRIES)?);
+    assert!(rt; goes_both_ways(rt.alloc(), EACH_KIND, &EACH_KIND_ENTRIES)?);
+    assert_eq!(rt; wrong_run(rt.alloc())?, None);
     Ok(())
 }
 
-/// Also the texts that lack a journal's last bytes.
-#[test]
-fn a_bad_line_is_told(rt: HostRuntime) {
-    for (text, line) in REFUSED {
-        assert_eq!(rt; line_of(rt.alloc(), text.as_bytes()), line, "{text}");
+/// The first text of which another line is told.
+fn wrong_row(alloc: Global) -> Option<usize> {
+    for (row, (text, line)) in REFUSED.iter().enumerate() {
+        if line_of(alloc, text.as_bytes()) != *line {
+            return Some(row);
+        }
     }
-    let worked = EACH_KIND.as_bytes();
-    for len in 0..worked.len() {
-        let text = &worked[..len];
-        let lines = text.iter().filter(|b| **b == b'\n').count();
-        assert_eq!(rt; line_of(rt.alloc(), text), lines + 1);
-    }
+    None
 }
 
-/// Reading stops at the first malformed byte: a failure behind it doesn't come.
-#[test]
-fn wrong_byte_is_told_as_it_is_met(rt: HostRuntime) {
+/// The length of the first text that lacks a journal's last bytes and of which another line than its last is told.
+fn wrong_length(alloc: Global) -> Option<usize> {
+    let whole = EACH_KIND.as_bytes();
+    let mut line = 1usize;
+    for (len, byte) in whole.iter().enumerate() {
+        if line_of(alloc, &whole[..len]) != line {
+            return Some(len);
+        }
+        if *byte == b'\n' {
+            line = line.saturating_add(1);
+        }
+    }
+    None
+}
+
+/// Whether reading stops at the first malformed byte: a failure behind it doesn't come.
+fn stops_at_a_wrong_byte(alloc: Global) -> bool {
     let mut reader = Given::new(b"fltjournal 1\npre 0x", Some(19));
-    assert!(rt; matches!(read(rt.alloc(), &mut reader), Err(JournalFault::Line(2))));
-    assert_eq!(rt; reader.calls, 19);
-    assert_eq!(rt; reader.failures, 0);
+    matches!(read(alloc, &mut reader), Err(JournalFault::Line(2)))
+        && reader.calls == 19
+        && reader.failures == 0
 }
 
-/// A journal of n bytes takes n reads, and one that finds the end.
-#[test]
-fn reader_that_fails_at_each_call(rt: HostRuntime) {
+/// The first call at which a reader fails in vain. A journal of n bytes takes n reads, and one that finds the end.
+fn wrong_read(alloc: Global) -> Option<u64> {
     let text = EACH_KIND.as_bytes();
     let last = text.len() as u64;
     for call in 0..last + 2 {
         let mut reader = Given::new(text, Some(call));
-        let told = match read(rt.alloc(), &mut reader) {
-            Ok(_) => 1,
-            Err(JournalFault::Read) => 0,
-            Err(_) => 2,
+        let is_told = match read(alloc, &mut reader) {
+            Ok(_) => call > last && reader.failures == 0,
+            Err(JournalFault::Read) => call <= last && reader.failures == 1,
+            Err(_) => false,
         };
-        assert_eq!(rt; told, if call <= last { 0 } else { 1 });
-        assert_eq!(rt; reader.failures, if call <= last { 1 } else { 0 });
+        if !is_told {
+            return Some(call);
+        }
     }
+    None
 }
 
-/// A journal of n bytes takes n writes of a byte.
-#[test]
-fn writer_that_fails_at_each_call(rt: HostRuntime) -> Result<(), Fail> {
+/// The first call at which a writer fails in vain. A journal of n bytes takes n writes of a byte.
+fn wrong_write(alloc: Global) -> Result<Option<u64>, JournalFault> {
     let text = EACH_KIND.as_bytes();
-    let journal = read_text(rt.alloc(), text).ok().ok_or("it is a journal")?;
+    let journal = read_text(alloc, text)?;
     let last = text.len() as u64;
     for call in 0..last + 1 {
-        let mut out = Kept::new(rt.alloc(), Some(call));
-        let written = write(&journal, &mut out).is_ok();
-        assert_eq!(rt; written, call == last);
-        assert_eq!(rt; out.failures, if call < last { 1 } else { 0 });
+        let mut out = Kept::new(alloc, Some(call));
+        let failures = if call < last { 1 } else { 0 };
+        if write(&journal, &mut out).is_ok() != (call == last) || out.failures != failures {
+            return Ok(Some(call));
+        }
     }
-    assert!(rt; journal.entries() == EACH_KIND_ENTRIES.as_slice());
+    Ok(None)
+}
+
+#[test]
+fn faults_of_journals_are_told(rt: HostRuntime) -> Result<(), Fail> {
+    assert_eq!(rt; wrong_row(rt.alloc()), None);
+    assert_eq!(rt; wrong_length(rt.alloc()), None);
+    assert!(rt; stops_at_a_wrong_byte(rt.alloc()));
+    assert_eq!(rt; wrong_read(rt.alloc()), None);
+    assert_eq!(rt; wrong_write(rt.alloc())?, None);
     Ok(())
 }

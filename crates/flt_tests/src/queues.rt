@@ -3,7 +3,6 @@
 use crate::dice::Dice;
 use flt_cbdq::{Entry, InsertFault, Queues};
 use std::alloc::{AllocError, Global};
-use std::process::Abort;
 use std::test::Fail;
 
 /// How many filters have a queue. Calls name one more, which has none.
@@ -152,71 +151,95 @@ fn step(queues: &mut Queues, plain: &mut Plain, dice: &mut Dice) -> Result<bool,
     }
 }
 
-#[test]
-fn queues_do_what_vectors_do(rt: HostRuntime) -> Result<(), Fail> {
+/// The first script and turn at which the programs differ.
+fn difference(alloc: Global) -> Result<Option<(usize, usize)>, AllocError> {
     let mut dice = Dice { state: 20240708 };
     for script in 0..400 {
-        let mut queues = Queues::new(rt.alloc(), FILTERS)?;
-        let mut plain = Plain::new(rt.alloc())?;
+        let mut queues = Queues::new(alloc, FILTERS)?;
+        let mut plain = Plain::new(alloc)?;
         for turn in 0..60 {
-            let same = step(&mut queues, &mut plain, &mut dice)?;
-            assert!(rt; same, "script {script}, turn {turn}");
-            assert!(rt; agree(&queues, &plain), "script {script}, turn {turn}");
+            if !step(&mut queues, &mut plain, &mut dice)? || !agree(&queues, &plain) {
+                return Ok(Some((script, turn)));
+            }
         }
     }
+    Ok(None)
+}
+
+#[test]
+fn queues_do_what_vectors_do(rt: HostRuntime) -> Result<(), Fail> {
+    assert_eq!(rt; difference(rt.alloc())?, None);
     Ok(())
 }
 
-/// A queue that is disabled while an entry waits keeps it; each filter has a queue of its own.
+const FIRST: Entry = Entry {
+    visit: 7,
+    context: Some(2),
+};
+
+const SECOND: Entry = Entry {
+    visit: 9,
+    context: None,
+};
+
+/// Whether a queue that is disabled while an entry waits keeps it; each filter has a queue of its own.
+fn keeps_what_waits(alloc: Global) -> Result<bool, AllocError> {
+    let mut queues = Queues::new(alloc, 2)?;
+    if queues.insert(0, FIRST).is_err()
+        || queues.insert(0, SECOND).is_err()
+        || queues.insert(1, SECOND).is_err()
+    {
+        return Ok(false);
+    }
+    queues.disable(0);
+    Ok(
+        queues.insert(0, FIRST) == Err(InsertFault::Disabled(FIRST))
+            && queues.insert(2, FIRST) == Err(InsertFault::Disabled(FIRST))
+            && queues.insert(1, FIRST).is_ok()
+            && queues.first_of(0, &[9, 7]).copied() == Some(FIRST)
+            && queues.first_of(0, &[8, 9]).copied() == Some(SECOND)
+            && queues.first_of(0, &[8]).is_none()
+            && queues.remove(0, 9) == Some(SECOND)
+            && queues.remove(0, 9).is_none()
+            && queues.remove_next(0) == Some(FIRST)
+            && queues.remove_next(0).is_none()
+            && queues.entry(1, 0).copied() == Some(SECOND)
+            && queues.entry(1, 1).copied() == Some(FIRST),
+    )
+}
+
 #[test]
 fn a_disabled_queue_keeps_what_waits(rt: HostRuntime) -> Result<(), Fail> {
-    let first = Entry {
-        visit: 7,
-        context: Some(2),
-    };
-    let second = Entry {
-        visit: 9,
-        context: None,
-    };
-    let mut queues = Queues::new(rt.alloc(), 2)?;
-    assert!(rt; queues.insert(0, first).is_ok());
-    assert!(rt; queues.insert(0, second).is_ok());
-    assert!(rt; queues.insert(1, second).is_ok());
-    queues.disable(0);
-    assert!(rt; queues.insert(0, first) == Err(InsertFault::Disabled(first)));
-    assert!(rt; queues.insert(2, first) == Err(InsertFault::Disabled(first)));
-    assert!(rt; queues.insert(1, first).is_ok());
-    assert!(rt; queues.first_of(0, &[9, 7]).copied() == Some(first));
-    assert!(rt; queues.first_of(0, &[8, 9]).copied() == Some(second));
-    assert!(rt; queues.first_of(0, &[8]).is_none());
-    assert!(rt; queues.remove(0, 9) == Some(second));
-    assert!(rt; queues.remove(0, 9).is_none());
-    assert!(rt; queues.remove_next(0) == Some(first));
-    assert!(rt; queues.remove_next(0).is_none());
-    assert!(rt; queues.entry(1, 0).copied() == Some(second));
-    assert!(rt; queues.entry(1, 1).copied() == Some(first));
+    assert!(rt; keeps_what_waits(rt.alloc())?);
     Ok(())
 }
 
-/// `tools/refuse-allocations.sh tests flt_tests memory` refuses each request for memory in turn. A refused entry comes back, and
-/// the queues stay as they were: otherwise an assertion fails.
-#[test]
-fn queues_stay_as_they_were_without_memory(rt: HostRuntime) -> Result<(), Fail> {
-    let mut queues = Queues::new(rt.alloc(), FILTERS)?;
-    let mut plain = Plain::new(rt.alloc())?;
+/// The first turn at which the programs differ, where entries are put in and taken out. A refused entry comes back, and the queues stay as
+/// they were.
+fn wrong_turn(alloc: Global) -> Result<Option<usize>, AllocError> {
+    let mut queues = Queues::new(alloc, FILTERS)?;
+    let mut plain = Plain::new(alloc)?;
     for turn in 0..40 {
+        let filter = turn % FILTERS;
         let entry = Entry {
             visit: turn % 11,
             context: None,
         };
-        let same = insert(&mut queues, &mut plain, turn % FILTERS, entry)?;
-        assert!(rt; same, "turn {turn}");
+        let mut same = insert(&mut queues, &mut plain, filter, entry)?;
         if turn % 5 == 4 {
-            let place = plain.place_of(turn % FILTERS, &[turn % 7]);
-            let taken = queues.remove(turn % FILTERS, turn % 7);
-            assert!(rt; taken == plain.take(turn % FILTERS, place), "turn {turn}");
+            let place = plain.place_of(filter, &[turn % 7]);
+            same = same && queues.remove(filter, turn % 7) == plain.take(filter, place);
         }
-        assert!(rt; agree(&queues, &plain), "turn {turn}");
+        if !same || !agree(&queues, &plain) {
+            return Ok(Some(turn));
+        }
     }
+    Ok(None)
+}
+
+/// `tools/refuse-allocations.sh tests flt_tests memory` refuses each request for memory in turn.
+#[test]
+fn queues_stay_as_they_were_without_memory(rt: HostRuntime) -> Result<(), Fail> {
+    assert_eq!(rt; wrong_turn(rt.alloc())?, None);
     Ok(())
 }

@@ -123,30 +123,53 @@ fn line_of(alloc: Global, trees: &[Tree], text: &[u8]) -> Result<usize, ScriptFa
     }
 }
 
+/// The first text of which another line is told.
+fn wrong_row(alloc: Global, trees: &[Tree]) -> Result<Option<usize>, ScriptFault> {
+    for (row, (text, line)) in REFUSED.iter().enumerate() {
+        if line_of(alloc, trees, text.as_bytes())? != *line {
+            return Ok(Some(row));
+        }
+    }
+    Ok(None)
+}
+
+/// The length of the first text that lacks the last bytes of a script and of which another line than its last is told. At the end of a
+/// line, and without a line, it is a script.
+fn wrong_length(alloc: Global, trees: &[Tree]) -> Result<Option<usize>, ScriptFault> {
+    let whole = EACH_KIND.as_bytes();
+    let mut line = 1usize;
+    let mut is_script = true;
+    for (len, byte) in whole.iter().enumerate() {
+        let wanted = if is_script { 0 } else { line };
+        if line_of(alloc, trees, &whole[..len])? != wanted {
+            return Ok(Some(len));
+        }
+        is_script = *byte == b'\n';
+        if is_script {
+            line = line.saturating_add(1);
+        }
+    }
+    Ok(None)
+}
+
+/// Whether the script of each kind of line has its commands.
+fn is_read(alloc: Global) -> Result<bool, Fail> {
+    let trees = stack(alloc)?;
+    let script = read(alloc, trees.as_slice(), EACH_KIND.as_bytes())?;
+    Ok(script.commands() == EACH_KIND_COMMANDS.as_slice())
+}
+
 /// `tools/refuse-allocations.sh tests flt_tests memory` refuses each request for memory in turn.
 #[test]
 fn a_script_is_read_within_memory(rt: HostRuntime) -> Result<(), Fail> {
-    let trees = stack(rt.alloc())?;
-    let script = read(rt.alloc(), trees.as_slice(), EACH_KIND.as_bytes())?;
-    assert!(rt; script.commands() == EACH_KIND_COMMANDS.as_slice());
+    assert!(rt; is_read(rt.alloc())?);
     Ok(())
 }
 
-/// Also the texts that lack a script's last bytes. At the end of a line, and without a line, they are scripts.
 #[test]
 fn a_bad_line_of_a_script_is_told(rt: HostRuntime) -> Result<(), Fail> {
     let trees = stack(rt.alloc())?;
-    for (text, line) in REFUSED {
-        let told = line_of(rt.alloc(), trees.as_slice(), text.as_bytes())?;
-        assert_eq!(rt; told, line, "{text}");
-    }
-    let whole = EACH_KIND.as_bytes();
-    for len in 0..whole.len() {
-        let text = &whole[..len];
-        let lines = text.iter().filter(|b| **b == b'\n').count();
-        let is_script = text.is_empty() || text.ends_with(b"\n");
-        let told = line_of(rt.alloc(), trees.as_slice(), text)?;
-        assert_eq!(rt; told, if is_script { 0 } else { lines + 1 });
-    }
+    assert_eq!(rt; wrong_row(rt.alloc(), trees.as_slice())?, None);
+    assert_eq!(rt; wrong_length(rt.alloc(), trees.as_slice())?, None);
     Ok(())
 }

@@ -2,7 +2,7 @@
 
 use flt_abs::{Abs, Draining, LockList, Modes, Statuses, join, leq};
 use flt_rules::{Access, HeldLock, LockNumber};
-use std::test::Fail;
+use std::alloc::Global;
 
 /// A lock that is held alone.
 fn alone(lock: LockNumber) -> HeldLock {
@@ -21,8 +21,8 @@ fn shared(lock: LockNumber) -> HeldLock {
 }
 
 /// These locks, the oldest first, unless one stands twice.
-fn list_of(rt: &HostRuntime, locks: &[HeldLock]) -> Option<LockList> {
-    let mut list = LockList::none(rt.alloc());
+fn list_of(alloc: Global, locks: &[HeldLock]) -> Option<LockList> {
+    let mut list = LockList::none(alloc);
     for held in locks {
         if list.contains(held.lock) {
             return None;
@@ -33,43 +33,54 @@ fn list_of(rt: &HostRuntime, locks: &[HeldLock]) -> Option<LockList> {
 }
 
 /// A state with this digit for each variable and for the draining test, and these locks.
-fn state(rt: &HostRuntime, digit: u8, draining: u8, locks: &[HeldLock]) -> Option<Abs> {
+fn state(alloc: Global, digit: u8, draining: u8, locks: &[HeldLock]) -> Option<Abs> {
     let statuses = Statuses::from_digit(digit)?;
     let modes = Modes::from_digit(1)?;
     let draining = Draining::from_digit(draining)?;
-    let locks = list_of(rt, locks)?;
+    let locks = list_of(alloc, locks)?;
     Abs::new([statuses; 9], [statuses; 5], modes, draining, locks)
 }
 
-#[test]
-fn order_and_join(rt: HostRuntime) -> Result<(), Fail> {
-    let both = [alone(LockNumber::L1), shared(LockNumber::L0)];
-    let held = state(&rt, 2, 1, &both).ok_or("it is a state")?;
-    let stale = state(&rt, 4, 2, &both).ok_or("it is a state")?;
-    let either = state(&rt, 6, 3, &both).ok_or("it is a state")?;
-    let joined = join(&held, &stale).ok().ok_or("their locks are the same")?;
-    assert!(rt; leq(&held, &either));
-    assert!(rt; !leq(&held, &stale));
-    assert!(rt; leq(&joined, &either) && leq(&either, &joined));
-    let one = state(&rt, 1, 1, &both).ok_or("it is a state")?;
-    let turned = [shared(LockNumber::L0), alone(LockNumber::L1)];
-    let both_alone = [alone(LockNumber::L1), alone(LockNumber::L0)];
-    for locks in [turned, both_alone] {
-        let other = state(&rt, 1, 1, &locks).ok_or("it is a state")?;
-        assert!(rt; join(&one, &other).is_err());
-        assert!(rt; !leq(&one, &other) && !leq(&other, &one));
+/// Whether a state is below another one and no more than joined to it: the last one is their join.
+fn is_least(low: &Abs, high: &Abs, either: &Abs) -> bool {
+    match join(low, high) {
+        Ok(joined) => {
+            leq(low, either) && !leq(low, high) && leq(&joined, either) && leq(either, &joined)
+        }
+        Err(_) => false,
     }
-    Ok(())
 }
 
-#[test]
-fn no_states(rt: HostRuntime) {
-    assert!(rt; state(&rt, 0, 1, &[]).is_none());
-    assert!(rt; state(&rt, 1, 0, &[]).is_none());
-    let locks = [
+/// Whether neither state is below the other, and they have no join.
+fn are_apart(one: &Abs, other: &Abs) -> bool {
+    join(one, other).is_err() && !leq(one, other) && !leq(other, one)
+}
+
+/// Whether states with more statuses are above those with fewer, and states with other locks beside each other; and no state has none.
+fn are_ordered(alloc: Global) -> Option<bool> {
+    let both = [alone(LockNumber::L1), shared(LockNumber::L0)];
+    let turned = [shared(LockNumber::L0), alone(LockNumber::L1)];
+    let both_alone = [alone(LockNumber::L1), alone(LockNumber::L0)];
+    let twice = [
         alone(LockNumber::L3),
         alone(LockNumber::L4),
         shared(LockNumber::L3),
     ];
-    assert!(rt; list_of(&rt, &locks).is_none());
+    let held = state(alloc, 2, 1, &both)?;
+    let stale = state(alloc, 4, 2, &both)?;
+    let either = state(alloc, 6, 3, &both)?;
+    let one = state(alloc, 1, 1, &both)?;
+    Some(
+        is_least(&held, &stale, &either)
+            && are_apart(&one, &state(alloc, 1, 1, &turned)?)
+            && are_apart(&one, &state(alloc, 1, 1, &both_alone)?)
+            && state(alloc, 0, 1, &[]).is_none()
+            && state(alloc, 1, 0, &[]).is_none()
+            && list_of(alloc, &twice).is_none(),
+    )
+}
+
+#[test]
+fn order_and_join(rt: HostRuntime) {
+    assert!(rt; are_ordered(rt.alloc()) == Some(true));
 }

@@ -3,7 +3,7 @@
 use flt_model::Key;
 use flt_rules::{Access, LockNumber};
 use flt_store::{Position, Store, Way};
-use std::process::Abort;
+use std::alloc::{AllocError, Global};
 use std::test::Fail;
 
 /// How many filters there are. Reads name one more, which isn't there.
@@ -55,12 +55,15 @@ fn nothing_is_there(store: &Store) -> bool {
         && !store.makes_frame(0, Way::Frames)
 }
 
+/// Whether a new store is one before the first move.
+fn is_fresh(alloc: Global) -> Result<bool, AllocError> {
+    let store = Store::new(alloc, FILTERS)?;
+    Ok(store.filters() == FILTERS && filters_are_fresh(&store) && nothing_is_there(&store))
+}
+
 /// `tools/refuse-allocations.sh tests flt_tests memory` refuses each request for memory in turn.
 #[test]
 fn a_store_is_made_within_memory(rt: HostRuntime) -> Result<(), Fail> {
-    let store = Store::new(rt.alloc(), FILTERS)?;
-    assert!(rt; store.filters() == FILTERS);
-    assert!(rt; filters_are_fresh(&store));
-    assert!(rt; nothing_is_there(&store));
+    assert!(rt; is_fresh(rt.alloc())?);
     Ok(())
 }

@@ -2,7 +2,7 @@
 
 use flt_print::print;
 use flt_stack::{LoadFault, load};
-use flt_syntax::{Action, OperationVariable, Statement, parse};
+use flt_syntax::{Action, OperationVariable, ParseError, Statement, parse};
 use std::alloc::Global;
 use std::test::Fail;
 
@@ -11,16 +11,6 @@ const WORDS: [&str; 2] = [
     "filter a altitude 1\nlock spin s\nlock fast f\nlock push p\nqueue\npre create {\n  if irp data {\n    return WITH_CALLBACK context c0\n  }\n  n0 = file o0\n  n1 = value c1\n  value c2 = n2\n  n2 = n3 + n4\n  n5 = n6 - n7\n  c3 = NULL\n  if FltAllocateContext c4 {\n    FltDeleteContext c4\n    FltReferenceContext c4 as c5\n    FltReleaseContext c5\n  } else {\n    return SYNCHRONIZE context c6\n  }\n  if FltSetStreamContext KEEP_IF_EXISTS c6 old c7 {\n    return COMPLETE STATUS_SUCCESS\n  }\n  if FltSetInstanceContext REPLACE_IF_EXISTS c7 {\n    return COMPLETE STATUS_ACCESS_DENIED\n  }\n  if FltGetStreamContext c0 {\n    return COMPLETE STATUS_INSUFFICIENT_RESOURCES\n  }\n  if FltGetInstanceContext c1 {\n    return COMPLETE STATUS_INVALID_PARAMETER\n  }\n  if FltDeleteStreamContext old c2 {\n    return COMPLETE STATUS_PENDING\n  }\n  if FltDeleteInstanceContext {\n    return DISALLOW_FASTIO\n  }\n  if FltCbdqInsertIo data context c3 {\n    return PENDING\n  }\n  return NO_CALLBACK\n}\ncanceled {\n  if arg != NULL {\n    FltReleaseContext arg\n  }\n  FltCompletePendedPreOperation data COMPLETE STATUS_CANCELLED\n}\n",
     "filter a altitude 1\nlock spin s\nlock fast f\nlock push p\nqueue\npre read {\n  repeat 3 {\n    KeAcquireSpinLock s\n    KeReleaseSpinLock s\n    ExAcquireFastMutex f\n    ExReleaseFastMutex f\n    FltAcquirePushLockExclusive p\n    FltReleasePushLock p\n    FltAcquirePushLockShared p\n    FltReleasePushLock p\n  }\n  if FltCbdqRemoveNextIo o1 context c0 {\n    FltCompletePendedPreOperation o2 WITH_CALLBACK\n  }\n  if FltQueueDeferredIoWorkItem data r {\n  }\n  if FltQueueGenericWorkItem g context c1 {\n  }\n  if o3 != NULL {\n  }\n}\npost read {\n  if draining {\n    return FINISHED_PROCESSING\n  }\n  return MORE_PROCESSING_REQUIRED\n}\npre write {\n}\npre cleanup {\n}\ncanceled {\n}\ndeferred_pre r {\n}\ndeferred_post d {\n  FltCompletePendedPostOperation data\n}\ngeneric g {\n}\n",
 ];
-
-#[test]
-fn each_word_is_read_and_printed(rt: HostRuntime) -> Result<(), Fail> {
-    for (at, text) in WORDS.iter().enumerate() {
-        let tree = parse(rt.alloc(), text.as_bytes())?;
-        let canonical = print(rt.alloc(), &tree)?;
-        assert!(rt; canonical.as_slice() == text.as_bytes(), "row {at}");
-    }
-    Ok(())
-}
 
 /// Each variable of numbers, of contexts and of removed operations is assigned once, in order.
 const ASSIGNMENTS: &[u8] =
@@ -81,18 +71,46 @@ fn is_accepted(alloc: Global, text: &[u8], certificate: &[u8]) -> Result<bool, L
     }
 }
 
-#[test]
-fn each_variable_has_its_own_place(rt: HostRuntime) -> Result<(), Fail> {
-    let tree = parse(rt.alloc(), ASSIGNMENTS)?;
-    assert_eq!(rt; tree.filter.callbacks.as_slice().len(), 1);
-    for callback in tree.filter.callbacks.as_slice() {
-        let body = callback.body.as_slice();
-        assert_eq!(rt; body.len(), PLACES.len());
-        for (statement, (kind, place)) in body.iter().zip(PLACES.iter()) {
-            let (found, at) = assigned(statement);
-            assert!(rt; found == *kind && at == *place);
+/// The first of these statements that doesn't assign the variable of its place.
+fn wrong_place(statements: &[Statement]) -> Option<usize> {
+    for (at, statement) in statements.iter().enumerate() {
+        let (kind, place) = assigned(statement);
+        let is_right = match PLACES.get(at) {
+            Some((wanted, number)) => kind == *wanted && place == *number,
+            None => false,
+        };
+        if !is_right {
+            return Some(at);
         }
     }
+    None
+}
+
+/// Whether a text is printed as it is.
+fn is_canonical(alloc: Global, text: &str) -> Result<bool, ParseError> {
+    let tree = parse(alloc, text.as_bytes())?;
+    Ok(print(alloc, &tree)?.as_slice() == text.as_bytes())
+}
+
+/// Whether each assignment is to the variable of its place.
+fn have_own_places(alloc: Global) -> Result<bool, ParseError> {
+    let tree = parse(alloc, ASSIGNMENTS)?;
+    let callbacks = tree.filter.callbacks.as_slice();
+    for callback in callbacks {
+        let body = callback.body.as_slice();
+        if body.len() != PLACES.len() || wrong_place(body).is_some() {
+            return Ok(false);
+        }
+    }
+    Ok(callbacks.len() == 1)
+}
+
+#[test]
+fn each_word_is_read_and_printed(rt: HostRuntime) -> Result<(), Fail> {
+    for text in WORDS {
+        assert!(rt; is_canonical(rt.alloc(), text)?);
+    }
+    assert!(rt; have_own_places(rt.alloc())?);
     assert!(rt; is_accepted(rt.alloc(), IN_TURN, CERTIFICATE)?);
     Ok(())
 }
