@@ -1,10 +1,8 @@
 -- A step that isn't local is enabled by the choice that is written for it, unless it asks for a lock that another holds.
-use Rattle.std.proofs.Common.{◌≡◌, ◌↔◌, ℕ, Bool, true, false, not, ◌||◌, if◌then◌else◌, List, [], ◌∷◌, ◌++◌, Option, Some, None, ap, sym, subst, refl, ◌∙◌, option_map}
+use Rattle.std.proofs.Common.{◌≡◌, ◌↔◌, ℕ, Bool, true, false, not, ◌||◌, if◌then◌else◌, List, [], ◌∷◌, ◌++◌, Option, Some, None, sym, subst, refl}
 use Rattle.flt_tree.specs.declared.filter.Action.{Action}
 use Rattle.flt_tree.specs.declared.filter.Action.TheVariants as action
-use Rattle.flt_tree.specs.declared.filter.Condition.{Condition}
 use Rattle.flt_tree.specs.declared.filter.Condition.TheVariants as condition
-use Rattle.flt_tree.specs.declared.filter.FallibleCall.{FallibleCall}
 use Rattle.flt_tree.specs.declared.filter.Filter.{Filter}
 use Rattle.flt_tree.specs.declared.filter.PlainCall.{PlainCall}
 use Rattle.flt_tree.specs.declared.filter.PlainCall.TheVariants as plain
@@ -14,11 +12,11 @@ use Rattle.flt_tree.specs.declared.filter.Test.{Test}
 use Rattle.flt_tree.specs.declared.filter.Test.TheVariants as test
 use Rattle.flt_model.specs.declared.event.Event.{Event}
 use Rattle.flt_model.specs.Effects.{Step}
-use Rattle.flt_model.specs.LocalSteps.{after_action, after_statement, local_step, goes_on_to, holds_condition}
+use Rattle.flt_model.specs.LocalSteps.{after_statement, local_step}
 use Rattle.flt_rules.specs.declared.held.Access.TheVariants.{Exclusive, Shared}
 use Rattle.flt_model.specs.Runs.{Moment, next}
-use Rattle.flt_model.specs.Steps.{Board, board, list_step, first_step, plain_step, fallible_step, may_be_refused, may_take}
-use Rattle.flt_model.specs.World.{World, Activation, activation_at, actor_at}
+use Rattle.flt_model.specs.Steps.{Board, list_step, first_step, plain_step, fallible_step, may_be_refused, may_take}
+use Rattle.flt_model.specs.World.{World, Activation, activation_at}
 use Rattle.flt_calls.specs.Plans.{leaves_choice_by, begins_with_choice, choice_at}
 use Rattle.flt_machine.specs.Blocking.{is_blocked_by, is_blocked}
 

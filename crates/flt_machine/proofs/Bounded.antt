@@ -1,5 +1,5 @@
 -- A board keeps its bounds: where a change is written down, and where an activation's standing is another.
-use Rattle.std.proofs.Common.{◌≡◌, ℕ, ◌+◌, ◌<◌, ◌≤◌, List, [], ◌∷◌, ◌++◌, Option, Some, None, length, ap, sym, subst, refl, ◌∙◌, inl, inr, arith}
+use Rattle.std.proofs.Common.{◌≡◌, ℕ, ◌+◌, ◌<◌, List, [], ◌∷◌, ◌++◌, Option, Some, None, length, ap, sym, subst, ◌∙◌, inl, inr, arith}
 use Rattle.std.specs.Prelude.{IfSome}
 use Rattle.std.proofs.Math.ListN.{set, get_or}
 use Rattle.std.proofs.lemmas.Bool.{cases_eq, cases_lt}
@@ -10,8 +10,8 @@ use Rattle.flt_model.specs.World.{Store}
 use Rattle.flt_store.specs.Changes.{after_change, IsPossible}
 use Rattle.flt_store.specs.declared.change.Change.{Change}
 use Rattle.flt_machine.specs.Counted.{AreAtMost, IsBounded, IsSmall}
-use Rattle.flt_machine.specs.Situations.{Situation, standing_of}
-use Rattle.flt_machine.proofs.Counting.{references_after, arrivals_after}
+use Rattle.flt_machine.specs.Situations.{Situation}
+use Rattle.flt_machine.proofs.Counting.{references_after, arrivals_after, items_after, queues_after}
 use Rattle.flt_machine.proofs.Small.{stays_small}
 
 -- a change is made, and one entry more is written
@@ -19,8 +19,11 @@ pub written_bounded : (b : Situation) (e : JournalEntry) (c : Change) → IsPoss
     IsBounded (record b { store = after_change b.store c; entries = b.entries ++ e ∷ [] })
 written_bounded b e c can room bounded = record {
   both = bounded.both;
+  queues = queues_after b.store c bounded.queues;
   entries = omega (arith, room, longer);
   arrivals = arrivals_after b.store c can bounded.arrivals;
+  started = omega (arith, longer, bounded.started);
+  items = omega (arith, longer, bounded.items, items_after b.store c);
   references = subst (λ (n : ℕ). AreAtMost n (after_change b.store c)) (sym longer) (references_after (length b.entries) b.store c bounded.references);
   standings = λ a s is. subst (λ (n : ℕ). IsSmall n s) (sym longer) (stays_small (length b.entries) s (bounded.standings a s is));
 }
@@ -44,8 +47,11 @@ found n (Some t) s small is = let same : t ≡ s = cc in subst (IsSmall n) same 
 pub put_bounded : (b : Situation) (a : ℕ) (later : Option Standing) → IfSome later (λ s. IsSmall (length b.entries) s) → IsBounded b → IsBounded (record b { standings = set b.standings a later })
 put_bounded b a later small bounded = record {
   both = bounded.both ∙ sym (length-set b.standings a later);
+  queues = bounded.queues;
   entries = bounded.entries;
   arrivals = bounded.arrivals;
+  started = omega (arith, length-set b.standings a later, bounded.started);
+  items = bounded.items;
   references = bounded.references;
   standings = each;
 }

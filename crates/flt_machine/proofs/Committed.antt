@@ -1,30 +1,26 @@
 -- A commit: local steps, then a planned step, and the board stands after it with an entry more.
-use Rattle.std.proofs.Common.{◌≡◌, ◌↔◌, ℕ, ◌+◌, ◌<◌, Bool, true, false, List, [], ◌∷◌, ◌++◌, Option, Some, None, length, if◌then◌else◌, ap, sym, subst, refl, ◌∙◌, arith}
+use Rattle.std.proofs.Common.{◌≡◌, ◌↔◌, ℕ, ◌+◌, ◌<◌, Bool, true, false, List, [], ◌∷◌, ◌++◌, Option, Some, None, ap, sym, subst, refl, ◌∙◌}
 use Rattle.std.proofs.Math.ListN.{set, get_or}
 use Rattle.std.proofs.lemmas.List.{length-set, get_or-set_same}
-use Rattle.flt_tree.specs.declared.filter.Callback.{Callback}
 use Rattle.flt_tree.specs.declared.filter.Filter.{Filter}
 use Rattle.flt_tree.specs.declared.filter.Statement.{Statement}
-use Rattle.flt_model.specs.declared.event.Event.{Event}
-use Rattle.flt_model.specs.declared.moves.JournalEntry.{JournalEntry}
 use Rattle.flt_model.specs.declared.moves.JournalEntry.TheVariants.{Go}
 use Rattle.flt_model.specs.Effects.{Step}
 use Rattle.flt_model.specs.LocalSteps.{local_step}
 use Rattle.flt_model.specs.Program.{callbacks_at}
 use Rattle.flt_model.specs.Runs.{Moment, next, after}
-use Rattle.flt_model.specs.Steps.{Board}
-use Rattle.flt_model.specs.World.{World, Store, Actor, Activation, no_actor, nobody, activation_at, actor_at}
+use Rattle.flt_model.specs.World.{Store, Actor, Activation, no_actor, nobody, activation_at, actor_at}
 use Rattle.flt_store.specs.Changes.{after_change}
 use Rattle.flt_calls.specs.Own.{AreOf}
-use Rattle.flt_calls.specs.Plans.{is_end, IsCaller, IsCounted, IsPlanned, IsWritten, IsCountedOn, remaining_by, choice_at}
+use Rattle.flt_calls.specs.Plans.{IsCaller, IsCounted, IsPlanned, IsWritten, remaining_by, choice_at}
 use Rattle.flt_calls.specs.declared.plans.Plan.{Plan}
 use Rattle.flt_frame.specs.Leads.{IsAdvance}
-use Rattle.flt_frame.specs.Standings.{StandsFor, activation_with}
+use Rattle.flt_frame.specs.Standings.{StandsFor}
 use Rattle.flt_frame.specs.declared.frame.Advanced.{Advanced}
 use Rattle.flt_frame.specs.declared.standing.Standing.{Standing}
 use Rattle.flt_machine.specs.Blocking.{is_blocked}
-use Rattle.flt_machine.specs.Calls.{Commits, IsFresh, IsLater, IsRefusedAt, caller_of, local_steps, step_at}
-use Rattle.flt_machine.specs.Situations.{Situation, IsKept, IsAt, actor_of, standing_of}
+use Rattle.flt_machine.specs.Calls.{Commits, IsFresh, IsLater, IsRefusedAt, caller_of, step_at}
+use Rattle.flt_machine.specs.Situations.{Situation, IsKept, IsAt, standing_of}
 use Rattle.flt_machine.proofs.Local.{moved, furthered, IsReached, advances, kept_there, set_twice, goes_there}
 use Rattle.flt_machine.proofs.Stepped.{IsStepped, stepped, steps_on}
 use Rattle.flt_machine.proofs.Planned.{planned_on, planned_end}

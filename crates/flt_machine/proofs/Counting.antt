@@ -1,5 +1,5 @@
 -- What each change adds: one reference at most to each context, and no operation more than may be.
-use Rattle.std.proofs.Common.{◌≡◌, ◌≢◌, ℕ, zero, suc, ◌+◌, ◌-◌, ◌<◌, ◌≤◌, ◌==◌, Bool, true, false, not, ◌&&◌, List, [], ◌∷◌, ◌++◌, Option, Some, None, length, map, if◌then◌else◌, ap, sym, subst, refl, ◌∙◌, inl, inr, arith}
+use Rattle.std.proofs.Common.{◌≡◌, ℕ, ◌+◌, ◌-◌, ◌≤◌, Bool, true, false, List, [], ◌∷◌, ◌++◌, Option, Some, None, length, drop, if◌then◌else◌, sym, subst, refl, ◌∙◌, inl, inr, arith}
 use Rattle.std.proofs.Math.ListN.{set, get_or}
 use Rattle.std.proofs.lemmas.Bool.{cases_eq, cases_lt}
 use Rattle.std.proofs.lemmas.List.{get_or-set_same, get_or-set_other, get_or_past, length-set, length-append}
@@ -8,8 +8,9 @@ use Rattle.std.proofs.Math.Seq.{get_or-append_seam}
 use Rattle.flt_tree.specs.declared.variable.ContextVariable.{ContextVariable}
 use Rattle.flt_model.specs.Effects.{after_unlink}
 use Rattle.flt_model.specs.Calls.{put_link}
+use Rattle.flt_model.specs.Moves.{other_entries}
 use Rattle.flt_model.specs.Settling as settling
-use Rattle.flt_model.specs.World.{Store, Context, Link, no_context, context_at, is_freed, route_at, visit_at, with_context, with_link, with_route, add_reference, drop_reference}
+use Rattle.flt_model.specs.World.{Store, Context, Link, no_context, context_at, Detached, Detaching, is_freed, queue_at, route_at, visit_at, with_context, with_link, with_route, add_reference, drop_reference}
 use Rattle.flt_ops.specs.Parts.{way_of}
 use Rattle.flt_store.specs.Changes.{after_change, IsPossible}
 use Rattle.flt_store.specs.declared.change.Change.{Change}
@@ -147,3 +148,99 @@ arrivals_after s (change.StartDraining o f x) can few = few
 arrivals_after s (change.Cancel o) can few = few
 arrivals_after s (change.Detach f) can few = few
 arrivals_after s (change.Finish f) can few = few
+
+-- ---- work items
+
+either_items : (n : ℕ) (b : Bool) (s t : Store) → length s.items ≡ n → length t.items ≡ n → length (if b then s else t).items ≡ n
+either_items n true s t one other = one
+either_items n false s t one other = other
+
+settled_items : (s : Store) (v : ℕ) (x : Option ℕ) (way : settling.Way) → length (settling.settled_by s v x way).items ≡ length s.items
+settled_items s v x way =
+    either_items (length s.items) (settling.settles_visit way) (record (settling.lead s v x way) { settled = set (settling.lead s v x way).settled v true }) s
+    (either_items (length s.items) (settling.is_led s v) (with_route s (visit_at s v).operation (settling.led (visit_at s v).filter x way (route_at s (visit_at s v).operation))) s refl refl) refl
+
+unlinked_items : (s : Store) (y : ℕ) (old : Option ContextVariable) → length (after_unlink s y old).items ≡ length s.items
+unlinked_items s y None = refl
+unlinked_items s y (Some d) = refl
+
+one_more : (n m : ℕ) → m ≡ n → m ≤ n + 1
+one_more n m same = omega (arith, same)
+
+-- a change adds one work item at most
+pub items_after : (s : Store) (c : Change) → length (after_change s c).items ≤ length s.items + 1
+items_after s change.Nothing = one_more _ _ refl
+items_after s (change.Allocate owner) = one_more _ _ refl
+items_after s (change.AddReference x) = one_more _ _ refl
+items_after s (change.DropReference x) = one_more _ _ refl
+items_after s (change.Write x value) =
+    one_more _ _ (either_items (length s.items) (is_freed (context_at s x)) s (with_context s x (record (context_at s x) { value = value })) refl refl)
+items_after s (change.Link x f k None old) = one_more _ _ refl
+items_after s (change.Link x f k (Some y) old) = one_more _ _ (unlinked_items s y old)
+items_after s (change.Unlink x old) = one_more _ _ (unlinked_items s x old)
+items_after s (change.TakeLock f l a access) = one_more _ _ refl
+items_after s (change.GiveUpLock f l a) = one_more _ _ refl
+items_after s (change.Insert f v x) = one_more _ _ refl
+items_after s (change.RemoveNext f) = one_more _ _ refl
+items_after s (change.RemoveOf f o v) = one_more _ _ refl
+items_after s (change.Queue f r v x) =
+    omega (arith, length-append s.items (Some (record { filter = f; routine = r; visit = v; context = x }) ∷ []))
+items_after s (change.Start i) = one_more _ _ (length-set s.items i None)
+items_after s (change.Settle v x way) = one_more _ _ (settled_items s v x (way_of way))
+items_after s (change.Arrive kind mode file) = one_more _ _ refl
+items_after s (change.StartPre o f) = one_more _ _ refl
+items_after s (change.Skip o f) = one_more _ _ refl
+items_after s (change.Lower o) = one_more _ _ refl
+items_after s (change.StartPost o f x) = one_more _ _ refl
+items_after s (change.StartDraining o f x) = one_more _ _ refl
+items_after s (change.Cancel o) = one_more _ _ refl
+items_after s (change.Detach f) = one_more _ _ refl
+items_after s (change.Finish f) = one_more _ _ refl
+
+-- ---- queues
+
+-- there are as many queues as filters
+abbrev pub HasQueues : Store → Type 0
+HasQueues s = length s.queues ≡ length s.presences
+
+either_queues : (b : Bool) (s t : Store) → HasQueues s → HasQueues t → HasQueues (if b then s else t)
+either_queues true s t one other = one
+either_queues false s t one other = other
+
+settled_queues : (s : Store) (v : ℕ) (x : Option ℕ) (way : settling.Way) → HasQueues s → HasQueues (settling.settled_by s v x way)
+settled_queues s v x way has =
+    either_queues (settling.settles_visit way) (record (settling.lead s v x way) { settled = set (settling.lead s v x way).settled v true }) s
+    (either_queues (settling.is_led s v) (with_route s (visit_at s v).operation (settling.led (visit_at s v).filter x way (route_at s (visit_at s v).operation))) s has has) has
+
+unlinked_queues : (s : Store) (y : ℕ) (old : Option ContextVariable) → HasQueues s → HasQueues (after_unlink s y old)
+unlinked_queues s y None has = has
+unlinked_queues s y (Some d) has = has
+
+-- a change leaves as many
+pub queues_after : (s : Store) (c : Change) → HasQueues s → HasQueues (after_change s c)
+queues_after s change.Nothing has = has
+queues_after s (change.Allocate owner) has = has
+queues_after s (change.AddReference x) has = has
+queues_after s (change.DropReference x) has = has
+queues_after s (change.Write x value) has =
+    either_queues (is_freed (context_at s x)) s (with_context s x (record (context_at s x) { value = value })) has has
+queues_after s (change.Link x f k None old) has = has
+queues_after s (change.Link x f k (Some y) old) has = unlinked_queues s y old has
+queues_after s (change.Unlink x old) has = unlinked_queues s x old has
+queues_after s (change.TakeLock f l a access) has = has
+queues_after s (change.GiveUpLock f l a) has = has
+queues_after s (change.Insert f v x) has = length-set s.queues f (queue_at s f ++ record { visit = v; context = x } ∷ []) ∙ has
+queues_after s (change.RemoveNext f) has = length-set s.queues f (drop 1 (queue_at s f)) ∙ has
+queues_after s (change.RemoveOf f o v) has = length-set s.queues f (other_entries s o (queue_at s f)) ∙ has
+queues_after s (change.Queue f r v x) has = has
+queues_after s (change.Start i) has = has
+queues_after s (change.Settle v x way) has = settled_queues s v x (way_of way) has
+queues_after s (change.Arrive kind mode file) has = has
+queues_after s (change.StartPre o f) has = has
+queues_after s (change.Skip o f) has = has
+queues_after s (change.Lower o) has = has
+queues_after s (change.StartPost o f x) has = has
+queues_after s (change.StartDraining o f x) has = has
+queues_after s (change.Cancel o) has = has
+queues_after s (change.Detach f) has = has ∙ sym (length-set s.presences f Detaching)
+queues_after s (change.Finish f) has = has ∙ sym (length-set s.presences f Detached)

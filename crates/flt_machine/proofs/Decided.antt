@@ -52,7 +52,8 @@ none_there : (p : List Filter) (w : World) (o : Option Step) → Decides p w Non
 none_there p w None decides = refl
 none_there p w (Some step) decides = absurd decides
 
-some_there : (p : List Filter) (w : World) (d : Decision) (o : Option Step) → Decides p w (Some d) o → (step : Step) × ((o ≡ Some step) × IsDecided p w d step)
+-- with one it is, and the decision is its step
+pub some_there : (p : List Filter) (w : World) (d : Decision) (o : Option Step) → Decides p w (Some d) o → (step : Step) × ((o ≡ Some step) × IsDecided p w d step)
 some_there p w d None decides = absurd decides
 some_there p w d (Some step) decides = (step, (refl, decides))
 

@@ -1,9 +1,8 @@
 -- What a commit goes by: the plan of the instruction at which the activation stands is a step where the local steps lead.
-use Rattle.std.proofs.Common.{◌≡◌, ◌≤◌, ℕ, ◌<◌, ◌+◌, ◌*◌, Bool, true, false, not, ◌||◌, if◌then◌else◌, List, [], ◌∷◌, ◌++◌, Option, Some, None, length, ap, sym, subst, refl, ◌∙◌, arith}
+use Rattle.std.proofs.Common.{◌≡◌, ◌≤◌, ℕ, ◌+◌, ◌*◌, Bool, true, false, not, ◌||◌, List, [], ◌∷◌, ◌++◌, Option, Some, length, ap, sym, subst, refl, ◌∙◌, arith}
 use Rattle.std.proofs.Math.ListN.{set, get_or}
-use Rattle.std.proofs.lemmas.List.{length-append, length-set}
+use Rattle.std.proofs.lemmas.List.{length-append}
 use Rattle.std.specs.Prelude.{IfSome}
-use Rattle.flt_rules.specs.declared.held.HeldLock.{HeldLock}
 use Rattle.flt_tree.specs.declared.filter.Callback.{Callback}
 use Rattle.flt_tree.specs.declared.filter.Filter.{Filter}
 use Rattle.flt_tree.specs.declared.filter.Statement.{Statement}
@@ -31,8 +30,6 @@ use Rattle.flt_calls.specs.Own.{AreOf, AreOwn}
 use Rattle.flt_calls.specs.Plans.{IsCaller, IsCounted, IsPlanned, TakesNone, choice_at, is_end, remaining_by}
 use Rattle.flt_calls.specs.declared.caller.Caller.{Caller}
 use Rattle.flt_calls.specs.declared.plans.Plan.{Plan}
-use Rattle.flt_calls.specs.declared.plans.Write.{Write}
-use Rattle.flt_calls.specs.declared.plans.Write.TheVariants as write
 use Rattle.flt_machine.specs.Blocking.{is_blocked}
 use Rattle.flt_machine.specs.Calls.{Commits, IsAdvanced, IsBlocked, IsFresh, IsLater, IsRefusedAt, caller_of, instruction_for, is_refused_lock, leaves_choice_at, step_at}
 use Rattle.flt_machine.specs.Counted.{AreDistinct, IsBounded, IsSmall}

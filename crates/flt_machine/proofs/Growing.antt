@@ -17,7 +17,7 @@ use Rattle.flt_frame.specs.declared.standing.Standing.{Standing}
 use Rattle.flt_machine.specs.Counted.{AreAtMost, AreDistinct, IsBounded, IsSmall}
 use Rattle.flt_machine.specs.Moving.{gained_by, Begins, standings_by, moved_by, HasMoved}
 use Rattle.flt_machine.specs.Situations.{Situation}
-use Rattle.flt_machine.proofs.Counting.{arrivals_after, references_after}
+use Rattle.flt_machine.proofs.Counting.{arrivals_after, items_after, queues_after, references_after}
 use Rattle.flt_machine.proofs.Small.{stays_small}
 
 -- an activation that starts counts one gain at most, and holds no lock
@@ -33,7 +33,7 @@ begun_small n p start s (stands, (gained, lost)) = record {
     once (Some v) = omega arith
 
 -- as many standings come as actors
-same_number : (p : List Filter) (o : Option Start) (s : Option Standing) → Begins p o s → length (actors_by o) ≡ length (standings_by s)
+pub same_number : (p : List Filter) (o : Option Start) (s : Option Standing) → Begins p o s → length (actors_by o) ≡ length (standings_by s)
 same_number p None None begins = refl
 same_number p None (Some s) begins = absurd begins
 same_number p (Some start) None begins = absurd begins
@@ -64,14 +64,21 @@ pub moved_bounded : (p : List Filter) (b : Situation) (d : Decision) (s : Option
     IsPossible b.store d.change → Begins p d.start s → IsBounded (moved_by b d s (b.entries ++ e ∷ []))
 moved_bounded p b d s e bounded room can begins = record {
   both = length-append b.actors (actors_by d.start) ∙ both ∙ sym (length-append b.standings (standings_by s));
+  queues = queues_after b.store d.change bounded.queues;
   entries = omega (arith, room, longer);
   arrivals = arrivals_after b.store d.change can bounded.arrivals;
+  started = omega (arith, longer, bounded.started, length-append b.standings (standings_by s), one_starts s);
+  items = omega (arith, longer, bounded.items, items_after b.store d.change);
   references = subst (λ (n : ℕ). AreAtMost n (after_change b.store d.change)) (sym longer) (references_after (length b.entries) b.store d.change bounded.references);
   standings = λ k t is. subst (λ (n : ℕ). IsSmall n t) (sym longer) (grown_small (length b.entries) p d.start s b.standings k t begins bounded.standings is);
 }
   where
     longer : length (b.entries ++ e ∷ []) ≡ length b.entries + 1
     longer = length-append b.entries (e ∷ [])
+
+    one_starts : (s : Option Standing) → length (standings_by s) ≤ 1
+    one_starts None = omega arith
+    one_starts (Some t) = omega arith
 
     both : length b.actors + length (actors_by d.start) ≡ length b.standings + length (standings_by s)
     both = omega (arith, bounded.both, same_number p d.start s begins)

@@ -1,12 +1,11 @@
 -- Local steps change their activation alone, and a board whose frame was advanced stands where they lead.
-use Rattle.std.proofs.Common.{◌≡◌, ◌≢◌, ℕ, zero, suc, ◌<◌, ◌≤◌, Bool, true, false, List, [], ◌∷◌, ◌++◌, Option, Some, None, length, replicate, option_map, option_and_then, if◌then◌else◌, ap, sym, subst, refl, ◌∙◌, inl, inr, arith}
+use Rattle.std.proofs.Common.{◌≡◌, ◌≢◌, ℕ, zero, suc, ◌<◌, ◌≤◌, Bool, false, List, [], ◌∷◌, ◌++◌, Option, Some, None, length, replicate, option_map, option_and_then, if◌then◌else◌, ap, sym, subst, refl, ◌∙◌, inl, inr, arith}
 use Rattle.std.proofs.Math.ListN.{set, get_or}
 use Rattle.std.proofs.lemmas.Bool.{cases_eq, cases_lt}
 use Rattle.std.proofs.lemmas.List.{append-nil, get_or-set_same, get_or-set_other, set-get_or, length-set, get_or_past}
 use Rattle.flt_tree.specs.Variable.{operation_place}
 use Rattle.flt_tree.specs.declared.filter.Action.{Action}
 use Rattle.flt_tree.specs.declared.filter.Action.TheVariants as action
-use Rattle.flt_tree.specs.declared.filter.Callback.{Callback}
 use Rattle.flt_tree.specs.declared.filter.Filter.{Filter}
 use Rattle.flt_tree.specs.declared.filter.Statement.{Statement, out-Statement}
 use Rattle.flt_tree.specs.declared.filter.Statement.TheOpen.{Statement-F}
@@ -14,20 +13,18 @@ use Rattle.flt_tree.specs.declared.variable.OperationVariable.TheVariants.{Remov
 use Rattle.flt_tree.specs.declared.variable.RemovedVariable.{RemovedVariable}
 use Rattle.flt_tree.specs.declared.variable.RemovedVariable.TheVariants.{O0, O1, O2, O3}
 use Rattle.flt_model.specs.declared.event.Event.{Event}
-use Rattle.flt_model.specs.declared.event.Object.TheVariants.{Visit}
 use Rattle.flt_model.specs.Effects.{Step}
 use Rattle.flt_model.specs.LocalSteps.{after_action, goes_on_to, holds_condition, after_statement, local_step}
 use Rattle.flt_model.specs.Program.{callbacks_at}
 use Rattle.flt_model.specs.Runs.{Moment, after, next, run_from}
-use Rattle.flt_model.specs.Steps.{Transition, Local, local, moved_on}
-use Rattle.flt_model.specs.Trace.{gains, loses}
+use Rattle.flt_model.specs.Steps.{Local, moved_on}
 use Rattle.flt_model.specs.Variables.{operation_in}
-use Rattle.flt_model.specs.World.{World, Activation, nobody, activation_at, actor_at}
+use Rattle.flt_model.specs.World.{Activation, nobody, activation_at, actor_at}
 use Rattle.flt_frame.specs.declared.standing.Standing.{Standing}
 use Rattle.flt_frame.specs.declared.frame.Advanced.{Advanced}
 use Rattle.flt_frame.specs.Leads.{locally, Leads, IsFrom, IsAdvance}
 use Rattle.flt_calls.specs.Plans.{given_of}
-use Rattle.flt_frame.specs.Standings.{StandsFor, activation_with}
+use Rattle.flt_frame.specs.Standings.{activation_with}
 use Rattle.flt_machine.specs.Calls.{IsFresh, local_steps}
 use Rattle.flt_machine.specs.Situations.{Situation, standing_of, IsKept, KeptFor, IsAt}
 

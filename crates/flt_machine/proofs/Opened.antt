@@ -1,11 +1,11 @@
 -- The board before the first move.
-use Rattle.std.proofs.Common.{◌≡◌, ℕ, List, [], ◌∷◌, Option, None, length, map, replicate, ap, refl, ◌∙◌}
+use Rattle.std.proofs.Common.{◌≡◌, ℕ, List, [], ◌∷◌, length, map, replicate, ap, refl}
 use Rattle.std.proofs.lemmas.List.{length-map}
 use Rattle.flt_tree.specs.declared.filter.Filter.{Filter}
 use Rattle.flt_model.specs.declared.event.Object.TheVariants.{Visit}
 use Rattle.flt_model.specs.Runs.{start}
 use Rattle.flt_model.specs.Trace.{gains, loses}
-use Rattle.flt_model.specs.World.{Store, Entry, Holder, Presence, Attached}
+use Rattle.flt_model.specs.World.{Entry, Holder, Presence, Attached}
 use Rattle.flt_store.specs.Stores.{empty_store}
 use Rattle.flt_machine.specs.Situations.{IsAt, IsBoard, opening}
 

@@ -1,8 +1,8 @@
 -- A planned step of an activation, with what is kept of it then.
-use Rattle.std.proofs.Common.{◌≡◌, ◌≤◌, ℕ, ◌+◌, Bool, true, false, List, [], ◌∷◌, ◌++◌, Option, Some, None, length, if◌then◌else◌, ap, sym, subst, refl, ◌∙◌, arith, map}
-use Rattle.std.proofs.Math.ListN.{set, get_or}
+use Rattle.std.proofs.Common.{◌≡◌, ℕ, Bool, true, false, List, [], ◌++◌, Option, Some, None, length, if◌then◌else◌, ap, sym, subst, refl, ◌∙◌, arith}
+use Rattle.std.proofs.Math.ListN.{set}
 use Rattle.std.proofs.lemmas.List.{length-set}
-use Rattle.std.specs.Prelude.{slice_get, not, ◌&&◌}
+use Rattle.std.specs.Prelude.{slice_get}
 use Rattle.flt_tree.specs.declared.filter.Callback.{Callback}
 use Rattle.flt_tree.specs.declared.filter.Filter.{Filter}
 use Rattle.flt_tree.specs.declared.filter.Statement.{Statement}
@@ -12,23 +12,22 @@ use Rattle.flt_model.specs.declared.event.Event.{Event}
 use Rattle.flt_model.specs.declared.event.Object.TheVariants.{Visit}
 use Rattle.flt_model.specs.Effects.{Step, onward, after_unlink}
 use Rattle.flt_model.specs.Program.{callbacks_at, body_of}
-use Rattle.flt_model.specs.Reads.{put_value}
 use Rattle.flt_model.specs.Runs.{Moment}
 use Rattle.flt_model.specs.Settling as settling
 use Rattle.flt_model.specs.Trace.{gains, loses}
-use Rattle.flt_model.specs.World.{World, Store, Activation, Detached, Detaching, activation_at, actor_at, context_at, is_freed, route_at, visit_at, with_context, with_route}
+use Rattle.flt_model.specs.World.{Store, Activation, Detached, Detaching, activation_at, actor_at, context_at, is_freed, route_at, visit_at, with_context, with_route}
 use Rattle.flt_ops.specs.Parts.{way_of}
 use Rattle.flt_store.specs.Changes.{after_change}
 use Rattle.flt_store.specs.declared.change.Change.{Change}
 use Rattle.flt_store.specs.declared.change.Change.TheVariants as change
 use Rattle.flt_calls.specs.Own.{AreOf}
-use Rattle.flt_calls.specs.Plans.{written, is_end, IsPlanned, IsWritten, IsCountedOn, given_of, remaining_by}
+use Rattle.flt_calls.specs.Plans.{written, is_end, IsPlanned, IsWritten, IsCountedOn, remaining_by}
 use Rattle.flt_calls.specs.declared.plans.Plan.{Plan}
 use Rattle.flt_calls.specs.declared.plans.Write.{Write}
 use Rattle.flt_calls.specs.declared.plans.Write.TheVariants as write
 use Rattle.flt_frame.specs.Standings.{StandsFor, activation_with}
 use Rattle.flt_frame.specs.declared.standing.Standing.{Standing}
-use Rattle.flt_machine.specs.Situations.{IsKept, KeptFor}
+use Rattle.flt_machine.specs.Situations.{IsKept}
 use Rattle.flt_machine.proofs.Stepped.{IsStepped, gains-append, loses-append}
 
 -- ---- no change makes filters more or fewer

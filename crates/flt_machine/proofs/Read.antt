@@ -1,14 +1,10 @@
 -- What the code reads of an instruction is what the statements that remain say.
-use Rattle.std.proofs.Common.{◌≡◌, ◌⊎◌, ℕ, Bool, true, false, not, ◌||◌, if◌then◌else◌, List, [], ◌∷◌, ◌++◌, Option, Some, None, ap, sym, subst, refl, ◌∙◌, inl, inr}
-use Rattle.flt_rules.specs.declared.call.LockNumber.{LockNumber}
+use Rattle.std.proofs.Common.{◌≡◌, ℕ, Bool, true, false, not, ◌||◌, if◌then◌else◌, List, ◌∷◌, ap, sym, refl, ◌∙◌, inl, inr}
 use Rattle.flt_rules.specs.declared.held.Access.TheVariants.{Exclusive, Shared}
-use Rattle.flt_tree.specs.declared.filter.Action.{Action}
-use Rattle.flt_tree.specs.declared.filter.Action.TheVariants as action
 use Rattle.flt_tree.specs.declared.filter.Callback.{Callback}
 use Rattle.flt_tree.specs.declared.filter.Condition.TheVariants as condition
 use Rattle.flt_tree.specs.declared.filter.FallibleCall.{FallibleCall}
 use Rattle.flt_tree.specs.declared.filter.FallibleCall.TheVariants as fallible
-use Rattle.flt_tree.specs.declared.filter.Filter.{Filter}
 use Rattle.flt_tree.specs.declared.filter.PlainCall.{PlainCall}
 use Rattle.flt_tree.specs.declared.filter.PlainCall.TheVariants as plain
 use Rattle.flt_tree.specs.declared.filter.Statement.{Statement, out-Statement}
@@ -17,11 +13,10 @@ use Rattle.flt_graph.specs.Instruction as invocation
 use Rattle.flt_graph.specs.declared.instruction.Instruction.{Instruction}
 use Rattle.flt_graph.specs.declared.instruction.Instruction.TheVariants as instruction
 use Rattle.flt_graph.specs.declared.instruction.Invocation.{Invocation}
-use Rattle.flt_frame.specs.Firsts.{Remains, ActsFirst, CallsFirst, AsksCallFirst, TestsFirst, RepeatsFirst, ReturnsFirst}
+use Rattle.flt_frame.specs.Firsts.{Remains}
 use Rattle.flt_frame.specs.declared.standing.Standing.{Standing}
 use Rattle.flt_model.specs.Locks.{holders_of, is_free_for}
-use Rattle.flt_model.specs.Steps.{may_take}
-use Rattle.flt_model.specs.World.{World, Store, actor_at}
+use Rattle.flt_model.specs.World.{World, actor_at}
 use Rattle.flt_calls.specs.Plans.{choice_at, begins_with_choice, leaves_choice_by}
 use Rattle.flt_calls.specs.declared.caller.Caller.{Caller}
 use Rattle.flt_machine.specs.Blocking.{is_blocked_by, is_blocked}

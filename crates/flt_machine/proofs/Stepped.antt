@@ -1,5 +1,5 @@
 -- A board after a step of an activation that others see, and its journal with an entry more.
-use Rattle.std.proofs.Common.{◌≡◌, ◌≢◌, ℕ, zero, suc, ◌+◌, ◌<◌, ◌≤◌, ◌==◌, Bool, true, false, List, [], ◌∷◌, ◌++◌, Option, Some, None, length, replicate, option_map, option_and_then, if◌then◌else◌, ap, sym, subst, refl, ◌∙◌, inl, inr, arith, add-one, append-nil, append_assoc}
+use Rattle.std.proofs.Common.{◌≡◌, ◌≢◌, ℕ, ◌+◌, ◌<◌, ◌≤◌, ◌==◌, Bool, false, List, [], ◌∷◌, ◌++◌, Option, Some, None, length, option_map, option_and_then, ap, sym, subst, refl, ◌∙◌, inl, inr, arith, add-one, append-nil, append_assoc}
 use Rattle.std.proofs.Math.ListN.{set, get_or}
 use Rattle.std.proofs.lemmas.Bool.{cases_eq, ne_eqb}
 use Rattle.std.proofs.lemmas.List.{get_or-set_same, get_or-set_other, length-set}
@@ -16,17 +16,17 @@ use Rattle.flt_model.specs.declared.moves.JournalEntry.TheVariants as journal_en
 use Rattle.flt_model.specs.declared.moves.Move.{Move}
 use Rattle.flt_calls.specs.Plans.{choice_at}
 use Rattle.flt_model.specs.Effects.{Step}
-use Rattle.flt_model.specs.Expansion.{expand, expansion, go_on}
+use Rattle.flt_model.specs.Expansion.{expand, expansion}
 use Rattle.flt_model.specs.Program.{callbacks_at}
-use Rattle.flt_model.specs.Runs.{Moment, start, after, next, run_from, run}
-use Rattle.flt_model.specs.Steps.{Transition, Local, Board, Make}
+use Rattle.flt_model.specs.Runs.{Moment, start, after, next, run_from}
+use Rattle.flt_model.specs.Steps.{Transition, Make}
 use Rattle.flt_model.specs.Trace.{gains, loses, gain, lose, of_actor, same_object}
 use Rattle.flt_model.specs.World.{World, Store, Activation, nobody, activation_at, actor_at}
 use Rattle.flt_frame.specs.declared.standing.Standing.{Standing}
 use Rattle.flt_frame.specs.declared.frame.Advanced.{Advanced}
 use Rattle.flt_calls.specs.Own.{IsOf, AreOf}
 use Rattle.flt_machine.specs.Calls.{Commits, Makes, local_steps, step_at}
-use Rattle.flt_machine.specs.Situations.{Situation, IsKept, KeptFor, IsAt, IsBoard}
+use Rattle.flt_machine.specs.Situations.{Situation, KeptFor, IsAt, IsBoard}
 
 -- ---- what an activation's events count for others
 

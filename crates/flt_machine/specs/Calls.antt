@@ -27,10 +27,11 @@ use Rattle.flt_model.specs.Locks.{holders_of, is_free_for}
 use Rattle.flt_model.specs.Runs.{Moment, after, next, run_from}
 use Rattle.flt_model.specs.Steps.{Transition, Make, Local, Board}
 use Rattle.flt_model.specs.World.{Store, activation_at}
-use Rattle.flt_machine.specs.Situations.{Situation, IsAt, IsBoard, Now, actor_of, standing_of}
+use Rattle.flt_machine.specs.Situations.{Situation, IsAt, Now, actor_of, standing_of}
 
 -- transitions lead from where one board stands to where another stands, the last with these events
-pub record Makes (p : List Filter) (later : Situation) (before : List Transition) (last : Transition) (events : List Event) (m : Moment) : Type 0 where
+pub record Makes (p : List Filter) (later : Situation) (before : List Transition) (last : Transition) (events : List Event)
+    (m : Moment) : Type 0 where
   pub middle : Moment
   pub step : Step
   pub reached : run_from p m before ≡ Some middle
@@ -86,7 +87,8 @@ abbrev pub IsBlocked : Loaded → Situation → Advanced → Bool → Type 0
 IsBlocked l b advanced grant = Now l b (λ p m. IsRefusedAt p advanced grant m)
 
 -- a commit led a board to another, with these events and one entry more
-pub record Commits (p : List Filter) (b later : Situation) (advanced : Advanced) (grant : Bool) (events : List Event) (m : Moment) : Type 0 where
+pub record Commits (p : List Filter) (b later : Situation) (advanced : Advanced) (grant : Bool) (events : List Event)
+    (m : Moment) : Type 0 where
   pub middle : Moment
   pub step : Step
   pub reached : run_from p m (local_steps advanced) ≡ Some middle
@@ -94,7 +96,8 @@ pub record Commits (p : List Filter) (b later : Situation) (advanced : Advanced)
   pub told : events ≡ step.events
   pub at : IsAt p later (after middle step)
   pub written : later.entries
-      ≡ b.entries ++ Go advanced.frame.activation (advanced.steps + 1) (choice_at (activation_at middle.world advanced.frame.activation).rest grant) ∷ []
+      ≡ b.entries ++ Go advanced.frame.activation (advanced.steps + 1)
+      (choice_at (activation_at middle.world advanced.frame.activation).rest grant) ∷ []
 
 -- what is kept after a plan: nothing where it ends the activation, else a standing that is written so
 abbrev pub IsLater : List Callback → ℕ → Standing → List Statement → Plan → Option Standing → Type 0

@@ -26,10 +26,14 @@ pub record IsSmall (entries : ℕ) (s : Standing) : Type 0 where
 abbrev pub AreAtMost : ℕ → Store → Type 0
 AreAtMost n s = (x : ℕ) → (context_at s x).references ≤ n
 
--- there are as many standings as actors, and entries and operations are no more than may be; each entry adds one reference at most
+-- there are as many standings as actors, as many queues as filters, and entries and operations are no more than may be; each entry
+-- adds one reference, one activation and one work item at most
 pub record IsBounded (b : Situation) : Type 0 where
   pub both : length b.actors ≡ length b.standings
+  pub queues : length b.store.queues ≡ length b.store.presences
   pub entries : length b.entries ≤ 1000000
   pub arrivals : length b.store.arrivals ≤ 65536
+  pub started : length b.standings ≤ length b.entries
+  pub items : length b.store.items ≤ length b.entries
   pub references : AreAtMost (length b.entries) b.store
   pub standings : (a : ℕ) (s : Standing) → standing_of b a ≡ Some s → IsSmall (length b.entries) s

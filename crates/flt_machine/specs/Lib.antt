@@ -3,3 +3,4 @@ pub mod Calls
 pub mod Counted
 pub mod Blocking
 pub mod Moving
+pub mod Tickets

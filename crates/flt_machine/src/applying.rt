@@ -1,17 +1,19 @@
 //! Moves.
 
-ghost use Rattle.std.specs.Prelude.{◌≡◌, ◌↔◌, ◌<◌, ◌++◌, ◌∷◌, [], List, length, Some, Err, is_some, IsTrue, IfOk, OnOk, OnErr};
-ghost use Rattle.flt_dispatch.specs.Decisions.{IsActive, frees_by, gains_by};
+ghost use Rattle.std.specs.Prelude.{◌≡◌, ◌↔◌, ◌<◌, ◌+◌, ◌++◌, ◌∷◌, [], List, length, Some, Err, is_some, IsTrue, IfOk, OnOk, OnErr};
+ghost use Rattle.flt_dispatch.specs.Decisions.{IsActive, actors_by, frees_by, gains_by};
 ghost use Rattle.flt_dispatch.specs.Turns as turns;
 ghost use Rattle.flt_frame.specs.Loading.{AreLoaded};
 ghost use Rattle.flt_machine.specs.Calls as spec;
 ghost use Rattle.flt_machine.specs.Calls.{IsDisabled, IsFullFor};
 ghost use Rattle.flt_machine.specs.Moving.{Begins, HasMoved};
 ghost use Rattle.flt_machine.specs.Situations.{IsBoard, IsOwn, Now};
+ghost use Rattle.flt_machine.specs.Tickets as tickets;
 ghost use Rattle.flt_machine.specs.declared.fault.ApplyFault.TheVariants as fault;
 ghost use Rattle.flt_model.specs.Moves.{make};
 ghost use Rattle.flt_model.specs.Steps.{Make};
 ghost use Rattle.flt_model.specs.declared.moves.JournalEntry.TheVariants as journal_entry;
+ghost use Rattle.flt_model.specs.declared.subject.Subject.TheVariants as subject;
 ghost use Rattle.flt_store.specs.Changes.{after_change, IsPossible};
 ghost use Rattle.flt_tree.specs.declared.filter.Filter.{Filter};
 
@@ -20,12 +22,12 @@ use crate::board::{Board, MAX_ENTRIES};
 use crate::events::{Events, events_of};
 use crate::fault::ApplyFault;
 use crate::kept::Kept;
+use crate::tickets::subjects_by;
+use crate::writing::write;
 use flt_dispatch::{Decision, Start, decide};
 use flt_frame::{Loaded, Standing};
-use flt_model::{Event, Journal, JournalEntry, Move};
+use flt_model::{JournalEntry, Move, Subject};
 use flt_ops::MAX_OPERATIONS;
-use flt_store::{Change, Store};
-use sqlite_items::Items;
 use std::alloc::{AllocError, Global};
 
 impl Board {
@@ -39,6 +41,8 @@ impl Board {
         requires own { IsOwn loaded.now self.old }
         ensures own { (p : List Filter) → AreLoaded p loaded.now → IsBoard p self.old → IsBoard p self.new }
         ensures made { IfOk result (λ events. Now loaded.now self.old (λ p m. spec.Makes p self.new [] (Make step) events.list m)) }
+        ensures next { IfOk result (λ events. events.next.items ≡ tickets.after_move loaded.now.altitudes self.old.store self.new.store
+            (length self.old.standings) (length self.new.standings)) }
         ensures written { IfOk result (λ events. self.new.entries ≡ self.old.entries ++ journal_entry.Move step ∷ []) }
         ensures disabled { (result ≡ Err fault.NotEnabled) ↔ IsDisabled loaded.now self.old step }
         ensures full { (result ≡ Err fault.Full) ↔ ((IsDisabled loaded.now self.old step → ⊥) × IsFullFor self.old step) }
@@ -51,8 +55,8 @@ impl Board {
         if self.is_full_for(step) {
             return Err(ApplyFault::Full);
         }
-        let list = self.make(alloc, step, &decision)?;
-        Ok(Events { list })
+        let events = self.make(alloc, loaded, step, &decision)?;
+        Ok(events)
     }
 
     /// Whether a move is enabled.
@@ -61,6 +65,47 @@ impl Board {
         ensures { Now loaded.now self.now (λ p m. result ≡ is_some (make p m.world step)) }
     {
         decide(loaded, &self.store, step, self.is_active_for(loaded, step)).is_some()
+    }
+
+    /// What would get a ticket by a move that is enabled: the `next` that `apply` gives. Nothing where the move isn't enabled.
+    pub fn tickets(
+        &self,
+        alloc: Global,
+        loaded: &Loaded,
+        step: Move,
+    ) -> Result<Vec<Subject>, AllocError>
+        requires own { IsOwn loaded.now self.now }
+        ensures { IfOk result (λ next. Now loaded.now self.now
+            (λ p m. next.items ≡ tickets.by_move loaded.now.altitudes m.world (make p m.world step))) }
+    {
+        let active = self.is_active_for(loaded, step);
+        let Some(decision) = decide(loaded, &self.store, step, active) else {
+            return Ok(Vec::new(alloc));
+        };
+        if let Move::Arrive { .. } = step {
+            let mut next = Vec::new(alloc);
+            next.push(Subject::Operation(self.store.operations() as u32))?;
+            return Ok(next);
+        }
+        let next = subjects_by(
+            alloc,
+            loaded,
+            &self.store,
+            decision.change,
+            self.starting(&decision),
+        )?;
+        Ok(next)
+    }
+
+    /// The activation that a move starts.
+    fn starting(&self, decision: &Decision) -> Option<Subject>
+        ensures { tickets.newcomer subject.Activation (length self.now.standings)
+            (length self.now.standings + length (actors_by decision.now.start)) ≡ tickets.one_of result }
+    {
+        match decision.start {
+            Some(_) => Some(Subject::Activation(self.standings.len() as u32)),
+            None => None,
+        }
     }
 
     /// The enabled one of an operation's own moves: pre, skip, lower or post.
@@ -102,22 +147,38 @@ impl Board {
     fn make(
         &mut self,
         alloc: Global,
+        loaded: &Loaded,
         step: Move,
         decision: &Decision,
-    ) -> Result<Items<Event>, AllocError>
+    ) -> Result<Events, AllocError>
         requires room { length self.old.entries < 1000000 }
         requires possible { IsPossible self.old.store decision.now.change }
         ensures events { IfOk result (λ events.
-            events ≡ gains_by (length self.old.standings) decision.now.start ++ frees_by decision.now.freed) }
+            events.list ≡ gains_by (length self.old.standings) decision.now.start ++ frees_by decision.now.freed) }
+        ensures next { IfOk result (λ events. events.next.items ≡ tickets.subjects loaded.now.altitudes self.old.store
+            (after_change self.old.store decision.now.change) (tickets.newcomer subject.Activation (length self.old.standings)
+            (length self.old.standings + length (actors_by decision.now.start)))) }
         ensures made { OnOk result (HasMoved self.old self.new step decision.now) }
         ensures refused { OnErr result (self.new ≡ self.old) }
     {
+        let next = subjects_by(
+            alloc,
+            loaded,
+            &self.store,
+            decision.change,
+            self.starting(decision),
+        )?;
         let list = events_of(alloc, self.standings.len(), decision)?;
         match decision.start {
             Some(start) => self.start(alloc, step, decision, start)?,
-            None => write(&mut self.journal, &mut self.store, step, decision.change)?,
+            None => write(
+                &mut self.journal,
+                &mut self.store,
+                JournalEntry::Move(step),
+                decision.change,
+            )?,
         }
-        Ok(list)
+        Ok(Events { list, next })
     }
 
     /// An activation starts.
@@ -137,7 +198,12 @@ impl Board {
         self.actors.reserve(1)?;
         self.standings.reserve(1)?;
         let kept = Kept::new(alloc, standing_of(start))?;
-        write(&mut self.journal, &mut self.store, step, decision.change)?;
+        write(
+            &mut self.journal,
+            &mut self.store,
+            JournalEntry::Move(step),
+            decision.change,
+        )?;
         self.actors.push_reserved(Actor {
             filter: start.filter,
             place: start.place,
@@ -146,26 +212,6 @@ impl Board {
         self.standings.push_reserved(Some(kept));
         Ok(())
     }
-}
-
-/// What a move changes of what activations share, with its entry.
-fn write(
-    journal: &mut Journal,
-    store: &mut Store,
-    step: Move,
-    change: Change,
-) -> Result<(), AllocError>
-    requires { IsPossible store.old change }
-    ensures entry { OnOk result (journal.new ≡ journal.old ++ journal_entry.Move step ∷ []) }
-    ensures change { OnOk result (store.new ≡ after_change store.old change) }
-    ensures refused { OnErr result ((journal.new ≡ journal.old) × (store.new ≡ store.old)) }
-{
-    journal.push(JournalEntry::Move(step))?;
-    if let Err(refused) = store.perform(change) {
-        journal.pop();
-        return Err(refused);
-    }
-    Ok(())
 }
 
 /// How far an activation that starts has come. It has gained the visit that it is given.

@@ -1,21 +1,25 @@
 //! The board, and what is there.
 
-ghost use Rattle.std.specs.Prelude.{◌≡◌, ◌↔◌, ◌≤◌, ℕ, true, List, length, option_map, Some, None, IfOk, MatchOption, if◌then◌else◌};
+ghost use Rattle.std.specs.Prelude.{◌≡◌, ◌↔◌, ◌≤◌, ◌<◌, ℕ, true, List, length, option_map, Some, None, IfOk, MatchOption, if◌then◌else◌};
 ghost use Rattle.std.specs.List.{list_any};
+ghost use Rattle.flt_costs.specs.Costs.{IsStarted, callback_cost, steps_of};
 ghost use Rattle.flt_dispatch.specs.Turns as turns;
 ghost use Rattle.flt_frame.specs.Loading.{AreLoaded};
 ghost use Rattle.flt_frame.specs.Standings.{StandsFor};
+ghost use Rattle.flt_frame.specs.declared.loaded.Loaded.{Loaded};
 ghost use Rattle.flt_machine.specs.Situations as spec;
-ghost use Rattle.flt_machine.specs.Situations.{IsBoard, IsAt, Now};
+ghost use Rattle.flt_machine.specs.Situations.{IsBoard, IsAt, IsOwn, Now};
 ghost use Rattle.flt_model.specs.Moves.{make};
 ghost use Rattle.flt_model.specs.Program.{callbacks_at};
 ghost use Rattle.flt_model.specs.Runs.{Moment};
 ghost use Rattle.flt_model.specs.World as machine;
 ghost use Rattle.flt_ops.specs.Parts.{outcome_of};
+ghost use Rattle.flt_tree.specs.Measures.{max_cost};
 ghost use Rattle.flt_tree.specs.declared.filter.Filter.{Filter};
 
 use crate::actor::Actor;
 use crate::kept::Kept;
+use flt_costs::journals_stay_within_costs;
 use flt_frame::{Frame, Loaded, Standing};
 use flt_model::{Journal, Move};
 use flt_rules::Place;
@@ -143,10 +147,17 @@ impl Board {
         self.store.outcome(serial)
     }
 
-    /// What happened.
+    /// What happened. Each activation that is there or was there was started by one of the entries; and it makes at most as many steps as
+    /// the callback costs with which it started, so 1,000,000 at most.
     pub fn journal(&self) -> &Journal
-        ensures { result.now ≡ self.now.entries }
+        ensures entries { result.now ≡ self.now.entries }
+        ensures started { (p : List Filter) (a : ℕ) → IsBoard p self.now → a < length self.now.standings →
+            (filter : ℕ) × (callback : ℕ) × IsStarted p self.now.entries a filter callback }
+        ensures few { (p : List Filter) (a filter callback : ℕ) → IsBoard p self.now → IsStarted p self.now.entries a filter callback →
+            steps_of a self.now.entries ≤ callback_cost p filter callback }
+        ensures limited { (loaded : Loaded) (a : ℕ) → IsOwn loaded self.now → steps_of a self.now.entries ≤ max_cost }
     {
+        journals_stay_within_costs();
         &self.journal
     }
 }

@@ -1,6 +1,6 @@
 //! Steps of activations.
 
-ghost use Rattle.std.specs.Prelude.{◌≡◌, ◌≢◌, ◌↔◌, ◌||◌, not, ◌<◌, ◌≤◌, ◌+◌, ◌++◌, ◌∷◌, [], ℕ, true, false, List, length, set, get_or, IsSome, IsTrue, Some, None, OnOk, OnErr, IfOk, IfSome};
+ghost use Rattle.std.specs.Prelude.{◌≡◌, ◌≢◌, ◌↔◌, ◌||◌, not, ◌<◌, ◌≤◌, ◌+◌, ◌++◌, ◌∷◌, [], ℕ, true, false, List, length, set, get_or, IsSome, IsTrue, is_some, if◌then◌else◌, Some, None, OnOk, OnErr, IfOk, IfSome};
 ghost use Rattle.flt_calls.specs.Continuing.{leads_on};
 ghost use Rattle.flt_calls.specs.Own.{AreOf};
 ghost use Rattle.flt_calls.specs.Plans.{TakesNone, is_end};
@@ -10,9 +10,11 @@ ghost use Rattle.flt_machine.specs.Calls as spec;
 ghost use Rattle.flt_machine.specs.Calls.{IsAdvanced, IsBlocked, IsFresh};
 ghost use Rattle.flt_machine.specs.Counted.{IsSmall};
 ghost use Rattle.flt_machine.specs.Situations.{IsBoard, IsOwn, Now, standing_of};
+ghost use Rattle.flt_machine.specs.Tickets as tickets;
 ghost use Rattle.flt_machine.specs.declared.committing.Commit.TheVariants as answer;
 ghost use Rattle.flt_machine.specs.declared.events.Events.{Events};
 ghost use Rattle.flt_model.specs.declared.moves.JournalEntry.TheVariants.{Go};
+ghost use Rattle.flt_model.specs.declared.subject.Subject.TheVariants as subject;
 ghost use Rattle.flt_store.specs.Changes.{after_change, IsPossible};
 ghost use Rattle.flt_tree.specs.declared.filter.Callback.{Callback};
 ghost use Rattle.flt_tree.specs.declared.filter.Filter.{Filter};
@@ -21,10 +23,12 @@ ghost use Rattle.flt_tree.specs.declared.filter.Statement.{Statement};
 use crate::board::{Board, MAX_ENTRIES};
 use crate::events::Events;
 use crate::kept::Kept;
+use crate::tickets::subjects_by;
+use crate::writing::write;
 use flt_calls::{Caller, Plan, Write, continued, plan_step};
 use flt_frame::{Advanced, Loaded, Standing, standings_have_points};
 use flt_graph::Instruction;
-use flt_model::JournalEntry;
+use flt_model::{JournalEntry, Subject};
 use flt_rules::{Access, Call};
 use flt_store::Change;
 use std::alloc::{AllocError, Global};
@@ -59,6 +63,9 @@ impl Board {
         ensures own { (p : List Filter) → AreLoaded p loaded.now → IsBoard p self.old → IsBoard p self.new }
         ensures committed { (events : Events) → result ≡ answer.Committed events →
             Now loaded.now self.old (λ p m. spec.Commits p self.old self.new advanced.now grant events.list m) }
+        ensures next { (events : Events) → result ≡ answer.Committed events →
+            events.next.items ≡ tickets.after_go loaded.now.altitudes self.old.store self.new.store advanced.now.frame.activation
+            (is_some (standing_of self.new advanced.now.frame.activation)) }
         ensures stale { (result ≡ answer.Stale) ↔ (IsFresh self.old advanced.now → ⊥) }
         ensures blocked { (result ≡ answer.Blocked) ↔ (IsFresh self.old advanced.now × IsBlocked loaded.now self.old advanced.now grant) }
         ensures full { (result ≡ answer.Full) ↔ (IsFresh self.old advanced.now
@@ -155,14 +162,21 @@ impl Board {
         requires room { length self.old.entries < 1000000 }
         ensures committed { IfOk result (λ events.
             Now loaded.now self.old (λ p m. spec.Commits p self.old self.new advanced.now grant events.list m)) }
+        ensures next { IfOk result (λ events. events.next.items ≡ tickets.after_go loaded.now.altitudes self.old.store self.new.store
+            advanced.now.frame.activation (is_some (standing_of self.new advanced.now.frame.activation))) }
         ensures refused { OnErr result (self.new ≡ self.old) }
     {
         standings_have_points();
         let plan = plan_step(alloc, loaded, &self.store, caller, grant)?;
         let later = standing_after(caller, instruction, &plan);
+        let going = going(advanced.frame.activation, later.is_some());
+        let next = subjects_by(alloc, loaded, &self.store, plan.change, going)?;
         self.write_down(entry_of(advanced, instruction, grant), plan.change)?;
         self.put(caller.activation, later);
-        Ok(Events { list: plan.events })
+        Ok(Events {
+            list: plan.events,
+            next,
+        })
     }
 
     /// A change is made, and one entry more says what happened; or nothing is.
@@ -173,11 +187,7 @@ impl Board {
             record self.old { store = after_change self.old.store change; entries = self.old.entries ++ entry ∷ [] }) }
         ensures refused { OnErr result (self.new ≡ self.old) }
     {
-        self.journal.push(entry)?;
-        if let Err(refused) = self.store.perform(change) {
-            self.journal.pop();
-            return Err(refused);
-        }
+        write(&mut self.journal, &mut self.store, entry, change)?;
         Ok(())
     }
 
@@ -191,6 +201,17 @@ impl Board {
             Some(standing) => renew(&mut self.standings, activation, standing),
             None => end(&mut self.standings, activation),
         }
+    }
+}
+
+/// An activation that goes on.
+fn going(activation: u32, goes: bool) -> Option<Subject>
+    ensures { tickets.one_of result ≡ (if goes then subject.Activation activation ∷ [] else []) }
+{
+    if goes {
+        Some(Subject::Activation(activation))
+    } else {
+        None
     }
 }
 

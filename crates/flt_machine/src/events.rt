@@ -4,7 +4,7 @@ ghost use Rattle.std.specs.Prelude.{◌≡◌, ◌++◌, IfOk};
 ghost use Rattle.flt_dispatch.specs.Decisions as spec;
 
 use flt_dispatch::Decision;
-use flt_model::{Event, Object};
+use flt_model::{Event, Object, Subject};
 use sqlite_items::Items;
 use std::alloc::{AllocError, Global};
 
@@ -13,6 +13,9 @@ use std::alloc::{AllocError, Global};
 pub struct Events {
     /// In the order in which it happened.
     pub list: Items<Event>,
+    /// What gets a ticket by it: what the next move may be about. Operations, activations, work items, entries and a teardown, each by
+    /// rising number; entries from the lowest altitude to the highest.
+    pub next: Vec<Subject>,
 }
 
 /// The events of a move, where the number of the activation that it may start is this.

@@ -11,6 +11,8 @@ mod committing;
 mod events;
 mod fault;
 mod kept;
+mod tickets;
+mod writing;
 
 pub use board::{Board, MAX_ENTRIES};
 pub use committing::Commit;

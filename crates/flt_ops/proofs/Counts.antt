@@ -2,7 +2,7 @@
 use Rattle.std.proofs.Common.{◌≡◌, ◌≤◌, ◌<◌, ◌+◌, ◌-◌, ℕ, zero, suc, Bool, true, false, not, ◌&&◌, ◌||◌, ◌==◌, if◌then◌else◌, List, [], ◌∷◌, ◌++◌, length, get_or, set, inl, inr, ⊎_elim, refl, sym, ap, ◌∙◌, arith, length-append}
 use Rattle.std.proofs.lemmas.Bool.{cases_eq, cases_lt}
 use Rattle.std.proofs.lemmas.Bool.Decides.{nat_tests}
-use Rattle.std.proofs.lemmas.List.{get_or_default, get_or_past, get_or-set_same, get_or-set_other, length-set}
+use Rattle.std.proofs.lemmas.List.{get_or_default, get_or_past, get_or-set_same, get_or-set_other, length-set, set-get_or}
 use Rattle.flt_model.specs.Moves.{are_settled}
 use Rattle.flt_model.specs.World.{Visit, no_visit}
 use Rattle.flt_ops.specs.Unsettled.{counted, count_unsettled, AreCounted}
@@ -53,8 +53,6 @@ count_within o (y ∷ visits) (b ∷ settled) =
     let rest = count_within o visits settled in
     omega arith
 
--- ---- the counts that are kept
-
 -- an unsettled visit counts once at its operation
 pub of_itself : (o : ℕ) (x : Visit) → x.operation ≡ o → counted o x false ≡ 1
 of_itself o x e =
@@ -66,6 +64,47 @@ pub of_another : (o : ℕ) (x : Visit) → (x.operation ≡ o → ⊥) → count
 of_another o x d =
     let t : (x.operation == o) ≡ false = grind (arith, nat_tests) in
     ap (λ (b : Bool). if not b then 0 else 1) t
+
+-- ---- where one visit more is settled
+
+-- the last unsettled visit of an operation: none is counted after it
+pub last_counted : (o : ℕ) (visits : List Visit) (settled : List Bool) (v : ℕ) → length settled ≡ length visits → get_or settled v true ≡ false →
+    (get_or visits v no_visit).operation ≡ o → (count_unsettled o visits settled == 1) ≡ are_settled o visits (set settled v true)
+last_counted o visits settled v same unsettled of = elim (cases_lt v (length settled)) [
+  | inl here ↦
+      let less = count_less o visits settled v same (omega (arith, here, same)) unsettled in
+      let one = of_itself o (get_or visits v no_visit) of in
+      let none = none_counted o visits (set settled v true) in
+      let fewer : (count_unsettled o visits settled == 1) ≡ (count_unsettled o visits (set settled v true) == 0) = grind (arith, nat_tests) in
+      fewer ∙ none
+  | inr past ↦ absurd (let none = get_or_past settled v true past in cc)
+]
+
+-- a visit that is settled already, or is another operation's, counts for none
+pub others_counted : (o : ℕ) (visits : List Visit) (settled : List Bool) (v : ℕ) → length settled ≡ length visits →
+    (get_or settled v true ≡ false → (get_or visits v no_visit).operation ≡ o → ⊥) →
+    (count_unsettled o visits settled == 0) ≡ are_settled o visits (set settled v true)
+others_counted o visits settled v same apart = ap (λ (n : ℕ). n == 0) (sym alike) ∙ none_counted o visits (set settled v true)
+  where
+    by : (b : Bool) → get_or settled v true ≡ b → count_unsettled o visits (set settled v true) ≡ count_unsettled o visits settled
+    by true is = ap (count_unsettled o visits) (ap (set settled v) (sym is) ∙ set-get_or settled v true)
+    by false is = elim (cases_lt v (length settled)) [
+      | inl here ↦
+          let less = count_less o visits settled v same (omega (arith, here, same)) is in
+          let none = of_another o (get_or visits v no_visit) (apart is) in omega arith
+      | inr past ↦ absurd (let none = get_or_past settled v true past in cc)
+    ]
+
+    alike : count_unsettled o visits (set settled v true) ≡ count_unsettled o visits settled
+    alike = by (get_or settled v true) refl
+
+-- so does one that isn't there
+pub past_counted : (o : ℕ) (visits : List Visit) (settled : List Bool) (v : ℕ) → length settled ≡ length visits → length visits ≤ v →
+    (count_unsettled o visits settled == 0) ≡ are_settled o visits (set settled v true)
+past_counted o visits settled v same past =
+    others_counted o visits settled v same (λ unsettled of. let none = get_or_past settled v true (omega (arith, past, same)) in absurd (cc))
+
+-- ---- the counts that are kept
 
 set_here : (counts : List ℕ) (p u w : ℕ) → p ≡ u → p < length counts → get_or (set counts p w) u 0 ≡ w
 set_here counts p u w e l = rw (sym e) (get_or-set_same counts p w 0 l)

@@ -1,6 +1,6 @@
 //! Operations, with the calls that move them.
 
-ghost use Rattle.std.specs.Prelude.{◌≡◌, ◌↔◌, ◌≤◌, true, false, not, ◌||◌, ◌&&◌, length, slice_get, get_or, find, position, option_map, is_some, if◌then◌else◌, Some, None, Err, OnOk, OnErr, IfOk, MatchOption};
+ghost use Rattle.std.specs.Prelude.{◌≡◌, ◌↔◌, ◌≤◌, true, false, not, ◌||◌, ◌&&◌, length, slice_get, get_or, set, find, position, option_map, is_some, if◌then◌else◌, Some, None, Err, OnOk, OnErr, IfOk, MatchOption};
 ghost use Rattle.flt_model.specs.Moves as moves;
 ghost use Rattle.flt_model.specs.Settling as settling;
 ghost use Rattle.flt_model.specs.World as machine;
@@ -135,6 +135,21 @@ impl Operations {
         matches!(self.routes.position(serial), Position::Up)
             && self.routes.is_without_frames(serial)
             && self.visits.are_settled(serial)
+    }
+
+    /// Whether nothing of an operation waits any more: no post callback of it, and all its visits are settled. It is over once it is up.
+    pub fn is_spent(&self, serial: u32) -> bool
+        ensures { result ≡ (moves.is_empty (route_of self.now serial).frames && moves.are_settled serial self.now.visits self.now.settled) }
+    {
+        self.routes.is_without_frames(serial) && self.visits.are_settled(serial)
+    }
+
+    /// The same, once a visit is settled.
+    pub fn is_spent_after(&self, serial: u32, visit: usize) -> bool
+        ensures { result ≡ (moves.is_empty (route_of self.now serial).frames
+            && moves.are_settled serial self.now.visits (set self.now.settled visit true)) }
+    {
+        self.routes.is_without_frames(serial) && self.visits.are_settled_but(serial, visit)
     }
 
     /// The visit of a number. One that isn't there is a draining one.
@@ -324,8 +339,8 @@ impl Operations {
         true
     }
 
-    /// Whether the visit still moves its operation.
-    fn is_led(&self, visit: usize) -> bool
+    /// Whether a visit still moves its operation: it isn't settled, nor a draining one.
+    pub fn is_led(&self, visit: usize) -> bool
         ensures { result ≡ settling.is_led (store_of self.now) visit }
     {
         !self.visits.is_settled(visit) && !self.visits.get(visit).draining

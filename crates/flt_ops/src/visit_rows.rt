@@ -91,6 +91,21 @@ impl Visits {
         self.unsettled(operation) == 0
     }
 
+    /// The same, once a visit is settled.
+    #[tactic(auto, using(crate::proofs::Counts::last_counted, crate::proofs::Counts::others_counted, crate::proofs::Counts::past_counted))]
+    pub(crate) fn are_settled_but(&self, operation: u32, visit: usize) -> bool
+        ensures { result ≡ moves.are_settled operation self.now.visits (set self.now.settled visit true) }
+    {
+        let left = self.unsettled(operation);
+        if visit >= self.visits.len() {
+            return left == 0;
+        }
+        if self.settled[visit] || self.visits[visit].operation != operation {
+            return left == 0;
+        }
+        left == 1
+    }
+
     /// Makes room for the visits of one more operation, where there is none yet.
     pub(crate) fn make_room(&mut self, operation: usize) -> Result<(), AllocError>
         requires { operation ≤ self.old.room }

@@ -1,9 +1,9 @@
 -- A file that is accepted isn't refused: its text spells one filter, which has one graph, and its bytes spell one certificate.
-use Rattle.std.proofs.Common.{◌≡◌, ℕ, ◌<◌, List, [], ◌∷◌, Option, None, length, get_or, refl, sym, ap, subst, ◌∙◌, arith}
+use Rattle.std.proofs.Common.{◌≡◌, ℕ, ◌<◌, List, [], ◌∷◌, length, get_or, refl, sym, ap, subst, ◌∙◌, arith}
 use Rattle.std.proofs.lemmas.List.{length-append, get_or_append_left, get_or_at}
 use Rattle.std.proofs.lemmas.List.Elements.{All-nil, All-cons}
+use Rattle.std.specs.List.{All}
 use Rattle.std.proofs.lemmas.Option.{get_or_from_slice_get, slice_get_within}
-use Rattle.std.proofs.Props.{props}
 use Rattle.flt_tree.specs.Names.{Text}
 use Rattle.flt_syntax.specs.Spelling.{Spells, SpellsAtMostOne}
 use Rattle.flt_tree.specs.WellFormed.{IsWellFormed}
@@ -13,7 +13,6 @@ use Rattle.flt_graph.specs.declared.graph.Graph.{Graph}
 use Rattle.flt_cert.specs.Format.{Certificate}
 use Rattle.flt_check.specs.Covering.{Covers}
 use Rattle.flt_model.specs.Program.{HasDistinctAltitudes, IsRepeated}
-use Rattle.flt_model.specs.Runs.{Break}
 use Rattle.flt_sound.specs.Soundness.{IsAccepted, AreAccepted}
 use Rattle.flt_stack.specs.Loading.{File, IsAcceptedFile, AreAcceptedFiles}
 
@@ -25,10 +24,6 @@ covered_again one file filter f graph cert x same written w lowered =
     let here : IsLowered f graph = subst (λ (y : Filter). IsLowered y graph) same lowered in
     let graphs : x.graph ≡ graph = one f x.graph graph w x.lowered here in
     subst (λ (k : Certificate). Covers graph k) (sym written) (subst (λ (g : Graph). Covers g x.certificate) graphs x.covers)
-
--- that a run has no break is a fact with one proof at most
-pub clean_once : (b : Option Break) → IsProp (b ≡ None)
-clean_once b = Prim.hlevel props
 
 -- files are accepted as one list of filters
 pub accepted_once : SpellsAtMostOne → (files : List File) (fs gs : List Filter) → AreAcceptedFiles files fs →
@@ -58,6 +53,10 @@ files_accepted fine (x ∷ files) (f ∷ fs) all =
       lowered = k.lowered;
       covers = k.covers;
     }) (files_accepted fine files fs all.1)
+
+-- accepted filters are well-formed
+pub accepted_well_formed : (filters : List Filter) → AreAccepted filters → All IsWellFormed filters
+accepted_well_formed filters all = λ k d less. (all k d less).well_formed
 
 -- filters whose altitudes differ have none repeated
 pub none_repeated : (filters : List Filter) (n : ℕ) → HasDistinctAltitudes filters → IsRepeated filters n → ⊥

@@ -1,3 +1,4 @@
+pub mod Boards
 pub mod Files
 pub mod Judged
 pub mod Ordered

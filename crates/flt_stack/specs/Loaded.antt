@@ -1,12 +1,13 @@
 -- What is kept of loaded filters.
-use Rattle.std.specs.Prelude.{List}
-use Rattle.std.specs.List.{AllZip}
+use Rattle.std.specs.Prelude.{◌≡◌, List}
 use Rattle.flt_tree.specs.declared.filter.Filter.{Filter}
-use Rattle.flt_graph.specs.Lowering.{IsLowered}
-use Rattle.flt_graph.specs.declared.graph.Graph.{Graph}
+use Rattle.flt_frame.specs.Loading.{AreLoaded}
+use Rattle.flt_frame.specs.declared.loaded.Loaded.{Loaded}
+use Rattle.flt_model.specs.Program.{by_altitude}
 use Rattle.flt_sound.specs.Soundness.{AreAccepted}
 
--- each filter is accepted, and has its graph
-pub record AreLoadable (filters : List Filter) (graphs : List Graph) : Type 0 where
+-- the filters are accepted, stand from the highest altitude to the lowest, and are what a machine was lent to run
+pub record AreLoadable (filters : List Filter) (machine : Loaded) : Type 0 where
   pub accepted : AreAccepted filters
-  pub lowered : AllZip IsLowered filters graphs
+  pub ordered : by_altitude filters ≡ filters
+  pub loaded : AreLoaded filters machine

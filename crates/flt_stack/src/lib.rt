@@ -1,4 +1,4 @@
-//! The stack: what is accepted, and what runs it. Today it loads filters; the board, its lock and its workers come on top.
+//! The stack: filters are loaded where certificates cover them, and what is loaded is what a board runs on. A board on it breaks nothing.
 #![tactic(auto)]
 
 mod fault;

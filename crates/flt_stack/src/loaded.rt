@@ -1,10 +1,16 @@
-//! What is loaded: filters with their graphs, each accepted, from the highest altitude to the lowest.
+//! What is loaded: filters, each accepted, from the highest altitude to the lowest, and the same as a machine runs them.
 
 ghost use Rattle.std.specs.Prelude.{◌≡◌, List, None};
+ghost use Rattle.flt_frame.specs.Loading.{AreLoaded};
+ghost use Rattle.flt_machine.specs.Situations.{IsBoard};
+ghost use Rattle.flt_model.specs.Expansion.{IsCleanRun, verdict};
+ghost use Rattle.flt_model.specs.Program.{by_altitude, filters_of};
 ghost use Rattle.flt_model.specs.Runs.{breaks};
 ghost use Rattle.flt_model.specs.Steps.{Transition};
+ghost use Rattle.flt_model.specs.declared.verdict.Verdict.TheVariants.{Legal};
 
-use flt_graph::Graph;
+use flt_machine::Board;
+use flt_model::legal_journals_are_clean_runs;
 use flt_sound::accepted_runs_break_nothing;
 use flt_syntax::Tree;
 use sqlite_items::Items;
@@ -14,7 +20,7 @@ use std::marker::Model;
 #[derive(Drop)]
 pub struct Loaded {
     pub(crate) trees: Items<Tree>,
-    pub(crate) graphs: Items<Graph>,
+    pub(crate) machine: flt_machine::Loaded,
 }
 
 impl Model for Loaded {
@@ -34,15 +40,45 @@ impl Model for Loaded {
 
     ghost use Rattle.flt_stack.specs.Loaded.{AreLoadable};
 
-    ghost invariant = { λ l. ∥ AreLoadable (filters_of l.trees) l.graphs ∥₁ };
+    ghost invariant = { λ l. AreLoadable (filters_of l.trees) l.machine };
 }
 
 impl Loaded {
+    /// The trees of the filters. A script is read against them.
+    pub fn filters(&self) -> &[Tree]
+        ensures value { filters_of result.now ≡ self.now }
+        ensures ordered { by_altitude self.now ≡ self.now }
+    {
+        self.trees.as_slice()
+    }
+
+    /// The same filters as a board runs them: what each of its calls is lent.
+    pub fn machine(&self) -> &flt_machine::Loaded
+        ensures { AreLoaded self.now result.now }
+    {
+        &self.machine
+    }
+
     /// No run of the machine on what is loaded breaks anything. It does nothing: its clause is the law.
     pub fn breaks_nothing(&self)
         ensures { (transitions : List Transition) → breaks self.now transitions ≡ None }
     {
-        let _trees = self.trees.as_slice();
+        let _trees = &self.trees;
         accepted_runs_break_nothing();
+    }
+
+    /// A board on what is loaded has broken nothing, whatever was asked of it. `Board::new(loaded.machine())` makes such a board, and each
+    /// call of a board leaves it one. It does nothing: its clauses are the law.
+    pub fn boards_break_nothing(&self, board: &Board)
+        // It is a board of these filters.
+        requires own { IsBoard self.now board.now }
+        // Its journal is a run of the machine on them that breaks nothing.
+        ensures clean { IsCleanRun self.now board.now.entries }
+        // So the verdict about it is that it is legal.
+        ensures legal { verdict self.now board.now.entries ≡ Legal }
+    {
+        let _filters = self.filters();
+        self.breaks_nothing();
+        legal_journals_are_clean_runs();
     }
 }

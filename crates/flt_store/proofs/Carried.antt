@@ -13,7 +13,6 @@ use Rattle.flt_model.specs.Effects.{after_unlink}
 use Rattle.flt_model.specs.Moves.{is_entry_of, other_entries}
 use Rattle.flt_model.specs.Reads.{put_value}
 use Rattle.flt_model.specs.World.{Store, Context, Entry, Presence, Detached, no_context, context_at, visit_at, is_attached, is_freed, with_context, with_queue, queue_at, add_reference, drop_reference, with_link}
-use Rattle.flt_model.specs.declared.moves.Key.{Key}
 use Rattle.flt_store.proofs.Reading.{queue_there}
 use Rattle.flt_store.specs.Changes.{after_change, IsFirstOf}
 use Rattle.flt_store.specs.Parts.{key_of, link_of, context_of, entry_of}

@@ -3,4 +3,5 @@ pub mod Emptied
 pub mod Fresh
 pub mod Linked
 pub mod Reading
+pub mod Marked
 pub mod Carried

@@ -1,6 +1,6 @@
 //! The store, and what is there.
 
-ghost use Rattle.std.specs.Prelude.{◌≡◌, ◌≤◌, ◌||◌, ◌==◌, not, true, false, [], ◌∷◌, drop, find, position, is_some, length, option_map, Some, None, IfOk, IfSome, IfNone, MatchOption, if◌then◌else◌};
+ghost use Rattle.std.specs.Prelude.{◌≡◌, ℕ, ◌<◌, ◌≤◌, ◌&&◌, ◌||◌, ◌==◌, not, set, true, false, [], ◌∷◌, drop, find, position, is_some, length, get_or, option_map, Some, None, IfOk, IfSome, IfNone, MatchOption, if◌then◌else◌};
 ghost use Rattle.std.specs.List.{list_any};
 ghost use Rattle.flt_model.specs.Locks as locks;
 ghost use Rattle.flt_model.specs.Moves as moves;
@@ -210,6 +210,24 @@ impl Store {
         None
     }
 
+    /// Of each operation, by its serial number, whether an entry of it stands in a filter's queue. It takes as many steps as there are
+    /// operations and entries.
+    pub fn waiting(&self, alloc: Global, filter: usize) -> Result<Vec<bool>, AllocError>
+        ensures length { IfOk result (λ marks. length marks.items ≡ length self.now.arrivals) }
+        ensures marked { IfOk result (λ marks. (o : ℕ) → o < length self.now.arrivals →
+            get_or marks.items o false ≡ list_any (moves.is_entry_of self.now o) (spec.queue_at self.now filter)) }
+    {
+        let mut marks = vec![in alloc; false; self.operations()]?;
+        let mut left = self.queues.walk(filter);
+        while let Some(entry) = left.next_entry() {
+            let serial = self.operations.visit(entry.visit).operation as usize;
+            if serial < marks.len() {
+                marks[serial] = true;
+            }
+        }
+        Ok(marks)
+    }
+
     /// How many work items there have been: the number of the next one.
     pub fn items(&self) -> usize
         ensures { result ≡ length self.now.items }
@@ -268,6 +286,22 @@ impl Store {
         self.operations.is_done(serial)
     }
 
+    /// Whether nothing of an operation waits any more: no post callback of it, and all its visits are settled. It is over once it is up.
+    pub fn is_spent(&self, serial: u32) -> bool
+        ensures { result ≡ (moves.is_empty (spec.route_at self.now serial).frames
+            && moves.are_settled serial self.now.visits self.now.settled) }
+    {
+        self.operations.is_spent(serial)
+    }
+
+    /// The same, once a visit is settled.
+    pub fn is_spent_after(&self, serial: u32, visit: usize) -> bool
+        ensures { result ≡ (moves.is_empty (spec.route_at self.now serial).frames
+            && moves.are_settled serial self.now.visits (set self.now.settled visit true)) }
+    {
+        self.operations.is_spent_after(serial, visit)
+    }
+
     /// The filter that an operation is at on its way down.
     pub fn filter_at(&self, serial: u32) -> Option<usize>
         ensures { result ≡ operating.filter_in (length self.now.presences) (spec.route_at self.now serial).position }
@@ -322,6 +356,13 @@ impl Store {
         ensures { result ≡ spec.arrival_of self.now visit }
     {
         self.arrival(self.visit(visit).operation)
+    }
+
+    /// Whether a visit still moves its operation: it isn't settled, nor a draining one.
+    pub fn is_led(&self, visit: usize) -> bool
+        ensures { result ≡ settling.is_led self.now visit }
+    {
+        self.operations.is_led(visit)
     }
 
     /// Whether settling a visit so makes a frame, which takes the completion context over.

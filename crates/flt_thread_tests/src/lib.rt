@@ -5,3 +5,5 @@
 mod analyses;
 #[cfg(test)]
 mod cancel_pads;
+#[cfg(test)]
+mod tickets;

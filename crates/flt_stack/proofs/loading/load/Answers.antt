@@ -1,30 +1,36 @@
 use Rattle.std.proofs.Common.{◌≡◌, List, ap, subst, ◌∙◌, sym}
-use Rattle.std.specs.List.{AllZip}
 use Rattle.flt_tree.specs.declared.filter.Filter.{Filter}
-use Rattle.flt_graph.specs.Lowering.{IsLowered}
+use Rattle.flt_tree.specs.declared.tree.Tree.{Tree}
+use Rattle.flt_frame.specs.Loading.{AreLoaded, IsFault}
 use Rattle.flt_model.specs.Program.{IsRepeated, by_altitude, filters_of}
 use Rattle.flt_sound.specs.Soundness.{AreAccepted}
-use Rattle.flt_stack.proofs.Judged.{accepted_once, files_accepted, none_repeated}
+use Rattle.flt_stack.proofs.Judged.{accepted_once, accepted_well_formed, files_accepted, none_repeated}
+use Rattle.flt_stack.proofs.Ordered.{stays_in_order}
 use Rattle.flt_stack.proofs.loading.load.Goals as goal
 
-pub returns-in-Some-clause-loads : goal.returns-in-Some-clause-loads
-returns-in-Some-clause-loads c filters all distinct counted =
+pub returns-in-Err-Altitude-clause-loads : goal.returns-in-Err-Altitude-clause-loads
+returns-in-Err-Altitude-clause-loads c filters all distinct counted =
     let same : filters_of c.as_slice.result.now ≡ filters = ap filters_of c.as_slice.ensures.value
     ∙ accepted_once c.spells_at_most_one.ensures _ _ filters c.in-Ok.ensures.ok all in
-    absurd (none_repeated filters c.in-Some.file distinct (subst (λ (l : List Filter). IsRepeated l c.in-Some.file) same c.in-Some.ensures))
+    let fault : IsRepeated (filters_of c.as_slice.result.now) c.in-Err-Altitude.file =
+    subst (IsFault (filters_of c.as_slice.result.now)) c.in-Err-Altitude.field-0-is c.in-Err-Altitude.ensures.fault in
+    absurd (none_repeated filters c.in-Err-Altitude.file distinct
+    (subst (λ (l : List Filter). IsRepeated l c.in-Err-Altitude.file) same fault))
 
 pub invariant_of-loaded : goal.invariant_of-loaded
 invariant_of-loaded c =
-    let all : AreAccepted (by_altitude (filters_of c.in-Ok.trees.items)) =
-    c.accepted_journals_break_nothing.ensures.ordered _ (files_accepted c.spelled_is_well_formed.ensures _ _ c.in-Ok.ensures.ok) in
-    let order : by_altitude (filters_of c.in-Ok.trees.items) ≡ filters_of c.from_vec.result =
-    sym (ap filters_of c.from_vec.ensures ∙ c.in_ok-ordered.ensures) in
-    let kept : filters_of c.as_slice-2.result.now ≡ filters_of c.from_vec.result =
-    ap filters_of (c.as_slice-2.ensures.value ∙ sym c.from_vec.ensures) in
-    ∣ record {
-      accepted = subst AreAccepted order all;
-      lowered = subst (λ (l : List Filter). AllZip IsLowered l c.in_ok-graphs.graphs) kept c.in_ok-graphs.ensures;
-    } ∣₁
+    let kept : c.as_slice.result.now ≡ c.in-Ok.trees.items = c.as_slice.ensures.value in
+    let all : AreAccepted (filters_of c.as_slice.result.now) =
+    subst (λ (l : List Tree). AreAccepted (filters_of l)) (sym kept)
+    (files_accepted c.spelled_is_well_formed.ensures _ _ c.in-Ok.ensures.ok) in
+    let order : by_altitude (filters_of c.as_slice.result.now) ≡ filters_of c.from_vec.result =
+    ap (λ (l : List Tree). by_altitude (filters_of l)) kept ∙ sym (ap filters_of c.from_vec.ensures ∙ c.in_ok-ordered.ensures) in
+    record {
+      accepted = subst AreAccepted order (c.accepted_journals_break_nothing.ensures.ordered _ all);
+      ordered = subst (λ (l : List Filter). by_altitude l ≡ l) order (stays_in_order _ c.in-Ok-of.ensures.distinct);
+      loaded = subst (λ (l : List Filter). AreLoaded l c.in-Ok-of.machine) order
+          (c.in-Ok-of.ensures.loaded (accepted_well_formed _ all));
+    }
 
 pub returns-clause-loads : goal.returns-clause-loads
 returns-clause-loads c filters all distinct counted =

@@ -1,11 +1,8 @@
 use Rattle.std.proofs.Common.{◌≡◌, None, subst}
-use Rattle.std.proofs.Math.Logic.{∥∥₁_elim}
 use Rattle.flt_model.specs.Runs.{breaks}
-use Rattle.flt_stack.proofs.Judged.{clean_once}
 use Rattle.flt_stack.proofs.loaded.Loaded.breaks_nothing.Goals as goal
 
 pub returns : goal.returns
 returns c transitions =
     subst (λ filters. breaks filters transitions ≡ None) c.self.view_is
-    (∥∥₁_elim c.self.invariant (clean_once (breaks _ transitions))
-    (λ kept. c.accepted_runs_break_nothing.ensures _ transitions kept.accepted))
+    (c.accepted_runs_break_nothing.ensures _ transitions c.self.invariant.accepted)

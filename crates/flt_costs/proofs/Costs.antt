@@ -1,0 +1,79 @@
+-- What lists of statements cost, and that a local step makes what remains cheaper, by one at least.
+use Rattle.std.proofs.Common.{◌≡◌, ℕ, zero, suc, ◌+◌, ◌*◌, ◌≤◌, max, Bool, true, false, cond, List, [], ◌∷◌, ◌++◌, map, sum, Option, Some, None, IfSome, sym, ap, ◌∙◌, subst, arith}
+use Rattle.std.specs.Prelude.{option_map}
+use Rattle.std.proofs.lemmas.List.{map-append}
+use Rattle.std.proofs.lemmas.List.Sums.{sum_by-append, sum_by-cons}
+use Rattle.flt_tree.specs.Measures.{cost, cost_of, cost_step}
+use Rattle.flt_tree.specs.declared.filter.Action.{Action}
+use Rattle.flt_tree.specs.declared.filter.Statement.{Statement, out-Statement}
+use Rattle.flt_tree.specs.declared.filter.Statement.TheFolds.{map-Statement, fold_out-Statement}
+use Rattle.flt_tree.specs.declared.filter.Statement.TheOpen.{Statement-F}
+use Rattle.flt_tree.specs.declared.filter.Statement.TheVariants as tree
+use Rattle.flt_tree.specs.declared.filter.Statement.TheViews.{outs-Act, outs-Repeat}
+use Rattle.flt_model.specs.LocalSteps.{after_action, holds_condition, after_statement, local_step, turns_left, goes_on_to}
+use Rattle.flt_model.specs.World.{Activation}
+
+-- the first statement and the others
+pub cost_cons : (s : Statement) (rest : List Statement) → cost (s ∷ rest) ≡ cost_of s + cost rest
+cost_cons s rest = sum_by-cons (λ (n : ℕ). n) (cost_of s) (map cost_of rest)
+
+-- statements and those behind them
+pub cost_append : (xs ys : List Statement) → cost (xs ++ ys) ≡ cost xs + cost ys
+cost_append xs ys = ap (λ (ns : List ℕ). sum ns) (map-append cost_of xs ys) ∙ sum_by-append (λ (n : ℕ). n) (map cost_of xs) (map cost_of ys)
+
+-- what a statement costs, by its kind and by what its blocks cost
+pub layer_cost : (s : Statement) → cost_of s ≡ cost_step (map-Statement Statement ℕ cost_of (out-Statement s))
+layer_cost s = fold_out-Statement ℕ cost_step s
+
+-- a `repeat` costs its turns, with 1 for each, and 1
+pub repeat_cost : (line turns : ℕ) (block : List Statement) → cost_of (tree.Repeat line turns block) ≡ 1 + turns * (1 + cost block)
+repeat_cost line turns block =
+    layer_cost (tree.Repeat line turns block) ∙
+    ap (λ (s : Statement-F Statement). cost_step (map-Statement Statement ℕ cost_of s)) (outs-Repeat line turns block)
+
+-- an action costs 1
+pub act_cost : (line : ℕ) (a : Action) → cost_of (tree.Act line a) ≡ 1
+act_cost line a =
+    layer_cost (tree.Act line a) ∙
+    ap (λ (s : Statement-F Statement). cost_step (map-Statement Statement ℕ cost_of s)) (outs-Act line a)
+
+-- what remains of an activation, if it goes on, costs less than so much
+abbrev pub IsCheaper : ℕ → Option Activation → Type 0
+IsCheaper n o = IfSome o (λ (a : Activation). cost a.rest + 1 ≤ n)
+
+acted : (o : Option Activation) (rest : List Statement) → IsCheaper (1 + cost rest) (option_map (goes_on_to rest) o)
+acted None rest = tt
+acted (Some a) rest = omega arith
+
+chosen : (o : Option Bool) (act : Activation) (granted refused rest : List Statement) →
+    IsCheaper (1 + max (cost granted) (cost refused) + cost rest)
+    (option_map (λ (b : Bool). goes_on_to ((cond b granted refused) ++ rest) act) o)
+chosen None act granted refused rest = tt
+chosen (Some true) act granted refused rest = omega (arith, cost_append granted rest)
+chosen (Some false) act granted refused rest = omega (arith, cost_append refused rest)
+
+turned : (line turns : ℕ) (block rest : List Statement) →
+    cost (turns_left line turns block rest) + 1 ≤ 1 + turns * (1 + cost block) + cost rest
+turned line zero block rest = omega arith
+turned line (suc turns) block rest =
+    let whole = cost_append block (tree.Repeat line turns block ∷ rest) in
+    let one = repeat_cost line turns block in
+    let more : suc turns * (1 + cost block) ≡ (1 + cost block) + turns * (1 + cost block) = grind arith in
+    omega (arith, whole, one, more, cost_cons (tree.Repeat line turns block) rest)
+
+layer_cheaper : (draining : Bool) (act : Activation) (rest : List Statement) (layer : Statement-F Statement) →
+    IsCheaper (cost_step (map-Statement Statement ℕ cost_of layer) + cost rest) (after_statement draining act rest layer)
+layer_cheaper draining act rest (Statement-F.Act line a) = acted (after_action act a) rest
+layer_cheaper draining act rest (Statement-F.Call line c) = tt
+layer_cheaper draining act rest (Statement-F.Return line st) = tt
+layer_cheaper draining act rest (Statement-F.If line asked granted refused) =
+    chosen (holds_condition draining act asked) act granted refused rest
+layer_cheaper draining act rest (Statement-F.Repeat line turns block) = turned line turns block rest
+
+-- what remains after a local step
+pub local_cheaper : (draining : Bool) (act : Activation) (list : List Statement) → IsCheaper (cost list) (local_step draining act list)
+local_cheaper draining act [] = tt
+local_cheaper draining act (s ∷ rest) =
+    subst (λ (n : ℕ). IsCheaper n (after_statement draining act rest (out-Statement s))) (sym (cost_cons s rest))
+    (subst (λ (n : ℕ). IsCheaper (n + cost rest) (after_statement draining act rest (out-Statement s))) (sym (layer_cost s))
+    (layer_cheaper draining act rest (out-Statement s)))

@@ -1,0 +1,7 @@
+mod Costs
+mod Leaving
+mod Spending
+mod Starting
+mod Journals
+mod Starts
+mod Worked

@@ -1,0 +1,23 @@
+//! The law of costs.
+
+ghost use Rattle.std.specs.Prelude.{◌≡◌, ◌≤◌, ◌<◌, ℕ, List, length, IsTrue};
+ghost use Rattle.std.specs.List.{list_all};
+ghost use Rattle.flt_costs.specs.Costs.{IsRunTo, IsStarted, callback_cost, steps_of};
+ghost use Rattle.flt_model.specs.Runs.{Moment};
+ghost use Rattle.flt_model.specs.declared.moves.JournalEntry.{JournalEntry};
+ghost use Rattle.flt_tree.specs.Measures.{are_small, max_cost};
+ghost use Rattle.flt_tree.specs.declared.filter.Filter.{Filter};
+
+/// A journal that is a run gives each activation at most as many steps as the callback costs with which it started: its body, and
+/// 1 for its end. Each activation that is there was started by one of the entries, and one that isn't there makes no steps. Where
+/// the filters keep the limit on costs, no activation makes more than 1,000,000 steps. It does nothing: its clauses are the law.
+pub fn journals_stay_within_costs()
+    ensures few { (p : List Filter) (entries : List JournalEntry) (m : Moment) (a filter callback : ℕ) → IsRunTo p entries m →
+        IsStarted p entries a filter callback → steps_of a entries ≤ callback_cost p filter callback }
+    ensures started { (p : List Filter) (entries : List JournalEntry) (m : Moment) (a : ℕ) → IsRunTo p entries m →
+        a < length m.world.activations → (filter : ℕ) × (callback : ℕ) × IsStarted p entries a filter callback }
+    ensures none { (p : List Filter) (entries : List JournalEntry) (m : Moment) (a : ℕ) → IsRunTo p entries m →
+        length m.world.activations ≤ a → steps_of a entries ≡ 0 }
+    ensures limited { (p : List Filter) (entries : List JournalEntry) (m : Moment) (a : ℕ) → IsRunTo p entries m →
+        IsTrue (list_all are_small p) → steps_of a entries ≤ max_cost }
+{}

@@ -1,0 +1,293 @@
+//! What gets a ticket by a step: what the next move may be about. It is found out before the step's change is made, by reading alone.
+
+ghost use Rattle.std.specs.Prelude.{◌≡◌, ℕ, ◌+◌, ◌≤◌, ◌&&◌, ◌++◌, true, false, not, nat_lt, length, map, get_or, Option, OnOk, IfOk};
+ghost use Rattle.std.specs.List.{list_any};
+ghost use Rattle.flt_machine.specs.Tickets as spec;
+ghost use Rattle.flt_model.specs.Moves.{is_entry_of, is_up};
+ghost use Rattle.flt_model.specs.World as machine;
+ghost use Rattle.flt_model.specs.declared.subject.Subject.TheVariants as subject;
+ghost use Rattle.flt_ops.specs.Parts.{position_of, way_of};
+ghost use Rattle.flt_store.specs.Changes.{after_change, IsPossible};
+ghost use Rattle.flt_store.specs.declared.change.Change.TheVariants as change;
+
+use flt_frame::Loaded;
+use flt_model::Subject;
+use flt_store::{Change, Position, Store, Way};
+use std::alloc::{AllocError, Global};
+
+/// What gets a ticket by a change of what activations share, with the activation that starts or goes on.
+pub(crate) fn subjects_by(
+    alloc: Global,
+    loaded: &Loaded,
+    store: &Store,
+    change: Change,
+    activation: Option<Subject>,
+) -> Result<Vec<Subject>, AllocError>
+    requires possible { IsPossible store.now change }
+    requires few { length store.now.arrivals ≤ 65536 }
+    requires items { length store.now.items ≤ 1000000 }
+    requires queues { length store.now.queues ≡ length store.now.presences }
+    ensures { IfOk result (λ next. next.items ≡ spec.subjects loaded.now.altitudes store.now (after_change store.now change)
+        (spec.one_of activation)) }
+{
+    let mut next = Vec::new(alloc);
+    push_one(operation_by(store, change), &mut next)?;
+    push_one(activation, &mut next)?;
+    push_one(item_by(store, change), &mut next)?;
+    push_entries(alloc, loaded, store, change, &mut next)?;
+    push_one(teardown_by(loaded, change), &mut next)?;
+    Ok(next)
+}
+
+/// What may be there.
+fn push_one(one: Option<Subject>, next: &mut Vec<Subject>) -> Result<(), AllocError>
+    ensures { OnOk result (next.new.items ≡ next.old.items ++ spec.one_of one) }
+{
+    if let Some(one) = one {
+        next.push(one)?;
+    }
+    Ok(())
+}
+
+/// The operation that a change leaves neither in a visit nor done.
+fn operation_by(store: &Store, change: Change) -> Option<Subject>
+    requires possible { IsPossible store.now change }
+    requires few { length store.now.arrivals ≤ 65536 }
+    ensures { spec.operations store.now (after_change store.now change) ≡ spec.one_of result }
+{
+    match change {
+        Change::Arrive(..) => Some(Subject::Operation(store.operations() as u32)),
+        Change::Skip(serial, _) => Some(Subject::Operation(serial)),
+        Change::Lower(serial) => {
+            if store.is_spent(serial) {
+                None
+            } else {
+                Some(Subject::Operation(serial))
+            }
+        }
+        Change::Settle(visit, _, way) => settled_operation(store, visit, way),
+        _ => None,
+    }
+}
+
+/// The work item that a change queues.
+fn item_by(store: &Store, change: Change) -> Option<Subject>
+    requires items { length store.now.items ≤ 1000000 }
+    ensures { spec.newcomer subject.Item (length store.now.items) (length (after_change store.now change).items) ≡ spec.one_of result }
+{
+    match change {
+        Change::Queue(..) => Some(Subject::Item(store.items() as u32)),
+        _ => None,
+    }
+}
+
+/// The operation of a visit, where settling it so leaves that operation neither in a visit nor done.
+fn settled_operation(store: &Store, visit: usize, way: Way) -> Option<Subject>
+    ensures { (x : Option ℕ) → spec.operations store.now (after_change store.now (change.Settle visit x way)) ≡ spec.one_of result }
+{
+    if !store.is_led(visit) {
+        return None;
+    }
+    let seen = store.visit(visit);
+    let from = store.position(seen.operation);
+    let spent = store.is_spent_after(seen.operation, visit);
+    if leads_on(from, seen.filter, way, spent) {
+        Some(Subject::Operation(seen.operation))
+    } else {
+        None
+    }
+}
+
+/// Whether an operation there goes on that is led so from a filter, and isn't over: it is once it is up, where it is spent.
+fn leads_on(from: Position, filter: usize, way: Way, spent: bool) -> bool
+    ensures { result ≡ (spec.goes_on (position_of from) (spec.lands filter (way_of way) (position_of from))
+        && not (is_up (spec.lands filter (way_of way) (position_of from)) && spent)) }
+{
+    match way {
+        Way::Passes => goes_below(from, filter),
+        Way::Frames => goes_below(from, filter),
+        Way::Ends(_) => goes_up(from) && !spent,
+        Way::Rises => goes_up(from) && !spent,
+        Way::Stays => false,
+    }
+}
+
+/// Whether an operation there would go on below a filter.
+fn goes_below(from: Position, filter: usize) -> bool
+    ensures { result ≡ spec.goes_on (position_of from) (machine.Down (filter + 1)) }
+{
+    match from {
+        Position::Down(from) => from == 0 || from - 1 != filter,
+        Position::Visiting => true,
+        Position::Up => false,
+    }
+}
+
+/// Whether an operation there would go on by going up.
+fn goes_up(from: Position) -> bool
+    ensures { result ≡ spec.goes_on (position_of from) machine.Up }
+{
+    !matches!(from, Position::Up)
+}
+
+/// The entries of queues that a change lets be cancelled.
+fn push_entries(
+    alloc: Global,
+    loaded: &Loaded,
+    store: &Store,
+    change: Change,
+    next: &mut Vec<Subject>,
+) -> Result<(), AllocError>
+    requires possible { IsPossible store.now change }
+    requires few { length store.now.arrivals ≤ 65536 }
+    requires queues { length store.now.queues ≡ length store.now.presences }
+    ensures { OnOk result (next.new.items ≡ next.old.items
+        ++ spec.by_altitude (spec.entries_of store.now (after_change store.now change)) 0 loaded.now.altitudes) }
+{
+    match change {
+        Change::Cancel(serial) => push_cancelled(loaded, store, serial, next),
+        Change::Insert(filter, visit, _) => push_inserted(loaded, store, filter, visit, next),
+        Change::Detach(filter) => push_detached(alloc, loaded, store, filter, next),
+        _ => Ok(()),
+    }
+}
+
+/// Whether an entry of an operation stands in a filter's queue.
+fn stands(store: &Store, filter: usize, serial: u32) -> bool
+    ensures { result ≡ list_any (is_entry_of store.now serial) (machine.queue_at store.now filter) }
+{
+    store.first_entry(filter, serial).is_some()
+}
+
+/// Whether there is an operation of the number.
+fn is_there(store: &Store, serial: u32) -> bool
+    ensures { result ≡ nat_lt serial (length store.now.arrivals) }
+{
+    (serial as usize) < store.operations()
+}
+
+/// Whether a filter gets an entry of an operation that is cancelled.
+fn is_cancelled_at(store: &Store, filter: usize, serial: u32) -> bool
+    ensures { result ≡ ((nat_lt serial (length store.now.arrivals)
+        && list_any (is_entry_of store.now serial) (machine.queue_at store.now filter))
+        && not (machine.is_detaching (machine.presence_at store.now filter))) }
+{
+    is_there(store, serial) && stands(store, filter, serial) && !store.is_detaching(filter)
+}
+
+/// The entries of an operation that is cancelled, but where the filter is being detached.
+fn push_cancelled(
+    loaded: &Loaded,
+    store: &Store,
+    serial: u32,
+    next: &mut Vec<Subject>,
+) -> Result<(), AllocError>
+    requires possible { IsPossible store.now (change.Cancel serial) }
+    ensures { OnOk result (next.new.items ≡ next.old.items
+        ++ spec.by_altitude (spec.entries_of store.now (after_change store.now (change.Cancel serial))) 0 loaded.now.altitudes) }
+{
+    let altitudes = loaded.altitudes.as_slice();
+    let mut filter = altitudes.len();
+    while filter > 0 {
+        filter -= 1;
+        if is_cancelled_at(store, filter, serial) {
+            next.push(Subject::Entry {
+                altitude: altitudes[filter],
+                serial,
+            })?;
+        }
+    }
+    Ok(())
+}
+
+/// Whether an operation is cancelled, and no entry of it stands in a filter's queue.
+fn is_new(store: &Store, filter: usize, serial: u32) -> bool
+    ensures { result ≡ (nat_lt serial (length store.now.arrivals) && ((machine.route_at store.now serial).cancelled
+        && not (list_any (is_entry_of store.now serial) (machine.queue_at store.now filter)))) }
+{
+    is_there(store, serial) && store.cancelled(serial) && !stands(store, filter, serial)
+}
+
+/// An entry that comes to a queue where its operation is cancelled already, unless one of that operation stands there.
+fn push_inserted(
+    loaded: &Loaded,
+    store: &Store,
+    filter: usize,
+    visit: usize,
+    next: &mut Vec<Subject>,
+) -> Result<(), AllocError>
+    requires possible { machine.is_attached (machine.presence_at store.now filter) ≡ true }
+    requires queues { length store.now.queues ≡ length store.now.presences }
+    ensures { (x : Option ℕ) → OnOk result (next.new.items ≡ next.old.items
+        ++ spec.by_altitude (spec.entries_of store.now (after_change store.now (change.Insert filter visit x))) 0 loaded.now.altitudes) }
+{
+    let serial = store.visit(visit).operation;
+    if !is_new(store, filter, serial) {
+        return Ok(());
+    }
+    if let Some(altitude) = loaded.altitudes.get(filter) {
+        next.push(Subject::Entry {
+            altitude: *altitude,
+            serial,
+        })?;
+    }
+    Ok(())
+}
+
+/// The entries of a filter that is being detached, but those whose operation is cancelled already.
+fn push_detached(
+    alloc: Global,
+    loaded: &Loaded,
+    store: &Store,
+    filter: usize,
+    next: &mut Vec<Subject>,
+) -> Result<(), AllocError>
+    requires possible { machine.is_attached (machine.presence_at store.now filter) ≡ true }
+    requires few { length store.now.arrivals ≤ 65536 }
+    ensures { OnOk result (next.new.items ≡ next.old.items
+        ++ spec.by_altitude (spec.entries_of store.now (after_change store.now (change.Detach filter))) 0 loaded.now.altitudes) }
+{
+    let Some(altitude) = loaded.altitudes.get(filter) else {
+        return Ok(());
+    };
+    let marks = store.waiting(alloc, filter)?;
+    push_marked(*altitude, store, marks.as_slice(), next)
+}
+
+/// The marked operations that aren't cancelled, by rising serial numbers.
+fn push_marked(
+    altitude: u32,
+    store: &Store,
+    marks: &[bool],
+    next: &mut Vec<Subject>,
+) -> Result<(), AllocError>
+    requires few { length marks.now ≤ 65536 }
+    ensures { OnOk result (next.new.items ≡ next.old.items ++ map (subject.Entry altitude)
+        (spec.passing (λ o. get_or marks.now o false && not (machine.route_at store.now o).cancelled) (length marks.now))) }
+{
+    let mut serial = 0;
+    while serial < marks.len() {
+        if marks[serial] && !store.cancelled(serial as u32) {
+            next.push(Subject::Entry {
+                altitude,
+                serial: serial as u32,
+            })?;
+        }
+        serial += 1;
+    }
+    Ok(())
+}
+
+/// The teardown that a change begins.
+fn teardown_by(loaded: &Loaded, change: Change) -> Option<Subject>
+    ensures { (s : machine.Store) → IsPossible s change →
+        spec.by_altitude (spec.teardown_of s (after_change s change)) 0 loaded.now.altitudes ≡ spec.one_of result }
+{
+    match change {
+        Change::Detach(filter) => match loaded.altitudes.get(filter) {
+            Some(altitude) => Some(Subject::Detach(*altitude)),
+            None => None,
+        },
+        _ => None,
+    }
+}

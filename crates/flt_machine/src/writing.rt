@@ -1,0 +1,28 @@
+//! Changes, each with its entry.
+
+ghost use Rattle.std.specs.Prelude.{◌≡◌, ◌++◌, ◌∷◌, [], OnOk, OnErr};
+ghost use Rattle.flt_store.specs.Changes.{after_change, IsPossible};
+
+use flt_model::{Journal, JournalEntry};
+use flt_store::{Change, Store};
+use std::alloc::AllocError;
+
+/// What activations share is changed, and one entry more says what happened; or nothing is.
+pub(crate) fn write(
+    journal: &mut Journal,
+    store: &mut Store,
+    entry: JournalEntry,
+    change: Change,
+) -> Result<(), AllocError>
+    requires { IsPossible store.old change }
+    ensures entry { OnOk result (journal.new ≡ journal.old ++ entry ∷ []) }
+    ensures change { OnOk result (store.new ≡ after_change store.old change) }
+    ensures refused { OnErr result ((journal.new ≡ journal.old) × (store.new ≡ store.old)) }
+{
+    journal.push(entry)?;
+    if let Err(refused) = store.perform(change) {
+        journal.pop();
+        return Err(refused);
+    }
+    Ok(())
+}

@@ -1,0 +1,10 @@
+//! Tests of the board: journals that it makes are those that the machine can make, entry by entry and within memory. Each of them
+//! is replayed by the monitor. They stand apart from `flt_machine`, so that it is not proved twice.
+#![tactic(auto)]
+
+#[cfg(test)]
+mod scene;
+#[cfg(test)]
+mod texts;
+#[cfg(test)]
+mod worked;

@@ -1,0 +1,234 @@
+//! A board with what is loaded, driven entry by entry.
+
+ghost use Rattle.std.specs.Prelude.{IfOk};
+ghost use Rattle.std.specs.List.{All};
+ghost use Rattle.flt_model.specs.Program.{filters_of};
+ghost use Rattle.flt_tree.specs.WellFormed.{IsWellFormed};
+
+use flt_machine::{ApplyFault, Board, Commit, Loaded, advance};
+use flt_model::{Journal, JournalEntry, Move, Verdict, Violation, read};
+use flt_replay::replay;
+use flt_rules::FinalStatus;
+use flt_store::Outcome;
+use flt_syntax::{Tree, parse, spelled_is_well_formed};
+use std::alloc::Global;
+use std::marker::Model;
+use std::test::Fail;
+
+/// How many contexts, operations and activations are looked at.
+pub(crate) const SHOWN: usize = 5;
+
+/// What a board answers to an entry.
+#[derive(Clone, Copy, PartialEq)]
+pub(crate) enum Answer {
+    Went,
+    /// The move isn't enabled, the activation has ended or isn't there, or it takes another number of steps.
+    NotEnabled,
+    Blocked,
+    Full,
+    OutOfMemory,
+    /// What no entry may answer: calls that don't fit together.
+    Wrong,
+}
+
+/// What a board shows.
+#[derive(Clone, Copy, PartialEq)]
+pub(crate) struct Look {
+    pub(crate) entries: usize,
+    pub(crate) last: Option<JournalEntry>,
+    pub(crate) references: [Option<u64>; SHOWN],
+    pub(crate) ends: [u8; SHOWN],
+    pub(crate) nexts: [Option<Move>; SHOWN],
+    pub(crate) points: [Option<usize>; SHOWN],
+}
+
+/// A board with its own filters.
+#[derive(Drop)]
+pub(crate) struct Scene {
+    loaded: Loaded,
+    board: Board,
+}
+
+impl Model for Scene {
+    ghost use Rattle.flt_machine.specs.Situations.{Situation, IsOwn};
+
+    ghost Value = { Situation };
+
+    ghost view = { λ s. s.board };
+
+    ghost invariant = { λ s. IsOwn s.loaded s.board };
+}
+
+// ---- texts
+
+/// The trees of texts.
+fn trees_of(alloc: Global, texts: &[&str]) -> Result<Vec<Tree>, Fail>
+    ensures { IfOk result (λ trees. All IsWellFormed (filters_of trees.items)) }
+{
+    spelled_is_well_formed();
+    let mut trees = Vec::new(alloc);
+    for text in texts {
+        let tree = parse(alloc, text.as_bytes())?;
+        trees.push(tree)?;
+    }
+    Ok(trees)
+}
+
+/// The journal of these entries.
+pub(crate) fn journal_of(alloc: Global, entries: &str) -> Result<Journal, Fail> {
+    let text = format!(in alloc; "fltjournal 1\n{entries}end\n")?;
+    let mut bytes = text.as_bytes();
+    Ok(read(alloc, &mut bytes)?)
+}
+
+/// What the monitor finds of a journal, as a number, with the number of the entry: nothing where it is legal, 0 where it isn't a
+/// run, 1 to 8 for what it breaks.
+pub(crate) fn finding(
+    alloc: Global,
+    texts: &[&str],
+    journal: &Journal,
+) -> Result<Option<(u8, usize)>, Fail> {
+    let trees = trees_of(alloc, texts)?;
+    match replay(alloc, trees.as_slice(), journal)? {
+        Verdict::Legal => Ok(None),
+        Verdict::NotARun(number) => Ok(Some((0, number))),
+        Verdict::Breaks(violation, number) => Ok(Some((number_of(violation), number))),
+    }
+}
+
+fn number_of(violation: Violation) -> u8 {
+    match violation {
+        Violation::V1 => 1,
+        Violation::V2 => 2,
+        Violation::V3 => 3,
+        Violation::V4 => 4,
+        Violation::V5 => 5,
+        Violation::V6 => 6,
+        Violation::V7 => 7,
+        Violation::V8 => 8,
+    }
+}
+
+/// How an operation ended, as a number: 0 where it is on its way, 1 where it was disallowed, then the final statuses.
+fn end_of(outcome: Option<Outcome>) -> u8 {
+    match outcome {
+        None => 0,
+        Some(Outcome::Disallowed) => 1,
+        Some(Outcome::Final(FinalStatus::Success)) => 2,
+        Some(Outcome::Final(FinalStatus::AccessDenied)) => 3,
+        Some(Outcome::Final(FinalStatus::Cancelled)) => 4,
+        Some(Outcome::Final(_)) => 5,
+    }
+}
+
+// ---- the board
+
+/// The same of what a commit answers.
+fn answer_of(commit: Commit) -> Answer {
+    match commit {
+        Commit::Committed(_) => Answer::Went,
+        Commit::Stale => Answer::NotEnabled,
+        Commit::Blocked => Answer::Blocked,
+        Commit::Full => Answer::Full,
+        Commit::OutOfMemory => Answer::OutOfMemory,
+    }
+}
+
+impl Scene {
+    pub(crate) fn new(alloc: Global, texts: &[&str]) -> Result<Scene, Fail> {
+        let loaded = Loaded::new(alloc, trees_of(alloc, texts)?)?;
+        let board = Board::new(alloc, &loaded)?;
+        Ok(Scene { loaded, board })
+    }
+
+    pub(crate) fn board(&self) -> &Board {
+        &self.board
+    }
+
+    pub(crate) fn next_move(&self, serial: u32) -> Option<Move> {
+        self.board.next_move(&self.loaded, serial)
+    }
+
+    pub(crate) fn next_detach(&self, altitude: u32) -> Option<Move> {
+        self.board.next_detach(&self.loaded, altitude)
+    }
+
+    /// Makes a move. Whether it is enabled is asked first, and must be answered so.
+    pub(crate) fn apply(&mut self, alloc: Global, step: Move) -> Answer {
+        let enabled = self.board.enabled(&self.loaded, step);
+        let answer = match self.board.apply(alloc, &self.loaded, step) {
+            Ok(_) => Answer::Went,
+            Err(ApplyFault::NotEnabled) => Answer::NotEnabled,
+            Err(ApplyFault::Full) => Answer::Full,
+            Err(ApplyFault::OutOfMemory) => Answer::OutOfMemory,
+        };
+        if enabled == (answer == Answer::NotEnabled) {
+            return Answer::Wrong;
+        }
+        answer
+    }
+
+    /// An activation goes on to the next step that others see, by so many steps where a number is given. The same frame again is
+    /// stale then.
+    pub(crate) fn go(
+        &mut self,
+        alloc: Global,
+        activation: u32,
+        steps: Option<u32>,
+        grant: bool,
+    ) -> Answer {
+        let Some(frame) = self.board.checkout(activation) else {
+            return Answer::NotEnabled;
+        };
+        let advanced = advance(&self.loaded, frame);
+        let own = advanced.steps + 1;
+        if steps.unwrap_or(own) != own {
+            return Answer::NotEnabled;
+        }
+        let answer = answer_of(self.board.commit(alloc, &self.loaded, &advanced, grant));
+        if answer == Answer::Went
+            && !matches!(
+                self.board.commit(alloc, &self.loaded, &advanced, grant),
+                Commit::Stale
+            )
+        {
+            return Answer::Wrong;
+        }
+        answer
+    }
+
+    /// What an entry says is done.
+    pub(crate) fn enter(&mut self, alloc: Global, entry: JournalEntry) -> Answer {
+        match entry {
+            JournalEntry::Move(step) => self.apply(alloc, step),
+            JournalEntry::Go {
+                activation,
+                steps,
+                grant,
+            } => self.go(alloc, activation, Some(steps), grant),
+        }
+    }
+
+    /// What the board shows.
+    pub(crate) fn look(&self) -> Look {
+        let entries = self.board.journal().len();
+        let mut look = Look {
+            entries,
+            last: self.board.journal().entry(entries.saturating_sub(1)),
+            references: [None; SHOWN],
+            ends: [0; SHOWN],
+            nexts: [None; SHOWN],
+            points: [None; SHOWN],
+        };
+        for number in 0..SHOWN {
+            let serial = number as u32;
+            look.references[number] = self.board.references(number);
+            look.ends[number] = end_of(self.board.outcome(serial));
+            look.nexts[number] = self.next_move(serial);
+            if let Some(frame) = self.board.checkout(serial) {
+                look.points[number] = Some(frame.standing.point);
+            }
+        }
+        look
+    }
+}

@@ -1,0 +1,6 @@
+mod Counting
+mod Newcomers
+mod Pushes
+mod Splits
+mod Steps
+mod Takings

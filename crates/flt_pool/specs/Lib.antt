@@ -1,0 +1,4 @@
+pub mod Hands
+pub mod Laws
+pub mod Rule
+pub mod Seats

@@ -1,0 +1,14 @@
+//! What is known through a pass.
+
+use crate::Ticket;
+use std::collections::LinkedList;
+
+/// What was put into one deque, or into the injector, and what was taken from it, through one pass.
+///
+/// Contracts alone speak of hands; no value of this type is made.
+pub struct Hand {
+    /// The tickets that were put, in order.
+    pub put: LinkedList<Ticket>,
+    /// The tickets that were taken, in order.
+    pub taken: LinkedList<Ticket>,
+}

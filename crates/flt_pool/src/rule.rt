@@ -1,0 +1,36 @@
+//! The rule that a deque, or the injector, and the hands keep between any two steps, and what each kind of step tells its hand.
+
+use crate::{Hand, Ticket};
+use crossbeam_deque::protocol::{Outcome, Protocol};
+
+/// Each ticket was taken as often as it was put, less what is left.
+pub(crate) struct Counted;
+
+impl Protocol<Ticket, Hand> for Counted {
+    ghost use Rattle.flt_pool.specs.Hands.{newcomer};
+    ghost use Rattle.flt_pool.specs.Rule.{Balanced};
+
+    ghost holds = { Balanced };
+
+    ghost first = { newcomer };
+
+    ghost guest = { newcomer };
+}
+
+/// Tickets come.
+pub(crate) struct Puts;
+
+impl Outcome<Ticket, Hand> for Puts {
+    ghost use Rattle.flt_pool.specs.Rule.{HasPut};
+
+    ghost then = { HasPut };
+}
+
+/// Tickets leave.
+pub(crate) struct Takes;
+
+impl Outcome<Ticket, Hand> for Takes {
+    ghost use Rattle.flt_pool.specs.Rule.{HasTaken};
+
+    ghost then = { HasTaken };
+}

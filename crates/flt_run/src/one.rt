@@ -1,0 +1,210 @@
+//! One turn at a time, on a board of one thread.
+
+ghost use Rattle.std.specs.VecDeque.{deque_len, deque_capacity};
+ghost use Rattle.std.specs.Prelude.{◌≡◌, ◌↔◌, ◌≤◌, ◌+◌, ◌++◌, ◌∷◌, [], false, true, List, length, take, drop, Ok, Err, IfSome, IfOk, OnErr, if◌then◌else◌};
+ghost use Rattle.flt_machine.specs.Situations.{IsOwn, Now};
+ghost use Rattle.flt_run.specs.Turns as spec;
+ghost use Rattle.flt_run.specs.declared.fault.TurnFault.TheVariants as fault;
+
+use crate::choices::Choices;
+use crate::fault::TurnFault;
+use flt_machine::{ApplyFault, Board, Commit, Loaded, advance};
+use flt_model::{Move, Subject};
+use std::alloc::{AllocError, Global};
+use std::collections::VecDeque;
+
+/// How many subjects a turn names at most: an operation, an activation, a work item and an entry.
+const MOST_NAMED: usize = 4;
+
+/// What a subject's turn came to.
+#[derive(Drop)]
+struct Turned {
+    /// What it names.
+    next: Vec<Subject>,
+    /// Whether the subject goes to the end of the list.
+    stays: bool,
+}
+
+impl Turned {
+    /// Nothing is named.
+    fn alone(alloc: Global, stays: bool) -> Turned
+        ensures { result.stays ≡ stays }
+    {
+        Turned {
+            next: Vec::new(alloc),
+            stays,
+        }
+    }
+}
+
+/// The move that a subject asks for; none of an activation, which goes by steps.
+fn asked_by(board: &Board, loaded: &Loaded, subject: Subject) -> Option<Move>
+    requires own { IsOwn loaded.now board.now }
+    ensures asks { Now loaded.now board.now (λ p m. spec.AsksFor p m.world subject result) }
+    ensures following { IfSome result spec.IsFollowing }
+{
+    match subject {
+        Subject::Operation(serial) => board.next_move(loaded, serial),
+        Subject::Activation(_) => None,
+        Subject::Item(item) => Some(Move::Work { item }),
+        Subject::Entry { altitude, serial } => Some(Move::Canceled { altitude, serial }),
+        Subject::Detach(altitude) => board.next_detach(loaded, altitude),
+    }
+}
+
+/// Whether a subject goes to the end of the list after a move.
+fn stays_after(subject: Subject, made: Option<Move>) -> bool
+    ensures { result ≡ spec.stays_after subject made }
+{
+    match (subject, made) {
+        (Subject::Detach(_), Some(Move::Detached { .. })) => false,
+        (Subject::Detach(_), _) => true,
+        _ => false,
+    }
+}
+
+/// Makes a subject's move, where it has one that is enabled.
+fn move_on(
+    alloc: Global,
+    board: &mut Board,
+    loaded: &Loaded,
+    subject: Subject,
+) -> Result<Turned, TurnFault>
+    requires own { IsOwn loaded.now board.old }
+    ensures own { spec.RemainsBoard loaded.now board.old board.new }
+    ensures entries { spec.GoesOn board.old board.new }
+    ensures moved { IfOk result (λ t. spec.HasMoved loaded.now board.old board.new subject t.stays) }
+    ensures full { result ≡ Err fault.Full → length board.old.entries ≡ 1000000 }
+    ensures refused { OnErr result (board.new ≡ board.old) }
+{
+    let Some(step) = asked_by(board, loaded, subject) else {
+        return Ok(Turned::alone(alloc, stays_after(subject, None)));
+    };
+    match board.apply(alloc, loaded, step) {
+        Ok(events) => Ok(Turned {
+            next: events.next,
+            stays: stays_after(subject, Some(step)),
+        }),
+        Err(ApplyFault::NotEnabled) => Ok(Turned::alone(alloc, stays_after(subject, None))),
+        Err(ApplyFault::Full) => Err(TurnFault::Full),
+        Err(ApplyFault::OutOfMemory) => Err(TurnFault::OutOfMemory),
+    }
+}
+
+/// Takes an activation from the board, and commits its steps.
+fn go_on(
+    alloc: Global,
+    board: &mut Board,
+    loaded: &Loaded,
+    choices: &mut Choices,
+    activation: u32,
+) -> Result<Turned, TurnFault>
+    requires own { IsOwn loaded.now board.old }
+    ensures own { spec.RemainsBoard loaded.now board.old board.new }
+    ensures entries { spec.GoesOn board.old board.new }
+    ensures gone { IfOk result (λ t. spec.HasGone loaded.now board.old board.new choices.old choices.new activation t.stays) }
+    ensures full { result ≡ Err fault.Full → length board.old.entries ≡ 1000000 }
+    ensures refused { OnErr result ((board.new ≡ board.old) × (choices.new ≡ choices.old)) }
+{
+    let Some(frame) = board.checkout(activation) else {
+        return Ok(Turned::alone(alloc, false));
+    };
+    let advanced = advance(loaded, frame);
+    match board.commit(alloc, loaded, &advanced, choices.next()) {
+        Commit::Committed(events) => {
+            choices.count(loaded, &advanced);
+            Ok(Turned {
+                next: events.next,
+                stays: false,
+            })
+        }
+        // What is committed was taken just now, so it isn't stale.
+        Commit::Stale => Ok(Turned::alone(alloc, true)),
+        Commit::Blocked => Ok(Turned::alone(alloc, true)),
+        Commit::Full => Err(TurnFault::Full),
+        Commit::OutOfMemory => Err(TurnFault::OutOfMemory),
+    }
+}
+
+/// A subject's turn.
+fn go(
+    alloc: Global,
+    board: &mut Board,
+    loaded: &Loaded,
+    choices: &mut Choices,
+    subject: Subject,
+) -> Result<Turned, TurnFault>
+    requires own { IsOwn loaded.now board.old }
+    ensures own { spec.RemainsBoard loaded.now board.old board.new }
+    ensures entries { spec.GoesOn board.old board.new }
+    ensures had { IfOk result (λ t. spec.HasHad loaded.now board.old board.new choices.old choices.new subject t.stays) }
+    ensures full { result ≡ Err fault.Full → length board.old.entries ≡ 1000000 }
+    ensures refused { OnErr result ((board.new ≡ board.old) × (choices.new ≡ choices.old)) }
+{
+    match subject {
+        Subject::Activation(activation) => go_on(alloc, board, loaded, choices, activation),
+        _ => move_on(alloc, board, loaded, subject),
+    }
+}
+
+/// Some subjects come to the end of a list, which has room for them.
+fn push_all(subjects: &mut VecDeque<Subject>, next: &[Subject])
+    requires room { deque_len subjects.old + length next.now ≤ deque_capacity subjects.old }
+    ensures items { subjects.new.items ≡ subjects.old.items ++ next.now }
+    ensures room { deque_capacity subjects.new ≡ deque_capacity subjects.old }
+{
+    for subject in next {
+        subjects.push_back_reserved(*subject);
+    }
+}
+
+/// All of some subjects, which are so few.
+fn named(next: &[Subject]) -> &[Subject]
+    ensures { result.now ≡ take 4 next.now }
+{
+    &next[..next.len().min(MOST_NAMED)]
+}
+
+/// The first subject has had its turn.
+fn put_behind(subjects: &mut VecDeque<Subject>, first: Subject, turned: Turned)
+    requires room { deque_len subjects.old + 4 ≤ deque_capacity subjects.old }
+    requires some { (others : List Subject) × (subjects.old.items ≡ first ∷ others) }
+    ensures { subjects.new.items ≡ drop 1 subjects.old.items ++ take 4 turned.next.items ++ (if turned.stays then first ∷ [] else []) }
+{
+    subjects.pop_front();
+    push_all(subjects, named(turned.next.as_slice()));
+    if turned.stays {
+        subjects.push_back_reserved(first);
+    }
+}
+
+/// The first subject of a list has its turn. An operation, a work item or an entry makes its move, where it has one that is enabled; an
+/// activation makes its local steps and the step after them. Then the subject goes. It comes to the end of the list instead where it is
+/// an activation that is blocked, or a teardown; a teardown goes once it has ended its filter. What the move or the step names comes to
+/// the end first. It answers false where there is no subject. What is loaded must be the board's own.
+pub fn turn(
+    alloc: Global,
+    board: &mut Board,
+    loaded: &Loaded,
+    subjects: &mut VecDeque<Subject>,
+    choices: &mut Choices,
+) -> Result<bool, TurnFault>
+    requires own { IsOwn loaded.now board.old }
+    ensures own { spec.RemainsBoard loaded.now board.old board.new }
+    ensures entries { spec.GoesOn board.old board.new }
+    ensures turned { result ≡ Ok true →
+        spec.IsTurn loaded.now board.old board.new choices.old choices.new subjects.old.items subjects.new.items }
+    ensures empty { (result ≡ Ok false) ↔ (subjects.old.items ≡ []) }
+    ensures idle { result ≡ Ok false →
+        (board.new ≡ board.old) × ((subjects.new.items ≡ subjects.old.items) × (choices.new ≡ choices.old)) }
+    ensures full { result ≡ Err fault.Full → length board.old.entries ≡ 1000000 }
+    ensures refused { OnErr result ((board.new ≡ board.old) × ((subjects.new.items ≡ subjects.old.items) × (choices.new ≡ choices.old))) }
+{
+    let Some(first) = subjects.front().copied() else {
+        return Ok(false);
+    };
+    subjects.reserve(MOST_NAMED)?;
+    let turned = go(alloc, board, loaded, choices, first)?;
+    put_behind(subjects, first, turned);
+    Ok(true)
+}

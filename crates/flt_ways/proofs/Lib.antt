@@ -1,0 +1,4 @@
+pub mod Breaking
+pub mod Leading
+pub mod Nine
+pub mod Singles
