@@ -35,4 +35,6 @@ mod stores;
 #[cfg(test)]
 mod texts;
 #[cfg(test)]
+mod ways;
+#[cfg(test)]
 mod words;
