@@ -1,5 +1,5 @@
 -- What a turn does: the move of one subject. This project's own rule.
-use Rattle.std.specs.Prelude.{◌≡◌, ◌⊎◌, ◌^◌, ◌-◌, ℕ, ◌+◌, Bool, true, false, not, min, List, [], ◌∷◌, ◌++◌, take, option_map, Option, Some, None, if◌then◌else◌}
+use Rattle.std.specs.Prelude.{◌≡◌, ◌⊎◌, ◌^◌, ◌-◌, ℕ, ◌+◌, Bool, true, false, not, min, List, [], ◌∷◌, ◌++◌, take, option_map, Option, Some, None, is_some, length, if◌then◌else◌}
 use Rattle.std.specs.BTreeSet.{contains}
 use Rattle.std.specs.Ordering.{nat_cmp}
 use Rattle.flt_dispatch.specs.Turns.{ComesNextOf, next_of}
@@ -8,6 +8,7 @@ use Rattle.flt_frame.specs.declared.frame.Advanced.{Advanced}
 use Rattle.flt_frame.specs.declared.loaded.Loaded.{Loaded}
 use Rattle.flt_machine.specs.Calls.{Commits, IsAdvanced, IsBlocked, IsDisabled, Makes, instruction_for, is_arrival, leaves_choice_at}
 use Rattle.flt_machine.specs.Situations.{Situation, IsBoard, Now, frame_of, standing_of}
+use Rattle.flt_machine.specs.Tickets.{after_go, after_move}
 use Rattle.flt_model.specs.Steps.{Make}
 use Rattle.flt_model.specs.World.{World}
 use Rattle.flt_model.specs.declared.event.Event.{Event}
@@ -62,6 +63,11 @@ IsMadeOf l b None made = made ≡ None
 IsMadeOf l b (Some asked) None = IsDisabled l b asked
 IsMadeOf l b (Some asked) (Some made) = made ≡ asked
 
+-- what was made names what gets a ticket by it; nothing where nothing was made
+abbrev pub named_by : Loaded → Situation → Situation → Option Move → List Subject
+named_by l b later None = []
+named_by l b later (Some move) = after_move l.altitudes b.store later.store (length b.standings) (length later.standings)
+
 -- a teardown's subject stays until the move that ends it; any other goes
 abbrev pub stays_after : Subject → Option Move → Bool
 stays_after (subject.Detach altitude) (Some (Detached other)) = false
@@ -69,13 +75,14 @@ stays_after (subject.Detach altitude) made = true
 stays_after _ made = false
 
 -- a subject's move was made, where it has one that is enabled
-pub record HasMoved (l : Loaded) (b later : Situation) (s : Subject) (stays : Bool) : Type 0 where
+pub record HasMoved (l : Loaded) (b later : Situation) (s : Subject) (stays : Bool) (named : List Subject) : Type 0 where
   pub asked : Option Move
   pub made : Option Move
   pub asks : Now l b (λ p m. AsksFor p m.world s asked)
   pub is : IsMadeOf l b asked made
   pub makes : HasMade l b later made
   pub kept : stays ≡ stays_after s made
+  pub names : named ≡ named_by l b later made
 
 -- ---- steps of activations
 
@@ -84,33 +91,37 @@ pub record Takes (l : Loaded) (b : Situation) (a : ℕ) (advanced : Advanced) : 
   pub taken : option_map (frame_of b a) (standing_of b a) ≡ Some advanced.frame
   pub advances : IsAdvanced l advanced
 
+-- what a step of an activation names: what gets a ticket by it, the activation itself among them where it goes on
+abbrev pub named_by_step : Loaded → Situation → Situation → ℕ → List Subject
+named_by_step l b later a = after_go l.altitudes b.store later.store a (is_some (standing_of later a))
+
 -- an activation has had its turn. Its subject goes, but where it is blocked: then nothing changes
-pub data HasGone (l : Loaded) (b later : Situation) (c d : Choices) (a : ℕ) : Bool → Type 0 where
+pub data HasGone (l : Loaded) (b later : Situation) (c d : Choices) (a : ℕ) : Bool → List Subject → Type 0 where
   -- it has ended
-  ended : standing_of b a ≡ None → later ≡ b → d ≡ c → HasGone l b later c d a false
+  ended : standing_of b a ≡ None → later ≡ b → d ≡ c → HasGone l b later c d a false []
   -- others hold the lock that its next step asks for
   waits : (advanced : Advanced) → Takes l b a advanced → IsBlocked l b advanced (is_granted c) → later ≡ b → d ≡ c →
-      HasGone l b later c d a true
+      HasGone l b later c d a true []
   -- it has gone on
   went : (advanced : Advanced) → Takes l b a advanced →
       ((events : List Event) × Now l b (λ p m. Commits p b later advanced (is_granted c) events m)) →
-      d ≡ counted c (leaves_choice_at (instruction_for l advanced)) → HasGone l b later c d a false
+      d ≡ counted c (leaves_choice_at (instruction_for l advanced)) → HasGone l b later c d a false (named_by_step l b later a)
 
 -- ---- turns
 
--- a subject has had its turn
-abbrev pub HasHad : Loaded → Situation → Situation → Choices → Choices → Subject → Bool → Type 0
-HasHad l b later c d (subject.Activation a) stays = HasGone l b later c d a stays
-HasHad l b later c d s stays = HasMoved l b later s stays × (d ≡ c)
+-- a subject has had its turn, which names these
+abbrev pub HasHad : Loaded → Situation → Situation → Choices → Choices → Subject → Bool → List Subject → Type 0
+HasHad l b later c d (subject.Activation a) stays named = HasGone l b later c d a stays named
+HasHad l b later c d s stays named = HasMoved l b later s stays named × (d ≡ c)
 
--- the first subject has had its turn; what that names comes to the end, and then the subject itself, where it stays
+-- the first subject has had its turn; the first four that this names come to the end, and then the subject itself, where it stays
 pub record IsTurn (l : Loaded) (b later : Situation) (c d : Choices) (before after : List Subject) : Type 0 where
   pub first : Subject
   pub others : List Subject
   pub begun : before ≡ first ∷ others
   pub stays : Bool
-  pub had : HasHad l b later c d first stays
   pub named : List Subject
+  pub had : HasHad l b later c d first stays named
   pub ends : after ≡ others ++ take 4 named ++ (if stays then first ∷ [] else [])
 
 -- the journal goes on by one entry at most

@@ -28,7 +28,8 @@ struct Turned {
 impl Turned {
     /// Nothing is named.
     fn alone(alloc: Global, stays: bool) -> Turned
-        ensures { result.stays ≡ stays }
+        ensures stays { result.stays ≡ stays }
+        ensures next { result.next.items ≡ [] }
     {
         Turned {
             next: Vec::new(alloc),
@@ -73,7 +74,7 @@ fn move_on(
     requires own { IsOwn loaded.now board.old }
     ensures own { spec.RemainsBoard loaded.now board.old board.new }
     ensures entries { spec.GoesOn board.old board.new }
-    ensures moved { IfOk result (λ t. spec.HasMoved loaded.now board.old board.new subject t.stays) }
+    ensures moved { IfOk result (λ t. spec.HasMoved loaded.now board.old board.new subject t.stays t.next.items) }
     ensures full { result ≡ Err fault.Full → length board.old.entries ≡ 1000000 }
     ensures refused { OnErr result (board.new ≡ board.old) }
 {
@@ -102,7 +103,8 @@ fn go_on(
     requires own { IsOwn loaded.now board.old }
     ensures own { spec.RemainsBoard loaded.now board.old board.new }
     ensures entries { spec.GoesOn board.old board.new }
-    ensures gone { IfOk result (λ t. spec.HasGone loaded.now board.old board.new choices.old choices.new activation t.stays) }
+    ensures gone { IfOk result
+        (λ t. spec.HasGone loaded.now board.old board.new choices.old choices.new activation t.stays t.next.items) }
     ensures full { result ≡ Err fault.Full → length board.old.entries ≡ 1000000 }
     ensures refused { OnErr result ((board.new ≡ board.old) × (choices.new ≡ choices.old)) }
 {
@@ -137,7 +139,8 @@ fn go(
     requires own { IsOwn loaded.now board.old }
     ensures own { spec.RemainsBoard loaded.now board.old board.new }
     ensures entries { spec.GoesOn board.old board.new }
-    ensures had { IfOk result (λ t. spec.HasHad loaded.now board.old board.new choices.old choices.new subject t.stays) }
+    ensures had { IfOk result
+        (λ t. spec.HasHad loaded.now board.old board.new choices.old choices.new subject t.stays t.next.items) }
     ensures full { result ≡ Err fault.Full → length board.old.entries ≡ 1000000 }
     ensures refused { OnErr result ((board.new ≡ board.old) × (choices.new ≡ choices.old)) }
 {
@@ -158,7 +161,7 @@ fn push_all(subjects: &mut VecDeque<Subject>, next: &[Subject])
     }
 }
 
-/// All of some subjects, which are so few.
+/// The first four of some subjects.
 fn named(next: &[Subject]) -> &[Subject]
     ensures { result.now ≡ take 4 next.now }
 {
@@ -180,8 +183,9 @@ fn put_behind(subjects: &mut VecDeque<Subject>, first: Subject, turned: Turned)
 
 /// The first subject of a list has its turn. An operation, a work item or an entry makes its move, where it has one that is enabled; an
 /// activation makes its local steps and the step after them. Then the subject goes. It comes to the end of the list instead where it is
-/// an activation that is blocked, or a teardown; a teardown goes once it has ended its filter. What the move or the step names comes to
-/// the end first. It answers false where there is no subject. What is loaded must be the board's own.
+/// an activation that is blocked, or a teardown; a teardown goes once it has ended its filter. What the move or the step gives a ticket
+/// comes to the end first, the first four of it: an operation, an activation, a work item and an entry; no contract says that there are
+/// no more. It answers false where there is no subject. What is loaded must be the board's own.
 pub fn turn(
     alloc: Global,
     board: &mut Board,
