@@ -2,10 +2,12 @@
 
 ghost use Rattle.std.specs.Prelude.{IfOk};
 ghost use Rattle.std.specs.List.{All};
+ghost use Rattle.flt_machine.specs.Calls.{IsAdvanced};
+ghost use Rattle.flt_machine.specs.Situations.{IsOwn};
 ghost use Rattle.flt_model.specs.Program.{filters_of};
 ghost use Rattle.flt_tree.specs.WellFormed.{IsWellFormed};
 
-use flt_machine::{ApplyFault, Board, Commit, Loaded, advance};
+use flt_machine::{Advanced, ApplyFault, Board, Commit, Loaded, advance};
 use flt_model::{Journal, JournalEntry, Move, Verdict, Violation, read};
 use flt_replay::replay;
 use flt_rules::FinalStatus;
@@ -134,6 +136,21 @@ fn answer_of(commit: Commit) -> Answer {
     }
 }
 
+/// What a board answers to an advance. It is the loaded filters' own then as before.
+fn commit_on(
+    board: &mut Board,
+    alloc: Global,
+    loaded: &Loaded,
+    advanced: &Advanced,
+    grant: bool,
+) -> Answer
+    requires own { IsOwn loaded.now board.old }
+    requires advance { IsAdvanced loaded.now advanced.now }
+    ensures own { IsOwn loaded.now board.new }
+{
+    answer_of(board.commit(alloc, loaded, advanced, grant))
+}
+
 impl Scene {
     pub(crate) fn new(alloc: Global, texts: &[&str]) -> Result<Scene, Fail> {
         let loaded = Loaded::new(alloc, trees_of(alloc, texts)?)?;
@@ -185,16 +202,14 @@ impl Scene {
         if steps.unwrap_or(own) != own {
             return Answer::NotEnabled;
         }
-        let answer = answer_of(self.board.commit(alloc, &self.loaded, &advanced, grant));
-        if answer == Answer::Went
-            && !matches!(
-                self.board.commit(alloc, &self.loaded, &advanced, grant),
-                Commit::Stale
-            )
-        {
-            return Answer::Wrong;
+        let answer = commit_on(&mut self.board, alloc, &self.loaded, &advanced, grant);
+        if answer != Answer::Went {
+            return answer;
         }
-        answer
+        match commit_on(&mut self.board, alloc, &self.loaded, &advanced, grant) {
+            Answer::NotEnabled => Answer::Went,
+            _ => Answer::Wrong,
+        }
     }
 
     /// What an entry says is done.
