@@ -1,7 +1,9 @@
-//! Tests of the board: journals that it makes are those that the machine can make, entry by entry and within memory. Each of them
-//! is replayed by the monitor. They stand apart from `flt_machine`, so that it is not proved twice.
+//! Tests of the board: journals that it makes are those that the machine can make, entry by entry and within memory, up to the limits.
+//! Each of them is replayed by the monitor. They stand apart from `flt_machine`, so that it is not proved twice.
 #![tactic(auto)]
 
+#[cfg(test)]
+mod limits;
 #[cfg(test)]
 mod scene;
 #[cfg(test)]

@@ -1,0 +1,135 @@
+//! The most operations and the most entries that there may be.
+
+use crate::scene::{Answer, Scene, finding};
+use crate::texts;
+use flt_model::{JournalEntry, Move};
+use flt_rules::{Mode, Operation};
+use std::alloc::Global;
+use std::test::Fail;
+
+const READ: Move = Move::Arrive {
+    operation: Operation::Read,
+    mode: Mode::Irp,
+    file: 0,
+};
+
+/// Create comes as an I/O request packet alone.
+const FAST_CREATE: Move = Move::Arrive {
+    operation: Operation::Create,
+    mode: Mode::Fast,
+    file: 0,
+};
+
+/// Reads arrive until there are 65,536 operations. Whether each of them goes, and is there from then on.
+fn all_arrive(scene: &mut Scene, alloc: Global) -> bool {
+    for serial in 0..65_536u32 {
+        if scene.next_move(serial).is_some()
+            || scene.apply(alloc, READ) != Answer::Went
+            || scene.next_move(serial) != Some(Move::Pre { serial })
+        {
+            return false;
+        }
+    }
+    true
+}
+
+/// Whether no operation arrives, and nothing changes thereby.
+fn none_arrives(scene: &mut Scene, alloc: Global) -> bool {
+    let before = scene.look();
+    scene.apply(alloc, READ) == Answer::Full
+        && scene.apply(alloc, FAST_CREATE) == Answer::NotEnabled
+        && scene.look() == before
+        && scene.next_move(65_536).is_none()
+}
+
+/// The 65,536th operation has the serial number 65,535. Other moves go on.
+#[test]
+fn the_last_operation_arrives_and_no_more(rt: HostRuntime) -> Result<(), Fail> {
+    let alloc = rt.alloc();
+    let mut scene = Scene::new(alloc, &[texts::PASSES])?;
+    assert!(rt; all_arrive(&mut scene, alloc));
+    assert!(rt; none_arrives(&mut scene, alloc));
+    assert!(rt; scene.apply(alloc, Move::Pre { serial: 65_535 }) == Answer::Went);
+    assert!(rt; scene.go(alloc, 0, Some(1), true) == Answer::Went);
+    assert!(rt; scene.apply(alloc, Move::Cancel { serial: 65_535 }) == Answer::Went);
+    assert!(rt; scene.apply(alloc, Move::Lower { serial: 65_535 }) == Answer::Went);
+    assert!(rt; none_arrives(&mut scene, alloc));
+    let found = finding(alloc, &[texts::PASSES], scene.board().journal())?;
+    assert!(rt; found.is_none());
+    Ok(())
+}
+
+/// Lets an activation go on to its end, or to what stops it: how often it went, and the last answer.
+fn go_on(scene: &mut Scene, alloc: Global, activation: u32) -> (usize, Answer) {
+    for count in 0..1_000_000usize {
+        let answer = scene.go(alloc, activation, None, true);
+        if answer != Answer::Went {
+            return (count, answer);
+        }
+    }
+    (1_000_000, Answer::Went)
+}
+
+/// A read arrives, and its callback goes on to its end, or to what stops it.
+fn read_on(scene: &mut Scene, alloc: Global, serial: u32) -> (usize, Answer) {
+    let arrived = scene.apply(alloc, READ);
+    if arrived != Answer::Went {
+        return (0, arrived);
+    }
+    let called = scene.apply(alloc, Move::Pre { serial });
+    if called != Answer::Went {
+        return (0, called);
+    }
+    go_on(scene, alloc, serial)
+}
+
+/// How many steps the entries say that an activation made.
+fn steps_of(entries: &[JournalEntry], wanted: u32) -> u64 {
+    let mut sum = 0u64;
+    for entry in entries {
+        if let JournalEntry::Go {
+            activation,
+            steps,
+            ..
+        } = entry
+        {
+            if *activation == wanted {
+                sum = sum.saturating_add(*steps as u64);
+            }
+        }
+    }
+    sum
+}
+
+/// Whether nothing more is written, and nothing changes: what is enabled is refused as full, and nothing else is.
+fn no_entry_more(scene: &mut Scene, alloc: Global) -> bool {
+    let before = scene.look();
+    before.entries == 1_000_000
+        && scene.go(alloc, 2, None, true) == Answer::Full
+        && scene.go(alloc, 1, None, true) == Answer::NotEnabled
+        && scene.apply(alloc, READ) == Answer::Full
+        && scene.apply(alloc, Move::Cancel { serial: 2 }) == Answer::Full
+        && scene.apply(alloc, Move::Cancel { serial: 1 }) == Answer::NotEnabled
+        && scene.apply(alloc, Move::Lower { serial: 2 }) == Answer::NotEnabled
+        && scene.look() == before
+}
+
+/// Each of two reads goes on 400,001 times, by 802,002 steps: 1,001 of the outer `repeat`, 401,000 of the inner one, 400,000 that ask for
+/// the file, and the `return`. With three moves each they make 800,008 entries, and the third read makes the rest: two moves, and 199,990
+/// times it goes on.
+#[test]
+fn a_journal_has_a_million_entries_and_no_more(rt: HostRuntime) -> Result<(), Fail> {
+    let alloc = rt.alloc();
+    let mut scene = Scene::new(alloc, &[texts::GOES_ON])?;
+    assert!(rt; read_on(&mut scene, alloc, 0) == (400_001, Answer::NotEnabled));
+    assert!(rt; scene.apply(alloc, Move::Lower { serial: 0 }) == Answer::Went);
+    assert!(rt; read_on(&mut scene, alloc, 1) == (400_001, Answer::NotEnabled));
+    assert!(rt; scene.apply(alloc, Move::Lower { serial: 1 }) == Answer::Went);
+    assert!(rt; read_on(&mut scene, alloc, 2) == (199_990, Answer::Full));
+    assert!(rt; no_entry_more(&mut scene, alloc));
+    assert!(rt; steps_of(scene.board().journal().entries(), 0) == 802_002);
+    assert!(rt; steps_of(scene.board().journal().entries(), 1) == 802_002);
+    let found = finding(alloc, &[texts::GOES_ON], scene.board().journal())?;
+    assert!(rt; found.is_none());
+    Ok(())
+}
