@@ -3,10 +3,16 @@
 #![tactic(auto)]
 
 #[cfg(test)]
+mod dice;
+#[cfg(test)]
 mod limits;
+#[cfg(test)]
+mod random;
 #[cfg(test)]
 mod scene;
 #[cfg(test)]
 mod texts;
+#[cfg(test)]
+mod tickets;
 #[cfg(test)]
 mod worked;

@@ -8,7 +8,7 @@ ghost use Rattle.flt_model.specs.Program.{filters_of};
 ghost use Rattle.flt_tree.specs.WellFormed.{IsWellFormed};
 
 use flt_machine::{Advanced, ApplyFault, Board, Commit, Loaded, advance};
-use flt_model::{Journal, JournalEntry, Move, Verdict, Violation, read};
+use flt_model::{Journal, JournalEntry, Move, Subject, Verdict, Violation, read};
 use flt_replay::replay;
 use flt_rules::FinalStatus;
 use flt_store::Outcome;
@@ -125,6 +125,10 @@ fn end_of(outcome: Option<Outcome>) -> u8 {
 
 // ---- the board
 
+fn went(fine: bool) -> Answer {
+    if fine { Answer::Went } else { Answer::Wrong }
+}
+
 /// The same of what a commit answers.
 fn answer_of(commit: Commit) -> Answer {
     match commit {
@@ -170,11 +174,14 @@ impl Scene {
         self.board.next_detach(&self.loaded, altitude)
     }
 
-    /// Makes a move. Whether it is enabled is asked first, and must be answered so.
+    /// Makes a move. Whether it is enabled and what gets a ticket by it is asked first, and must be answered so.
     pub(crate) fn apply(&mut self, alloc: Global, step: Move) -> Answer {
         let enabled = self.board.enabled(&self.loaded, step);
+        let Ok(tickets) = self.board.tickets(alloc, &self.loaded, step) else {
+            return Answer::OutOfMemory;
+        };
         let answer = match self.board.apply(alloc, &self.loaded, step) {
-            Ok(_) => Answer::Went,
+            Ok(events) => went(events.next == tickets),
             Err(ApplyFault::NotEnabled) => Answer::NotEnabled,
             Err(ApplyFault::Full) => Answer::Full,
             Err(ApplyFault::OutOfMemory) => Answer::OutOfMemory,
@@ -209,6 +216,49 @@ impl Scene {
         match commit_on(&mut self.board, alloc, &self.loaded, &advanced, grant) {
             Answer::NotEnabled => Answer::Went,
             _ => Answer::Wrong,
+        }
+    }
+
+    /// Makes a move: what gets a ticket by it.
+    fn tickets_of_move(&mut self, alloc: Global, step: Move) -> Option<Vec<Subject>> {
+        match self.board.apply(alloc, &self.loaded, step) {
+            Ok(events) => Some(events.next),
+            Err(_) => None,
+        }
+    }
+
+    /// The same of an activation that goes on, by so many steps.
+    fn tickets_of_go(
+        &mut self,
+        alloc: Global,
+        activation: u32,
+        steps: u32,
+        grant: bool,
+    ) -> Option<Vec<Subject>> {
+        let frame = self.board.checkout(activation)?;
+        let advanced = advance(&self.loaded, frame);
+        if advanced.steps + 1 != steps {
+            return None;
+        }
+        match self.board.commit(alloc, &self.loaded, &advanced, grant) {
+            Commit::Committed(events) => Some(events.next),
+            _ => None,
+        }
+    }
+
+    /// What an entry says is done: what gets a ticket by it, where it goes.
+    pub(crate) fn tickets_of(
+        &mut self,
+        alloc: Global,
+        entry: JournalEntry,
+    ) -> Option<Vec<Subject>> {
+        match entry {
+            JournalEntry::Move(step) => self.tickets_of_move(alloc, step),
+            JournalEntry::Go {
+                activation,
+                steps,
+                grant,
+            } => self.tickets_of_go(alloc, activation, steps, grant),
         }
     }
 
