@@ -19,7 +19,32 @@ struct Stack {
     accepted: bool,
 }
 
-const STACKS: [Stack; 28] = [
+const STACKS: [Stack; 33] = [
+    Stack {
+        texts: &[texts::PENDS],
+        altitude: 100,
+        accepted: true,
+    },
+    Stack {
+        texts: &[texts::PASSES],
+        altitude: 100,
+        accepted: true,
+    },
+    Stack {
+        texts: &[texts::DOES_NOTHING],
+        altitude: 370000,
+        accepted: true,
+    },
+    Stack {
+        texts: &[texts::SYNCHRONIZED_READS],
+        altitude: 370100,
+        accepted: true,
+    },
+    Stack {
+        texts: &[texts::LEAKED_CONTEXT],
+        altitude: 370110,
+        accepted: false,
+    },
     Stack {
         texts: &[texts::UPPER, texts::LOWER],
         altitude: 100,

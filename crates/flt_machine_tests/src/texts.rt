@@ -125,3 +125,6 @@ pub(crate) const TWO_LOCKS_BROKEN: &str =
 
 pub(crate) const LEAKED_CONTEXT: &str =
     "filter leaked_context altitude 370110\npre read {\nif FltAllocateContext c0 {\nreturn NO_CALLBACK\n}\nreturn NO_CALLBACK\n}\n";
+
+pub(crate) const DOES_NOTHING: &str =
+    "filter does_nothing altitude 370000\npre create {\nreturn NO_CALLBACK\n}\npre read {\nreturn NO_CALLBACK\n}\npre write {\nreturn NO_CALLBACK\n}\npre cleanup {\nreturn NO_CALLBACK\n}\n";
