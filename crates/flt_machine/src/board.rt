@@ -140,6 +140,14 @@ impl Board {
         self.store.references(context)
     }
 
+    /// How many operations have arrived. The next one gets this as its serial number.
+    pub fn operations(&self) -> usize
+        ensures arrived { result ≡ length self.now.store.arrivals }
+        ensures few { result ≤ 65536 }
+    {
+        self.store.operations()
+    }
+
     /// How an operation ended at its lowest point, from the moment at which it goes up.
     pub fn outcome(&self, serial: u32) -> Option<Outcome>
         ensures { option_map outcome_of result ≡ (machine.route_at self.now.store serial).outcome }

@@ -1,8 +1,7 @@
 //! The seats of callers and of workers.
 ghost use Rattle.std.specs.Prelude.{◌≡◌, ◌≤◌, ◌∷◌, IfSome, IfNone, IfErr, OnOk, length};
 ghost use Rattle.flt_pool.specs.Hands.{having_put};
-ghost use Rattle.flt_pool.specs.Seats.{deque_of, hands, hands_of_ways, IsTakeSeatOf, IsTakenOf, other_hands, own_hand, reached, slots};
-ghost use Rattle.flt_pool.specs.declared.pool.Pool.{Pool};
+ghost use Rattle.flt_pool.specs.Seats.{deque_of, hands, hands_of_ways, IsTakenOf, other_hands, own_hand, reached, slots};
 
 use crate::Ticket;
 use crate::deque::Deque;
@@ -26,14 +25,14 @@ pub struct TakeSeat {
 }
 
 impl TakeSeat {
-    /// Puts a ticket at the back of the seat's own deque. It waits for nobody. The ticket comes back where there is no memory for it, which
+    /// Puts a ticket at the back of the seat's own deque. It waits for nobody. The seat stays one of its pool. The ticket comes back where there is no memory for it, which
     /// the first 64 tickets of a seat don't need, or after 2^62 tickets.
     pub fn push(&mut self, ticket: Ticket) -> Result<(), Ticket>
         ensures pushed { OnOk result (hands self.new ≡ having_put ticket (own_hand self.old) ∷ other_hands self.old) }
         ensures back { IfErr result (λ t. t ≡ ticket) }
         ensures same { IfErr result (λ _. hands self.new ≡ hands self.old) }
         ensures refused { IfErr result (λ _. (64 ≤ slots self.old) × (slots self.old ≤ length (own_hand self.old).put)) }
-        ensures seat { (pool : Pool) → IsTakeSeatOf pool self.old → IsTakeSeatOf pool self.new }
+        ensures pass { self.new.pass ≡ self.old.pass }
         ensures deques { (deque_of self.new ≡ deque_of self.old) × (reached self.new.ways.items ≡ reached self.old.ways.items) }
     {
         self.deque.push(ticket)

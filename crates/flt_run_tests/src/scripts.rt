@@ -14,22 +14,22 @@ use std::test::Fail;
 
 /// Some texts, a script, and the entries that it gives.
 #[derive(Clone, Copy)]
-struct Case {
-    texts: &'static [&'static str],
-    script: &'static str,
-    entries: &'static str,
+pub(crate) struct Case {
+    pub(crate) texts: &'static [&'static str],
+    pub(crate) script: &'static str,
+    pub(crate) entries: &'static str,
 }
 
-const HIGH: &str =
+pub(crate) const HIGH: &str =
     "filter high altitude 200\npre read {\nreturn WITH_CALLBACK\n}\npost read {\nif arg != NULL {\nFltReleaseContext arg\n}\nreturn FINISHED_PROCESSING\n}\n";
 
-const LOW: &str =
+pub(crate) const LOW: &str =
     "filter low altitude 100\npre read {\nreturn WITH_CALLBACK\n}\npost read {\nif arg != NULL {\nFltReleaseContext arg\n}\nreturn FINISHED_PROCESSING\n}\n";
 
 const DENIES: &str =
     "filter low altitude 100\npre read {\nreturn COMPLETE STATUS_ACCESS_DENIED\n}\n";
 
-const PENDS: &str =
+pub(crate) const PENDS: &str =
     "filter q altitude 100\nqueue\npre read {\nif irp data {\nif FltCbdqInsertIo data {\nreturn PENDING\n}\n}\nreturn NO_CALLBACK\n}\ncanceled {\nif arg != NULL {\nFltReleaseContext arg\n}\nFltCompletePendedPreOperation data COMPLETE STATUS_CANCELLED\n}\n";
 
 const STREAMS: &str =
@@ -38,7 +38,7 @@ const STREAMS: &str =
 const ALLOCATES_TWICE: &str =
     "filter a altitude 100\npre read {\nif FltAllocateContext c0 {\nFltReleaseContext c0\n}\nif FltAllocateContext c0 {\n}\nif c0 != NULL {\nFltReleaseContext c0\n}\nreturn NO_CALLBACK\n}\n";
 
-const CASES: [Case; 7] = [
+pub(crate) const CASES: [Case; 7] = [
     Case {
         texts: &[HIGH, LOW],
         script: "arrive read irp 0\n",

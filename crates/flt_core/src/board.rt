@@ -1,0 +1,250 @@
+//! What stands behind the lock.
+ghost use Rattle.std.specs.Prelude.{◌≡◌, ◌↔◌, ◌⊎◌, ◌<◌, ◌+◌, ◌++◌, ◌∷◌, [], true, false, length, Err, Some, IfOk, IsTrue, OnOk, OnErr};
+ghost use Rattle.flt_core.specs.Counting.{callers_in, is_callers_move, others_in, receipt};
+ghost use Rattle.flt_core.specs.declared.fault.ArriveFault.TheVariants as arrive_fault;
+ghost use Rattle.flt_frame.specs.Loading.{AreLoaded};
+ghost use Rattle.flt_machine.specs.Calls.{IsDisabled, IsFullFor};
+ghost use Rattle.flt_machine.specs.Situations as situations;
+ghost use Rattle.flt_machine.specs.Situations.{IsBoard};
+ghost use Rattle.flt_machine.specs.Tickets as tickets;
+ghost use Rattle.flt_machine.specs.declared.fault.ApplyFault.TheVariants as apply_fault;
+ghost use Rattle.flt_model.specs.Expansion.{IsCleanRun};
+ghost use Rattle.flt_model.specs.Moves.{fits_mode};
+ghost use Rattle.flt_model.specs.declared.moves.JournalEntry.TheVariants as journal_entry;
+ghost use Rattle.flt_model.specs.declared.moves.Move.TheVariants as moves;
+
+use crate::fault::ArriveFault;
+use crate::names::{CallerEntries, OtherEntries, StackName};
+use crate::receipts::{Receipt, Receipts};
+use flt_machine::{ApplyFault, Board, Events, Loaded, MAX_ENTRIES, OutOfMemory};
+use flt_model::Move;
+use flt_ops::MAX_OPERATIONS;
+use flt_rules::{Mode, Operation};
+use std::alloc::Global;
+use std::marker::Model;
+use std::sync::ledger::{Book, Share};
+
+/// A board of the filters that N names, and the books of its entries. Contracts see what the board is.
+#[derive(Drop)]
+pub struct Core<N: StackName> {
+    pub(crate) board: Board,
+    pub(crate) callers: Book<CallerEntries<N>>,
+    pub(crate) others: Book<OtherEntries<N>>,
+}
+
+impl<N: StackName> Model for Core<N> {
+    ghost use Rattle.std.specs.Prelude.{◌≡◌};
+    ghost use Rattle.flt_core.specs.Counting.{callers_in, others_in};
+    ghost use Rattle.flt_machine.specs.Situations.{Situation, IsBoard};
+
+    ghost Value = { Situation };
+
+    ghost view = { λ c. c.board };
+
+    ghost invariant = { λ c. IsBoard N.trees c.board
+        × (c.callers.total ≡ callers_in c.board.entries) × (c.others.total ≡ others_in c.board.entries) };
+}
+
+impl<N: StackName> Core<N> {
+    /// The board before the first move, with books in which nothing is counted.
+    pub fn new(
+        alloc: Global,
+        loaded: &Loaded,
+        callers: Book<CallerEntries<N>>,
+        others: Book<OtherEntries<N>>,
+    ) -> Result<Core<N>, OutOfMemory>
+        requires loaded { AreLoaded N.trees loaded.now }
+        requires callers { callers.total ≡ 0 }
+        requires others { others.total ≡ 0 }
+        ensures opening { IfOk result (λ core. core ≡ situations.opening (length N.trees)) }
+    {
+        let board = Board::new(alloc, loaded)?;
+        Ok(Core {
+            board,
+            callers,
+            others,
+        })
+    }
+
+    /// What is there. Whenever the core can be looked at, its journal is a run of the machine on the filters that N names, and the board
+    /// stands at that run's end.
+    pub fn board(&self) -> &Board
+        ensures same { result.now ≡ self.now }
+        ensures own { IsBoard N.trees self.now }
+    {
+        &self.board
+    }
+
+    /// The journal breaks nothing. It does nothing: its clause is the law.
+    pub fn breaks_nothing(&self, loaded: &flt_stack::Loaded)
+        requires loaded { loaded.now ≡ N.trees }
+        ensures { IsCleanRun N.trees self.now.entries }
+    {
+        loaded.boards_break_nothing(&self.board)
+    }
+
+    /// Says how shares that have all parts of a ledger stand to the journal, and changes nothing.
+    pub fn audit(
+        &mut self,
+        callers: &mut Share<CallerEntries<N>>,
+        others: &mut Share<OtherEntries<N>>,
+    )
+        ensures same { self.new ≡ self.old }
+        ensures amounts { (callers.new.amount ≡ callers.old.amount) × (others.new.amount ≡ others.old.amount) }
+        ensures parts { (callers.new.parts ≡ callers.old.parts) × (others.new.parts ≡ others.old.parts) }
+        ensures callers { callers.old.parts ≡ N.callers_parts → callers.old.amount ≡ callers_in self.old.entries }
+        ensures others { others.old.parts ≡ N.others_parts → others.old.amount ≡ others_in self.old.entries }
+    {
+        self.callers.audit(callers);
+        self.others.audit(others);
+    }
+
+    // ---- what a caller asks for
+
+    /// An operation arrives at the top of the stack. It answers the operation's serial number. `Operation` of this number is the one
+    /// ticket by it.
+    pub fn arrive(
+        &mut self,
+        alloc: Global,
+        loaded: &Loaded,
+        receipts: &mut Receipts<N>,
+        operation: Operation,
+        mode: Mode,
+        file: u32,
+    ) -> Result<u32, ArriveFault>
+        requires loaded { AreLoaded N.trees loaded.now }
+        requires mode { fits_mode operation mode ≡ true }
+        requires file { file < 1024 }
+        ensures serial { IfOk result (λ serial. serial ≡ length self.old.store.arrivals) }
+        ensures entry { OnOk result (self.new.entries ≡ self.old.entries ++ journal_entry.Move (moves.Arrive operation mode file) ∷ []) }
+        ensures receipt { IfOk result (λ serial. receipts.new.list.items ≡ receipts.old.list.items
+            ++ receipt (length self.old.entries) (moves.Arrive operation mode file) (Some serial) ∷ []) }
+        ensures share { OnOk result (receipts.new.share.amount ≡ receipts.old.share.amount + 1) }
+        ensures parts { receipts.new.share.parts ≡ receipts.old.share.parts }
+        ensures full { (result ≡ Err arrive_fault.Full)
+            ↔ ((length self.old.entries ≡ 1000000) ⊎ (length self.old.store.arrivals ≡ 65536)) }
+        ensures refused { OnErr result ((self.new ≡ self.old) × (receipts.new.list.items ≡ receipts.old.list.items)
+            × (receipts.new.share.amount ≡ receipts.old.share.amount)) }
+    {
+        let serial = self.board.operations() as u32;
+        let step = Move::Arrive {
+            operation,
+            mode,
+            file,
+        };
+        match self.make(alloc, loaded, receipts, step, Some(serial)) {
+            Ok(()) => Ok(serial),
+            Err(ApplyFault::NotEnabled) => unreachable!(),
+            Err(ApplyFault::Full) => Err(ArriveFault::Full),
+            Err(ApplyFault::OutOfMemory) => Err(ArriveFault::OutOfMemory),
+        }
+    }
+
+    /// Makes a move that a caller asks for, and gives its receipt.
+    fn make(
+        &mut self,
+        alloc: Global,
+        loaded: &Loaded,
+        receipts: &mut Receipts<N>,
+        step: Move,
+        answer: Option<u32>,
+    ) -> Result<(), ApplyFault>
+        requires loaded { AreLoaded N.trees loaded.now }
+        requires callers { is_callers_move step ≡ true }
+        ensures entry { OnOk result (self.new.entries ≡ self.old.entries ++ journal_entry.Move step ∷ []) }
+        ensures receipt { OnOk result (receipts.new.list.items ≡ receipts.old.list.items
+            ++ receipt (length self.old.entries) step answer ∷ []) }
+        ensures share { OnOk result (receipts.new.share.amount ≡ receipts.old.share.amount + 1) }
+        ensures parts { receipts.new.share.parts ≡ receipts.old.share.parts }
+        ensures disabled { (result ≡ Err apply_fault.NotEnabled) ↔ IsDisabled loaded.now self.old step }
+        ensures full { (result ≡ Err apply_fault.Full) ↔ ((IsDisabled loaded.now self.old step → ⊥) × IsFullFor self.old step) }
+        ensures refused { OnErr result ((self.new ≡ self.old) × (receipts.new.list.items ≡ receipts.old.list.items)
+            × (receipts.new.share.amount ≡ receipts.old.share.amount)) }
+    {
+        if !self.is_enabled(loaded, step) {
+            return Err(ApplyFault::NotEnabled);
+        }
+        if self.is_full_for(step) {
+            return Err(ApplyFault::Full);
+        }
+        let number = self.board.journal().len();
+        receipts.list.reserve(1)?;
+        self.apply_callers(alloc, loaded, &mut receipts.share, step)?;
+        receipts.list.push_reserved(Receipt {
+            number,
+            entry: step,
+            answer,
+        });
+        Ok(())
+    }
+
+    /// Makes a move that a caller asks for, and counts it.
+    #[tactic(auto, using(crate::proofs::Counted::callers_in_more, crate::proofs::Counted::others_in_more))]
+    fn apply_callers(
+        &mut self,
+        alloc: Global,
+        loaded: &Loaded,
+        mine: &mut Share<CallerEntries<N>>,
+        step: Move,
+    ) -> Result<(), ApplyFault>
+        requires loaded { AreLoaded N.trees loaded.now }
+        requires part { 0 < mine.old.parts }
+        requires callers { is_callers_move step ≡ true }
+        ensures entry { OnOk result (self.new.entries ≡ self.old.entries ++ journal_entry.Move step ∷ []) }
+        ensures share { OnOk result (mine.new.amount ≡ mine.old.amount + 1) }
+        ensures parts { mine.new.parts ≡ mine.old.parts }
+        ensures disabled { (result ≡ Err apply_fault.NotEnabled) ↔ IsDisabled loaded.now self.old step }
+        ensures full { (result ≡ Err apply_fault.Full) ↔ ((IsDisabled loaded.now self.old step → ⊥) × IsFullFor self.old step) }
+        ensures refused { OnErr result ((self.new ≡ self.old) × (mine.new.amount ≡ mine.old.amount)) }
+    {
+        self.board.apply(alloc, loaded, step)?;
+        self.callers.add(mine, 1);
+        Ok(())
+    }
+
+    // ---- what workers do
+
+    /// Makes a move that no caller asks for, and counts it in a worker's share.
+    #[tactic(auto, using(crate::proofs::Counted::callers_in_more, crate::proofs::Counted::others_in_more))]
+    pub fn apply(
+        &mut self,
+        alloc: Global,
+        loaded: &Loaded,
+        mine: &mut Share<OtherEntries<N>>,
+        step: Move,
+    ) -> Result<Events, ApplyFault>
+        requires loaded { AreLoaded N.trees loaded.now }
+        requires part { 0 < mine.old.parts }
+        requires others { is_callers_move step ≡ false }
+        ensures entry { OnOk result (self.new.entries ≡ self.old.entries ++ journal_entry.Move step ∷ []) }
+        ensures next { IfOk result (λ events. events.next.items ≡ tickets.after_move loaded.now.altitudes self.old.store self.new.store
+            (length self.old.standings) (length self.new.standings)) }
+        ensures share { OnOk result (mine.new.amount ≡ mine.old.amount + 1) }
+        ensures parts { mine.new.parts ≡ mine.old.parts }
+        ensures disabled { (result ≡ Err apply_fault.NotEnabled) ↔ IsDisabled loaded.now self.old step }
+        ensures full { (result ≡ Err apply_fault.Full) ↔ ((IsDisabled loaded.now self.old step → ⊥) × IsFullFor self.old step) }
+        ensures refused { OnErr result ((self.new ≡ self.old) × (mine.new.amount ≡ mine.old.amount)) }
+    {
+        let events = self.board.apply(alloc, loaded, step)?;
+        self.others.add(mine, 1);
+        Ok(events)
+    }
+
+    // ---- what is tested first
+
+    /// Whether a move is enabled.
+    fn is_enabled(&self, loaded: &Loaded, step: Move) -> bool
+        requires loaded { AreLoaded N.trees loaded.now }
+        ensures { (result ≡ false) ↔ IsDisabled loaded.now self.now step }
+    {
+        self.board.enabled(loaded, step)
+    }
+
+    /// Whether there are as many entries as may be, or as many operations where one more arrives.
+    fn is_full_for(&self, step: Move) -> bool
+        ensures { IsTrue result ↔ IsFullFor self.now step }
+    {
+        self.board.journal().len() == MAX_ENTRIES
+            || (matches!(step, Move::Arrive { .. }) && self.board.operations() == MAX_OPERATIONS)
+    }
+}

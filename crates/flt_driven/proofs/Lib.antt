@@ -1,0 +1,3 @@
+pub mod Ending
+pub mod Firsts
+pub mod Loadable

@@ -1,0 +1,5 @@
+//! Tests of `flt_reports`: whole reports.
+#![tactic(auto)]
+
+#[cfg(test)]
+mod reports;

@@ -1,0 +1,103 @@
+//! The line that ends a report.
+
+ghost use Rattle.std.specs.Prelude.{◌≡◌, ◌++◌, Some, OnOk};
+ghost use Rattle.flt_reports.specs.Closing as spec;
+
+use crate::judged::Judged;
+use crate::page::Page;
+use flt_explain::Finding;
+use flt_rules::{Rule, number, text};
+use flt_syntax::{FaultKind, SyntaxFault};
+use std::alloc::{AllocError, Global};
+use std::fmt;
+
+/// `R01` to `R15`.
+#[derive(Drop)]
+pub(crate) struct RuleName(pub(crate) Rule);
+
+impl fmt::Display for RuleName {
+    ghost output = { λ r. Some (spec.rule_name r.0) };
+
+    fn fmt<W: fmt::Write>(&self, f: &mut fmt::Formatter<W>) -> fmt::Result {
+        let number = number(self.0);
+        let zero = if number < 10 { "0" } else { "" };
+        write!(f, "R{zero}{number}")
+    }
+}
+
+/// Where a text is refused, and why, as `analyse` says it.
+#[derive(Drop)]
+struct RefusalLine(Finding);
+
+impl fmt::Display for RefusalLine {
+    ghost output = { λ r. Some (spec.refusal_line r.0) };
+
+    fn fmt<W: fmt::Write>(&self, f: &mut fmt::Formatter<W>) -> fmt::Result {
+        let callback = self.0.callback;
+        let point = self.0.point;
+        let line = self.0.line;
+        let rule = RuleName(self.0.rule);
+        let words = text(self.0.rule);
+        write!(
+            f,
+            "refused callback {callback} point {point} line {line} {rule} {words}"
+        )
+    }
+}
+
+/// `E01` to `E08`.
+pub(crate) fn fault_name(kind: FaultKind) -> &'static str
+    ensures { result.now ≡ spec.fault_name kind }
+{
+    match kind {
+        FaultKind::E01 => "E01",
+        FaultKind::E02 => "E02",
+        FaultKind::E03 => "E03",
+        FaultKind::E04 => "E04",
+        FaultKind::E05 => "E05",
+        FaultKind::E06 => "E06",
+        FaultKind::E07 => "E07",
+        FaultKind::E08 => "E08",
+    }
+}
+
+/// The first fault of a text, as `check` and `analyse` say it.
+#[derive(Drop)]
+struct SyntaxLine(SyntaxFault);
+
+impl fmt::Display for SyntaxLine {
+    ghost output = { λ s. Some (spec.syntax_line s.0) };
+
+    fn fmt<W: fmt::Write>(&self, f: &mut fmt::Formatter<W>) -> fmt::Result {
+        let line = self.0.line;
+        let column = self.0.column;
+        let kind = fault_name(self.0.kind);
+        write!(f, "syntax {line}:{column} {kind}")
+    }
+}
+
+/// Ends a report where there are findings, by the first of them.
+fn close_findings(alloc: Global, page: &mut Page, found: &[Finding]) -> Result<(), AllocError>
+    ensures { OnOk result (page.new.out.items ≡ page.old.out.items ++ spec.findings_closing found.now) }
+{
+    let [first, ..] = found else {
+        return page.text("nothing found\n");
+    };
+    let line = RefusalLine(*first);
+    let line = format!(in alloc; "{line}\n")?;
+    page.text(line.as_str())
+}
+
+/// Ends a report by its last line.
+pub(crate) fn close(alloc: Global, page: &mut Page, judged: &Judged) -> Result<(), AllocError>
+    ensures { OnOk result (page.new.out.items ≡ page.old.out.items ++ spec.closing judged.now) }
+{
+    match judged {
+        Judged::Unread(fault) => {
+            let line = SyntaxLine(*fault);
+            let line = format!(in alloc; "{line}\n")?;
+            page.text(line.as_str())
+        }
+        Judged::Known(_, _, found) => close_findings(alloc, page, found.as_slice()),
+    }
+}

@@ -1,0 +1,320 @@
+//! The search, round after round.
+
+ghost use Rattle.std.specs.Prelude.{IfOk, IfSome};
+ghost use Rattle.flt_world.specs.Filters.{filters_of};
+ghost use Rattle.flt_seek.specs.Found as spec;
+
+use crate::bounds::{ROUNDS, Round};
+use crate::choices::{Field, number_of};
+use crate::judging::{Broken, Judged, judge};
+use crate::key::key_of;
+use crate::making::world_after;
+use crate::shortening::shorten;
+use flt_model::{JournalEntry, Violation};
+use flt_tree::Tree;
+use flt_world::{Stack, World};
+use std::alloc::{AllocError, Global};
+use std::collections::BTreeSet;
+
+/// What a search came to.
+#[derive(Drop)]
+pub enum Sought {
+    Found(Broken),
+    /// Each round came to its end.
+    NotWithin,
+    /// A round was ended: too many states.
+    Cut,
+}
+
+/// A state that was reached by an entry from the state of a number; the first one by none.
+#[derive(Clone, Copy)]
+struct Node {
+    from: usize,
+    entry: Option<JournalEntry>,
+    /// The activation that is on, where it can go on.
+    runner: Option<u32>,
+    /// How often one was left that could go on.
+    switches: u32,
+}
+
+const OPENING: Node = Node {
+    from: 0,
+    entry: None,
+    runner: None,
+    switches: 0,
+};
+
+/// What was reached in a round.
+#[derive(Drop)]
+struct Search {
+    nodes: Vec<Node>,
+    seen: BTreeSet<u64>,
+}
+
+/// Who is on behind an entry that led to a world.
+fn runner_after(
+    world: &World<'_>,
+    before: usize,
+    entry: JournalEntry,
+    on: Option<u32>,
+) -> Option<u32> {
+    let runner = match entry {
+        JournalEntry::Go { activation, .. } => Some(activation),
+        JournalEntry::Move(_) if world.activations.len() > before => Some(number_of(before)),
+        JournalEntry::Move(_) => on,
+    };
+    match runner {
+        Some(activation) if !world.has_ended(activation as usize) => Some(activation),
+        _ => None,
+    }
+}
+
+/// Whether the entry leaves the activation that is on.
+fn leaves(entry: JournalEntry, on: Option<u32>) -> bool {
+    match (entry, on) {
+        (_, None) => false,
+        (JournalEntry::Go { activation, .. }, Some(on)) => activation != on,
+        (JournalEntry::Move(_), Some(_)) => true,
+    }
+}
+
+impl Search {
+    fn new(alloc: Global) -> Result<Search, AllocError> {
+        let mut nodes = Vec::new(alloc);
+        nodes.push(OPENING)?;
+        Ok(Search {
+            nodes,
+            seen: BTreeSet::new(alloc),
+        })
+    }
+
+    fn node(&self, number: usize) -> Node {
+        match self.nodes.get(number) {
+            Some(node) => *node,
+            None => OPENING,
+        }
+    }
+
+    /// The entries that lead to the state of a number.
+    fn entries(&self, alloc: Global, number: usize) -> Result<Vec<JournalEntry>, AllocError> {
+        let mut entries = Vec::new(alloc);
+        let mut node = self.node(number);
+        for _ in 0..self.nodes.len() {
+            let Some(entry) = node.entry else {
+                entries.reverse();
+                return Ok(entries);
+            };
+            entries.push(entry)?;
+            node = self.node(node.from);
+        }
+        entries.reverse();
+        Ok(entries)
+    }
+
+    /// Keeps the state that a world is, if it is new.
+    fn keep<'a>(
+        &mut self,
+        field: &Field<'_, 'a>,
+        mut world: World<'a>,
+        node: Node,
+    ) -> Result<(), AllocError> {
+        let mut mix = key_of(field.alloc, field.stack, &mut world)?;
+        mix.put(u64::from(node.switches));
+        mix.put(match node.runner {
+            Some(runner) => u64::from(runner),
+            None => u64::MAX,
+        });
+        if self.seen.insert(mix.number)? {
+            self.nodes.push(node)?;
+        }
+        Ok(())
+    }
+
+    /// What an entry makes of the state of a number. The entries that lead there have it as the last.
+    fn follow<'a>(
+        &mut self,
+        field: &Field<'_, 'a>,
+        wanted: Option<Violation>,
+        entries: &[JournalEntry],
+        node: Node,
+        before: usize,
+    ) -> Result<Option<Broken>, AllocError>
+        ensures { IfOk result (λ found. IfSome found (spec.IsFound (filters_of field.now.trees.now) wanted)) }
+    {
+        let Some(entry) = node.entry else {
+            return Ok(None);
+        };
+        let Some(world) = world_after(field.alloc, field.stack, entries)? else {
+            return Ok(None);
+        };
+        match judge(field.alloc, field.trees, wanted, entries)? {
+            Judged::Wanted(broken) => return Ok(Some(broken)),
+            Judged::Other => return Ok(None),
+            Judged::Legal => {}
+        }
+        let runner = runner_after(&world, before, entry, node.runner);
+        self.keep(field, world, Node { runner, ..node })?;
+        Ok(None)
+    }
+
+    /// What an entry behind the state of a number makes of it. The entries are those that lead there, and stay so.
+    fn attempt<'a>(
+        &mut self,
+        field: &Field<'_, 'a>,
+        wanted: Option<Violation>,
+        entries: &mut Vec<JournalEntry>,
+        node: Node,
+        before: usize,
+    ) -> Result<Option<Broken>, AllocError>
+        ensures { IfOk result (λ found. IfSome found (spec.IsFound (filters_of field.now.trees.now) wanted)) }
+    {
+        let Some(entry) = node.entry else {
+            return Ok(None);
+        };
+        if node.switches > field.round.switches {
+            return Ok(None);
+        }
+        entries.push(entry)?;
+        let found = self.follow(field, wanted, entries.as_slice(), node, before)?;
+        entries.pop();
+        Ok(found)
+    }
+
+    /// What comes of the state of a number.
+    fn expand<'a>(
+        &mut self,
+        field: &Field<'_, 'a>,
+        wanted: Option<Violation>,
+        number: usize,
+    ) -> Result<Option<Broken>, AllocError>
+        ensures { IfOk result (λ found. IfSome found (spec.IsFound (filters_of field.now.trees.now) wanted)) }
+    {
+        let mut entries = self.entries(field.alloc, number)?;
+        let Some(mut world) = world_after(field.alloc, field.stack, entries.as_slice())? else {
+            return Ok(None);
+        };
+        let before = world.activations.len();
+        let next = nodes_behind(field, &mut world, self.node(number), number)?;
+        for node in next.as_slice() {
+            let found = self.attempt(field, wanted, &mut entries, *node, before)?;
+            if found.is_some() {
+                return Ok(found);
+            }
+        }
+        Ok(None)
+    }
+}
+
+/// The state behind an entry. An activation that is left and could go on is a switch.
+fn node_behind(on: Node, from: usize, entry: JournalEntry) -> Node {
+    let switches = if leaves(entry, on.runner) {
+        on.switches.saturating_add(1)
+    } else {
+        on.switches
+    };
+    Node {
+        from,
+        entry: Some(entry),
+        runner: on.runner,
+        switches,
+    }
+}
+
+/// What may come next. A move that nobody sees comes at once, and is no switch. The world's activations are spent.
+fn nodes_behind<'a>(
+    field: &Field<'_, 'a>,
+    world: &mut World<'a>,
+    on: Node,
+    from: usize,
+) -> Result<Vec<Node>, AllocError> {
+    let mut nodes = Vec::new(field.alloc);
+    if let Some(step) = field.first_passing(world) {
+        nodes.push(Node {
+            from,
+            entry: Some(JournalEntry::Move(step)),
+            ..on
+        })?;
+        return Ok(nodes);
+    }
+    let goings = field.goings(world)?;
+    for entry in goings.as_slice() {
+        nodes.push(node_behind(on, from, *entry))?;
+    }
+    let moves = field.moves(world)?;
+    for step in moves.as_slice() {
+        nodes.push(node_behind(on, from, JournalEntry::Move(*step)))?;
+    }
+    Ok(nodes)
+}
+
+/// Seeks within the bounds of a round.
+fn seek_within<'a>(
+    field: &Field<'_, 'a>,
+    wanted: Option<Violation>,
+    states: usize,
+) -> Result<Sought, AllocError>
+    ensures { IfOk result (spec.IsSought (filters_of field.now.trees.now) wanted) }
+{
+    let mut search = Search::new(field.alloc)?;
+    for number in 0..states {
+        if number >= search.nodes.len() {
+            return Ok(Sought::NotWithin);
+        }
+        if let Some(broken) = search.expand(field, wanted, number)? {
+            return Ok(Sought::Found(broken));
+        }
+    }
+    Ok(Sought::Cut)
+}
+
+/// Seeks in a round.
+fn seek_in<'a>(
+    alloc: Global,
+    trees: &'a [Tree],
+    stack: &Stack<'a>,
+    round: Round,
+    wanted: Option<Violation>,
+    states: usize,
+) -> Result<Sought, AllocError>
+    ensures { IfOk result (spec.IsSought (filters_of trees.now) wanted) }
+{
+    let field = Field {
+        alloc,
+        trees,
+        stack,
+        round,
+    };
+    seek_within(&field, wanted, states)
+}
+
+/// Seeks a journal that breaks something: the violation that is wanted, if one is. The filters may be in any order. Rounds of growing
+/// bounds are gone through breadth first, each up to so many states: up to three operations, two switches between activations that
+/// could go on, a cancelled operation and a filter that is detached. What is found is the first such journal of the first round that
+/// has one, without entries that can be left out one by one. No clause says that one is found where there is one: numbers behind many operations, and files from 2 on, aren't reached.
+///
+/// # Errors
+///
+/// Where a growth was refused, or a count would pass 2^64.
+pub fn seek(
+    alloc: Global,
+    trees: &[Tree],
+    wanted: Option<Violation>,
+    states: usize,
+) -> Result<Sought, AllocError>
+    ensures { IfOk result (spec.IsSought (filters_of trees.now) wanted) }
+{
+    let stack = Stack::of(alloc, trees)?;
+    let mut cut = false;
+    for round in ROUNDS {
+        match seek_in(alloc, trees, &stack, round, wanted, states)? {
+            Sought::Found(broken) => {
+                let last = broken.entry;
+                let shorter = shorten(alloc, trees, wanted, broken, last)?;
+                return Ok(Sought::Found(shorter));
+            }
+            Sought::NotWithin => {}
+            Sought::Cut => cut = true,
+        }
+    }
+    Ok(if cut { Sought::Cut } else { Sought::NotWithin })
+}
