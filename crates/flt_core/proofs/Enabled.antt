@@ -20,9 +20,10 @@ none_of (Some step) same = absurd (cc)
 -- what says whether a move is enabled is false where it isn't, and only there
 pub disabled_is : (trees : List Filter) (l : Loaded) (b : Situation) (move : Move) (r : Bool) → AreLoaded trees l → IsBoard trees b →
     Now l b (λ p m. r ≡ is_some (make p m.world move)) → (r ≡ false) ↔ IsDisabled l b move
-disabled_is trees l b move r loaded own says =
-    (λ no. λ p is m at. none_of (make p m.world move) (sym (says p is m at) ∙ no),
-    λ disabled. says trees loaded own.moment own.at ∙ ap is_some (disabled trees loaded own.moment own.at))
+disabled_is trees l b move r loaded own says = (
+  λ no. λ p is m at. none_of (make p m.world move) (sym (says p is m at) ∙ no),
+  λ disabled. says trees loaded own.moment own.at ∙ ap is_some (disabled trees loaded own.moment own.at),
+)
 
 some_is_there : (b : Bool) (step : Step) → b ≡ true → (if b then Some step else None) ≡ None → ⊥
 some_is_there true step is same = cc

@@ -12,16 +12,18 @@ all_accepted [] certs (f ∷ filters) spelled covered = absurd spelled
 all_accepted (t ∷ texts) certs [] spelled covered = absurd spelled
 all_accepted (t ∷ texts) [] (f ∷ filters) spelled covered = absurd covered
 all_accepted (t ∷ texts) (c ∷ certs) (f ∷ filters) spelled covered =
-    let k = covered.0 in
-    (record {
-      spelled = spelled.0;
-      graph = k.graph;
-      lowered = k.lowered;
-      certificate = k.certificate;
-      certified = k.certified;
-      written = k.written;
-      covers = k.covers;
-    }, all_accepted texts certs filters spelled.1 covered.1)
+    let k = covered.0 in (
+      record {
+        spelled = spelled.0;
+        graph = k.graph;
+        lowered = k.lowered;
+        certificate = k.certificate;
+        certified = k.certified;
+        written = k.written;
+        covers = k.covers;
+      },
+      all_accepted texts certs filters spelled.1 covered.1,
+    )
 
 -- there is a file for each filter
 pub as_many : (texts : List (List ℕ)) (certs : List (List ℕ)) (filters : List Filter) → AreSpelled texts filters →
@@ -65,10 +67,10 @@ module _ {P : Type 0} (as_file : P → File) (texts certs : List (Vec ℕ Global
       let other : get_or all_certs n [] ≡ cert.items = get_or-map (λ (t : Vec ℕ Global). t.items) certs n e [] k
       ∙ ap (λ (t : Vec ℕ Global). t.items) (sym and) in
       let more : files_of (take (suc n) all_texts) (take (suc n) all_certs) ≡
-          files_of (take n all_texts) (take n all_certs) ++ file (get_or all_texts n []) (get_or all_certs n []) ∷ [] =
-          files_more all_texts all_certs n
-          (subst (λ m. n < m) (sym (length-map texts (λ (t : Vec ℕ Global). t.items))) h)
-          (subst (λ m. n < m) (sym (length-map certs (λ (t : Vec ℕ Global). t.items))) k) in
+      files_of (take n all_texts) (take n all_certs) ++ file (get_or all_texts n []) (get_or all_certs n []) ∷ [] =
+      files_more all_texts all_certs n
+      (subst (λ m. n < m) (sym (length-map texts (λ (t : Vec ℕ Global). t.items))) h)
+      (subst (λ m. n < m) (sym (length-map certs (λ (t : Vec ℕ Global). t.items))) k) in
       let next : n + 1 ≡ suc n = omega arith in
       ap (λ m. files_of (take m all_texts) (take m all_certs)) next
       ∙ (more ∙ (ap (λ x. files_of (take n all_texts) (take n all_certs) ++ file x (get_or all_certs n []) ∷ []) one

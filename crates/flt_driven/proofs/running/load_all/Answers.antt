@@ -9,12 +9,12 @@ pub returns-in-Ok : goal.returns-in-Ok
 returns-in-Ok c = record {
   loaded = λ filters spelled covered distinct.
       let kept : map (λ f. file f.0.now f.1.now) c.as_slice.result.now ≡
-          files_of (map (λ (t : Vec ℕ Global). t.items) c.args.texts.now) (map (λ (t : Vec ℕ Global). t.items) c.args.certificates.now) =
-          ap (map (λ f. file f.0.now f.1.now)) c.as_slice.ensures.value ∙ c.in_ok-files.ensures in
+      files_of (map (λ (t : Vec ℕ Global). t.items) c.args.texts.now) (map (λ (t : Vec ℕ Global). t.items) c.args.certificates.now) =
+      ap (map (λ f. file f.0.now f.1.now)) c.as_slice.ensures.value ∙ c.in_ok-files.ensures in
       let all = all_accepted _ _ filters spelled covered in
       let many : length c.as_slice.result.now ≡ length c.args.texts.now =
-          sym (length-map c.as_slice.result.now (λ f. file f.0.now f.1.now)) ∙ (ap length kept
-          ∙ (as_many _ _ filters spelled covered ∙ length-map c.args.texts.now (λ (t : Vec ℕ Global). t.items))) in
+      sym (length-map c.as_slice.result.now (λ f. file f.0.now f.1.now)) ∙ (ap length kept
+      ∙ (as_many _ _ filters spelled covered ∙ length-map c.args.texts.now (λ (t : Vec ℕ Global). t.items))) in
       c.in-Ok.ensures.loads filters (subst (λ (l : List File). AreAcceptedFiles l filters) (sym kept) all) distinct
       (subst IsCount (sym many) c.requires.count);
 }

@@ -18,9 +18,9 @@ returns c =
     subst (λ (l : List Tree). IsScript (filters_of l) c.args.script.now c.in_ok-commands.commands) c.as_slice.ensures.value
     c.in_ok-commands.ensures.ok in
     let covered : HaveCertificates (filters_of c.in_ok-trees.trees.items)
-        (map (λ (t : Vec ℕ Global). t.items) c.in_ok-certificates.certificates.items) =
+    (map (λ (t : Vec ℕ Global). t.items) c.in_ok-certificates.certificates.items) =
     subst (λ (l : List Tree). HaveCertificates (filters_of l)
-        (map (λ (t : Vec ℕ Global). t.items) c.in_ok-certificates.certificates.items)) c.as_slice-2.ensures.value
+    (map (λ (t : Vec ℕ Global). t.items) c.in_ok-certificates.certificates.items)) c.as_slice-2.ensures.value
     c.in_ok-certificates.ensures.ok in
     let lent : HaveCertificates (filters_of c.in_ok-trees.trees.items) (map (λ (t : Vec ℕ Global). t.items) c.as_slice-4.result.now) =
     subst (λ (l : List (Vec ℕ Global)). HaveCertificates (filters_of c.in_ok-trees.trees.items) (map (λ (t : Vec ℕ Global). t.items) l))
