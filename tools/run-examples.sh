@@ -2,8 +2,10 @@
 # Runs the program on all of examples/ and compares what it says with examples/expected.
 #
 #   tools/run-examples.sh [PROGRAM]
-#       runs PROGRAM, else what `rt ci`, or `rt run` in crates/fltstack, made. Ends with status 1 at any difference: another exit status,
-#       another output, a byte on the standard error, or a file of examples/ that no line of `expected` names.
+#       runs PROGRAM, else what `rt ci`, or `rt run` in crates/fltstack, made, and pipes each journal that `run` prints into `replay`,
+#       which must call it legal. Each accepted filter is also driven by scripts in which operations of each kind arrive, with a
+#       cancel, a detach or a refused choice at each place. Ends with status 1 at any difference: another exit status, another output,
+#       a byte on the standard error, a journal that isn't legal, or a file of examples/ that no line of `expected` names.
 set -euo pipefail
 
 top=$(cd "$(dirname "$0")/.." && pwd)
@@ -13,12 +15,14 @@ trap 'rm -rf "$work"' EXIT
 cd "$top/examples"
 
 [ -x "$program" ] || {
-    echo "there is no $program: \`rt run\` in crates/fltstack makes it" >&2
+    echo "there is no $program: `rt run` in crates/fltstack makes it" >&2
     exit 1
 }
 
 runs=0
 differences=0
+# The filters that have a certificate.
+accepted=()
 
 differs() {
     echo "$1" >&2
@@ -46,18 +50,90 @@ wants() {
     fi
 }
 
+# is_legal WORDS: `replay` calls the journal that was just printed legal, on the filters of these words of `run`.
+is_legal() {
+    local -a each
+    read -ra each <<<"$1"
+    each=("${each[@]:1}")
+    while [[ ${each[0]} == --* ]]; do
+        [ "${each[0]}" != --workers ] || each=("${each[@]:1}")
+        each=("${each[@]:1}")
+    done
+    runs=$((runs + 1))
+    [ "$("$program" replay - "${each[@]:1}" <"$work/out" 2>&1)" = legal ] || differs "$1: replay doesn't call its journal legal"
+}
+
+# What arrives in each script of the sweep.
+arrivals=('create irp 0' 'read irp 0' 'read fast 0' 'write irp 0' 'write fast 1' 'read irp 1' 'read irp 0' 'cleanup irp 0')
+
+# script_with PLACE LINE..: all arrivals, with these lines before the one of this place (from 0), or behind the last.
+script_with() {
+    local place=$1 number=0 arrival
+    shift
+    for arrival in "${arrivals[@]}"; do
+        [ "$number" != "$place" ] || printf '%s\n' "$@"
+        printf 'arrive %s\n' "$arrival"
+        number=$((number + 1))
+    done
+    [ "$number" != "$place" ] || printf '%s\n' "$@"
+}
+
+# drives WHAT FILE..: `run` takes the script in $work/script on these files, prints a journal, and `replay` calls it legal.
+drives() {
+    local what=$1 status=0
+    shift
+    "$program" run "$work/script" "$@" </dev/null >"$work/out" 2>"$work/err" || status=$?
+    runs=$((runs + 1))
+    if [ "$status" != 0 ] || [ -s "$work/err" ]; then
+        differs "run of $*, with $what: status $status"
+        return
+    fi
+    [ "$("$program" replay "$work/out" "$@" 2>&1)" = legal ] || differs "run of $*, with $what: replay doesn't call its journal legal"
+}
+
+# sweep FILE..: scripts with a cancel, a detach or a refusal at each place, on these files together.
+sweep() {
+    local place file altitude serial
+    for ((place = 0; place <= ${#arrivals[@]}; place++)); do
+        for ((serial = 0; serial < place; serial++)); do
+            script_with "$place" "cancel $serial" >"$work/script"
+            drives "cancel $serial at place $place" "$@"
+        done
+        for file in "$@"; do
+            altitude=$(sed -n 's/^filter .* altitude \([0-9]*\).*/\1/p' "$file")
+            script_with "$place" "detach $altitude" >"$work/script"
+            drives "detach $altitude at place $place" "$@"
+        done
+        script_with 0 "refuse $place" >"$work/script"
+        drives "refuse $place" "$@"
+    done
+}
+
 while IFS= read -r line; do
     case $line in
     '' | '#'*) ;;
     *' = '[012]' '*)
         words=${line%% = *}
         rest=${line#* = }
-        echo " $words ${rest#* } " >>"$work/named"
+        answer=${rest#* }
+        echo " $words ${answer#@} " >>"$work/named"
         wants "$words" "${rest%% *}" "${rest#* }"
+        case $words' '${rest%% *} in
+        'run '*' 0') is_legal "$words" ;;
+        'analyse '*' 0')
+            accepted+=("${words#analyse }")
+            sweep "${words#analyse }"
+            ;;
+        esac
         ;;
     *) differs "expected has a line that can't be read: $line" ;;
     esac
 done <expected
+
+# Each accepted filter above the next one.
+for ((number = 0; number + 1 < ${#accepted[@]}; number += 2)); do
+    sweep "${accepted[number]}" "${accepted[number + 1]}"
+done
 
 for file in *; do
     case $file in

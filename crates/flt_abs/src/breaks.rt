@@ -1,17 +1,18 @@
 //! Which rules an instruction breaks in a state. Several can be broken at once; the least is reported.
 
-ghost use Rattle.std.specs.Prelude.{◌≡◌};
+ghost use Rattle.std.specs.Prelude.{◌≡◌, find};
 ghost use Rattle.flt_abs.specs.Breaks as spec;
+ghost use Rattle.flt_abs.specs.Setting.{setting_of};
 
 use crate::sets::{Modes, Statuses};
-use crate::setting::Setting;
+use crate::setting::{Setting, setting_of};
 use crate::state::Abs;
 use flt_graph::{
-    Action, ContextVariable, Instruction, Invocation, LockNumber, OperationVariable, Place, Status,
-    Test,
+    Action, ContextVariable, Graph, Instruction, Invocation, LockNumber, OperationVariable, Place,
+    Status, Test,
 };
 use flt_rules::{
-    LockNeed, Mode, Need, Possession, Rule, StatusRow, is_legal_in_draining, row, status_row,
+    LockNeed, Mode, Need, Possession, Row, Rule, StatusRow, is_legal_in_draining, row, status_row,
 };
 use flt_tree::named_context;
 
@@ -135,10 +136,9 @@ fn takes_held_lock(state: &Abs, lock: Option<LockNumber>) -> bool
 }
 
 /// Whether a call breaks a rule: its row of the call table, read on the state.
-pub(crate) fn call_breaks(setting: &Setting, state: &Abs, call: &Invocation, rule: Rule) -> bool
-    ensures { result ≡ spec.call_breaks setting.now state.now call.now rule }
+fn row_breaks(row: &Row, setting: &Setting, state: &Abs, call: &Invocation, rule: Rule) -> bool
+    ensures { result ≡ spec.row_breaks row.now setting.now state.now call.now rule }
 {
-    let row = row(call.call);
     let needs = row.needs;
     match rule {
         Rule::R01 => matches!(needs.context, Need::Held) && lacks_context(state, call.context),
@@ -167,6 +167,12 @@ pub(crate) fn call_breaks(setting: &Setting, state: &Abs, call: &Invocation, rul
         }
         _ => false,
     }
+}
+
+pub(crate) fn call_breaks(setting: &Setting, state: &Abs, call: &Invocation, rule: Rule) -> bool
+    ensures { result ≡ spec.call_breaks setting.now state.now call.now rule }
+{
+    row_breaks(&row(call.call), setting, state, call, rule)
 }
 
 /// Whether the operation is surely what a status asks of it.
@@ -294,33 +300,104 @@ pub(crate) fn breaks(setting: &Setting, state: &Abs, instruction: &Instruction, 
     }
 }
 
-/// The rules that a point's own instruction can break, in their order.
-const RULES: [Rule; 13] = [
-    Rule::R01,
-    Rule::R02,
-    Rule::R03,
-    Rule::R04,
-    Rule::R05,
-    Rule::R06,
-    Rule::R07,
-    Rule::R08,
-    Rule::R09,
-    Rule::R10,
-    Rule::R11,
-    Rule::R13,
-    Rule::R15,
-];
+/// The least rule that a statement breaks that neither calls nor branches.
+fn first_of_action(state: &Abs, action: Action) -> Option<Rule>
+    ensures { result ≡ find (spec.action_breaks state.now action) spec.rules }
+{
+    if action_breaks(state, action, Rule::R01) {
+        Some(Rule::R01)
+    } else if action_breaks(state, action, Rule::R03) {
+        Some(Rule::R03)
+    } else if action_breaks(state, action, Rule::R04) {
+        Some(Rule::R04)
+    } else {
+        None
+    }
+}
 
-/// The least rule that an instruction breaks in a state.
+/// The least rule that a test breaks.
+fn first_of_test(setting: &Setting, state: &Abs, test: Test) -> Option<Rule>
+    ensures { result ≡ find (spec.test_breaks setting.now state.now test) spec.rules }
+{
+    if test_breaks(setting, state, test, Rule::R04) {
+        Some(Rule::R04)
+    } else if test_breaks(setting, state, test, Rule::R08) {
+        Some(Rule::R08)
+    } else {
+        None
+    }
+}
+
+/// The least rule that a call breaks, by its row of the call table.
+fn first_of_row(row: &Row, setting: &Setting, state: &Abs, call: &Invocation) -> Option<Rule>
+    ensures { result ≡ find (spec.row_breaks row.now setting.now state.now call.now) spec.rules }
+{
+    if row_breaks(row, setting, state, call, Rule::R01) {
+        Some(Rule::R01)
+    } else if row_breaks(row, setting, state, call, Rule::R03) {
+        Some(Rule::R03)
+    } else if row_breaks(row, setting, state, call, Rule::R04) {
+        Some(Rule::R04)
+    } else if row_breaks(row, setting, state, call, Rule::R06) {
+        Some(Rule::R06)
+    } else if row_breaks(row, setting, state, call, Rule::R07) {
+        Some(Rule::R07)
+    } else if row_breaks(row, setting, state, call, Rule::R08) {
+        Some(Rule::R08)
+    } else if row_breaks(row, setting, state, call, Rule::R09) {
+        Some(Rule::R09)
+    } else if row_breaks(row, setting, state, call, Rule::R11) {
+        Some(Rule::R11)
+    } else if row_breaks(row, setting, state, call, Rule::R13) {
+        Some(Rule::R13)
+    } else {
+        None
+    }
+}
+
+/// The least rule that a return, or the end of the body, breaks.
+fn first_of_return(setting: &Setting, state: &Abs, status: Option<Status>) -> Option<Rule>
+    ensures { result ≡ find (spec.return_breaks setting.now state.now status) spec.rules }
+{
+    if return_breaks(setting, state, status, Rule::R02) {
+        Some(Rule::R02)
+    } else if return_breaks(setting, state, status, Rule::R05) {
+        Some(Rule::R05)
+    } else if return_breaks(setting, state, status, Rule::R06) {
+        Some(Rule::R06)
+    } else if return_breaks(setting, state, status, Rule::R10) {
+        Some(Rule::R10)
+    } else if return_breaks(setting, state, status, Rule::R13) {
+        Some(Rule::R13)
+    } else if return_breaks(setting, state, status, Rule::R15) {
+        Some(Rule::R15)
+    } else {
+        None
+    }
+}
+
+/// The least rule that an instruction breaks in a state. The setting is read where a rule of the instruction speaks of it.
 pub(crate) fn first_broken(
-    setting: &Setting,
+    graph: &Graph,
+    callback: usize,
     state: &Abs,
     instruction: &Instruction,
 ) -> Option<Rule>
-    ensures { result ≡ spec.first_broken setting.now state.now instruction.now }
+    ensures { result ≡ spec.first_broken (setting_of graph.now callback state.now) state.now instruction.now }
 {
-    RULES
-        .iter()
-        .copied()
-        .find(|rule| breaks(setting, state, instruction, *rule))
+    match instruction {
+        Instruction::Act(action, _) => first_of_action(state, *action),
+        Instruction::Call(call, _, _) => {
+            let setting = setting_of(graph, callback, state);
+            first_of_row(&row(call.call), &setting, state, call)
+        }
+        Instruction::Test(test, _, _) => {
+            first_of_test(&setting_of(graph, callback, state), state, *test)
+        }
+        Instruction::Repeat(_, _, _) => None,
+        Instruction::Return(status) => {
+            first_of_return(&setting_of(graph, callback, state), state, *status)
+        }
+        Instruction::End => first_of_return(&setting_of(graph, callback, state), state, None),
+    }
 }

@@ -9,7 +9,6 @@ ghost use Rattle.flt_abs.specs.State.{State, is_below, is_proper};
 use crate::breaks::first_broken;
 use crate::locks::LockList;
 use crate::sets::{Draining, Modes, Statuses};
-use crate::setting::setting_of;
 use crate::state::Abs;
 use flt_graph::{Action, Graph, Instruction, Invocation, LockNumber, OperationVariable, Test};
 use flt_rules::{Change, Effects, LockChange, Rule, row};
@@ -266,9 +265,8 @@ pub fn transfer(
 ) -> Result<Successors, Rule>
     ensures { result ≡ spec.transfer graph.now callback point state.now }
 {
-    let setting = setting_of(graph, callback, state);
     let instruction = graph.instruction(callback, point);
-    match first_broken(&setting, state, &instruction) {
+    match first_broken(graph, callback, state, &instruction) {
         Some(rule) => Err(rule),
         None => Ok(leads_to(state, &instruction)),
     }

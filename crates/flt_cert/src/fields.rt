@@ -1,6 +1,6 @@
 //! What stands in one line.
 
-ghost use Rattle.std.specs.Prelude.{◌≡◌, ◌<◌, ◌≤◌, [], length, false, Some, None, IsTrue, IsFalse, IfSome};
+ghost use Rattle.std.specs.Prelude.{◌≡◌, ◌<◌, ◌≤◌, [], ◌∷◌, length, false, Some, None, IsTrue, IsFalse, IfSome};
 ghost use Rattle.std.specs.Option.{option_copied, option_map};
 ghost use Rattle.std.specs.Str.{bytes_eq};
 ghost use Rattle.flt_abs.specs.State.{state_of};
@@ -35,6 +35,16 @@ fn after<'a>(front: &[u8], text: &'a [u8]) -> Option<&'a [u8]>
     }
 }
 
+/// What follows a byte at the front of a text.
+fn after_byte(front: u8, text: &[u8]) -> Option<&[u8]>
+    ensures { option_copied result ≡ text_spec.after (front ∷ []) text.now }
+{
+    match text {
+        [byte, text @ ..] if *byte == front => Some(text),
+        _ => None,
+    }
+}
+
 /// What follows a number in decimal.
 fn after_number(number: usize, text: &[u8]) -> Option<&[u8]>
     requires { number < 1000 }
@@ -42,20 +52,20 @@ fn after_number(number: usize, text: &[u8]) -> Option<&[u8]>
 {
     let low = b'0' + (number % 10) as u8;
     if number < 10 {
-        return after(&[low], text);
+        return after_byte(low, text);
     }
     let middle = b'0' + (number / 10 % 10) as u8;
     if number < 100 {
-        return after(&[middle, low], text);
+        return after_byte(low, after_byte(middle, text)?);
     }
     let high = b'0' + (number / 100) as u8;
-    after(&[high, middle, low], text)
+    after_byte(low, after_byte(middle, after_byte(high, text)?)?)
 }
 
 fn blank(text: &[u8]) -> Option<&[u8]>
     ensures { option_copied result ≡ spec.blank text.now }
 {
-    after(b" ", text)
+    after_byte(b' ', text)
 }
 
 fn status_of(digit: u8) -> Option<Statuses>

@@ -1,6 +1,6 @@
 //! The commands on texts, certificates and journals that are written out.
 
-use flt_commands::{CommandFault, Inputs, command};
+use flt_commands::{CommandFault, Inputs, Unwatched, command};
 use flt_model::{Sink, WriteFault};
 use std::alloc::{AllocError, Global};
 use std::test::Fail;
@@ -12,6 +12,7 @@ mod memory;
 mod reading;
 mod refusals;
 mod replays;
+mod runs;
 
 /// A filter that pends its reads, and the least states of its points.
 const PENDING_READS: &str =
@@ -134,8 +135,10 @@ fn run(alloc: Global, words: &[&str], files: &[(&str, &[u8])]) -> Result<Outcome
         alloc,
         owned.as_slice(),
         &Given { files },
+        false,
         &mut out,
         &mut err,
+        &mut Unwatched,
     )?;
     Ok(Outcome {
         status,

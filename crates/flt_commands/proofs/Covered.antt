@@ -1,27 +1,45 @@
 -- What is covered breaks nothing, and an exit status 0 says that something is covered.
-use Rattle.std.proofs.Common.{◌≡◌, ℕ, zero, suc, List, [], ◌∷◌, Option, Some, Result, Ok, Err, take, drop, sym, arith}
+use Rattle.std.proofs.Common.{◌≡◌, ℕ, zero, suc, List, [], ◌∷◌, Bool, None, Option, Some, Result, Ok, Err, take, drop, max, refl, sym, ◌∙◌, arith}
 use Rattle.std.proofs.Math.Path.{subst}
 use Rattle.flt_syntax.specs.Spelling.{SpellsAtMostOne, SpelledIsWellFormed}
 use Rattle.flt_graph.specs.declared.graph.Graph.{Graph}
 use Rattle.flt_cert.specs.Format.{Certificate}
 use Rattle.flt_check.specs.Covering.{Covers}
 use Rattle.flt_sound.specs.Soundness.{IsAccepted, AreAccepted, AcceptedRunsBreakNothing}
+use Rattle.flt_driven.specs.Running.{IsRun}
+use Rattle.flt_driven.specs.declared.running.Ran.{Ran}
+use Rattle.flt_explain.specs.declared.finding.Finding.{Finding}
+use Rattle.flt_reports.specs.Reports.{AreReports, IsJudged, IsKnown, findings_status, status_of as status_of_judged}
+use Rattle.flt_reports.specs.declared.judged.Judged.{Judged as Found}
+use Rattle.flt_reports.specs.declared.judged.Judged.TheVariants.{Unread, Known}
+use Rattle.flt_tree.specs.declared.tree.Tree.{Tree}
+use Rattle.flt_model.specs.Program.{by_altitude}
+use Rattle.flt_model.specs.Runs.{breaks}
+use Rattle.flt_syntax.specs.Spelling.{Spells}
+use Rattle.flt_tree.specs.declared.filter.Filter.{Filter}
+use Rattle.flt_commands.proofs.OnePlace.{zipped_once}
 use Rattle.flt_commands.specs.Analyse.{IsAnalysed}
 use Rattle.flt_commands.specs.Answer.{status_of}
 use Rattle.flt_commands.specs.Check.{HasPoints, IsAnswer, IsChecked}
-use Rattle.flt_commands.specs.Clean.{BreaksNothing, IsClean, YesIsClean}
+use Rattle.flt_commands.specs.Clean.{BreakNothing, BreaksNothing, EachBreaksNothing, IsClean, YesIsClean}
 use Rattle.flt_commands.specs.Commands.{IsSaid, IsSaidOf, IsReported}
+use Rattle.flt_commands.specs.Explain.{IsExplained}
 use Rattle.flt_commands.specs.Inputs.{Giving, given, Text}
-use Rattle.flt_commands.specs.Words.{Asked, Check, Analyse, Replay, asked}
+use Rattle.flt_commands.specs.Running.{IsRan}
+use Rattle.flt_words.specs.Request.{Asked, Check, Analyse, Run, Replay, Explain, Page}
+use Rattle.flt_words.specs.Words.{asked}
 use Rattle.flt_commands.specs.declared.answer.Answer.{Answer}
-use Rattle.flt_commands.specs.declared.answer.Answer.TheVariants.{Accepted, Refused, Certificate as Written, Judged}
+use Rattle.flt_commands.specs.declared.answer.Answer.TheVariants.{Accepted, Refused, Certificate as Written, Judged, Ran as has_run, FileRefused, Explained, Page as has_page}
 use Rattle.flt_commands.specs.declared.commands.CommandFault.{CommandFault}
 use Rattle.flt_commands.specs.declared.failure.Failure.{Failure}
 use Rattle.std.specs.Prelude.{IfOk}
 
--- the law's clause
+-- the laws' clauses
 abbrev pub Law : Type 0
 Law = (text : Text) (graph : Graph) (cert : Certificate) → HasPoints text graph → Covers graph cert → BreaksNothing text
+
+abbrev pub LawOfRuns : Type 0
+LawOfRuns = (script : Text) (texts : List Text) (ran : Ran) → IsRun script texts ran → BreakNothing texts
 
 pub covered_is_clean : SpellsAtMostOne → SpelledIsWellFormed → AcceptedRunsBreakNothing → Law
 covered_is_clean one fine theorem text graph cert points covers f transitions spelled = theorem (f ∷ []) transitions all
@@ -42,13 +60,23 @@ covered_is_clean one fine theorem text graph cert points covers f transitions sp
     all zero d within = accepted
     all (suc k) d within = absurd (omega (arith, within))
 
-module _ (law : Law) where
+-- the filters of a run are those that its texts spell
+pub driven_is_clean : SpellsAtMostOne → LawOfRuns
+driven_is_clean one script texts ran is filters transitions spelled =
+    let same : is.filters ≡ filters = zipped_once Spells one texts is.filters filters is.spelled spelled in
+    subst (λ (fs : List Filter). breaks (by_altitude fs) transitions ≡ None) same (is.clean transitions)
+
+module _ (law : Law) (runs : LawOfRuns) where
   -- what is said of a text and its certificate with the status 0 is that it is accepted
   judged : (text certificate : Text) (answer : Answer) → IsAnswer text certificate answer → status_of answer ≡ 0 → BreaksNothing text
   judged text certificate Accepted said good = law text said.graph said.cert said.points said.decided
   judged text certificate (Refused f) said good = absurd (omega (arith, good))
   judged text certificate (Written bytes) said good = absurd said.decided
   judged text certificate (Judged v) said good = absurd said.decided
+  judged text certificate (has_run ran) said good = absurd said.decided
+  judged text certificate (FileRefused n f) said good = absurd said.decided
+  judged text certificate (Explained r) said good = absurd said.decided
+  judged text certificate (has_page t) said good = absurd said.decided
 
   checked : (texts : List Text) (answer : Answer) (file : Text) (cert : Option Text) → IsChecked texts (Ok answer) →
       status_of answer ≡ 0 → IsClean (Check file cert) texts
@@ -64,13 +92,70 @@ module _ (law : Law) where
   analysed (text ∷ []) (Refused f) file said good = absurd (omega (arith, good))
   analysed (text ∷ []) Accepted file said good = absurd said
   analysed (text ∷ []) (Judged v) file said good = absurd said
+  analysed (text ∷ []) (has_run ran) file said good = absurd said
+  analysed (text ∷ []) (FileRefused n f) file said good = absurd said
+  analysed (text ∷ []) (Explained r) file said good = absurd said
+  analysed (text ∷ []) (has_page t) file said good = absurd said
   analysed (text ∷ more ∷ texts) answer file said good = said
+
+  driven : (texts : List Text) (answer : Answer) (workers : ℕ) (quiet : Bool) (script : Text) (files : List Text) →
+      IsRan texts (Ok answer) → status_of answer ≡ 0 → IsClean (Run workers quiet script files) texts
+  driven [] answer workers quiet script files said good = said
+  driven (bytes ∷ texts) (has_run ran) workers quiet script files said good = runs bytes texts ran said
+  driven (bytes ∷ texts) (FileRefused n f) workers quiet script files said good = absurd (omega (arith, good))
+  driven (bytes ∷ texts) Accepted workers quiet script files said good = absurd said
+  driven (bytes ∷ texts) (Explained r) workers quiet script files said good = absurd said
+  driven (bytes ∷ texts) (has_page t) workers quiet script files said good = absurd said
+  driven (bytes ∷ texts) (Refused f) workers quiet script files said good = absurd said
+  driven (bytes ∷ texts) (Written c) workers quiet script files said good = absurd said
+  driven (bytes ∷ texts) (Judged v) workers quiet script files said good = absurd said
+
+  -- a text of which nothing is found is covered
+  unfound : (text : Text) (tree : Tree) (graph : Graph) (found : List Finding) → IsKnown text tree graph found →
+      findings_status found ≡ 0 → BreaksNothing text
+  unfound text tree graph [] is good =
+      law text graph is.findings.certificate
+      (record { filter = tree.filter; spelled = is.spelled; lowered = is.lowered })
+      is.findings.covers
+  unfound text tree graph (f ∷ fs) is good = absurd (omega (arith, good))
+
+  found_well : (text : Text) (j : Found) → IsJudged text j → status_of_judged j ≡ 0 → BreaksNothing text
+  found_well text (Unread f) is good = absurd (omega (arith, good))
+  found_well text (Known tree graph found) is good = unfound text tree graph found is good
+
+  -- the greatest of two statuses is 0 only where both are
+  both_zero : (m n : ℕ) → max m n ≡ 0 → (m ≡ 0) × (n ≡ 0)
+  both_zero zero zero good = (refl, refl)
+  both_zero zero (suc n) good = absurd (omega (arith, good))
+  both_zero (suc m) zero good = absurd (omega (arith, good))
+  both_zero (suc m) (suc n) good = absurd (omega (arith, good))
+
+  reported : (texts : List Text) (printed : List ℕ) (status : ℕ) → AreReports texts printed status → status ≡ 0 → EachBreaksNothing texts
+  reported [] printed status said good = tt
+  reported (t ∷ []) printed status (j, is, same, ends) good = (found_well t j is (sym same ∙ good), tt)
+  reported (t ∷ u ∷ ts) printed status (first, others, (j, is, same), rest, greatest) good =
+      let zeros = both_zero first others (sym greatest ∙ good) in
+      (found_well t j is (sym same ∙ zeros.0), reported (u ∷ ts) printed others rest zeros.1)
+
+  explained : (texts : List Text) (answer : Answer) (files : List Text) → IsExplained texts (Ok answer) → status_of answer ≡ 0 →
+      IsClean (Explain files) texts
+  explained texts (Explained r) files said good = reported texts r.output.items r.status said good
+  explained texts (has_page t) files said good = absurd said
+  explained texts (has_run ran) files said good = absurd said
+  explained texts (FileRefused n f) files said good = absurd said
+  explained texts Accepted files said good = absurd said
+  explained texts (Refused f) files said good = absurd said
+  explained texts (Written c) files said good = absurd said
+  explained texts (Judged v) files said good = absurd said
 
   said_is_clean : (request : Asked) (texts : List Text) (answer : Answer) → IsSaidOf request texts (Ok answer) →
       status_of answer ≡ 0 → IsClean request texts
   said_is_clean (Check file cert) texts answer said good = checked texts answer file cert said good
   said_is_clean (Analyse file) texts answer said good = analysed texts answer file said good
+  said_is_clean (Run workers quiet script files) texts answer said good = driven texts answer workers quiet script files said good
   said_is_clean (Replay journal files) texts answer said good = tt
+  said_is_clean (Explain files) texts answer said good = explained texts answer files said good
+  said_is_clean (Page name) texts answer said good = tt
 
   of_said : (gives : Giving) (request : Asked) (said : Result Answer Failure) (bytes : List ℕ) → IsSaid gives request said →
       IsReported said bytes 0 → YesIsClean gives (Some request)

@@ -7,4 +7,4 @@ pub mod OnePlace
 pub mod OneReading
 pub mod OneVerdict
 pub mod Readings
-pub mod Requests
+pub mod Pages

@@ -14,7 +14,7 @@ use Rattle.flt_commands.specs.Check.{HasPoints}
 use Rattle.flt_commands.specs.Inputs.{Text}
 use Rattle.flt_commands.specs.Single.{AreSame, SaysOne, seen, told}
 use Rattle.flt_commands.specs.declared.answer.Answer.{Answer}
-use Rattle.flt_commands.specs.declared.answer.Answer.TheVariants.{Accepted, Refused, Certificate as Written, Judged}
+use Rattle.flt_commands.specs.declared.answer.Answer.TheVariants.{Accepted, Refused, Certificate as Written, Judged, Ran, FileRefused, Explained, Page}
 use Rattle.flt_commands.specs.declared.failure.Failure.{Failure}
 use Rattle.flt_commands.specs.declared.failure.Failure.TheVariants.{Syntax, OutOfMemory}
 
@@ -45,6 +45,10 @@ module _ (graph : (text : Text) (g h : Graph) → HasPoints text g → HasPoints
   answered text (Refused f) x = (x.points.filter, read text x.points.filter x.points.spelled)
   answered text Accepted x = absurd x
   answered text (Judged v) x = absurd x
+  answered text (Ran ran) x = absurd x
+  answered text (FileRefused n f) x = absurd x
+  answered text (Explained r) x = absurd x
+  answered text (Page t) x = absurd x
 
   answers_once : (text : Text) (a b : Answer) → Judges text (Ok a) → Judges text (Ok b) → seen (Ok a) ≡ seen (Ok b)
   answers_once text (Written c) (Written d) x y = let same : c.items ≡ d.items = certified_once text c.items d.items x y in cc
@@ -53,10 +57,22 @@ module _ (graph : (text : Text) (g h : Graph) → HasPoints text g → HasPoints
   answers_once text (Refused f) (Refused h) x y = ap (λ r. seen (Ok (Refused r))) (refused_once text f h x y)
   answers_once text (Written c) Accepted x y = absurd y
   answers_once text (Written c) (Judged v) x y = absurd y
+  answers_once text (Written c) (Ran ran) x y = absurd y
+  answers_once text (Written c) (FileRefused n f) x y = absurd y
+  answers_once text (Written c) (Explained r) x y = absurd y
+  answers_once text (Written c) (Page t) x y = absurd y
   answers_once text (Refused f) Accepted x y = absurd y
   answers_once text (Refused f) (Judged v) x y = absurd y
+  answers_once text (Refused f) (Ran ran) x y = absurd y
+  answers_once text (Refused f) (FileRefused n h) x y = absurd y
+  answers_once text (Refused f) (Explained r) x y = absurd y
+  answers_once text (Refused f) (Page t) x y = absurd y
   answers_once text Accepted b x y = absurd x
   answers_once text (Judged v) b x y = absurd x
+  answers_once text (Ran ran) b x y = absurd x
+  answers_once text (FileRefused n f) b x y = absurd x
+  answers_once text (Explained r) b x y = absurd x
+  answers_once text (Page t) b x y = absurd x
 
   not_both : (text : Text) (a : Answer) (f : Failure) → Judges text (Ok a) → IsFailure text f → f ≢ OutOfMemory → ⊥
   not_both text a (Syntax e) x y told = let found = answered text a x in not_faulty text found.0 e found.1 y

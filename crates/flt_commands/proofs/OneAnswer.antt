@@ -7,8 +7,8 @@ use Rattle.flt_commands.specs.Check.{IsChecked}
 use Rattle.flt_commands.specs.Commands.{IsReported, IsSaid, IsSaidOf, PrintsFor, names_of}
 use Rattle.flt_commands.specs.Inputs.{Giving}
 use Rattle.flt_commands.specs.Replay.{IsReplayed}
-use Rattle.flt_commands.specs.Single.{AreSame, GivesOne, SaysOne, seen, told}
-use Rattle.flt_commands.specs.Words.{Asked, Check, Analyse, Replay}
+use Rattle.flt_commands.specs.Single.{AreSame, AskForOne, GivesOne, HasOneAnswer, SaysOne, seen, told}
+use Rattle.flt_words.specs.Request.{Asked, Check, Analyse, Run, Replay, Explain, Page}
 use Rattle.flt_commands.specs.declared.answer.Answer.{Answer}
 use Rattle.flt_commands.specs.declared.failure.Failure.{Failure}
 use Rattle.flt_commands.specs.declared.failure.Failure.TheVariants.{OutOfMemory}
@@ -43,20 +43,24 @@ module _ (bytes other : List ℕ) (status other_status : ℕ) where
   reported_once (Err f) (Err h) same x y = (x.1.0 ∙ sym y.1.0, x.1.1 ∙ sym y.1.1)
 
 module _ (checked : SaysOne IsChecked) (analysed : SaysOne IsAnalysed) (replayed : SaysOne IsReplayed) where
-  of_one : (request : Asked) → SaysOne (IsSaidOf request)
-  of_one (Check file cert) = checked
-  of_one (Analyse file) = analysed
-  of_one (Replay journal files) = replayed
+  of_one : (request : Asked) → HasOneAnswer request → SaysOne (IsSaidOf request)
+  of_one (Check file cert) has = checked
+  of_one (Analyse file) has = analysed
+  of_one (Run workers quiet script files) has = absurd has
+  of_one (Explain files) has = absurd has
+  of_one (Page name) has = absurd has
+  of_one (Replay journal files) has = replayed
 
   -- of what is asked for one thing is said at most
-  pub said_once : (gives : Giving) (request : Asked) (a b : Result Answer Failure) → GivesOne gives → IsSaid gives request a →
+  pub said_once : (gives : Giving) (request : Asked) (a b : Result Answer Failure) → HasOneAnswer request → GivesOne gives →
+      IsSaid gives request a →
       IsSaid gives request b → AreSame a b
-  said_once gives request a b one x y = says_once gives one (names_of request) (IsSaidOf request) (of_one request) a b x y
+  said_once gives request a b has one x y = says_once gives one (names_of request) (IsSaidOf request) (of_one request has) a b x y
 
   -- one thing is printed at most, with one exit status
-  pub printed_once : (gives : Giving) (request : Option Asked) (bytes other : List ℕ) (status other_status : ℕ) → GivesOne gives →
-      PrintsFor gives request bytes status →
+  pub printed_once : (gives : Giving) (request : Option Asked) (bytes other : List ℕ) (status other_status : ℕ) → AskForOne request →
+      GivesOne gives → PrintsFor gives request bytes status →
       PrintsFor gives request other other_status → (bytes ≡ other) × (status ≡ other_status)
-  printed_once gives None bytes other status other_status one x y = (x.0 ∙ sym y.0, x.1 ∙ sym y.1)
-  printed_once gives (Some request) bytes other status other_status one x y =
-      reported_once bytes other status other_status x.0 y.0 (said_once gives request x.0 y.0 one x.1 y.1) x.2 y.2
+  printed_once gives None bytes other status other_status has one x y = (x.0 ∙ sym y.0, x.1 ∙ sym y.1)
+  printed_once gives (Some request) bytes other status other_status has one x y =
+      reported_once bytes other status other_status x.0 y.0 (said_once gives request x.0 y.0 has one x.1 y.1) x.2 y.2

@@ -2,7 +2,6 @@
 use Rattle.std.proofs.Common.{◌≡◌, ℕ, List, [], ◌∷◌, Some, Vec, Global, Result, length, drop, map, sym, ap, ◌∙◌, arith, slice_index_or}
 use Rattle.std.proofs.lemmas.Slice.Zip.{AllZip-long}
 use Rattle.flt_commands.specs.Inputs.{AreGiven, Giving, Says, Text, given}
-use Rattle.flt_commands.specs.Replay.{IsReplayed, Judges}
 use Rattle.flt_commands.specs.declared.answer.Answer.{Answer}
 use Rattle.flt_commands.specs.declared.failure.Failure.{Failure}
 
@@ -38,14 +37,14 @@ module _ (gives : Giving) (IsSaidOf : List Text → Result Answer Failure → Ty
       Says gives (name ∷ other ∷ []) IsSaidOf result
   says_of_both name other x y two first second read said = given _ result (rw (both texts x y two first second) at read) said
 
--- what is said of a journal and of the texts behind it
-pub says_of_journal : (gives : Giving) (texts : List (Vec ℕ Global)) (result : Result Answer Failure) (journal : Text)
+-- what is said of a first input and of those behind it
+pub says_of_first : (gives : Giving) (IsSaidOf : List Text → Result Answer Failure → Type 0) (texts : List (Vec ℕ Global)) (result : Result Answer Failure) (first_name : Text)
     (names : List Text) (x : Vec ℕ Global) (others : List (Vec ℕ Global)) →
-    x ≡ slice_index_or texts 0 x → others ≡ drop 1 texts → AreGiven gives (journal ∷ names) (map (λ t. t.items) texts) →
-    Judges x.items (map (λ t. t.items) others) result → Says gives (journal ∷ names) IsReplayed result
-says_of_journal gives [] result journal names x others first behind read said =
-    absurd (omega (arith, AllZip-long {B = Text} (λ name text. gives name (Some text)) (journal ∷ names) [] read.each))
-says_of_journal gives (t ∷ texts) result journal names x others first behind read said =
+    x ≡ slice_index_or texts 0 x → others ≡ drop 1 texts → AreGiven gives (first_name ∷ names) (map (λ t. t.items) texts) →
+    IsSaidOf (x.items ∷ map (λ t. t.items) others) result → Says gives (first_name ∷ names) IsSaidOf result
+says_of_first gives IsSaidOf [] result first_name names x others first behind read said =
+    absurd (omega (arith, AllZip-long {B = Text} (λ name text. gives name (Some text)) (first_name ∷ names) [] read.each))
+says_of_first gives IsSaidOf (t ∷ texts) result first_name names x others first behind read said =
     let is_first : x ≡ t = first in
     let are_others : others ≡ texts = behind in
     given _ result read (rw (is_first, are_others) at said)

@@ -9,17 +9,27 @@ use Rattle.flt_model.specs.declared.verdict.Verdict.TheVariants.{Legal, NotARun,
 use Rattle.flt_model.specs.declared.verdict.Violation.{Violation}
 use Rattle.flt_model.specs.declared.verdict.Violation.TheVariants.{V1, V2, V3, V4, V5, V6, V7, V8}
 use Rattle.flt_commands.specs.declared.answer.Answer.{Answer}
-use Rattle.flt_commands.specs.declared.answer.Answer.TheVariants.{Accepted, Refused, Certificate, Judged}
+use Rattle.flt_commands.specs.declared.answer.Answer.TheVariants.{Accepted, Refused, Certificate, Judged, Explained, Page, Ran, FileRefused}
 
 -- `R01` to `R15`
 abbrev pub rule_name : Rule → List ℕ
 rule_name r = codes "R" ++ ((if nat_lt (number r) 10 then codes "0" else []) ++ decimal (number r))
 
--- where a text is refused, and why
+-- where a text is refused
+abbrev pub place : Refusal → List ℕ
+place f = codes "callback " ++ decimal f.callback ++ codes " point " ++ decimal f.point ++ codes " line " ++ decimal f.line
+
+-- the rule that it breaks, in words
+abbrev pub broken : Rule → List ℕ
+broken r = rule_name r ++ codes " " ++ text r
+
+-- a refusal
 abbrev pub refusal_line : Refusal → List ℕ
-refusal_line f =
-    codes "refused callback " ++ decimal f.callback ++ codes " point " ++ decimal f.point ++ codes " line " ++ decimal f.line
-    ++ codes " " ++ rule_name f.rule ++ codes " " ++ text f.rule
+refusal_line f = codes "refused " ++ place f ++ codes " " ++ broken f.rule
+
+-- the same of one of several files
+abbrev pub file_refusal_line : ℕ → Refusal → List ℕ
+file_refusal_line file f = codes "refused file " ++ decimal file ++ codes " " ++ place f ++ codes " " ++ broken f.rule
 
 -- the number of a violation
 abbrev pub violation_number : Violation → ℕ
@@ -38,17 +48,26 @@ verdict_line Legal = codes "legal"
 verdict_line (NotARun n) = codes "not a run at " ++ decimal n
 verdict_line (Breaks v n) = codes "breaks V" ++ decimal (violation_number v) ++ codes " at " ++ decimal n
 
--- what stands on the standard output: the certificate, or a line and a line feed
+-- what stands on the standard output: the certificate, reports, a page, the journal, or a line and a line feed
 abbrev pub output : Answer → List ℕ
 output Accepted = codes "accepted" ++ 10 ∷ []
 output (Refused f) = refusal_line f ++ 10 ∷ []
 output (Certificate bytes) = bytes.items
 output (Judged v) = verdict_line v ++ 10 ∷ []
+output (Explained e) = e.output.items
+output (Page text) = text.now
+output (Ran ran) = ran.journal.items
+output (FileRefused file f) = file_refusal_line file f ++ 10 ∷ []
 
--- the exit status: 0 where the certificate covers or is found, or nothing is broken, 1 for any other answer
+-- the exit status: 0 where the certificate covers or is found, nothing is broken, or the script has ended, and of a page; 2 where the
+-- journal is full before that; of reports, their own; 1 for any other answer
 abbrev pub status_of : Answer → ℕ
 status_of Accepted = 0
 status_of (Refused f) = 1
 status_of (Certificate bytes) = 0
 status_of (Judged Legal) = 0
 status_of (Judged _) = 1
+status_of (Explained e) = e.status
+status_of (Page text) = 0
+status_of (Ran ran) = if ran.is_full then 2 else 0
+status_of (FileRefused file f) = 1

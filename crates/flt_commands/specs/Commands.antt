@@ -3,9 +3,12 @@ use Rattle.std.specs.Prelude.{◌≡◌, ◌≢◌, ℕ, List, [], ◌∷◌, Op
 use Rattle.flt_commands.specs.Analyse.{IsAnalysed}
 use Rattle.flt_commands.specs.Answer.{output, status_of}
 use Rattle.flt_commands.specs.Check.{IsChecked}
+use Rattle.flt_commands.specs.Explain.{IsExplained, IsPaged}
 use Rattle.flt_commands.specs.Inputs.{Giving, Says, Text}
 use Rattle.flt_commands.specs.Replay.{IsReplayed}
-use Rattle.flt_commands.specs.Words.{Asked, Check, Analyse, Replay, asked}
+use Rattle.flt_commands.specs.Running.{IsRan}
+use Rattle.flt_words.specs.Request.{Asked, Check, Analyse, Run, Replay, Explain, Page}
+use Rattle.flt_words.specs.Words.{asked}
 use Rattle.flt_commands.specs.declared.answer.Answer.{Answer}
 use Rattle.flt_commands.specs.declared.failure.Failure.{Failure}
 use Rattle.flt_commands.specs.declared.failure.Failure.TheVariants.{OutOfMemory}
@@ -15,13 +18,19 @@ abbrev pub names_of : Asked → List Text
 names_of (Check file None) = file ∷ []
 names_of (Check file (Some cert)) = file ∷ cert ∷ []
 names_of (Analyse file) = file ∷ []
+names_of (Run workers quiet script files) = script ∷ files
 names_of (Replay journal files) = journal ∷ files
+names_of (Explain files) = files
+names_of (Page name) = []
 
 -- what is said of the bytes that they give
 abbrev pub IsSaidOf : Asked → List Text → Result Answer Failure → Type 0
 IsSaidOf (Check file cert) = IsChecked
 IsSaidOf (Analyse file) = IsAnalysed
+IsSaidOf (Run workers quiet script files) = IsRan
 IsSaidOf (Replay journal files) = IsReplayed
+IsSaidOf (Explain files) = IsExplained
+IsSaidOf (Page name) = λ texts. IsPaged name
 
 -- what is said of what is asked for: an answer, or why there is none
 abbrev pub IsSaid : Giving → Asked → Result Answer Failure → Type 0

@@ -1,5 +1,6 @@
 -- What is one at most, where the inputs give one thing for each name. This project's own program.
-use Rattle.std.specs.Prelude.{◌≡◌, ◌≢◌, ℕ, List, Option, Result, Ok, Err}
+use Rattle.std.specs.Prelude.{◌≡◌, ◌≢◌, ℕ, List, Option, Some, None, Result, Ok, Err}
+use Rattle.flt_words.specs.Request.{Asked, Run, Explain, Page}
 use Rattle.flt_commands.specs.Answer.{output, status_of}
 use Rattle.flt_commands.specs.Inputs.{Giving, Text}
 use Rattle.flt_commands.specs.declared.answer.Answer.{Answer}
@@ -23,6 +24,19 @@ seen (Err f) = Err (told f)
 -- the same is seen of both, unless memory ran out for one of them
 abbrev pub AreSame : Result Answer Failure → Result Answer Failure → Type 0
 AreSame a b = a ≢ Err OutOfMemory → b ≢ Err OutOfMemory → seen a ≡ seen b
+
+-- of what is asked for one thing is said at most: of all but a run, reports and pages. A run's journal is legal, but which journal it is
+-- stands in no clause; nor is there more of reports than how they end, and of a page than how it begins
+abbrev pub HasOneAnswer : Asked → Type 0
+HasOneAnswer (Run workers quiet script files) = ⊥
+HasOneAnswer (Explain files) = ⊥
+HasOneAnswer (Page name) = ⊥
+HasOneAnswer _ = Unit {0}
+
+-- the same of words; those that ask for nothing print nothing
+abbrev pub AskForOne : Option Asked → Type 0
+AskForOne None = Unit {0}
+AskForOne (Some request) = HasOneAnswer request
 
 -- of some bytes one thing is said at most
 abbrev pub SaysOne : (List Text → Result Answer Failure → Type 0) → Type 0

@@ -3,7 +3,7 @@
 ghost use Rattle.std.specs.Prelude.{◌≡◌, ◌<◌};
 ghost use Rattle.flt_commands.specs.Analyse as spec;
 ghost use Rattle.flt_commands.specs.Commands.{IsSaid};
-ghost use Rattle.flt_commands.specs.Words.{Analyse};
+ghost use Rattle.flt_words.specs.Request.{Analyse};
 
 use crate::answer::Answer;
 use crate::failure::Failure;

@@ -4,7 +4,9 @@ ghost use Rattle.std.specs.Prelude.{◌≡◌, Some, IfOk};
 ghost use Rattle.flt_commands.specs.Answer as spec;
 
 use flt_check::Refusal;
+use flt_driven::Ran;
 use flt_model::{Verdict, Violation};
+use flt_reports::Explained;
 use flt_rules::{Rule, number, text};
 use std::alloc::{AllocError, Global};
 use std::fmt;
@@ -20,28 +22,46 @@ pub enum Answer {
     Certificate(Vec<u8>),
     /// What a journal is.
     Judged(Verdict),
+    /// Reports of texts.
+    Explained(Explained),
+    /// The page of a rule, of a violation or of a fault of a text.
+    Page(&'static str),
+    /// What a script came to.
+    Ran(Ran),
+    /// A point of the text of one of several files, numbered from 0, is refused.
+    FileRefused(usize, Refusal),
 }
 
 impl Answer {
-    /// The exit status: 0 for yes, 1 for no.
+    /// The exit status: 0 for yes, 1 for no, and 2 for a journal that is full before its script has ended.
     pub fn status(&self) -> u8
         ensures { result ≡ spec.status_of self.now }
     {
         match self {
             Answer::Accepted | Answer::Certificate(_) | Answer::Judged(Verdict::Legal) => 0,
-            Answer::Refused(_) | Answer::Judged(_) => 1,
+            Answer::Page(_) => 0,
+            Answer::Explained(explained) => explained.status,
+            Answer::Refused(_) | Answer::FileRefused(_, _) | Answer::Judged(_) => 1,
+            Answer::Ran(ran) => { if ran.is_full { 2 } else { 0 } }
         }
     }
 
-    /// What stands on the standard output: the certificate, or a line.
+    /// What stands on the standard output: the certificate, the journal, or a line.
     pub fn output(self, alloc: Global) -> Result<Vec<u8>, AllocError>
         ensures { IfOk result (λ bytes. bytes.items ≡ spec.output self) }
     {
         let line = match self {
             Answer::Certificate(bytes) => return Ok(bytes),
+            Answer::Explained(explained) => return Ok(explained.output),
+            Answer::Ran(ran) => return Ok(ran.journal),
+            Answer::Page(text) => String::from_str(alloc, text)?,
             Answer::Accepted => String::from_str(alloc, "accepted\n")?,
             Answer::Refused(refusal) => {
                 let line = RefusalLine(refusal);
+                format!(in alloc; "{line}\n")?
+            }
+            Answer::FileRefused(file, refusal) => {
+                let line = FileRefusalLine(file, refusal);
                 format!(in alloc; "{line}\n")?
             }
             Answer::Judged(verdict) => {
@@ -67,6 +87,35 @@ impl fmt::Display for RuleName {
     }
 }
 
+/// Where a text is refused.
+#[derive(Drop)]
+struct Place(Refusal);
+
+impl fmt::Display for Place {
+    ghost output = { λ r. Some (spec.place r.0) };
+
+    fn fmt<W: fmt::Write>(&self, f: &mut fmt::Formatter<W>) -> fmt::Result {
+        let callback = self.0.callback;
+        let point = self.0.point;
+        let line = self.0.line;
+        write!(f, "callback {callback} point {point} line {line}")
+    }
+}
+
+/// The rule that a text breaks, in words.
+#[derive(Drop)]
+struct Broken(Rule);
+
+impl fmt::Display for Broken {
+    ghost output = { λ r. Some (spec.broken r.0) };
+
+    fn fmt<W: fmt::Write>(&self, f: &mut fmt::Formatter<W>) -> fmt::Result {
+        let rule = RuleName(self.0);
+        let words = text(self.0);
+        write!(f, "{rule} {words}")
+    }
+}
+
 /// A refusal, as it is printed.
 #[derive(Drop)]
 struct RefusalLine(Refusal);
@@ -75,15 +124,24 @@ impl fmt::Display for RefusalLine {
     ghost output = { λ r. Some (spec.refusal_line r.0) };
 
     fn fmt<W: fmt::Write>(&self, f: &mut fmt::Formatter<W>) -> fmt::Result {
-        let callback = self.0.callback;
-        let point = self.0.point;
-        let line = self.0.line;
-        let rule = RuleName(self.0.rule);
-        let words = text(self.0.rule);
-        write!(
-            f,
-            "refused callback {callback} point {point} line {line} {rule} {words}"
-        )
+        let place = Place(self.0);
+        let rule = Broken(self.0.rule);
+        write!(f, "refused {place} {rule}")
+    }
+}
+
+/// The same of one of several files.
+#[derive(Drop)]
+struct FileRefusalLine(usize, Refusal);
+
+impl fmt::Display for FileRefusalLine {
+    ghost output = { λ r. Some (spec.file_refusal_line r.0 r.1) };
+
+    fn fmt<W: fmt::Write>(&self, f: &mut fmt::Formatter<W>) -> fmt::Result {
+        let file = self.0;
+        let place = Place(self.1);
+        let rule = Broken(self.1.rule);
+        write!(f, "refused file {file} {place} {rule}")
     }
 }
 

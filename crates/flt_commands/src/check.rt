@@ -3,7 +3,7 @@
 ghost use Rattle.std.specs.Prelude.{option_map};
 ghost use Rattle.flt_commands.specs.Check as spec;
 ghost use Rattle.flt_commands.specs.Commands.{IsSaid};
-ghost use Rattle.flt_commands.specs.Words.{Check};
+ghost use Rattle.flt_words.specs.Request.{Check};
 
 use crate::answer::Answer;
 use crate::failure::Failure;

@@ -3,8 +3,11 @@
 ghost use Rattle.flt_cert.specs.Format.{Certificate};
 ghost use Rattle.flt_check.specs.Covering.{Covers};
 ghost use Rattle.flt_commands.specs.Check.{HasPoints};
-ghost use Rattle.flt_commands.specs.Clean.{BreaksNothing};
+ghost use Rattle.std.specs.Prelude.{List};
+ghost use Rattle.flt_commands.specs.Clean.{BreaksNothing, BreakNothing};
 ghost use Rattle.flt_commands.specs.Inputs.{Text};
+ghost use Rattle.flt_driven.specs.Running.{IsRun};
+ghost use Rattle.flt_driven.specs.declared.running.Ran.{Ran};
 ghost use Rattle.flt_graph.specs.declared.graph.Graph.{Graph};
 
 use flt_sound::accepted_runs_break_nothing;
@@ -17,4 +20,11 @@ pub fn covered_texts_break_nothing()
     spells_at_most_one();
     spelled_is_well_formed();
     accepted_runs_break_nothing();
+}
+
+/// The filters of a run break nothing, in no other run either. It does nothing: its clause is the law.
+pub fn driven_texts_break_nothing()
+    ensures { (script : Text) (texts : List Text) (ran : Ran) → IsRun script texts ran → BreakNothing texts }
+{
+    spells_at_most_one();
 }

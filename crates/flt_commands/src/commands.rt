@@ -5,17 +5,20 @@ ghost use Rattle.std.specs.Prelude.{◌≡◌, ◌≢◌, ◌⊎◌, ℕ, List, 
 ghost use Rattle.flt_commands.specs.Answer.{output, status_of};
 ghost use Rattle.flt_commands.specs.Clean.{YesIsClean};
 ghost use Rattle.flt_commands.specs.Commands as spec;
-ghost use Rattle.flt_commands.specs.Words.{asked};
+ghost use Rattle.flt_words.specs.Words.{asked};
 
 use crate::analyse::analyse_file;
 use crate::answer::Answer;
 use crate::check::check_files;
-use crate::clean::covered_texts_break_nothing;
+use crate::clean::{covered_texts_break_nothing, driven_texts_break_nothing};
+use crate::explain::{explain_files, page_of};
 use crate::failure::Failure;
 use crate::inputs::Inputs;
 use crate::replay::replay_files;
-use crate::words::{Request, read_words};
+use crate::running::run_files;
+use flt_driven::{Unwatched, Watch};
 use flt_model::{Sink, WriteFault, put_all};
+use flt_words::{Request, read_words};
 use std::alloc::{AllocError, AllocFailed, Global};
 use thiserror::Error;
 
@@ -61,16 +64,26 @@ impl From<WriteFault> for CommandFault {
     }
 }
 
-/// Writes an answer, and gives its status.
-fn tell<O: Sink>(alloc: Global, answer: Answer, out: &mut O) -> Result<u8, CommandFault>
+/// Writes an answer, and gives its status. Of a journal that is full before its script has ended it says so to `err`.
+fn tell<O: Sink, E: Sink>(
+    alloc: Global,
+    answer: Answer,
+    out: &mut O,
+    err: &mut E,
+) -> Result<u8, CommandFault>
     ensures prints { IfOk result (λ status. (status ≡ status_of answer) × Appends (O.taken out.old) (O.taken out.new) (output answer)) }
-    ensures write { IfErr result (λ e. e ≡ CommandFault.Write → O.failures out.new ≢ O.failures out.old) }
-    ensures fine { OnOk result (O.failures out.new ≡ O.failures out.old) }
-    ensures memory { IfErr result (λ e. e ≡ CommandFault.OutOfMemory → out.new ≡ out.old) }
+    ensures write { IfErr result (λ e. e ≡ CommandFault.Write → (O.failures out.new ≢ O.failures out.old)
+        ⊎ (E.failures err.new ≢ E.failures err.old)) }
+    ensures fine { OnOk result ((O.failures out.new ≡ O.failures out.old) × (E.failures err.new ≡ E.failures err.old)) }
+    ensures memory { IfErr result (λ e. e ≡ CommandFault.OutOfMemory → (out.new ≡ out.old) × (err.new ≡ err.old)) }
+    ensures quiet { IfOk result (λ status. status ≢ 2 → err.new ≡ err.old) }
 {
     let status = answer.status();
     let bytes = answer.output(alloc)?;
     put_all(out, bytes.as_slice())?;
+    if status == 2 {
+        put_all(err, b"full\n")?;
+    }
     Ok(status)
 }
 
@@ -102,20 +115,23 @@ fn report<O: Sink, E: Sink>(
     ensures quiet { IfOk result (λ status. status ≢ 2 → err.new ≡ err.old) }
 {
     match said {
-        Ok(answer) => tell(alloc, answer, out),
+        Ok(answer) => tell(alloc, answer, out, err),
         Err(Failure::OutOfMemory) => Err(CommandFault::OutOfMemory),
         Err(failure) => excuse(alloc, &failure, err),
     }
 }
 
 /// Runs the command of a program's words, its own name left out, and answers the exit status: 0 for yes, 1 for no, and 2
-/// where there is no answer. What it says goes to `out`, why there is no answer to `err`.
-pub fn command<I: Inputs, O: Sink, E: Sink>(
+/// where there is no answer, or a journal was full before its script had ended. What it says goes to `out`, why there is no answer, or
+/// `full`, to `err`. Reports have the colours of a terminal where it is `coloured`. Where it drives filters, it shows the board to `watch` after each line of the script, unless it is asked to be quiet.
+pub fn command<I: Inputs, O: Sink, E: Sink, W: Watch>(
     alloc: Global,
     words: &[String],
     inputs: &I,
+    coloured: bool,
     out: &mut O,
     err: &mut E,
+    watch: &mut W,
 ) -> Result<u8, CommandFault>
     ensures prints { IfOk result (λ status. (bytes : List ℕ)
         × spec.Prints (I.gives inputs.now) (map string_bytes words.now) bytes status × Appends (O.taken out.old) (O.taken out.new) bytes) }
@@ -127,6 +143,7 @@ pub fn command<I: Inputs, O: Sink, E: Sink>(
     ensures clean { IfOk result (λ status. status ≡ 0 → YesIsClean (I.gives inputs.now) (asked (map string_bytes words.now))) }
 {
     covered_texts_break_nothing();
+    driven_texts_break_nothing();
     match read_words(alloc, words)? {
         Request::Usage(text) => {
             put_all(err, text.as_bytes())?;
@@ -140,8 +157,29 @@ pub fn command<I: Inputs, O: Sink, E: Sink>(
             let said = analyse_file(alloc, inputs, file);
             report(alloc, said, out, err)
         }
+        Request::Run {
+            quiet: true,
+            script,
+            files,
+            ..
+        } => {
+            let said = run_files(alloc, inputs, script, files.as_slice(), &mut Unwatched);
+            report(alloc, said, out, err)
+        }
+        Request::Run { script, files, .. } => {
+            let said = run_files(alloc, inputs, script, files.as_slice(), watch);
+            report(alloc, said, out, err)
+        }
         Request::Replay { journal, files } => {
             let said = replay_files(alloc, inputs, journal, files.as_slice());
+            report(alloc, said, out, err)
+        }
+        Request::Explain { files } => {
+            let said = explain_files(alloc, coloured, inputs, files.as_slice());
+            report(alloc, said, out, err)
+        }
+        Request::Page { name } => {
+            let said = page_of(name);
             report(alloc, said, out, err)
         }
     }

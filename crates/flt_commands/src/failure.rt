@@ -12,6 +12,8 @@ use std::fmt;
 #[derive(Debug, Drop)]
 pub enum Failure<'a> {
     CannotRead(&'a str),
+    /// A run without a file.
+    NoFile,
     /// More than `MAX_FILTERS` files.
     TooManyFiles,
     Syntax(SyntaxFault),
@@ -21,6 +23,8 @@ pub enum Failure<'a> {
     Certificate(usize),
     /// The same of a journal.
     JournalLine(usize),
+    /// The same of a script.
+    ScriptLine(usize),
     /// The first file, from 0, whose altitude an earlier one has.
     Altitude(usize),
     OutOfMemory,
@@ -30,11 +34,13 @@ impl fmt::Display for Failure<'_> {
     fn fmt<W: fmt::Write>(&self, f: &mut fmt::Formatter<W>) -> fmt::Result {
         match self {
             Failure::CannotRead(name) => write!(f, "cannot read {name}"),
+            Failure::NoFile => write!(f, "no file"),
             Failure::TooManyFiles => write!(f, "too many files"),
             Failure::Syntax(fault) => write!(f, "syntax {fault}"),
             Failure::FileSyntax(file, fault) => write!(f, "file {file} syntax {fault}"),
             Failure::Certificate(line) => write!(f, "certificate line {line}"),
             Failure::JournalLine(line) => write!(f, "journal line {line}"),
+            Failure::ScriptLine(line) => write!(f, "script line {line}"),
             Failure::Altitude(file) => write!(f, "altitude file {file}"),
             Failure::OutOfMemory => write!(f, "out of memory"),
         }

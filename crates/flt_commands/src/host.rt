@@ -2,9 +2,11 @@
 
 use crate::commands::{CommandFault, command};
 use crate::inputs::{Inputs, read_within};
+use flt_driven::Watch;
+use flt_machine::Board;
 use flt_model::{Sink, WriteFault};
 use std::alloc::{AllocError, Global};
-use std::io::Write;
+use std::io::{IsTerminal, Write};
 use std::{env, fs, io};
 
 /// Files by their paths, and the standard input as `-`.
@@ -59,6 +61,40 @@ impl<W: Write + Drop> Sink for Stream<W> {
     }
 }
 
+/// After how many lines of a script a terminal is told how far the run has come.
+const LINES_A_LOOK: u32 = 1_000;
+
+/// Tells a terminal how far a run has come, on the standard error.
+#[derive(Drop)]
+struct Progress<'a> {
+    rt: &'a HostRuntime,
+    is_shown: bool,
+    lines: u32,
+}
+
+/// How many operations have an outcome.
+fn operations_done(board: &Board) -> u32 {
+    let mut done = 0u32;
+    for serial in 0..board.operations() as u32 {
+        if board.outcome(serial).is_some() {
+            done = done.saturating_add(1);
+        }
+    }
+    done
+}
+
+impl Watch for Progress<'_> {
+    fn after(&mut self, board: &Board) {
+        self.lines = self.lines.saturating_add(1);
+        if self.is_shown && self.lines % LINES_A_LOOK == 0 {
+            let lines = self.lines;
+            let entries = board.journal().len();
+            let done = operations_done(board);
+            let _ = eprintln!(self.rt; "{lines} lines: {entries} entries, {done} operations done");
+        }
+    }
+}
+
 /// The words of the command line, the program's own name left out; none if one of them isn't UTF-8.
 fn arguments(rt: &HostRuntime) -> Result<Option<Vec<String>>, AllocError> {
     let given = match env::args(rt) {
@@ -80,8 +116,21 @@ pub fn run(rt: &HostRuntime) -> u8 {
     let inputs = Files { rt };
     let mut out = Stream::new(rt.stdout());
     let mut err = Stream::new(rt.stderr());
+    let mut watch = Progress {
+        rt,
+        is_shown: rt.stderr().is_terminal(),
+        lines: 0,
+    };
     let status = match arguments(rt) {
-        Ok(Some(words)) => command(alloc, words.as_slice(), &inputs, &mut out, &mut err),
+        Ok(Some(words)) => command(
+            alloc,
+            words.as_slice(),
+            &inputs,
+            rt.stdout().is_terminal(),
+            &mut out,
+            &mut err,
+            &mut watch,
+        ),
         Ok(None) => {
             let _ = eprintln!(rt; "a word is not UTF-8");
             Ok(2)

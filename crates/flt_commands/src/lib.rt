@@ -7,15 +7,17 @@ mod answer;
 mod check;
 mod clean;
 mod commands;
+mod explain;
 mod failure;
 mod host;
 mod inputs;
 mod replay;
+mod running;
 mod single;
 mod split;
-mod words;
 
 pub use commands::{CommandFault, command};
+pub use flt_driven::{Unwatched, Watch};
 pub use host::run;
 pub use inputs::{Inputs, MAX_INPUT, read_within};
 pub use single::one_answer_at_most;

@@ -5,7 +5,7 @@ ghost use Rattle.flt_model.specs.JournalText.{IsJournal, spelling};
 ghost use Rattle.flt_replay.specs.Judging.{filters_of};
 ghost use Rattle.flt_commands.specs.Commands.{IsSaid};
 ghost use Rattle.flt_commands.specs.Replay as spec;
-ghost use Rattle.flt_commands.specs.Words.{Replay};
+ghost use Rattle.flt_words.specs.Request.{Replay};
 
 use crate::answer::Answer;
 use crate::failure::Failure;

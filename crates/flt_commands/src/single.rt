@@ -7,7 +7,8 @@ ghost use Rattle.flt_commands.specs.Commands.{IsSaid, Prints};
 ghost use Rattle.flt_commands.specs.Inputs.{Text};
 ghost use Rattle.flt_commands.specs.Replay.{IsReplayed};
 ghost use Rattle.flt_commands.specs.Single as spec;
-ghost use Rattle.flt_commands.specs.Words.{Asked};
+ghost use Rattle.flt_words.specs.Request.{Asked};
+ghost use Rattle.flt_words.specs.Words.{asked};
 ghost use Rattle.flt_commands.specs.declared.answer.Answer.{Answer};
 ghost use Rattle.flt_commands.specs.declared.failure.Failure.{Failure};
 ghost use Rattle.flt_graph.specs.declared.graph.Graph.{Graph};
@@ -61,14 +62,14 @@ fn one_verdict_at_most()
     one_first_fault_at_most();
 }
 
-/// A command line has one answer at most, where the inputs give one thing for each name. What is printed is one, and so is
-/// the exit status; why there is none is one too, unless memory ran out. It does nothing: its clauses are the law.
+/// A command line has one answer at most, where the inputs give one thing for each name, and it asks for no run, no reports and
+/// no page. What is printed is one, and so is the exit status; why there is none is one too, unless memory ran out. It does nothing: its clauses are the law.
 pub fn one_answer_at_most<I: Inputs>()
     ensures one { (inputs : I) (words : List (List ℕ)) (bytes other : List ℕ) (status other_status : ℕ) →
-        spec.GivesOne (I.gives inputs) → Prints (I.gives inputs) words bytes status →
+        spec.AskForOne (asked words) → spec.GivesOne (I.gives inputs) → Prints (I.gives inputs) words bytes status →
         Prints (I.gives inputs) words other other_status → (bytes ≡ other) × (status ≡ other_status) }
-    ensures said { (inputs : I) (request : Asked) (a b : Result Answer Failure) → spec.GivesOne (I.gives inputs) →
-        IsSaid (I.gives inputs) request a → IsSaid (I.gives inputs) request b → spec.AreSame a b }
+    ensures said { (inputs : I) (request : Asked) (a b : Result Answer Failure) → spec.HasOneAnswer request →
+        spec.GivesOne (I.gives inputs) → IsSaid (I.gives inputs) request a → IsSaid (I.gives inputs) request b → spec.AreSame a b }
 {
     one_check_at_most();
     one_analysis_at_most();

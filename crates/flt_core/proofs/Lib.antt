@@ -1,2 +1,4 @@
 pub mod Counted
+pub mod Detached
 pub mod Enabled
+pub mod Outcomes

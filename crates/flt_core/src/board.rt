@@ -1,23 +1,28 @@
 //! What stands behind the lock.
-ghost use Rattle.std.specs.Prelude.{◌≡◌, ◌↔◌, ◌⊎◌, ◌<◌, ◌+◌, ◌++◌, ◌∷◌, [], true, false, length, Err, Some, IfOk, IsTrue, OnOk, OnErr};
+ghost use Rattle.std.specs.Prelude.{◌≡◌, ◌↔◌, ◌⊎◌, ◌<◌, ◌+◌, ◌++◌, ◌∷◌, [], true, false, length, is_some, ◌≢◌, Err, Some, None, IfErr, IfOk, IfSome, IsTrue, OnOk, OnErr};
 ghost use Rattle.flt_core.specs.Counting.{callers_in, is_callers_move, others_in, receipt};
+ghost use Rattle.flt_core.specs.Refusals as spec;
 ghost use Rattle.flt_core.specs.declared.fault.ArriveFault.TheVariants as arrive_fault;
+ghost use Rattle.flt_core.specs.declared.fault.DetachFault.TheVariants as detach_fault;
 ghost use Rattle.flt_frame.specs.Loading.{AreLoaded};
-ghost use Rattle.flt_machine.specs.Calls.{IsDisabled, IsFullFor};
+ghost use Rattle.flt_machine.specs.Calls.{Commits, IsAdvanced, IsBlocked, IsDisabled, IsFresh, IsFullFor, Makes};
 ghost use Rattle.flt_machine.specs.Situations as situations;
-ghost use Rattle.flt_machine.specs.Situations.{IsBoard};
+ghost use Rattle.flt_machine.specs.Situations.{IsBoard, Now, standing_of};
 ghost use Rattle.flt_machine.specs.Tickets as tickets;
+ghost use Rattle.flt_machine.specs.declared.committing.Commit.TheVariants as answer;
+ghost use Rattle.flt_machine.specs.declared.events.Events.{Events};
 ghost use Rattle.flt_machine.specs.declared.fault.ApplyFault.TheVariants as apply_fault;
 ghost use Rattle.flt_model.specs.Expansion.{IsCleanRun};
-ghost use Rattle.flt_model.specs.Moves.{fits_mode};
+ghost use Rattle.flt_model.specs.Moves.{fits_mode, make};
+ghost use Rattle.flt_model.specs.Steps.{Make};
 ghost use Rattle.flt_model.specs.declared.moves.JournalEntry.TheVariants as journal_entry;
 ghost use Rattle.flt_model.specs.declared.moves.Move.TheVariants as moves;
 
-use crate::fault::ArriveFault;
+use crate::fault::{ArriveFault, DetachFault};
 use crate::names::{CallerEntries, OtherEntries, StackName};
 use crate::receipts::{Receipt, Receipts};
-use flt_machine::{ApplyFault, Board, Events, Loaded, MAX_ENTRIES, OutOfMemory};
-use flt_model::Move;
+use flt_machine::{Advanced, ApplyFault, Board, Commit, Events, Loaded, MAX_ENTRIES, OutOfMemory};
+use flt_model::{Journal, Move, Subject};
 use flt_ops::MAX_OPERATIONS;
 use flt_rules::{Mode, Operation};
 use std::alloc::Global;
@@ -99,6 +104,18 @@ impl<N: StackName> Core<N> {
         self.others.audit(others);
     }
 
+    /// Ends the core, and hands out its journal.
+    pub fn into_journal(self) -> Journal
+        ensures { result ≡ self.entries }
+    {
+        let Core {
+            board,
+            callers: _,
+            others: _,
+        } = self;
+        board.into_journal()
+    }
+
     // ---- what a caller asks for
 
     /// An operation arrives at the top of the stack. It answers the operation's serial number. `Operation` of this number is the one
@@ -138,6 +155,55 @@ impl<N: StackName> Core<N> {
             Err(ApplyFault::Full) => Err(ArriveFault::Full),
             Err(ApplyFault::OutOfMemory) => Err(ArriveFault::OutOfMemory),
         }
+    }
+
+    /// The teardown of the filter at an altitude begins. Its tickets are those that `tickets` names.
+    pub fn detach(
+        &mut self,
+        alloc: Global,
+        loaded: &Loaded,
+        receipts: &mut Receipts<N>,
+        altitude: u32,
+    ) -> Result<(), DetachFault>
+        requires loaded { AreLoaded N.trees loaded.now }
+        ensures entry { OnOk result (self.new.entries ≡ self.old.entries ++ journal_entry.Move (moves.Detach altitude) ∷ []) }
+        ensures receipt { OnOk result (receipts.new.list.items ≡ receipts.old.list.items
+            ++ receipt (length self.old.entries) (moves.Detach altitude) None ∷ []) }
+        ensures share { OnOk result (receipts.new.share.amount ≡ receipts.old.share.amount + 1) }
+        ensures parts { receipts.new.share.parts ≡ receipts.old.share.parts }
+        ensures fault { IfSome (spec.detach_fault N.trees self.old altitude) (λ fault. result ≡ Err fault) }
+        ensures memory { spec.detach_fault N.trees self.old altitude ≡ None → IfErr result (λ fault. fault ≡ detach_fault.OutOfMemory) }
+        ensures refused { OnErr result ((self.new ≡ self.old) × (receipts.new.list.items ≡ receipts.old.list.items)
+            × (receipts.new.share.amount ≡ receipts.old.share.amount)) }
+    {
+        if let Some(fault) = self.detach_fault(loaded, altitude) {
+            return Err(fault);
+        }
+        match self.make(alloc, loaded, receipts, Move::Detach { altitude }, None) {
+            Ok(()) => Ok(()),
+            Err(ApplyFault::NotEnabled) => unreachable!(),
+            Err(ApplyFault::Full) => unreachable!(),
+            Err(ApplyFault::OutOfMemory) => Err(DetachFault::OutOfMemory),
+        }
+    }
+
+    /// Why the teardown of the filter at an altitude can't begin; none where only memory can refuse it.
+    pub fn detach_fault(&self, loaded: &Loaded, altitude: u32) -> Option<DetachFault>
+        requires loaded { AreLoaded N.trees loaded.now }
+        ensures fault { result ≡ spec.detach_fault N.trees self.now altitude }
+        ensures enabled { result ≡ None → IsDisabled loaded.now self.now (moves.Detach altitude) → ⊥ }
+    {
+        let entries = self.board().journal().len();
+        if loaded.number(altitude) >= loaded.filters() {
+            return Some(DetachFault::NoSuch);
+        }
+        if !self.is_enabled(loaded, Move::Detach { altitude }) {
+            return Some(DetachFault::Already);
+        }
+        if entries == MAX_ENTRIES {
+            return Some(DetachFault::Full);
+        }
+        None
     }
 
     /// Makes a move that a caller asks for, and gives its receipt.
@@ -216,6 +282,7 @@ impl<N: StackName> Core<N> {
         requires loaded { AreLoaded N.trees loaded.now }
         requires part { 0 < mine.old.parts }
         requires others { is_callers_move step ≡ false }
+        ensures made { IfOk result (λ events. Now loaded.now self.old (λ p m. Makes p self.new [] (Make step) events.list m)) }
         ensures entry { OnOk result (self.new.entries ≡ self.old.entries ++ journal_entry.Move step ∷ []) }
         ensures next { IfOk result (λ events. events.next.items ≡ tickets.after_move loaded.now.altitudes self.old.store self.new.store
             (length self.old.standings) (length self.new.standings)) }
@@ -230,6 +297,47 @@ impl<N: StackName> Core<N> {
         Ok(events)
     }
 
+    /// Makes the local steps of an advance, and the step after them, and counts that in a worker's share. `grant` is the system's choice,
+    /// where that step leaves one. What was advanced must have been advanced on what is loaded.
+    pub fn commit(
+        &mut self,
+        alloc: Global,
+        loaded: &Loaded,
+        mine: &mut Share<OtherEntries<N>>,
+        advanced: &Advanced,
+        grant: bool,
+    ) -> Commit
+        requires loaded { AreLoaded N.trees loaded.now }
+        requires part { 0 < mine.old.parts }
+        requires advance { IsAdvanced loaded.now advanced.now }
+        ensures committed { (events : Events) → result ≡ answer.Committed events →
+            Now loaded.now self.old (λ p m. Commits p self.old self.new advanced.now grant events.list m) }
+        ensures next { (events : Events) → result ≡ answer.Committed events →
+            events.next.items ≡ tickets.after_go loaded.now.altitudes self.old.store self.new.store advanced.now.frame.activation
+            (is_some (standing_of self.new advanced.now.frame.activation)) }
+        ensures entries { (events : Events) → result ≡ answer.Committed events →
+            length self.new.entries ≡ length self.old.entries + 1 }
+        ensures share { (events : Events) → result ≡ answer.Committed events → mine.new.amount ≡ mine.old.amount + 1 }
+        ensures parts { mine.new.parts ≡ mine.old.parts }
+        ensures stale { (result ≡ answer.Stale) ↔ (IsFresh self.old advanced.now → ⊥) }
+        ensures blocked { (result ≡ answer.Blocked) ↔ (IsFresh self.old advanced.now × IsBlocked loaded.now self.old advanced.now grant) }
+        ensures full { (result ≡ answer.Full) ↔ (IsFresh self.old advanced.now
+            × ((IsBlocked loaded.now self.old advanced.now grant → ⊥) × (length self.old.entries ≡ 1000000))) }
+        ensures refused { ((events : Events) → result ≢ answer.Committed events) →
+            (self.new ≡ self.old) × (mine.new.amount ≡ mine.old.amount) }
+    {
+        match self.board.commit(alloc, loaded, advanced, grant) {
+            Commit::Committed(events) => {
+                self.others.add(mine, 1);
+                Commit::Committed(events)
+            }
+            Commit::Stale => Commit::Stale,
+            Commit::Blocked => Commit::Blocked,
+            Commit::Full => Commit::Full,
+            Commit::OutOfMemory => Commit::OutOfMemory,
+        }
+    }
+
     // ---- what is tested first
 
     /// Whether a move is enabled.
@@ -240,8 +348,22 @@ impl<N: StackName> Core<N> {
         self.board.enabled(loaded, step)
     }
 
+    /// What would get a ticket by a move that is enabled. Nothing where the move isn't enabled.
+    pub fn tickets(
+        &self,
+        alloc: Global,
+        loaded: &Loaded,
+        step: Move,
+    ) -> Result<Vec<Subject>, OutOfMemory>
+        requires loaded { AreLoaded N.trees loaded.now }
+        ensures { IfOk result (λ next. Now loaded.now self.now
+            (λ p m. next.items ≡ tickets.by_move loaded.now.altitudes m.world (make p m.world step))) }
+    {
+        self.board.tickets(alloc, loaded, step)
+    }
+
     /// Whether there are as many entries as may be, or as many operations where one more arrives.
-    fn is_full_for(&self, step: Move) -> bool
+    pub fn is_full_for(&self, step: Move) -> bool
         ensures { IsTrue result ↔ IsFullFor self.now step }
     {
         self.board.journal().len() == MAX_ENTRIES

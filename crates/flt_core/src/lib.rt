@@ -9,8 +9,10 @@ mod board;
 mod fault;
 mod names;
 mod receipts;
+mod turns;
 
 pub use board::Core;
-pub use fault::ArriveFault;
+pub use fault::{ArriveFault, DetachFault};
 pub use names::{CallerEntries, Counts, OtherEntries, StackName};
 pub use receipts::{Receipt, Receipts};
+pub use turns::{Locked, Turned};

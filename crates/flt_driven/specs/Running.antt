@@ -38,6 +38,13 @@ abbrev pub IsLoadedOf : List Text → List Text → List Filter → Type 0
 IsLoadedOf texts certificates loaded = (filters : List Filter) → AreSpelled texts filters → HaveCertificates filters certificates →
     HasDistinctAltitudes filters → loaded ≡ by_altitude filters
 
+-- the texts spell filters of different altitudes, each with a certificate that covers it
+pub record AreLoadable (texts certificates : List Text) : Type 0 where
+  pub filters : List Filter
+  pub spelled : AreSpelled texts filters
+  pub covered : HaveCertificates filters certificates
+  pub distinct : HasDistinctAltitudes filters
+
 -- the journal is that of a board on what is loaded, and breaks nothing
 pub record IsDriven (loaded : List Filter) (bytes : Text) (is_full : Bool) : Type 0 where
   pub ordered : by_altitude loaded ≡ loaded

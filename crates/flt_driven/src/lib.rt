@@ -10,4 +10,5 @@ mod texts;
 mod written;
 
 pub use fault::RunFault;
+pub use flt_run::{Unwatched, Watch};
 pub use running::{Ran, run};

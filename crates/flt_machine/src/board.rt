@@ -168,4 +168,17 @@ impl Board {
         journals_stay_within_costs();
         &self.journal
     }
+
+    /// Ends the board, and hands out its journal.
+    pub fn into_journal(self) -> Journal
+        ensures { result ≡ self.entries }
+    {
+        let Board {
+            actors: _,
+            standings: _,
+            store: _,
+            journal,
+        } = self;
+        journal
+    }
 }

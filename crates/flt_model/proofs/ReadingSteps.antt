@@ -1,12 +1,20 @@
 -- The steps of reading, as loops and recursions make them.
-use Rattle.std.proofs.Common.{◌≡◌, ◌<◌, ◌+◌, ◌-◌, ℕ, zero, suc, true, false, [], ◌∷◌, ◌++◌, length, refl, ap, arith, ◌∙◌}
+use Rattle.std.proofs.Common.{◌≡◌, ◌<◌, ◌+◌, ◌-◌, ℕ, zero, suc, true, false, [], ◌∷◌, ◌++◌, length, drop, drop-cons, refl, ap, arith, ◌∙◌}
 use Rattle.std.specs.Prelude.{◌==◌, Ok, Err, Some, None}
 use Rattle.flt_model.specs.Streams.{Text}
 use Rattle.flt_model.specs.JournalText.{Entries, most_entries}
-use Rattle.flt_model.specs.JournalTextReading.{Reads, byte, digits, with_digit, line, ending, closed, entries_from}
+use Rattle.flt_model.specs.JournalTextReading.{Reads, byte, exactly, digits, with_digit, line, ending, closed, entries_from}
 use Rattle.flt_model.specs.declared.scanner.Stop.{Stop}
 use Rattle.flt_model.specs.declared.scanner.Stop.TheVariants.{Wrong, Failed}
 use Rattle.flt_model.specs.declared.moves.JournalEntry.{JournalEntry}
+
+-- ---- these bytes
+
+-- where the byte isn't read, nor are those from its place on
+pub exactly_none : (bytes : Text) (i : ℕ) (text new : Text) (e : Stop) → i < length bytes → Reads {A = ℕ} (byte text) (Err e) new →
+    Reads {A = Unit {0}} (exactly (drop i bytes) text) (Err e) new
+exactly_none bytes i text new Wrong low h = rw (drop-cons bytes i 0, h) refl
+exactly_none bytes i text new Failed low h = tt
 
 -- ---- digits
 

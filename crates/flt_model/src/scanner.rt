@@ -34,19 +34,18 @@ pub(crate) fn byte<R: Source>(reader: &mut R) -> Result<u8, Stop>
 }
 
 /// These bytes.
+#[tactic(auto, using(crate::proofs::ReadingSteps::exactly_none))]
 pub(crate) fn exactly<R: Source>(reader: &mut R, bytes: &[u8]) -> Result<(), Stop>
     ensures read { spec.Reads (spec.exactly bytes.now (R.coming reader.old)) result (R.coming reader.new) }
     ensures fails { spec.Counts result (R.failures reader.old) (R.failures reader.new) }
     ensures reads { R.reads reader.new ≤ R.reads reader.old + length bytes.now }
 {
-    let [first, others @ ..] = bytes else {
-        return Ok(());
-    };
-    if byte(reader)? == *first {
-        exactly(reader, others)
-    } else {
-        Err(Stop::Wrong)
+    for wanted in bytes {
+        if byte(reader)? != *wanted {
+            return Err(Stop::Wrong);
+        }
     }
+    Ok(())
 }
 
 /// A number with one more digit, if it stays below 2 ^ 32.
@@ -74,16 +73,21 @@ fn digits<R: Source>(reader: &mut R, left: usize, end: u8, number: u32) -> Resul
     ensures fails { spec.Counts result (R.failures reader.old) (R.failures reader.new) }
     ensures reads { R.reads reader.new ≤ R.reads reader.old + (left + 1) }
 {
-    let next = byte(reader)?;
-    if next == end {
-        return Ok(number);
-    }
-    if left == 0 {
-        return Err(Stop::Wrong);
-    }
-    match with_digit(number, next) {
-        Some(number) => digits(reader, left - 1, end, number),
-        None => Err(Stop::Wrong),
+    let mut left = left;
+    let mut number = number;
+    loop {
+        let next = byte(reader)?;
+        if next == end {
+            return Ok(number);
+        }
+        if left == 0 {
+            return Err(Stop::Wrong);
+        }
+        match with_digit(number, next) {
+            Some(more) => number = more,
+            None => return Err(Stop::Wrong),
+        }
+        left -= 1;
     }
 }
 

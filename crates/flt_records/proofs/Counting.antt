@@ -1,83 +1,69 @@
--- What counts that are kept in order say: of none that all count 0, and how often each key stands among them.
-use Rattle.std.proofs.Common.{◌≡◌, ◌≢◌, ⊎_elim, subst, ℕ, ◌+◌, ◌<◌, List, [], ◌∷◌, Option, Some, None, ap, sym, refl, ◌∙◌, arith, length, min}
-use Rattle.std.proofs.lemmas.Bool.{cases_eq, cond-true, cond-false}
+-- What counts by number say where one is counted once more or once less.
+use Rattle.std.proofs.Common.{◌≡◌, ◌≢◌, ⊎_elim, subst, ℕ, ◌+◌, ◌-◌, ◌<◌, ◌≤◌, List, ◌++◌, replicate, take, length, get_or, set, sym, arith}
+use Rattle.std.proofs.lemmas.Bool.{cases_eq}
 use Rattle.std.proofs.lemmas.Bool.Decides.{nat_tests}
-use Rattle.std.proofs.lemmas.List.Sums.{sum_by-cons}
-use Rattle.std.specs.Prelude.{IfSome}
-use Rattle.std.proofs.lemmas.Map.Keys.{sorted_head, sorted_tail}
-use Rattle.std.specs.BTreeMap.{is_at}
-use Rattle.std.specs.List.{AllByRecursion}
-use Rattle.std.specs.List.Sorted.{IsStrictlySortedBy}
-use Rattle.std.specs.Map.{lookup, keys_of}
-use Rattle.std.specs.Option.{unwrap_or}
-use Rattle.std.specs.Ordering.{nat_cmp}
-use Rattle.std.specs.declared.cmp.Ordering.TheVariants.{Less}
+use Rattle.std.proofs.lemmas.List.{get_or-set_other, get_or-set_same, get_or_past}
 use Rattle.flt_model.specs.Trace.{one_if}
-use Rattle.flt_records.specs.Counts.{count, occurs}
-use Rattle.flt_records.proofs.Keys.{at_self, at_other, at_later, less_is}
+use Rattle.flt_records.specs.Counts.{count}
+use Rattle.flt_records.proofs.NumberMaps.{filled}
 
--- each count is at least one
-abbrev pub IsPositive : List (ℕ × ℕ) → Type 0
-IsPositive es = (n : ℕ) → IfSome (lookup (is_at (nat_cmp n)) es) (λ times. 0 < times)
-
-pub empty_from_length : (es : List (ℕ × ℕ)) → length es ≡ 0 → (n : ℕ) → count es n ≡ 0
+-- counts that are filled up with 0 say the same
+pub filled_up : (times new : List ℕ) (size : ℕ) → length times < size →
+    new ≡ take size times ++ replicate (size - length times) 0 → (n : ℕ) → count new n ≡ count times n
 unfolding count
-empty_from_length [] h n = refl
-empty_from_length (e ∷ es) h n = absurd (omega arith)
+filled_up times new size l is n = filled 0 times new size l is n
 
-some_counts : (k v : ℕ) (es : List (ℕ × ℕ)) → IsPositive ((k, v) ∷ es) → 0 < count ((k, v) ∷ es) k
-unfolding count
-some_counts k v es h =
-    let e : lookup (is_at (nat_cmp k)) ((k, v) ∷ es) ≡ Some v =
-    cond-true (is_at (nat_cmp k) k) (Some v) (lookup (is_at (nat_cmp k)) es) (at_self k) in
-    let p : 0 < v = subst (λ (o : Option ℕ). IfSome o (λ times. 0 < times)) e (h k) in
-    subst (λ (o : Option ℕ). 0 < unwrap_or o 0) (sym e) p
-
-pub length_from_empty : (es : List (ℕ × ℕ)) → IsPositive es → ((n : ℕ) → count es n ≡ 0) → length es ≡ 0
-length_from_empty [] h z = refl
-length_from_empty ((k, v) ∷ es) h z = absurd (omega (arith, some_counts k v es h, z k))
-
-absent : (k : ℕ) (es : List (ℕ × ℕ)) → AllByRecursion (λ y. nat_cmp k y ≡ Less) (keys_of es) → lookup (is_at (nat_cmp k)) es ≡ None
-absent k [] h = refl
-absent k ((m, v) ∷ es) h = cond-false (is_at (nat_cmp k) m) (Some v) (lookup (is_at (nat_cmp k)) es)
-    (at_later k m (less_is k m h.0)) ∙ absent k es h.1
-
-not_later : (k : ℕ) (es : List (ℕ × ℕ)) → AllByRecursion (λ y. nat_cmp k y ≡ Less) (keys_of es) → occurs k (keys_of es) ≡ 0
+one_here : (k : ℕ) → one_if k k ≡ 1
 unfolding one_if
-not_later k [] h = refl
-not_later k ((m, v) ∷ es) h =
-    let less : k < m = less_is k m h.0 in
-    let here : one_if m k ≡ 0 = grind (arith, nat_tests) in
-    omega (arith, sum_by-cons (λ (x : ℕ). one_if x k) m (keys_of es), here, not_later k es h.1)
+one_here k = grind (arith, nat_tests)
 
--- the entries after the first
-others_positive : (k v : ℕ) (es : List (ℕ × ℕ)) → AllByRecursion (λ y. nat_cmp k y ≡ Less) (keys_of es) →
-    IsPositive ((k, v) ∷ es) → IsPositive es
-others_positive k v es s h n =
-    ⊎_elim (λ (e : k ≡ n). subst (λ (m : ℕ). IfSome (lookup (is_at (nat_cmp m)) es) (λ times. 0 < times)) e
-    (subst (λ (o : Option ℕ). IfSome o (λ times. 0 < times)) (sym (absent k es s)) tt))
-    (λ (ne : k ≢ n). subst (λ (o : Option ℕ). IfSome o (λ times. 0 < times))
-    (cond-false (is_at (nat_cmp n) k) (Some v) (lookup (is_at (nat_cmp n)) es) (at_other n k ne)) (h n))
-    (cases_eq k n)
+one_elsewhere : (k n : ℕ) → n ≢ k → one_if k n ≡ 0
+unfolding one_if
+one_elsewhere k n ne = grind (arith, nat_tests)
 
--- each number that counts is a key, once
-pub keys_counted : (es : List (ℕ × ℕ)) → IsStrictlySortedBy nat_cmp (keys_of es) → IsPositive es → (n : ℕ) →
-    occurs n (keys_of es) ≡ min 1 (count es n)
-unfolding count one_if
-keys_counted [] s h n = refl
-keys_counted ((k, v) ∷ es) s h n =
-    let first : AllByRecursion (λ y. nat_cmp k y ≡ Less) (keys_of es) = sorted_head nat_cmp k (keys_of es) s in
-    let step : occurs n (keys_of ((k, v) ∷ es)) ≡ one_if k n + occurs n (keys_of es) = sum_by-cons (λ (x : ℕ). one_if x n) k (keys_of es) in
-    ⊎_elim (λ (e : k ≡ n).
-    let later : occurs n (keys_of es) ≡ 0 = subst (λ (m : ℕ). occurs m (keys_of es) ≡ 0) e (not_later k es first) in
-    let one : one_if k n ≡ 1 = grind (arith, nat_tests) in
-    let positive : 0 < count ((k, v) ∷ es) n = subst (λ (m : ℕ). 0 < count ((k, v) ∷ es) m) e (some_counts k v es h) in
+-- a number is counted once more
+pub once_more : (old grown : List ℕ) (k t : ℕ) → k < length grown → ((n : ℕ) → count grown n ≡ count old n) → t ≡ count old k + 1 →
+    (n : ℕ) → count (set grown k t) n ≡ count old n + one_if k n
+unfolding count
+once_more old grown k t l same is n =
+    ⊎_elim (λ (e : n ≡ k).
+    let here = get_or-set_same grown k t 0 l in
+    let one = one_here k in
+    subst (λ (m : ℕ). get_or (set grown k t) m 0 ≡ get_or old m 0 + one_if k m) (sym e) (omega arith))
+    (λ (ne : n ≢ k).
+    let there = get_or-set_other grown k n t 0 ne in
+    let none = one_elsewhere k n ne in
+    let was = same n in
     omega arith)
-    (λ (ne : k ≢ n).
-    let rest : occurs n (keys_of es) ≡ min 1 (count es n) =
-    keys_counted es (sorted_tail nat_cmp k (keys_of es) s) (others_positive k v es first h) n in
-    let here : one_if k n ≡ 0 = grind (arith, nat_tests) in
-    let same : count ((k, v) ∷ es) n ≡ count es n =
-    ap (λ (o : Option ℕ). unwrap_or o 0) (cond-false (is_at (nat_cmp n) k) (Some v) (lookup (is_at (nat_cmp n)) es) (at_other n k ne)) in
+    (cases_eq n k)
+
+-- a number that counts is counted once less
+pub once_less : (old : List ℕ) (k t : ℕ) → k < length old → t ≡ get_or old k 0 - 1 → 0 < count old k →
+    (n : ℕ) → count old n ≡ count (set old k t) n + one_if k n
+unfolding count
+once_less old k t l is some n =
+    ⊎_elim (λ (e : n ≡ k).
+    let here = get_or-set_same old k t 0 l in
+    let one = one_here k in
+    subst (λ (m : ℕ). get_or old m 0 ≡ get_or (set old k t) m 0 + one_if k m) (sym e) (omega arith))
+    (λ (ne : n ≢ k).
+    let there = get_or-set_other old k n t 0 ne in
+    let none = one_elsewhere k n ne in
     omega arith)
-    (cases_eq k n)
+    (cases_eq n k)
+
+-- a number that is past the end doesn't count
+pub past_the_end : (times : List ℕ) (k : ℕ) → length times ≤ k → count times k ≡ 0
+unfolding count
+past_the_end times k l = get_or_past times k 0 l
+
+-- as often as before, where one was counted and taken back
+pub back : (cs ds es : List ℕ) (u : ℕ) → ((v : ℕ) → count ds v ≡ count cs v + one_if u v) →
+    (0 < count ds u → (v : ℕ) → count ds v ≡ count es v + one_if u v) → (v : ℕ) → count es v ≡ count cs v
+unfolding one_if
+back cs ds es u more less v =
+    let one : one_if u u ≡ 1 = grind (arith, nat_tests) in
+    let here = more u in
+    let m = more v in
+    let l = less (omega arith) v in
+    omega arith

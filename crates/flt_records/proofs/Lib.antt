@@ -3,6 +3,9 @@ pub mod FirstPlaces
 pub mod Keys
 pub mod LastFrames
 pub mod LocalLaws
+pub mod NumberMaps
 pub mod PlaceSets
 pub mod Queues
 pub mod Remaining
+pub mod SparseCounting
+pub mod VisitLinks

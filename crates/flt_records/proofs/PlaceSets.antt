@@ -1,5 +1,4 @@
--- The sets of places by which links, visits and queues find the first of their numbers.
+-- The sets of places by which links and queues find the first of their numbers.
 pub mod First
 pub mod FirstLinked
 pub mod PlaceOrder
-pub mod VisitPlaces

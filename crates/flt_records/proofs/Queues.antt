@@ -1,4 +1,4 @@
 -- The queues of what waits, by tickets, and how often each visit waits.
 pub mod CountWaiting
 pub mod QueueMiddle
-pub mod QueueTickets
+pub mod Tickets

@@ -1,28 +1,37 @@
 -- What the tickets of a queue's entries say of them.
-use Rattle.std.specs.Prelude.{◌≡◌, ℕ, ◌<◌, Bool, true, false, ◌==◌, if◌then◌else◌, nat_lt, MatchOption, List, ◌++◌, Option, Some, None, nat_eq}
-use Rattle.std.specs.BTreeMap.{is_at}
-use Rattle.std.specs.BTreeSet.{BTreeSet}
-use Rattle.std.specs.List.{AllByRecursion, list_any, before_first, after_first}
-use Rattle.std.specs.List.Sorted.{IsStrictlySortedBy}
-use Rattle.std.specs.Map.{lookup, keys_of}
-use Rattle.std.specs.Ordering.{nat_cmp}
+use Rattle.std.specs.Prelude.{◌≡◌, ℕ, ◌<◌, ◌≤◌, Bool, true, false, ◌==◌, if◌then◌else◌, nat_lt, MatchOption, List, [], ◌∷◌, ◌++◌, Option, Some, None, is_some, nat_eq, take, length, get_or}
+use Rattle.std.specs.List.{list_any, before_first, after_first}
+use Rattle.flt_model.specs.Violations.{in_queue}
 use Rattle.flt_model.specs.World.{Entry}
-use Rattle.flt_records.specs.Places.{has}
+use Rattle.flt_records.specs.Counts.{count}
 
--- the entry of a ticket
-abbrev pub entry_at : List (ℕ × Entry) → ℕ → Option Entry
-entry_at es t = lookup (is_at (nat_cmp t)) es
+-- the entries that are left
+abbrev pub present : List (Option Entry) → List Entry
+present [] = []
+present (None ∷ es) = present es
+present (Some e ∷ es) = e ∷ present es
 
 -- whether an entry that may be there has the visit
 abbrev pub has_visit : ℕ → Option Entry → Bool
 has_visit v None = false
 has_visit v (Some e) = e.visit == v
 
--- tickets ascend to the next one, and the places of a visit are the tickets of its entries
-pub record AreTickets (es : List (ℕ × Entry)) (next : ℕ) (s : BTreeSet (ℕ × ℕ × ℕ)) : Type 0 where
-  pub below : AllByRecursion (λ k. k < next) (keys_of es)
-  pub sorted : IsStrictlySortedBy nat_cmp (keys_of es)
-  pub each : (v t : ℕ) → has s 0 v t ≡ has_visit v (entry_at es t)
+-- the same of the entry of a ticket
+unfoldable pub stands : List (Option Entry) → ℕ → ℕ → Bool
+stands es v t = has_visit v (get_or es t None)
+
+-- whether a ticket is before the one from which entries are looked for; where there is none, each is
+abbrev pub is_before : ℕ → Option ℕ → Bool
+is_before t None = true
+is_before t (Some start) = nat_lt t start
+
+-- the front is the first ticket whose entry is left; each visit's entries are counted, and stand from its start on
+pub record AreTickets (es : List (Option Entry)) (front : ℕ) (starts : List (Option ℕ)) (counts : List ℕ) : Type 0 where
+  pub within : front ≤ length es
+  pub taken : present (take front es) ≡ []
+  pub first : front < length es → is_some (get_or es front None) ≡ true
+  pub counted : (v : ℕ) → count counts v ≡ in_queue v (present es)
+  pub later : (v t : ℕ) → is_before t (get_or starts v None) ≡ true → stands es v t ≡ false
 
 -- whether an entry has one of some visits
 abbrev pub is_of : List ℕ → Entry → Bool
@@ -38,10 +47,10 @@ lesser None other = other
 lesser (Some m) None = Some m
 lesser (Some m) (Some n) = Some (if nat_lt m n then m else n)
 
--- the least place of some visits, where they have one
-abbrev pub IsLeast : BTreeSet (ℕ × ℕ × ℕ) → List ℕ → Option ℕ → Type 0
-IsLeast s visits least =
+-- the least ticket of some visits, where they have one
+abbrev pub IsLeast : List (Option Entry) → List ℕ → Option ℕ → Type 0
+IsLeast es visits least =
     MatchOption least
-    ((v t : ℕ) → list_any (nat_eq v) visits ≡ true → has s 0 v t ≡ false)
-    (λ n. ((v : ℕ) × ((list_any (nat_eq v) visits ≡ true) × (has s 0 v n ≡ true)))
-    × ((v t : ℕ) → list_any (nat_eq v) visits ≡ true → t < n → has s 0 v t ≡ false))
+    ((v t : ℕ) → list_any (nat_eq v) visits ≡ true → stands es v t ≡ false)
+    (λ n. ((v : ℕ) × ((list_any (nat_eq v) visits ≡ true) × (stands es v n ≡ true)))
+    × ((v t : ℕ) → list_any (nat_eq v) visits ≡ true → t < n → stands es v t ≡ false))

@@ -1,29 +1,25 @@
-//! How often each number was counted. Only what counts at least once is kept.
+//! How often each number was counted, where numbers are given one after the other.
 
-ghost use Rattle.std.specs.Prelude.{◌≡◌, ◌+◌, ℕ, ◌<◌, ◌≤◌, [], min, OnOk, OnErr, IfOk, ◌↔◌, IsTrue};
+ghost use Rattle.std.specs.Prelude.{◌≡◌, ◌+◌, ℕ, ◌<◌, ◌≤◌, [], length, OnOk, OnErr};
 ghost use Rattle.flt_model.specs.Trace.{one_if};
 ghost use Rattle.flt_records.specs.Counts as spec;
 
 use std::alloc::{AllocError, Global};
-use std::collections::BTreeMap;
 use std::marker::Model;
 
-/// Counts by number, each kept while it is at least 1.
+/// Counts by number. It takes as much memory as the greatest number asks for that was counted.
 #[derive(Drop)]
 pub struct Counts {
-    map: BTreeMap<usize, u64>,
+    /// What is past the end counts 0.
+    times: Vec<u64>,
 }
 
 impl Model for Counts {
-    ghost use Rattle.std.specs.Prelude.{ℕ, ◌<◌, List, IfSome};
-    ghost use Rattle.std.specs.BTreeMap.{get};
-    ghost use Rattle.std.specs.Ordering.{nat_cmp};
+    ghost use Rattle.std.specs.Prelude.{ℕ, List};
 
-    ghost Value = { List (ℕ × ℕ) };
+    ghost Value = { List ℕ };
 
-    ghost view = { λ c. c.map.entries };
-
-    ghost invariant = { λ c. (n : ℕ) → IfSome (get nat_cmp c.map n) (λ times. 0 < times) };
+    ghost view = { λ c. c.times.items };
 }
 
 impl Counts {
@@ -34,7 +30,7 @@ impl Counts {
         ensures no_count { (n : ℕ) → spec.count result n ≡ 0 }
     {
         Counts {
-            map: BTreeMap::new(alloc),
+            times: Vec::new(alloc),
         }
     }
 
@@ -43,61 +39,53 @@ impl Counts {
     pub fn count(&self, number: usize) -> u64
         ensures { result ≡ spec.count self.now number }
     {
-        match self.map.get(&number) {
+        match self.times.get(number) {
             Some(times) => *times,
             None => 0,
         }
     }
 
+    /// Makes room for a number.
+    #[tactic(auto, using(crate::proofs::Counting::filled_up))]
+    fn grow(&mut self, number: usize) -> Result<(), AllocError>
+        ensures room { OnOk result (number < length self.new) }
+        ensures same { (n : ℕ) → spec.count self.new n ≡ spec.count self.old n }
+        ensures err { OnErr result (self.new ≡ self.old) }
+    {
+        let Some(length) = number.checked_add(1) else {
+            return Err(AllocError);
+        };
+        if self.times.len() < length {
+            self.times.resize(length, 0)?;
+        }
+        Ok(())
+    }
+
     /// Once more. The count is a number that no journal in memory reaches the end of.
-    #[tactic(auto, unfolding(crate::specs::Counts::count, flt_model::specs::Trace::one_if))]
+    #[tactic(auto, using(crate::proofs::Counting::once_more))]
     pub fn add(&mut self, number: usize) -> Result<(), AllocError>
         ensures ok { OnOk result ((n : ℕ) → spec.count self.new n ≡ spec.count self.old n + one_if number n) }
         ensures err { OnErr result (self.new ≡ self.old) }
     {
-        match self.count(number).checked_add(1) {
-            Some(times) => {
-                let _ = self.map.insert(number, times)?;
-                Ok(())
-            }
-            None => Err(AllocError),
+        let Some(times) = self.count(number).checked_add(1) else {
+            return Err(AllocError);
+        };
+        self.grow(number)?;
+        if let Some(place) = self.times.get_mut(number) {
+            *place = times;
         }
+        Ok(())
     }
 
     /// Once less, of what counts.
-    #[tactic(auto, unfolding(crate::specs::Counts::count, flt_model::specs::Trace::one_if))]
+    #[tactic(auto, using(crate::proofs::Counting::once_less, crate::proofs::Counting::past_the_end))]
     pub fn take(&mut self, number: usize)
         ensures { 0 < spec.count self.old number → (n : ℕ) → spec.count self.old n ≡ spec.count self.new n + one_if number n }
     {
-        let times = self.count(number);
-        if times > 1 {
-            if let Some(place) = self.map.get_mut(&number) {
-                *place = times - 1;
-            }
-        } else {
-            let _ = self.map.remove(&number);
-        }
-    }
-
-    /// Whether no number counts.
-    #[tactic(auto, using(crate::proofs::Counting::empty_from_length, crate::proofs::Counting::length_from_empty))]
-    pub fn is_empty(&self) -> bool
-        ensures { IsTrue result ↔ ((n : ℕ) → spec.count self.now n ≡ 0) }
-    {
-        self.map.is_empty()
-    }
-
-    /// The numbers that count, each once.
-    #[tactic(auto, using(crate::proofs::Counting::keys_counted))]
-    pub fn numbers(&self, alloc: Global) -> Result<Vec<usize>, AllocError>
-        ensures { IfOk result (λ ns. (n : ℕ) → spec.occurs n ns.items ≡ min 1 (spec.count self.now n)) }
-    {
-        // No `collect`, which asks for room for all of them first, and goes on where that is refused.
-        let mut numbers = Vec::new(alloc);
-        for number in self.map.keys() {
-            numbers.push(*number)?;
-        }
-        Ok(numbers)
+        let Some(place) = self.times.get_mut(number) else {
+            return;
+        };
+        *place = place.saturating_sub(1);
     }
 
     /// Once more, each of some numbers.

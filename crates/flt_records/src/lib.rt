@@ -4,7 +4,8 @@
 //! `parts` and `route` are the records, `activation`, `rest` and `lock_list` one run of a callback, and `local` its steps that nobody
 //! else sees. `linked` keeps contexts with their links, `visit_list` visits by operation, `holders` who holds a lock, and
 //! `waiting_list` queues and work items;
-//! `place_set` and `counts` are their indices. Contracts see each list as the machine's own, and mention no index.
+//! `place_set` and `counts` are their indices, and `sparse_counts` counts what few count of. Contracts see each list as the machine's
+//! own, and mention no index.
 #![tactic(auto)]
 
 mod activation;
@@ -14,11 +15,13 @@ mod laws;
 mod linked;
 mod local;
 mod lock_list;
+mod number_map;
 mod parts;
 mod place_set;
 mod queue;
 mod rest;
 mod route;
+mod sparse_counts;
 mod visit_list;
 mod waiting_list;
 
@@ -33,5 +36,6 @@ pub use parts::{
     Standing, Visit,
 };
 pub use rest::{Rest, Upcoming};
+pub use sparse_counts::SparseCounts;
 pub use visit_list::Visits;
 pub use waiting_list::Waiting;

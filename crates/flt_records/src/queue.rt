@@ -1,23 +1,28 @@
-//! A cancel-safe queue: its front entry is taken out without a move of the others.
+//! A cancel-safe queue: an entry is taken out without a move of the others, and those of a visit are found without a search.
 
-ghost use Rattle.std.specs.Prelude.{◌≡◌, [], ◌∷◌, ◌++◌, Some, None, find, map, OnOk, OnErr, IfOk, MatchOption, ◌↔◌, IsTrue};
+ghost use Rattle.std.specs.Prelude.{◌≡◌, ◌≤◌, ◌<◌, ◌==◌, ℕ, true, false, if◌then◌else◌, [], ◌∷◌, ◌++◌, Some, None, is_some, find, map, take, length, get_or, OnOk, OnErr, IfOk, MatchOption, ◌↔◌, IsTrue};
+ghost use Rattle.flt_model.specs.Violations.{in_queue};
 ghost use Rattle.flt_model.specs.World as machine;
-ghost use Rattle.flt_records.specs.Tickets.{is_of, without_first, lesser, IsLeast};
+ghost use Rattle.flt_records.specs.Counts.{count};
+ghost use Rattle.flt_records.specs.Tickets.{is_of, without_first, lesser, present, stands, is_before, IsLeast};
 
+use crate::counts::Counts;
+use crate::number_map::NumberMap;
 use crate::parts::Entry;
-use crate::place_set::Places;
 use std::alloc::{AllocError, Global};
-use std::collections::BTreeMap;
 use std::marker::Model;
 
 /// Entries in order.
 #[derive(Drop)]
 pub(crate) struct Queue {
-    /// By ticket, which counts the entries before it since the beginning.
-    entries: BTreeMap<usize, Entry>,
-    next: usize,
-    /// Of each visit, the tickets of its entries.
-    tickets: Places,
+    /// By ticket, which counts the entries before it since the beginning. It is none where the entry was taken out.
+    entries: Vec<Option<Entry>>,
+    /// The ticket of the first entry that is left, or the next one where none is.
+    front: usize,
+    /// Of each visit, the ticket from which its entries are looked for.
+    starts: NumberMap,
+    /// Of each visit, how many entries it has.
+    counts: Counts,
 }
 
 impl Model for Queue {
@@ -26,13 +31,11 @@ impl Model for Queue {
 
     ghost Value = { List machine.Entry };
 
-    ghost use Rattle.std.specs.Map.{values_of};
-    ghost use Rattle.flt_model.specs.World as machine;
-    ghost use Rattle.flt_records.specs.Tickets.{AreTickets};
+    ghost use Rattle.flt_records.specs.Tickets.{present, AreTickets};
 
-    ghost view = { λ q. values_of q.entries.entries };
+    ghost view = { λ q. present q.entries.items };
 
-    ghost invariant = { λ q. AreTickets q.entries.entries q.next q.tickets.set };
+    ghost invariant = { λ q. AreTickets q.entries.items q.front q.starts q.counts };
 }
 
 impl Queue {
@@ -40,64 +43,55 @@ impl Queue {
         ensures { result ≡ [] }
     {
         Queue {
-            entries: BTreeMap::new(alloc),
-            next: 0,
-            tickets: Places::new(alloc),
+            entries: Vec::new(alloc),
+            front: 0,
+            starts: NumberMap::new(alloc),
+            counts: Counts::new(alloc),
         }
     }
 
+    #[tactic(auto, using(crate::proofs::Queues::Tickets::nothing_left, crate::proofs::Queues::Tickets::something_left))]
     pub(crate) fn is_empty(&self) -> bool
         ensures { IsTrue result ↔ (self.now ≡ []) }
     {
-        self.entries.is_empty()
+        self.front == self.entries.len()
     }
 
     /// The visits of the entries, in order.
+    #[tactic(auto, using(crate::proofs::Queues::Tickets::listed_on))]
     pub(crate) fn visits(&self, alloc: Global) -> Result<Vec<usize>, AllocError>
         ensures { IfOk result (λ vs. vs.items ≡ map (λ (e : machine.Entry). e.visit) self.now) }
     {
         let mut visits = Vec::new(alloc);
-        for entry in self.entries.values() {
-            visits.push(entry.visit)?;
+        for ticket in self.front..self.entries.len() {
+            list_visit(&mut visits, self.entries.as_slice(), ticket)?;
         }
         Ok(visits)
     }
 
-    /// One more entry at the end. Its ticket is a number that no journal in memory reaches the end of.
-    #[tactic(auto, using(crate::proofs::Queues::QueueTickets::pushed, crate::proofs::Queues::QueueTickets::still_below))]
+    /// One more entry at the end.
     pub(crate) fn push(&mut self, entry: Entry) -> Result<(), AllocError>
         ensures ok { OnOk result (self.new ≡ self.old ++ entry ∷ []) }
         ensures err { OnErr result (self.new ≡ self.old) }
     {
-        let ticket = self.next;
+        let ticket = self.entries.len();
         let visit = entry.visit;
-        let Some(next) = ticket.checked_add(1) else {
-            return Err(AllocError);
-        };
-        self.tickets.insert(0, visit, ticket)?;
-        match self.entries.insert(ticket, entry) {
-            Ok(_) => {
-                self.next = next;
-                Ok(())
-            }
-            Err(_) => {
-                self.tickets.remove(0, visit, ticket);
-                Err(AllocError)
-            }
-        }
+        self.entries.reserve(1)?;
+        begin(&mut self.starts, &self.counts, visit, ticket)?;
+        self.counts.add(visit)?;
+        self.entries.push_reserved(Some(entry));
+        Ok(())
     }
 
     /// Takes the front entry out.
     pub(crate) fn take_first(&mut self) -> Option<Entry>
         ensures { MatchOption result ((self.old ≡ []) × (self.new ≡ [])) (λ e. self.old ≡ e ∷ self.new) }
     {
-        match self.entries.pop_first() {
-            Some((ticket, entry)) => {
-                self.tickets.remove(0, entry.visit, ticket);
-                Some(entry)
-            }
-            None => None,
-        }
+        let place = self.entries.get_mut(self.front)?;
+        let entry = place.take()?;
+        self.counts.take(entry.visit);
+        self.front = next_left(self.entries.as_slice(), self.front);
+        Some(entry)
     }
 
     /// Takes the first entry with one of some visits out.
@@ -105,26 +99,114 @@ impl Queue {
         ensures { MatchOption result ((find (is_of visits.now) self.old ≡ None) × (self.new ≡ self.old))
             (λ e. (find (is_of visits.now) self.old ≡ Some e) × (self.new ≡ without_first (is_of visits.now) self.old)) }
     {
-        let Some(ticket) = least_ticket(&self.tickets, visits) else {
+        let Some(ticket) = least_ticket(self.entries.as_slice(), &self.starts, &self.counts, visits)
+        else {
             return None;
         };
-        match self.entries.remove(&ticket) {
-            Some(entry) => {
-                self.tickets.remove(0, entry.visit, ticket);
-                Some(entry)
-            }
-            None => None,
-        }
+        let place = self.entries.get_mut(ticket)?;
+        let entry = place.take()?;
+        self.counts.take(entry.visit);
+        self.front = next_left(self.entries.as_slice(), self.front);
+        Some(entry)
     }
 }
 
-/// The least ticket of some visits.
-fn least_ticket(tickets: &Places, visits: &[usize]) -> Option<usize>
-    ensures { IsLeast tickets.now.set visits.now result }
+/// A visit that has no entry is looked for from a ticket on.
+fn begin(
+    starts: &mut NumberMap,
+    counts: &Counts,
+    visit: usize,
+    ticket: usize,
+) -> Result<(), AllocError>
+    ensures begun { OnOk result (count counts.now visit ≡ 0 → (n : ℕ) →
+        get_or starts.new n None ≡ (if visit == n then Some ticket else get_or starts.old n None)) }
+    ensures kept { OnOk result ((count counts.now visit ≡ 0 → ⊥) → starts.new ≡ starts.old) }
+    ensures err { OnErr result (starts.new ≡ starts.old) }
+{
+    if counts.count(visit) == 0 {
+        starts.set(visit, ticket)?;
+    }
+    Ok(())
+}
+
+/// Lists the visit of a ticket's entry, if it is there.
+fn list_visit(
+    visits: &mut Vec<usize>,
+    entries: &[Option<Entry>],
+    ticket: usize,
+) -> Result<(), AllocError>
+    ensures { OnOk result (visits.new.items ≡ visits.old.items ++ map (λ (e : machine.Entry). e.visit) (present (get_or entries.now ticket None ∷ []))) }
+{
+    if let Some(Some(entry)) = entries.get(ticket) {
+        visits.push(entry.visit)?;
+    }
+    Ok(())
+}
+
+/// The first ticket from one on whose entry is left, or the next ticket where none is.
+#[tactic(auto, using(crate::proofs::Queues::Tickets::taken_on))]
+fn next_left(entries: &[Option<Entry>], from: usize) -> usize
+    ensures within { from ≤ length entries.now → result ≤ length entries.now }
+    ensures taken { present (take from entries.now) ≡ [] → present (take result entries.now) ≡ [] }
+    ensures first { result < length entries.now → is_some (get_or entries.now result None) ≡ true }
+{
+    let mut ticket = from;
+    while let Some(None) = entries.get(ticket) {
+        ticket += 1;
+    }
+    ticket
+}
+
+/// Whether the entry of a ticket is there and has a visit.
+#[tactic(auto, unfolding(crate::specs::Tickets::stands))]
+fn stands(entries: &[Option<Entry>], visit: usize, ticket: usize) -> bool
+    ensures { result ≡ stands entries.now visit ticket }
+{
+    match entries.get(ticket) {
+        Some(Some(entry)) => entry.visit == visit,
+        _ => false,
+    }
+}
+
+/// The first ticket of a visit, where entries are counted and stand from their visits' starts on.
+#[tactic(auto, using(crate::proofs::Queues::Tickets::not_counted, crate::proofs::Queues::Tickets::first_found, crate::proofs::Queues::Tickets::first_nowhere))]
+fn first_ticket(
+    entries: &[Option<Entry>],
+    starts: &NumberMap,
+    counts: &Counts,
+    visit: usize,
+) -> Option<usize>
+    requires counted { (v : ℕ) → count counts.now v ≡ in_queue v (present entries.now) }
+    requires later { (v t : ℕ) → is_before t (get_or starts.now v None) ≡ true → stands entries.now v t ≡ false }
+    ensures { MatchOption result ((t : ℕ) → stands entries.now visit t ≡ false)
+        (λ n. (stands entries.now visit n ≡ true) × ((t : ℕ) → t < n → stands entries.now visit t ≡ false)) }
+{
+    if counts.count(visit) == 0 {
+        return None;
+    }
+    let start = starts.get(visit)?;
+    for ticket in start..entries.len() {
+        if stands(entries, visit, ticket) {
+            return Some(ticket);
+        }
+    }
+    None
+}
+
+/// The least ticket of some visits, where entries are counted and stand from their visits' starts on.
+fn least_ticket(
+    entries: &[Option<Entry>],
+    starts: &NumberMap,
+    counts: &Counts,
+    visits: &[usize],
+) -> Option<usize>
+    requires counted { (v : ℕ) → count counts.now v ≡ in_queue v (present entries.now) }
+    requires later { (v t : ℕ) → is_before t (get_or starts.now v None) ≡ true → stands entries.now v t ≡ false }
+    ensures { IsLeast entries.now visits.now result }
 {
     let mut least: Option<usize> = None;
     for visit in visits {
-        least = lesser(least, tickets.first(0, *visit));
+        least = lesser(least, first_ticket(entries, starts, counts, *visit));
     }
     least
 }

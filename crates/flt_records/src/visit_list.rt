@@ -5,9 +5,9 @@ ghost use Rattle.std.specs.List.{list_any};
 ghost use Rattle.flt_model.specs.Moves as moves;
 ghost use Rattle.flt_records.specs.Unsettled.{is_visit_of};
 
+use crate::counts::Counts;
+use crate::number_map::NumberMap;
 use crate::parts::Visit;
-use crate::place_set::Places;
-use sqlite_items::at;
 use std::alloc::{AllocError, Global};
 use std::marker::Model;
 
@@ -16,10 +16,12 @@ use std::marker::Model;
 pub struct Visits {
     visits: Vec<Visit>,
     settled: Vec<bool>,
-    /// Of each operation, its visits.
-    numbers: Places,
-    /// Of each operation, its visits that aren't settled.
-    unsettled: Places,
+    /// Of each visit, its operation's visit before it.
+    before: Vec<Option<usize>>,
+    /// Of each operation, its last visit.
+    last: NumberMap,
+    /// Of each operation, how many of its visits aren't settled.
+    unsettled: Counts,
 }
 
 impl Model for Visits {
@@ -32,7 +34,7 @@ impl Model for Visits {
 
     ghost view = { λ v. (v.visits.items, v.settled.items) };
 
-    ghost invariant = { λ v. AreVisits v.visits.items v.settled.items v.numbers.set v.unsettled.set };
+    ghost invariant = { λ v. AreVisits v.visits.items v.settled.items v.before.items v.last v.unsettled };
 }
 
 impl Visits {
@@ -43,8 +45,9 @@ impl Visits {
         Visits {
             visits: Vec::new(alloc),
             settled: Vec::new(alloc),
-            numbers: Places::new(alloc),
-            unsettled: Places::new(alloc),
+            before: Vec::new(alloc),
+            last: NumberMap::new(alloc),
+            unsettled: Counts::new(alloc),
         }
     }
 
@@ -77,15 +80,18 @@ impl Visits {
         let operation = visit.operation;
         self.visits.reserve(1)?;
         self.settled.reserve(1)?;
-        self.numbers.insert(0, operation, number)?;
-        match self.unsettled.insert(0, operation, number) {
+        self.before.reserve(1)?;
+        let before = self.last.get(operation);
+        self.unsettled.add(operation)?;
+        match self.last.set(operation, number) {
             Ok(()) => {
                 self.visits.push_reserved(visit);
                 self.settled.push_reserved(false);
+                self.before.push_reserved(before);
                 Ok(())
             }
             Err(refused) => {
-                self.numbers.remove(0, operation, number);
+                self.unsettled.take(operation);
                 Err(refused)
             }
         }
@@ -95,24 +101,24 @@ impl Visits {
     pub fn settle(&mut self, visit: usize)
         ensures { self.new ≡ (self.old.0, set self.old.1 visit true) }
     {
-        let number = visit;
-        if let Some(visit) = self.visits.get(number) {
-            self.unsettled.remove(0, visit.operation, number);
+        let Some(settled) = self.settled.get_mut(visit) else {
+            return;
+        };
+        if *settled {
+            return;
         }
-        if let Some(settled) = self.settled.get_mut(number) {
-            *settled = true;
+        *settled = true;
+        if let Some(visit) = self.visits.get(visit) {
+            self.unsettled.take(visit.operation);
         }
     }
 
     /// Whether all visits of an operation are settled.
-    #[tactic(auto, using(crate::proofs::PlaceSets::VisitPlaces::all_settled, crate::proofs::PlaceSets::VisitPlaces::one_unsettled))]
+    #[tactic(auto, using(crate::proofs::VisitLinks::none_unsettled))]
     pub fn are_settled(&self, operation: usize) -> bool
         ensures { result ≡ moves.are_settled operation self.now.0 self.now.1 }
     {
-        match self.unsettled.first(0, operation) {
-            Some(_) => false,
-            None => true,
-        }
+        self.unsettled.count(operation) == 0
     }
 
     /// The visits of an operation.
@@ -120,10 +126,13 @@ impl Visits {
         ensures { IfOk result (λ vs. (v : ℕ) → list_any (nat_eq v) vs.items ≡ is_visit_of operation self.now.0 v) }
     {
         let mut numbers = Vec::new(alloc);
-        let mut from = 0;
-        while let Some(number) = self.numbers.next(0, operation, from) {
+        let mut latest = self.last.get(operation);
+        while let Some(number) = latest {
             numbers.push(number)?;
-            from = number + 1;
+            latest = match self.before.get(number) {
+                Some(before) => *before,
+                None => None,
+            };
         }
         Ok(numbers)
     }

@@ -18,10 +18,10 @@ use Rattle.flt_replay.specs.Rows.{count_of}
 pub record Tally : Type 0 where
   pub contexts : List (List (ℕ × ℕ))
   pub visits : List (List (ℕ × ℕ))
-  pub freed : List (ℕ × ℕ)
-  pub settled : List (ℕ × ℕ)
+  pub freed : List ℕ
+  pub settled : List ℕ
   pub running : List Bool
-  pub holders : List (ℕ × ℕ)
+  pub holders : List ℕ
 
 -- how often an activation holds an object
 abbrev pub held : Tally → ℕ → Object → ℕ

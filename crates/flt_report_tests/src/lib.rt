@@ -2,4 +2,8 @@
 #![tactic(auto)]
 
 #[cfg(test)]
+mod reported;
+#[cfg(test)]
 mod reports;
+#[cfg(test)]
+mod unread;

@@ -67,7 +67,7 @@ fn help(rule: Rule, subject: Subject) -> (&'static str, Option<&'static str>) {
         ),
         (Rule::R06, _) => ("the status must fit what became of the operation", None),
         (Rule::R07, _) => (
-            "make the call before the lock is taken or after its release, or in a work routine",
+            "make the call where the level is lower: before a lock is taken, after its release, or in a work routine",
             None,
         ),
         (Rule::R08, Subject::Draining) => (
@@ -88,14 +88,24 @@ fn help(rule: Rule, subject: Subject) -> (&'static str, Option<&'static str>) {
     }
 }
 
-/// Writes how to mend what is found.
-pub(crate) fn tell_help(page: &mut Page, tree: &Tree, finding: &Finding) -> Result<(), AllocError> {
+/// Writes how to mend what is found, in words alone.
+pub(crate) fn tell_advice(
+    page: &mut Page,
+    tree: &Tree,
+    finding: &Finding,
+) -> Result<(), AllocError> {
     let (before, behind) = help(finding.rule, finding.subject);
-    page.text("   = help: ")?;
     page.text(before)?;
     if let Some(behind) = behind {
         tell_subject(page, tree, finding.subject)?;
         page.text(behind)?;
     }
+    Ok(())
+}
+
+/// Writes how to mend what is found.
+pub(crate) fn tell_help(page: &mut Page, tree: &Tree, finding: &Finding) -> Result<(), AllocError> {
+    page.text("   = help: ")?;
+    tell_advice(page, tree, finding)?;
     page.text("\n")
 }

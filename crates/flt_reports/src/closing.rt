@@ -13,7 +13,7 @@ use std::fmt;
 
 /// `R01` to `R15`.
 #[derive(Drop)]
-pub(crate) struct RuleName(pub(crate) Rule);
+pub struct RuleName(pub Rule);
 
 impl fmt::Display for RuleName {
     ghost output = { λ r. Some (spec.rule_name r.0) };
@@ -46,7 +46,7 @@ impl fmt::Display for RefusalLine {
 }
 
 /// `E01` to `E08`.
-pub(crate) fn fault_name(kind: FaultKind) -> &'static str
+pub fn fault_name(kind: FaultKind) -> &'static str
     ensures { result.now ≡ spec.fault_name kind }
 {
     match kind {

@@ -1,17 +1,18 @@
-//! The report of one finding.
+//! The report of findings that are put together.
 
 use crate::advice::{tell_help, tell_title};
 use crate::closing::RuleName;
-use crate::marks::Drawing;
 use crate::page::{Page, Style};
-use crate::sites::{Site, Sites};
-use crate::subjects::{state_word, tell_subject};
-use crate::way_lines::{call_outcome, origin, tell_way};
-use flt_explain::{Finding, Subject};
-use flt_graph::{Graph, Instruction};
+use crate::shown_lines::{draw_alone, draw_way};
+use crate::sites::Sites;
+use crate::tracing::{Shown, Traces};
+use crate::way_lines::tell_way;
+use flt_explain::Finding;
+use flt_graph::Graph;
+use flt_origins::{Group, Origin, Traced};
 use flt_rules::Rule;
 use flt_syntax::Tree;
-use flt_ways::{Answer, Step, Way, Ways, ways};
+use flt_ways::{Answer, Ways};
 use std::alloc::{AllocError, Global};
 
 /// A text that parses, with all that a report looks up.
@@ -63,125 +64,17 @@ fn tell_head(
     tell_place(page, scene.name, head, finding)
 }
 
-/// Writes what a mark says where the way's last change is.
-fn tell_origin(
-    page: &mut Page,
-    scene: &Scene<'_>,
-    finding: &Finding,
-    way: &Way,
-    step: Step,
-) -> Result<(), AllocError> {
-    if let Subject::Call = finding.subject {
-        return page.text(" taken here\n");
-    }
-    page.text(" ")?;
-    tell_subject(page, scene.tree, finding.subject)?;
-    if let Some(word) = state_word(way.end.situation.state(), finding.subject) {
-        page.text(" becomes ")?;
-        page.text(word)?;
-    }
-    page.text(" here")?;
-    if let Instruction::Call(call, _, _) = scene.graph.instruction(finding.callback, step.point) {
-        if let Some(outcome) = call_outcome(&call, step.granted) {
-            page.text(", where this ")?;
-            page.text(outcome)?;
-        }
-    }
-    page.text("\n")
-}
-
-/// Writes what the mark of the finding's point says.
-fn tell_point(
-    page: &mut Page,
-    scene: &Scene<'_>,
-    finding: &Finding,
-    way: Option<&Way>,
-) -> Result<(), AllocError> {
-    if let Rule::R12 = finding.rule {
-        return page.text(" this way leads on with other locks\n");
-    }
-    if let Some(way) = way {
-        if let Some(word) = state_word(way.end.situation.state(), finding.subject) {
-            page.text(" ")?;
-            tell_subject(page, scene.tree, finding.subject)?;
-            page.text(" is ")?;
-            page.text(word)?;
-            page.text(" here")?;
-        }
-    }
-    page.text("\n")
-}
-
-/// Draws the finding's point.
-fn draw_point(
-    page: &mut Page,
-    scene: &Scene<'_>,
-    finding: &Finding,
-    way: Option<&Way>,
-    drawing: &mut Drawing,
-) -> Result<(), AllocError> {
-    let Some(site) = scene.sites.site(finding.callback, finding.point) else {
-        return Ok(());
-    };
-    drawing.draw(page, scene.text, &site, b'^')?;
-    tell_point(page, scene, finding, way)
-}
-
-/// Draws the last change on the way.
-fn draw_origin(
-    page: &mut Page,
-    scene: &Scene<'_>,
-    finding: &Finding,
-    way: &Way,
-    made: Option<(Step, Site)>,
-    drawing: &mut Drawing,
-) -> Result<(), AllocError> {
-    let Some((step, site)) = made else {
-        return Ok(());
-    };
-    drawing.draw(page, scene.text, &site, b'-')?;
-    tell_origin(page, scene, finding, way, step)
-}
-
-/// The last change on a way, with its site.
-fn made_on(scene: &Scene<'_>, finding: &Finding, way: &Way) -> Option<(Step, Site)> {
-    let callback = finding.callback;
-    let step = origin(scene, callback, finding.subject, way.steps.as_slice())?;
-    let site = scene.sites.site(callback, step.point)?;
-    Some((step, site))
-}
-
-/// Draws the lines that show a finding on a way, in their order in the text.
-fn draw_way(
-    page: &mut Page,
-    scene: &Scene<'_>,
-    finding: &Finding,
-    way: &Way,
-) -> Result<(), AllocError> {
-    let made = made_on(scene, finding, way);
-    let line = match &made {
-        Some((_, site)) => site.line,
-        None => 0,
-    };
-    let mut drawing = Drawing::new(finding.line.max(line));
-    if line <= finding.line {
-        draw_origin(page, scene, finding, way, made, &mut drawing)?;
-        draw_point(page, scene, finding, Some(way), &mut drawing)
-    } else {
-        draw_point(page, scene, finding, Some(way), &mut drawing)?;
-        draw_origin(page, scene, finding, way, made, &mut drawing)
-    }
-}
-
 /// Writes what shows a finding.
 fn tell_ways(
+    alloc: Global,
     page: &mut Page,
     scene: &Scene<'_>,
     finding: &Finding,
     found: &Ways,
+    origin: Option<&Origin>,
 ) -> Result<(), AllocError> {
     let callback = finding.callback;
-    draw_way(page, scene, finding, &found.way)?;
+    draw_way(alloc, page, scene, finding, found, origin)?;
     let steps = found.way.steps.as_slice();
     tell_way(page, scene, callback, "   = way: ", steps)?;
     if let Some(other) = &found.other {
@@ -191,38 +84,34 @@ fn tell_ways(
     Ok(())
 }
 
-/// Writes the finding's point alone.
-fn tell_alone(page: &mut Page, scene: &Scene<'_>, finding: &Finding) -> Result<(), AllocError> {
-    let mut drawing = Drawing::new(finding.line);
-    draw_point(page, scene, finding, None, &mut drawing)
-}
-
 /// Writes how a finding is reached.
-fn tell_answer(
+fn tell_shown(
+    alloc: Global,
     page: &mut Page,
     scene: &Scene<'_>,
     finding: &Finding,
-    answer: &Answer,
+    shown: &Shown,
 ) -> Result<(), AllocError> {
-    match answer {
-        Answer::Clean(found) => tell_ways(page, scene, finding, found),
+    let origin = shown.origin.as_ref();
+    match &shown.answer {
+        Answer::Clean(found) => tell_ways(alloc, page, scene, finding, found, origin),
         Answer::Behind(found) => {
-            tell_ways(page, scene, finding, found)?;
+            tell_ways(alloc, page, scene, finding, found, origin)?;
             page.text(
                 "   = note: each way that was found breaks another rule before: mend that first\n",
             )
         }
         Answer::Unreached => {
-            tell_alone(page, scene, finding)?;
+            draw_alone(alloc, page, scene, finding, origin)?;
             page.text(
                 "   = note: no way was found: the text is refused because the sets of the rules forget what goes together\n",
             )?;
             page.text(
-                "   = help: test the variable itself (`if c0 != NULL`), and not what it depends on\n",
+                "   = help: test the variable itself, as by `if c0 != NULL`, and not what it depends on\n",
             )
         }
         Answer::Unknown => {
-            tell_alone(page, scene, finding)?;
+            draw_alone(alloc, page, scene, finding, origin)?;
             page.text(
                 "   = note: the search for a way was ended, since there are too many situations\n",
             )
@@ -230,15 +119,40 @@ fn tell_answer(
     }
 }
 
-/// Writes the report of one finding.
-pub(crate) fn report_finding(
+/// Writes the lines on which the others of a group stand, each once.
+fn tell_others(page: &mut Page, others: &[Traced]) -> Result<(), AllocError> {
+    let mut last: usize = 0;
+    for other in others {
+        let line = other.finding.line;
+        if line != last {
+            let word = if last == 0 {
+                "   = note: also at line "
+            } else {
+                ", "
+            };
+            page.counted(word, line)?;
+            last = line;
+        }
+    }
+    if last == 0 {
+        return Ok(());
+    }
+    page.text("\n")
+}
+
+/// Writes the report of a group of findings: that of the first, and where the others are.
+pub(crate) fn report_group(
     alloc: Global,
     page: &mut Page,
     scene: &Scene<'_>,
-    finding: &Finding,
+    traces: &Traces,
+    group: &Group,
 ) -> Result<(), AllocError> {
-    let answer = ways(alloc, scene.graph, finding)?;
-    tell_head(alloc, page, scene, finding)?;
-    tell_answer(page, scene, finding, &answer)?;
-    tell_help(page, scene.tree, finding)
+    let finding = group.first.finding;
+    tell_head(alloc, page, scene, &finding)?;
+    if let Some(shown) = traces.shown(&group.first) {
+        tell_shown(alloc, page, scene, &finding, shown)?;
+    }
+    tell_others(page, group.others.as_slice())?;
+    tell_help(page, scene.tree, &finding)
 }

@@ -17,7 +17,11 @@ pub enum Judged {
 }
 
 /// What a text is found to be.
-pub(crate) fn judge(alloc: Global, text: &[u8]) -> Result<Judged, AllocError>
+///
+/// # Errors
+///
+/// Where a growth was refused.
+pub fn judge(alloc: Global, text: &[u8]) -> Result<Judged, AllocError>
     ensures { IfOk result (spec.IsJudged text.now) }
 {
     match parse(alloc, text) {
@@ -33,7 +37,7 @@ pub(crate) fn judge(alloc: Global, text: &[u8]) -> Result<Judged, AllocError>
 
 impl Judged {
     /// 0 where nothing is found, 1 where something is, 2 where the text doesn't parse.
-    pub(crate) fn status(&self) -> u8
+    pub fn status(&self) -> u8
         ensures { result ≡ spec.status_of self.now }
     {
         match self {

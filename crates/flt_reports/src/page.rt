@@ -34,15 +34,15 @@ impl Page {
         self.out.extend_from_slice(text.as_bytes())
     }
 
-    /// Bytes of a text. What isn't printed as it stands is a `?`.
+    /// Whole lines, as they stand.
+    pub(crate) fn lines(&mut self, lines: &[u8]) -> Result<(), AllocError> {
+        self.out.extend_from_slice(lines)
+    }
+
+    /// Bytes of a text. A tab is a blank, and what isn't printed as it stands a `?`, so that each byte has one column.
     pub(crate) fn bytes(&mut self, bytes: &[u8]) -> Result<(), AllocError> {
         for byte in bytes {
-            let shown = if *byte < 32 || *byte == 127 {
-                b'?'
-            } else {
-                *byte
-            };
-            self.out.push(shown)?;
+            self.out.push(shown(*byte))?;
         }
         Ok(())
     }
@@ -89,6 +89,15 @@ impl Page {
         self.style(style)?;
         self.text(text)?;
         self.style(Style::Plain)
+    }
+}
+
+/// What is printed for a byte of a text.
+fn shown(byte: u8) -> u8 {
+    match byte {
+        b'\t' => b' ',
+        0..=31 | 127 => b'?',
+        _ => byte,
     }
 }
 

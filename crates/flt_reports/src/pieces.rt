@@ -122,6 +122,14 @@ pub(crate) fn piece_at<'a>(text: &'a [u8], pieces: &[Piece], at: usize) -> &'a [
     }
 }
 
+/// A line without the carriage return that may end it.
+fn without_return(line: &[u8]) -> &[u8] {
+    match line {
+        [rest @ .., b'\r'] => rest,
+        _ => line,
+    }
+}
+
 /// A line of a text, from 1, without its end.
 pub(crate) fn line_at(text: &[u8], line: usize) -> &[u8] {
     let mut at: usize = 0;
@@ -130,7 +138,7 @@ pub(crate) fn line_at(text: &[u8], line: usize) -> &[u8] {
     for byte in text {
         if *byte == b'\n' {
             if number == line {
-                return between(text, start, at);
+                return without_return(between(text, start, at));
             }
             number = number.saturating_add(1);
             start = at.saturating_add(1);
@@ -138,7 +146,7 @@ pub(crate) fn line_at(text: &[u8], line: usize) -> &[u8] {
         at = at.saturating_add(1);
     }
     if number == line {
-        return between(text, start, at);
+        return without_return(between(text, start, at));
     }
     &[]
 }

@@ -3,16 +3,17 @@
 ghost use Rattle.std.specs.Prelude.{◌≡◌, IfOk, map, max};
 ghost use Rattle.flt_reports.specs.Reports as spec;
 
-use crate::closing::{close, fault_name};
-use crate::finding_report::{Scene, report_finding};
+use crate::closing::close;
+use crate::fault_report::report_fault;
+use crate::finding_report::{Scene, report_group};
 use crate::judged::{Judged, judge};
-use crate::marks::Drawing;
-use crate::page::{Page, Style};
+use crate::page::Page;
 use crate::pieces::pieces;
-use crate::sites::{Site, Sites};
+use crate::sites::Sites;
+use crate::tracing::Traces;
 use flt_explain::Finding;
 use flt_graph::Graph;
-use flt_syntax::{FaultKind, SyntaxFault, Tree};
+use flt_syntax::Tree;
 use std::alloc::{AllocError, Global};
 
 /// A text, and the name under which it is reported.
@@ -29,74 +30,16 @@ pub struct Explained {
     pub status: u8,
 }
 
-/// What is wrong where a text doesn't parse.
-fn fault_title(kind: FaultKind) -> &'static str {
-    match kind {
-        FaultKind::E01 => "no word or symbol begins with this byte",
-        FaultKind::E02 => "this is no word or number, or it is too long or too great",
-        FaultKind::E03 => "another word or symbol is expected here",
-        FaultKind::E04 => "nothing of this name is declared here",
-        FaultKind::E05 => "this is declared twice",
-        FaultKind::E06 => "a limit is passed here",
-        FaultKind::E07 => "a callback is missing that this needs",
-        FaultKind::E08 => "this variable stands twice in one call",
-    }
-}
-
-/// Writes what is wrong where a text doesn't parse.
-fn tell_fault(page: &mut Page, fault: &SyntaxFault) -> Result<(), AllocError> {
-    page.style(Style::Mark)?;
-    page.text("error[")?;
-    page.text(fault_name(fault.kind))?;
-    page.text("]: ")?;
-    page.style(Style::Plain)?;
-    page.styled(Style::Title, fault_title(fault.kind))
-}
-
-/// Writes where that is.
-fn tell_fault_place(page: &mut Page, name: &str, fault: &SyntaxFault) -> Result<(), AllocError> {
-    page.text("\n  --> ")?;
-    page.bytes(name.as_bytes())?;
-    page.counted(":", fault.line)?;
-    page.counted(":", fault.column)?;
-    page.text("\n")
-}
-
-/// Draws the line of a fault with a mark under its place.
-fn draw_fault(page: &mut Page, text: &[u8], fault: &SyntaxFault) -> Result<(), AllocError> {
-    let mut drawing = Drawing::new(fault.line);
-    let site = Site {
-        callback: 0,
-        point: 0,
-        line: fault.line,
-        column: fault.column,
-        start: 0,
-        end: 1,
-    };
-    drawing.draw(page, text, &site, b'^')?;
-    page.text("\n")
-}
-
-/// Writes the first fault of a text with its line.
-fn report_fault(
-    page: &mut Page,
-    source: Source<'_>,
-    fault: &SyntaxFault,
-) -> Result<(), AllocError> {
-    tell_fault(page, fault)?;
-    tell_fault_place(page, source.name, fault)?;
-    draw_fault(page, source.text, fault)
-}
-
-/// Writes all findings of a text.
+/// Writes all findings of a text, those of one origin in one report.
 fn report_findings(
     alloc: Global,
     page: &mut Page,
     scene: &Scene<'_>,
     found: &[Finding],
 ) -> Result<(), AllocError> {
-    for finding in found {
-        report_finding(alloc, page, scene, finding)?;
+    let traces = Traces::of(alloc, scene.graph, found)?;
+    for group in traces.groups.as_slice() {
+        report_group(alloc, page, scene, &traces, group)?;
     }
     Ok(())
 }
@@ -142,7 +85,7 @@ fn report_judged(
     judged: &Judged,
 ) -> Result<(), AllocError> {
     match judged {
-        Judged::Unread(fault) => report_fault(page, source, fault),
+        Judged::Unread(_) => report_fault(alloc, page, source.name, source.text),
         Judged::Known(tree, graph, found) => {
             report_known(alloc, page, source, tree, graph, found.as_slice())
         }

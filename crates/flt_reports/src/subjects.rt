@@ -3,6 +3,8 @@
 use crate::page::Page;
 use flt_abs::{Abs, Statuses};
 use flt_explain::Subject;
+use flt_origins::{Fact, VariableStatus};
+use flt_rules::Mode;
 use flt_syntax::Tree;
 use std::alloc::AllocError;
 
@@ -63,5 +65,21 @@ pub(crate) fn state_word(state: &Abs, subject: Subject) -> Option<&'static str> 
             _ => None,
         },
         Subject::Call | Subject::Status => None,
+    }
+}
+
+/// What a fact says, in a word.
+pub(crate) fn fact_word(fact: Fact) -> &'static str {
+    match fact {
+        Fact::Context(_, VariableStatus::Null) | Fact::Operation(_, VariableStatus::Null) => "NULL",
+        Fact::Context(_, VariableStatus::Held) | Fact::Operation(_, VariableStatus::Held) => "held",
+        Fact::Context(_, VariableStatus::Stale) | Fact::Operation(_, VariableStatus::Stale) =>
+            "stale",
+        Fact::Mode(Mode::Irp) => "IRP",
+        Fact::Mode(Mode::Fast) => "fast I/O",
+        Fact::Draining(true) => "set",
+        Fact::Draining(false) => "not set",
+        Fact::Lock(_, true) => "taken",
+        Fact::Lock(_, false) => "not taken",
     }
 }

@@ -1,7 +1,7 @@
--- What a subject asks for is no arrival.
-use Rattle.std.proofs.Common.{◌≡◌, ℕ, Bool, true, false, List, [], ◌∷◌, Option, Some, None, if◌then◌else◌, IfSome, length, inl, inr, refl, sym, subst, ◌∙◌}
+-- What a subject asks for is none of what callers ask for.
+use Rattle.std.proofs.Common.{◌≡◌, ℕ, Bool, true, false, List, [], ◌∷◌, Option, Some, None, if◌then◌else◌, IfSome, length, inl, inr, refl, sym, subst}
 use Rattle.flt_dispatch.specs.Turns.{ComesAfterEntries, ComesAfterFrames, ComesNext, ComesNextIn, ComesNextOf, is_enabled, next_of}
-use Rattle.flt_machine.specs.Calls.{IsFullFor}
+use Rattle.flt_machine.specs.Calls.{IsFullFor, is_arrival}
 use Rattle.flt_machine.specs.Situations.{Situation}
 use Rattle.flt_model.specs.World.{World, Entry}
 use Rattle.flt_model.specs.declared.moves.Move.{Move}
@@ -77,7 +77,22 @@ pub teardown_following : (p : List Filter) (w : World) (altitude : ℕ) (o : Opt
 teardown_following p w altitude None next = tt
 teardown_following p w altitude (Some m) next = teardown_follows p w altitude m next
 
+-- it is no arrival
+no_arrival : (m : Move) → IsFollowing m → is_arrival m ≡ true → ⊥
+no_arrival (Arrive kind mode file) following arrives = cc
+no_arrival (Pre s) following arrives = cc
+no_arrival (Skip s) following arrives = cc
+no_arrival (Lower s) following arrives = cc
+no_arrival (Post s) following arrives = cc
+no_arrival (Cancel s) following arrives = cc
+no_arrival (Canceled at s) following arrives = cc
+no_arrival (Work i) following arrives = cc
+no_arrival (Detach at) following arrives = cc
+no_arrival (Drain at s) following arrives = cc
+no_arrival (Unlink at key) following arrives = cc
+no_arrival (Detached at) following arrives = cc
+
 -- such a move finds the board full only where the journal is
 pub full_journal : (b : Situation) (m : Move) → IsFollowing m → IsFullFor b m → length b.entries ≡ 1000000
 full_journal b m following (inl entries) = entries
-full_journal b m following (inr arrives) = absurd (let e : true ≡ false = sym arrives.0 ∙ following in cc)
+full_journal b m following (inr arrives) = absurd (no_arrival m following arrives.0)

@@ -6,7 +6,7 @@ use Rattle.flt_dispatch.specs.Turns.{ComesNextOf, next_of}
 use Rattle.flt_frame.specs.Loading.{AreLoaded}
 use Rattle.flt_frame.specs.declared.frame.Advanced.{Advanced}
 use Rattle.flt_frame.specs.declared.loaded.Loaded.{Loaded}
-use Rattle.flt_machine.specs.Calls.{Commits, IsAdvanced, IsBlocked, IsDisabled, Makes, instruction_for, is_arrival, leaves_choice_at}
+use Rattle.flt_machine.specs.Calls.{Commits, IsAdvanced, IsBlocked, IsDisabled, Makes, instruction_for, leaves_choice_at}
 use Rattle.flt_machine.specs.Situations.{Situation, IsBoard, Now, frame_of, standing_of}
 use Rattle.flt_machine.specs.Tickets.{after_go, after_move}
 use Rattle.flt_model.specs.Steps.{Make}
@@ -15,7 +15,7 @@ use Rattle.flt_model.specs.declared.event.Event.{Event}
 use Rattle.flt_model.specs.declared.moves.JournalEntry.{JournalEntry}
 use Rattle.flt_model.specs.declared.moves.JournalEntry.TheVariants as journal_entry
 use Rattle.flt_model.specs.declared.moves.Move.{Move}
-use Rattle.flt_model.specs.declared.moves.Move.TheVariants.{Canceled, Detached, Work}
+use Rattle.flt_model.specs.declared.moves.Move.TheVariants.{Arrive, Canceled, Detach, Detached, Work}
 use Rattle.flt_model.specs.declared.subject.Subject.{Subject}
 use Rattle.flt_model.specs.declared.subject.Subject.TheVariants as subject
 use Rattle.flt_run.specs.declared.choices.Choices.{Choices}
@@ -46,9 +46,15 @@ AsksFor p w (subject.Item item) move = move ≡ Some (Work item)
 AsksFor p w (subject.Entry altitude serial) move = move ≡ Some (Canceled altitude serial)
 AsksFor p w (subject.Detach altitude) move = ComesNextOf p w altitude move
 
--- a move that is no arrival
+-- a move that callers ask for: an operation arrives, or a teardown begins
+abbrev pub is_beginning : Move → Bool
+is_beginning (Arrive kind mode file) = true
+is_beginning (Detach altitude) = true
+is_beginning _ = false
+
+-- a move that callers don't ask for
 abbrev pub IsFollowing : Move → Type 0
-IsFollowing move = is_arrival move ≡ false
+IsFollowing move = is_beginning move ≡ false
 
 -- the board is as it was, or one move led from it to another, with one entry more
 abbrev pub HasMade : Loaded → Situation → Situation → Option Move → Type 0

@@ -39,8 +39,8 @@ impl Choices {
         !self.refused.contains(&self.made)
     }
 
-    /// What was advanced goes on by its next step.
-    pub(crate) fn count(&mut self, loaded: &Loaded, advanced: &Advanced)
+    /// The step after an advance was made. It counts where it leaves a choice: memory or a work item that is asked for.
+    pub fn count(&mut self, loaded: &Loaded, advanced: &Advanced)
         ensures { self.new ≡ spec.counted self.old (machine.leaves_choice_at (instruction_for loaded.now advanced.now)) }
     {
         if leaves_choice(loaded, advanced) {

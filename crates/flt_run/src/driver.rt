@@ -11,6 +11,7 @@ ghost use Rattle.flt_tree.specs.declared.filter.Filter.{Filter};
 use crate::choices::Choices;
 use crate::fault::TurnFault;
 use crate::one::turn;
+use crate::watch::Watch;
 use flt_machine::{ApplyFault, Board, Events, Loaded};
 use flt_model::{Move, Subject};
 use flt_script::{Command, Script};
@@ -184,11 +185,12 @@ impl Worker {
     }
 
     /// Each command is given once the one before it has been worked off.
-    fn follow(
+    fn follow<W: Watch>(
         &mut self,
         alloc: Global,
         loaded: &Loaded,
         commands: &[Command],
+        watch: &mut W,
     ) -> Result<(), TurnFault>
         requires own { IsOwn loaded.now self.old.board }
         ensures own { RemainsBoard loaded.now self.old.board self.new.board }
@@ -197,6 +199,7 @@ impl Worker {
         for command in commands {
             self.give(alloc, loaded, *command)?;
             self.work(alloc, loaded)?;
+            watch.after(&self.board);
         }
         Ok(())
     }
@@ -204,13 +207,19 @@ impl Worker {
 
 /// Drives a new board by a script, by one worker. Each command is given once no ticket is left, or 1,000,000 were taken for the command
 /// before it. The worker takes the tickets of its own moves first, then those of the script's. What is loaded must be that of some filters.
-pub fn drive(alloc: Global, loaded: &Loaded, script: &Script) -> Result<Driven, AllocError>
+/// The board is shown to `watch` after each command.
+pub fn drive<W: Watch>(
+    alloc: Global,
+    loaded: &Loaded,
+    script: &Script,
+    watch: &mut W,
+) -> Result<Driven, AllocError>
     requires loaded { (p : List Filter) × AreLoaded p loaded.now }
     ensures own { IfOk result (λ d. (p : List Filter) → AreLoaded p loaded.now → IsBoard p d.board) }
     ensures full { IfOk result (λ d. d.is_full ≡ true → spec.IsFull d.board) }
 {
     let mut worker = Worker::new(alloc, loaded)?;
-    let is_full = match worker.follow(alloc, loaded, script.commands()) {
+    let is_full = match worker.follow(alloc, loaded, script.commands(), watch) {
         Ok(()) => false,
         Err(TurnFault::Full) => true,
         Err(TurnFault::OutOfMemory) => return Err(AllocError),

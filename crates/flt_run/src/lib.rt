@@ -8,7 +8,9 @@ mod choices;
 mod driver;
 mod fault;
 pub mod one;
+mod watch;
 
 pub use choices::Choices;
 pub use driver::{Driven, drive};
 pub use fault::TurnFault;
+pub use watch::{Unwatched, Watch};

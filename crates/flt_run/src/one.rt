@@ -38,8 +38,8 @@ impl Turned {
     }
 }
 
-/// The move that a subject asks for; none of an activation, which goes by steps.
-fn asked_by(board: &Board, loaded: &Loaded, subject: Subject) -> Option<Move>
+/// The move that a subject asks for, enabled or not; none of an activation, which goes by steps. It is none of what callers ask for.
+pub fn asked_by(board: &Board, loaded: &Loaded, subject: Subject) -> Option<Move>
     requires own { IsOwn loaded.now board.now }
     ensures asks { Now loaded.now board.now (λ p m. spec.AsksFor p m.world subject result) }
     ensures following { IfSome result spec.IsFollowing }
@@ -53,8 +53,8 @@ fn asked_by(board: &Board, loaded: &Loaded, subject: Subject) -> Option<Move>
     }
 }
 
-/// Whether a subject goes to the end of the list after a move.
-fn stays_after(subject: Subject, made: Option<Move>) -> bool
+/// Whether a subject goes to the end of the list after its turn, in which this move was made, or none.
+pub fn stays_after(subject: Subject, made: Option<Move>) -> bool
     ensures { result ≡ spec.stays_after subject made }
 {
     match (subject, made) {

@@ -1,7 +1,7 @@
 //! Scripts on texts that have no certificates yet: the journals as they are written, and why there is none.
 
 use crate::scripts::{CASES, HIGH, LOW, PENDS};
-use flt_driven::{Ran, RunFault, run};
+use flt_driven::{Ran, RunFault, Unwatched, run};
 use flt_rules::number;
 use std::alloc::{AllocError, Global};
 use std::test::Fail;
@@ -127,7 +127,7 @@ fn ran(alloc: Global, texts: &[&str], script: &str) -> Result<Result<Ran, RunFau
         let bytes = Vec::from_slice(alloc, text.as_bytes())?;
         owned.push(bytes)?;
     }
-    Ok(run(alloc, script.as_bytes(), owned.as_slice()))
+    Ok(run(alloc, script.as_bytes(), owned.as_slice(), &mut Unwatched))
 }
 
 /// Whether a script came to its end, and its journal is written so.

@@ -7,7 +7,7 @@ ghost use Rattle.flt_tree.specs.WellFormed.{IsWellFormed};
 
 use flt_machine::Loaded;
 use flt_model::{Journal, JournalEntry, Move, read};
-use flt_run::{Driven, drive};
+use flt_run::{Driven, Unwatched, drive};
 use flt_syntax::{Tree, parse, spelled_is_well_formed};
 use std::alloc::Global;
 use std::test::Fail;
@@ -104,7 +104,7 @@ fn driven(alloc: Global, texts: &[&str], script: &str) -> Result<Driven, Fail> {
     let trees = trees_of(alloc, texts)?;
     let script = flt_script::read(alloc, trees.as_slice(), script.as_bytes())?;
     let loaded = Loaded::new(alloc, trees)?;
-    Ok(drive(alloc, &loaded, &script)?)
+    Ok(drive(alloc, &loaded, &script, &mut Unwatched)?)
 }
 
 /// What is looked at of a script that was driven.

@@ -1,5 +1,5 @@
 -- What a search finds. This project's own definitions.
-use Rattle.std.specs.Prelude.{◌≡◌, ◌+◌, List, Option, IfSome, length}
+use Rattle.std.specs.Prelude.{◌≡◌, ◌+◌, List, Contains, length}
 use Rattle.flt_tree.specs.declared.filter.Filter.{Filter}
 use Rattle.flt_model.specs.Expansion as model
 use Rattle.flt_model.specs.declared.verdict.Verdict.TheVariants.{Breaks}
@@ -10,19 +10,18 @@ use Rattle.flt_seek.specs.declared.judging.Judged.TheVariants as judged
 use Rattle.flt_seek.specs.declared.seeking.Sought.{Sought}
 use Rattle.flt_seek.specs.declared.seeking.Sought.TheVariants as sought
 
--- the journal is a run up to its last entry, which is the first to break anything: this violation, which is the one that is wanted,
--- if one is
-pub record IsFound (p : List Filter) (wanted : Option Violation) (b : Broken) : Type 0 where
+-- the journal is a run up to its last entry, which is the first to break anything: this violation, which is one of those that are wanted
+pub record IsFound (p : List Filter) (wanted : List Violation) (b : Broken) : Type 0 where
   pub verdict : model.verdict p b.journal ≡ Breaks b.violation b.entry
   pub last : length b.journal ≡ b.entry + 1
-  pub meant : IfSome wanted (λ v. b.violation ≡ v)
+  pub meant : Contains wanted b.violation
 
 -- where something is found, it is so
-abbrev pub IsJudged : List Filter → Option Violation → Judged → Type 0
+abbrev pub IsJudged : List Filter → List Violation → Judged → Type 0
 IsJudged p wanted (judged.Wanted b) = IsFound p wanted b
 IsJudged p wanted _ = Unit {0}
 
 -- the same of a whole search
-abbrev pub IsSought : List Filter → Option Violation → Sought → Type 0
+abbrev pub IsSought : List Filter → List Violation → Sought → Type 0
 IsSought p wanted (sought.Found b) = IsFound p wanted b
 IsSought p wanted _ = Unit {0}

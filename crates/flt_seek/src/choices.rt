@@ -1,7 +1,10 @@
 //! What may come next in a world. An entry that isn't enabled does no harm, and one that is missing costs no more than a journal.
 
+ghost use Rattle.std.specs.Prelude.{◌≡◌};
+
 use crate::bounds::Round;
 use crate::making::steps_to_seen;
+use crate::spots::{Spot, ends_in};
 use flt_model::{JournalEntry, Key, Move, fits_mode};
 use flt_records::{Link, Position};
 use flt_rules::{Mode, Operation};
@@ -25,6 +28,8 @@ pub(crate) struct Field<'b, 'a> {
     pub(crate) trees: &'a [Tree],
     pub(crate) stack: &'b Stack<'a>,
     pub(crate) round: Round,
+    /// Where the break is looked for; anywhere where there is none.
+    pub(crate) spot: Option<Spot>,
 }
 
 /// The number as it stands in a journal. No world of a search has as many.
@@ -48,6 +53,29 @@ pub(crate) fn is_done(world: &World<'_>, operation: usize) -> bool {
 }
 
 impl<'b, 'a> Field<'b, 'a> {
+    // ---- where it breaks
+
+    /// Whether the last of some entries stands where the break is looked for.
+    pub(crate) fn is_met(&self, entries: &[JournalEntry]) -> Result<bool, AllocError> {
+        match self.spot {
+            Some(spot) => ends_in(self.alloc, self.trees, self.stack, entries, spot),
+            None => Ok(true),
+        }
+    }
+
+    /// The same, on any line of the callback.
+    pub(crate) fn on_any_line(&self) -> Field<'b, 'a>
+        ensures { result.trees.now ≡ self.now.trees.now }
+    {
+        let spot = match self.spot {
+            Some(spot) => Some(Spot { line: None, ..spot }),
+            None => None,
+        };
+        Field { spot, ..*self }
+    }
+
+    // ---- filters
+
     /// The altitude of the filter of a number.
     fn altitude(&self, filter: usize) -> Option<u32> {
         for tree in self.trees {

@@ -1,6 +1,6 @@
 //! What a journal is worth: the monitor judges it.
 
-ghost use Rattle.std.specs.Prelude.{◌≡◌, ◌↔◌, IfOk, IfSome, IsTrue};
+ghost use Rattle.std.specs.Prelude.{◌≡◌, ◌↔◌, IfOk, IsTrue, Contains};
 ghost use Rattle.flt_world.specs.Filters.{filters_of};
 ghost use Rattle.flt_seek.specs.Found as spec;
 
@@ -45,14 +45,16 @@ pub(crate) fn is_same(one: Violation, other: Violation) -> bool
     )
 }
 
-/// Whether a violation is the one that is wanted, if one is.
-fn is_wanted(wanted: Option<Violation>, violation: Violation) -> bool
-    ensures { IsTrue result → IfSome wanted (λ v. violation ≡ v) }
+/// Whether a violation is one of those that are wanted.
+fn is_wanted(wanted: &[Violation], violation: Violation) -> bool
+    ensures { IsTrue result → Contains wanted.now violation }
 {
-    match wanted {
-        Some(wanted) => is_same(violation, wanted),
-        None => true,
+    for one in wanted {
+        if is_same(violation, *one) {
+            return true;
+        }
     }
+    false
 }
 
 /// The journal of some entries.
@@ -68,10 +70,10 @@ fn journal_of(alloc: Global, entries: &[JournalEntry]) -> Result<Journal, AllocE
 pub(crate) fn judge(
     alloc: Global,
     trees: &[Tree],
-    wanted: Option<Violation>,
+    wanted: &[Violation],
     entries: &[JournalEntry],
 ) -> Result<Judged, AllocError>
-    ensures { IfOk result (spec.IsJudged (filters_of trees.now) wanted) }
+    ensures { IfOk result (spec.IsJudged (filters_of trees.now) wanted.now) }
 {
     let journal = journal_of(alloc, entries)?;
     match flt_replay::replay(alloc, trees, &journal)? {

@@ -2,12 +2,11 @@
 //! journals at most: the order of a queue isn't in it, nor is what is behind a context that an entry has.
 
 use crate::choices::is_done;
+use crate::spots::line_of;
 use flt_model::Key;
 use flt_records::{Context, Item, Position, Presence, Upcoming};
 use flt_rules::{Access, Mode, Operation, Stage};
-use flt_tree::{
-    Atom, ContextVariable, NumberVariable, OperationVariable, RemovedVariable, Statement,
-};
+use flt_tree::{Atom, ContextVariable, NumberVariable, OperationVariable, RemovedVariable};
 use flt_world::{Stack, World};
 use std::alloc::{AllocError, Global};
 
@@ -209,16 +208,6 @@ fn put_locks(
         mix.put_bool(matches!(held.access, Access::Exclusive));
     }
     Ok(())
-}
-
-fn line_of(statement: &Statement) -> usize {
-    match statement {
-        Statement::Act(line, _)
-        | Statement::Call(line, _)
-        | Statement::Return(line, _)
-        | Statement::If(line, _, _, _)
-        | Statement::Repeat(line, _, _) => *line,
-    }
 }
 
 fn put_upcoming(mix: &mut Mix, upcoming: Upcoming<'_>) {

@@ -9,7 +9,11 @@ use std::alloc::{AllocError, Global};
 const MAX_STEPS: u32 = 1_000_000;
 
 /// Makes steps that nobody else sees. False where one of them isn't such a step.
-fn go_unseen(world: &mut World<'_>, activation: usize, steps: u32) -> Result<bool, AllocError> {
+pub(crate) fn go_unseen(
+    world: &mut World<'_>,
+    activation: usize,
+    steps: u32,
+) -> Result<bool, AllocError> {
     for _ in 0..steps {
         if !flt_steps::step_unseen(world, activation)? {
             return Ok(false);

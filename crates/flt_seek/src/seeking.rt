@@ -10,6 +10,7 @@ use crate::judging::{Broken, Judged, judge};
 use crate::key::key_of;
 use crate::making::world_after;
 use crate::shortening::shorten;
+use crate::spots::Spot;
 use flt_model::{JournalEntry, Violation};
 use flt_tree::Tree;
 use flt_world::{Stack, World};
@@ -24,6 +25,13 @@ pub enum Sought {
     NotWithin,
     /// A round was ended: too many states.
     Cut,
+}
+
+/// What is sought: one of some violations, in a spot if there is one.
+#[derive(Clone, Copy)]
+pub struct Aim<'w> {
+    pub wanted: &'w [Violation],
+    pub spot: Option<Spot>,
 }
 
 /// A state that was reached by an entry from the state of a number; the first one by none.
@@ -49,6 +57,8 @@ const OPENING: Node = Node {
 struct Search {
     nodes: Vec<Node>,
     seen: BTreeSet<u64>,
+    /// The first that breaks what is wanted in the callback, but on another line.
+    spare: Option<Node>,
 }
 
 /// Who is on behind an entry that led to a world.
@@ -85,6 +95,7 @@ impl Search {
         Ok(Search {
             nodes,
             seen: BTreeSet::new(alloc),
+            spare: None,
         })
     }
 
@@ -130,16 +141,33 @@ impl Search {
         Ok(())
     }
 
+    /// Whether a journal breaks something where it is looked for. The first one on another line of the callback is kept, as the state
+    /// that it would lead to.
+    fn is_meant(
+        &mut self,
+        field: &Field<'_, '_>,
+        entries: &[JournalEntry],
+        node: Node,
+    ) -> Result<bool, AllocError> {
+        if field.is_met(entries)? {
+            return Ok(true);
+        }
+        if self.spare.is_none() && field.on_any_line().is_met(entries)? {
+            self.spare = Some(node);
+        }
+        Ok(false)
+    }
+
     /// What an entry makes of the state of a number. The entries that lead there have it as the last.
     fn follow<'a>(
         &mut self,
         field: &Field<'_, 'a>,
-        wanted: Option<Violation>,
+        wanted: &[Violation],
         entries: &[JournalEntry],
         node: Node,
         before: usize,
     ) -> Result<Option<Broken>, AllocError>
-        ensures { IfOk result (λ found. IfSome found (spec.IsFound (filters_of field.now.trees.now) wanted)) }
+        ensures { IfOk result (λ found. IfSome found (spec.IsFound (filters_of field.now.trees.now) wanted.now)) }
     {
         let Some(entry) = node.entry else {
             return Ok(None);
@@ -148,7 +176,12 @@ impl Search {
             return Ok(None);
         };
         match judge(field.alloc, field.trees, wanted, entries)? {
-            Judged::Wanted(broken) => return Ok(Some(broken)),
+            Judged::Wanted(broken) => {
+                if self.is_meant(field, entries, node)? {
+                    return Ok(Some(broken));
+                }
+                return Ok(None);
+            }
             Judged::Other => return Ok(None),
             Judged::Legal => {}
         }
@@ -161,12 +194,12 @@ impl Search {
     fn attempt<'a>(
         &mut self,
         field: &Field<'_, 'a>,
-        wanted: Option<Violation>,
+        wanted: &[Violation],
         entries: &mut Vec<JournalEntry>,
         node: Node,
         before: usize,
     ) -> Result<Option<Broken>, AllocError>
-        ensures { IfOk result (λ found. IfSome found (spec.IsFound (filters_of field.now.trees.now) wanted)) }
+        ensures { IfOk result (λ found. IfSome found (spec.IsFound (filters_of field.now.trees.now) wanted.now)) }
     {
         let Some(entry) = node.entry else {
             return Ok(None);
@@ -184,10 +217,10 @@ impl Search {
     fn expand<'a>(
         &mut self,
         field: &Field<'_, 'a>,
-        wanted: Option<Violation>,
+        wanted: &[Violation],
         number: usize,
     ) -> Result<Option<Broken>, AllocError>
-        ensures { IfOk result (λ found. IfSome found (spec.IsFound (filters_of field.now.trees.now) wanted)) }
+        ensures { IfOk result (λ found. IfSome found (spec.IsFound (filters_of field.now.trees.now) wanted.now)) }
     {
         let mut entries = self.entries(field.alloc, number)?;
         let Some(mut world) = world_after(field.alloc, field.stack, entries.as_slice())? else {
@@ -247,24 +280,73 @@ fn nodes_behind<'a>(
     Ok(nodes)
 }
 
+/// What a round comes to that found nothing where it looked: what was kept, if there is such.
+fn ended(
+    field: &Field<'_, '_>,
+    wanted: &[Violation],
+    search: &Search,
+    otherwise: Sought,
+) -> Result<Sought, AllocError>
+    requires { spec.IsSought (filters_of field.now.trees.now) wanted.now otherwise }
+    ensures { IfOk result (spec.IsSought (filters_of field.now.trees.now) wanted.now) }
+{
+    let Some(
+        Node {
+            from,
+            entry: Some(entry),
+            ..
+        },
+    ) = search.spare
+    else {
+        return Ok(otherwise);
+    };
+    let mut entries = search.entries(field.alloc, from)?;
+    entries.push(entry)?;
+    match judge(field.alloc, field.trees, wanted, entries.as_slice())? {
+        Judged::Wanted(broken) => Ok(Sought::Found(broken)),
+        _ => Ok(otherwise),
+    }
+}
+
 /// Seeks within the bounds of a round.
 fn seek_within<'a>(
     field: &Field<'_, 'a>,
-    wanted: Option<Violation>,
+    wanted: &[Violation],
     states: usize,
 ) -> Result<Sought, AllocError>
-    ensures { IfOk result (spec.IsSought (filters_of field.now.trees.now) wanted) }
+    ensures { IfOk result (spec.IsSought (filters_of field.now.trees.now) wanted.now) }
 {
     let mut search = Search::new(field.alloc)?;
     for number in 0..states {
         if number >= search.nodes.len() {
-            return Ok(Sought::NotWithin);
+            return ended(field, wanted, &search, Sought::NotWithin);
         }
         if let Some(broken) = search.expand(field, wanted, number)? {
             return Ok(Sought::Found(broken));
         }
     }
-    Ok(Sought::Cut)
+    ended(field, wanted, &search, Sought::Cut)
+}
+
+/// Takes out of what was found what isn't needed to break the same there.
+fn shortest(
+    field: &Field<'_, '_>,
+    wanted: &[Violation],
+    sought: Sought,
+) -> Result<Sought, AllocError>
+    requires { spec.IsSought (filters_of field.now.trees.now) wanted.now sought }
+    ensures { IfOk result (spec.IsSought (filters_of field.now.trees.now) wanted.now) }
+{
+    let Sought::Found(broken) = sought else {
+        return Ok(sought);
+    };
+    let last = broken.entry;
+    let shorter = if field.is_met(broken.journal.entries())? {
+        shorten(field, wanted, broken, last)?
+    } else {
+        shorten(&field.on_any_line(), wanted, broken, last)?
+    };
+    Ok(Sought::Found(shorter))
 }
 
 /// Seeks in a round.
@@ -273,24 +355,28 @@ fn seek_in<'a>(
     trees: &'a [Tree],
     stack: &Stack<'a>,
     round: Round,
-    wanted: Option<Violation>,
+    aim: Aim<'_>,
     states: usize,
 ) -> Result<Sought, AllocError>
-    ensures { IfOk result (spec.IsSought (filters_of trees.now) wanted) }
+    ensures { IfOk result (spec.IsSought (filters_of trees.now) aim.entry.wanted.now) }
 {
     let field = Field {
         alloc,
         trees,
         stack,
         round,
+        spot: aim.spot,
     };
-    seek_within(&field, wanted, states)
+    let sought = seek_within(&field, aim.wanted, states)?;
+    shortest(&field, aim.wanted, sought)
 }
 
-/// Seeks a journal that breaks something: the violation that is wanted, if one is. The filters may be in any order. Rounds of growing
-/// bounds are gone through breadth first, each up to so many states: up to three operations, two switches between activations that
-/// could go on, a cancelled operation and a filter that is detached. What is found is the first such journal of the first round that
-/// has one, without entries that can be left out one by one. No clause says that one is found where there is one: numbers behind many operations, and files from 2 on, aren't reached.
+/// Seeks a journal that breaks something of what is wanted, in the spot if there is one. The filters may be in any order. Rounds of
+/// growing bounds are gone through breadth first, each up to so many states: up to three operations, two switches between activations
+/// that could go on, a cancelled operation and a filter that is detached. What is found is the first such journal of the first round
+/// that has one, without entries that can be left out one by one; where the round has none on the line of the spot, the first on
+/// another line of the callback. No clause says that one is found where there is one: numbers behind many operations, and files from 2
+/// on, aren't reached. Nor does a clause speak of the spot.
 ///
 /// # Errors
 ///
@@ -298,20 +384,16 @@ fn seek_in<'a>(
 pub fn seek(
     alloc: Global,
     trees: &[Tree],
-    wanted: Option<Violation>,
+    aim: Aim<'_>,
     states: usize,
 ) -> Result<Sought, AllocError>
-    ensures { IfOk result (spec.IsSought (filters_of trees.now) wanted) }
+    ensures { IfOk result (spec.IsSought (filters_of trees.now) aim.entry.wanted.now) }
 {
     let stack = Stack::of(alloc, trees)?;
     let mut cut = false;
     for round in ROUNDS {
-        match seek_in(alloc, trees, &stack, round, wanted, states)? {
-            Sought::Found(broken) => {
-                let last = broken.entry;
-                let shorter = shorten(alloc, trees, wanted, broken, last)?;
-                return Ok(Sought::Found(shorter));
-            }
+        match seek_in(alloc, trees, &stack, round, aim, states)? {
+            Sought::Found(broken) => return Ok(Sought::Found(broken)),
             Sought::NotWithin => {}
             Sought::Cut => cut = true,
         }

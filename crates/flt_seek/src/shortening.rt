@@ -4,9 +4,9 @@ ghost use Rattle.std.specs.Prelude.{IfOk};
 ghost use Rattle.flt_world.specs.Filters.{filters_of};
 ghost use Rattle.flt_seek.specs.Found as spec;
 
+use crate::choices::Field;
 use crate::judging::{Broken, Judged, is_same, judge};
 use flt_model::{JournalEntry, Violation};
-use flt_tree::Tree;
 use std::alloc::{AllocError, Global};
 
 /// The entries but that of a number.
@@ -24,38 +24,42 @@ fn without(
     Ok(others)
 }
 
-/// What is found without the entry of a number, where that breaks the same; otherwise as it is.
+/// What is found without the entry of a number, where that breaks the same where it is looked for; otherwise as it is.
 fn shortened(
-    alloc: Global,
-    trees: &[Tree],
-    wanted: Option<Violation>,
+    field: &Field<'_, '_>,
+    wanted: &[Violation],
     broken: Broken,
     number: usize,
 ) -> Result<Broken, AllocError>
-    requires found { spec.IsFound (filters_of trees.now) wanted broken }
-    ensures { IfOk result (spec.IsFound (filters_of trees.now) wanted) }
+    requires found { spec.IsFound (filters_of field.now.trees.now) wanted.now broken }
+    ensures { IfOk result (spec.IsFound (filters_of field.now.trees.now) wanted.now) }
 {
-    let others = without(alloc, broken.journal.entries(), number)?;
-    match judge(alloc, trees, wanted, others.as_slice())? {
-        Judged::Wanted(shorter) if is_same(shorter.violation, broken.violation) => Ok(shorter),
+    let others = without(field.alloc, broken.journal.entries(), number)?;
+    match judge(field.alloc, field.trees, wanted, others.as_slice())? {
+        Judged::Wanted(shorter) if is_same(shorter.violation, broken.violation) => {
+            if field.is_met(others.as_slice())? {
+                Ok(shorter)
+            } else {
+                Ok(broken)
+            }
+        }
         _ => Ok(broken),
     }
 }
 
 /// Goes through the entries from that of a number back to the first.
 pub(crate) fn shorten(
-    alloc: Global,
-    trees: &[Tree],
-    wanted: Option<Violation>,
+    field: &Field<'_, '_>,
+    wanted: &[Violation],
     broken: Broken,
     number: usize,
 ) -> Result<Broken, AllocError>
-    requires found { spec.IsFound (filters_of trees.now) wanted broken }
-    ensures { IfOk result (spec.IsFound (filters_of trees.now) wanted) }
+    requires found { spec.IsFound (filters_of field.now.trees.now) wanted.now broken }
+    ensures { IfOk result (spec.IsFound (filters_of field.now.trees.now) wanted.now) }
 {
-    let shorter = shortened(alloc, trees, wanted, broken, number)?;
+    let shorter = shortened(field, wanted, broken, number)?;
     if number == 0 {
         return Ok(shorter);
     }
-    shorten(alloc, trees, wanted, shorter, number - 1)
+    shorten(field, wanted, shorter, number - 1)
 }

@@ -2,7 +2,7 @@
 
 use crate::texts;
 use flt_model::Violation;
-use flt_seek::{Sought, seek};
+use flt_seek::{Aim, Sought, seek};
 use flt_syntax::{Tree, parse};
 use std::alloc::Global;
 use std::test::Fail;
@@ -71,6 +71,18 @@ const BROKEN: [Case; 10] = [
     },
 ];
 
+/// Anything that can be broken.
+const ANY: [Violation; 8] = [
+    Violation::V1,
+    Violation::V2,
+    Violation::V3,
+    Violation::V4,
+    Violation::V5,
+    Violation::V6,
+    Violation::V7,
+    Violation::V8,
+];
+
 /// What stands for a search that found nothing.
 const NOTHING: u8 = 0;
 
@@ -116,11 +128,12 @@ fn trees_of(alloc: Global, texts: &[&str]) -> Result<Vec<Tree>, Fail> {
 fn found(
     alloc: Global,
     texts: &[&str],
-    wanted: Option<Violation>,
+    wanted: &[Violation],
     states: usize,
 ) -> Result<(u8, usize), Fail> {
     let trees = trees_of(alloc, texts)?;
-    match seek(alloc, trees.as_slice(), wanted, states)? {
+    let aim = Aim { wanted, spot: None };
+    match seek(alloc, trees.as_slice(), aim, states)? {
         Sought::Found(broken) => Ok((number_of(broken.violation), broken.entry)),
         Sought::NotWithin | Sought::Cut => Ok((NOTHING, 0)),
     }
@@ -129,7 +142,7 @@ fn found(
 /// The first case for which nothing is found that is as good as the journal beside it.
 fn first_worse(alloc: Global, cases: &[Case]) -> Result<Option<(usize, u8, usize)>, Fail> {
     for (number, case) in cases.iter().enumerate() {
-        let (violation, entry) = found(alloc, &[case.text], None, STATES)?;
+        let (violation, entry) = found(alloc, &[case.text], &ANY, STATES)?;
         if violation != case.violation || entry > case.entry {
             return Ok(Some((number, violation, entry)));
         }
@@ -140,7 +153,7 @@ fn first_worse(alloc: Global, cases: &[Case]) -> Result<Option<(usize, u8, usize
 /// The first text for which something is found.
 fn first_found(alloc: Global, texts: &[&str], states: usize) -> Result<Option<usize>, Fail> {
     for (number, text) in texts.iter().enumerate() {
-        let (violation, _) = found(alloc, &[*text], None, states)?;
+        let (violation, _) = found(alloc, &[*text], &ANY, states)?;
         if violation != NOTHING {
             return Ok(Some(number));
         }
@@ -151,7 +164,7 @@ fn first_found(alloc: Global, texts: &[&str], states: usize) -> Result<Option<us
 /// The first row whose violation isn't found where it is wanted, or is found where another one is.
 fn first_unwanted(alloc: Global, rows: &[(&str, Violation, u8)]) -> Result<Option<usize>, Fail> {
     for (number, (text, wanted, violation)) in rows.iter().enumerate() {
-        let (one, _) = found(alloc, &[*text], Some(*wanted), 300)?;
+        let (one, _) = found(alloc, &[*text], &[*wanted], 300)?;
         if one != *violation {
             return Ok(Some(number));
         }
@@ -176,7 +189,7 @@ fn what_is_wanted_is_found(rt: HostRuntime) -> Result<(), Fail> {
 /// `tools/refuse-allocations.sh tests flt_seek_tests memory` refuses each request for memory in turn.
 #[test]
 fn a_search_goes_within_memory(rt: HostRuntime) -> Result<(), Fail> {
-    let (violation, entry) = found(rt.alloc(), &[texts::LEAKED_CONTEXT], None, 10)?;
+    let (violation, entry) = found(rt.alloc(), &[texts::LEAKED_CONTEXT], &ANY, 10)?;
     assert_eq!(rt; violation, 2);
     assert_eq!(rt; entry, 3);
     Ok(())

@@ -4,6 +4,7 @@ pub mod CompleteFiles
 pub mod CompleteStatements
 pub mod FineCalls
 pub mod FineFiles
+pub mod FirstBytes
 pub mod Laws
 pub mod Lexed
 pub mod Limits

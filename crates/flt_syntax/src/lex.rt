@@ -2,12 +2,14 @@
 
 ghost use Rattle.std.specs.Prelude.{◌≡◌, ◌≢◌, ◌<◌, ◌≤◌, ◌+◌, ◌^◌, length, map, slice_index, IfOk, true, false};
 ghost use Rattle.std.specs.List.{prefix_len};
+ghost use Rattle.std.specs.Str.{bytes_eq};
 ghost use Rattle.flt_syntax.specs.Lex as spec;
+ghost use Rattle.flt_syntax.specs.Vocabulary.{vocabulary};
 ghost use Rattle.flt_syntax.specs.Written.{ReadsBackWords};
 ghost use Rattle.flt_tree.specs.Names as names;
 
 use crate::token::{Kind, Token, Word};
-use crate::vocabulary::keywords;
+use crate::words::words_from;
 use flt_tree::Position;
 use sqlite_items::Items;
 use std::alloc::{AllocError, Global};
@@ -61,16 +63,35 @@ fn is_word(b: u8) -> bool
     b.is_ascii_alphanumeric() || b == b'_'
 }
 
+/// Whether a name is a word: as long, and of the same bytes.
+#[tactic(auto, using(crate::proofs::FirstBytes::as_long))]
+fn is_spelled(name: &[u8], word: &[u8]) -> bool
+    ensures { result ≡ bytes_eq name.now word.now }
+{
+    name.len() == word.len() && name == word
+}
+
 fn lookup(mut table: &[(&[u8], Kind)], name: &[u8]) -> Kind
     ensures { result ≡ spec.lookup (map (λ e. (e.0.now, e.1)) table.entry.now) name.now }
 {
     while let [entry, rest @ ..] = table {
-        if name == entry.0 {
+        if is_spelled(name, entry.0) {
             return entry.1;
         }
         table = rest;
     }
     Kind::Name
+}
+
+/// The kind of a word, looked for among those that begin as it does.
+#[tactic(auto, using(crate::proofs::FirstBytes::found_by_first))]
+fn kind_of(name: &[u8]) -> Kind
+    ensures { result ≡ spec.lookup vocabulary name.now }
+{
+    match name {
+        [first, ..] => lookup(words_from(*first), name),
+        [] => Kind::Name,
+    }
 }
 
 #[tactic(auto, unfolding(crate::specs::Lex::keyword))]
@@ -80,7 +101,7 @@ fn keyword(name: &[u8]) -> Word
     if MAX_WORD < name.len() {
         return word(Kind::Malformed);
     }
-    word(lookup(keywords(), name))
+    word(kind_of(name))
 }
 
 fn value(mut digits: &[u8]) -> Option<u64>

@@ -19,7 +19,9 @@ mod status;
 mod token;
 mod vocabulary;
 mod whole;
+mod words;
 
+pub use cursor::bytes_of;
 pub use fault::{FaultKind, ParseError, SyntaxFault};
 pub use file::{parse, spelled_is_well_formed, spells_at_most_one};
 pub use flt_tree::{
@@ -27,7 +29,7 @@ pub use flt_tree::{
     Lock, NumberVariable, OperationVariable, PlainCall, Position, RemovedVariable, Routine,
     Statement, Status, Test, Tree, named_context,
 };
-pub use lex::{reads_back_words, same_kind};
+pub use lex::{reads_back_words, same_kind, tokens};
 pub use spelled::spelled_is_read;
-pub use token::Kind;
+pub use token::{Kind, Token, Word};
 pub use vocabulary::keywords;

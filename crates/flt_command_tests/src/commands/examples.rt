@@ -1,7 +1,7 @@
 //! The smallest filter, and each way in which `check` ends.
 
 use super::{Given, Kept, run};
-use flt_commands::{CommandFault, command};
+use flt_commands::{CommandFault, Unwatched, command};
 use std::alloc::Global;
 use std::process::Abort;
 use std::test::Fail;
@@ -121,7 +121,15 @@ fn tells_a_writer_that_fails(rt: HostRuntime) -> Result<(), Fail> {
             out.fails_at = Some(fails_at);
             let mut err = Kept::new(alloc);
             let files = [("-", BOTH)];
-            let answer = command(alloc, &[], &Given { files: &files }, &mut out, &mut err);
+            let answer = command(
+                alloc,
+                &[],
+                &Given { files: &files },
+                false,
+                &mut out,
+                &mut err,
+                &mut Unwatched,
+            );
             let failed = fails_at == 0 || slow;
             assert_eq!(rt; answer == Err(CommandFault::Write), failed);
             assert_eq!(rt; answer == Ok(0), !failed);

@@ -2,7 +2,7 @@
 //! requests in turn.
 
 use super::{Given, Kept};
-use flt_commands::command;
+use flt_commands::{Unwatched, command};
 use flt_graph::lower;
 use flt_syntax::parse;
 use std::test::Fail;
@@ -36,7 +36,15 @@ fn checks_within_memory(rt: HostRuntime) -> Result<(), Fail> {
     let mut out = Kept::new(alloc);
     out.bytes.reserve(9)?;
     let mut err = Kept::new(alloc);
-    let status = command(alloc, &words, &Given { files: &files }, &mut out, &mut err)?;
+    let status = command(
+        alloc,
+        &words,
+        &Given { files: &files },
+        false,
+        &mut out,
+        &mut err,
+        &mut Unwatched,
+    )?;
     assert_eq!(rt; status, 0);
     assert_eq!(rt; out.bytes.as_slice(), b"accepted\n".as_slice());
     Ok(())

@@ -14,7 +14,7 @@ pub in_none : (v : ℕ) → in_queue v [] ≡ 0
 unfolding in_queue
 in_none v = refl
 
-in_push : (v : ℕ) (q : List Entry) (e : Entry) → in_queue v (q ++ e ∷ []) ≡ in_queue v q + one_if e.visit v
+pub in_push : (v : ℕ) (q : List Entry) (e : Entry) → in_queue v (q ++ e ∷ []) ≡ in_queue v q + one_if e.visit v
 unfolding in_queue
 in_push v q e = sum_by_push (λ (x : Entry). one_if x.visit v) q e
 
@@ -43,18 +43,7 @@ pub in_without : (v : ℕ) (p : Entry → Bool) (q : List Entry) (e : Entry) →
 in_without v p [] e is = absurd (cc)
 in_without v p (x ∷ q) e is = in_without_by v p x q e (p x) refl is (in_without v p q e)
 
--- as often as before, where one was counted and taken back
-pub back : (cs ds es : List (ℕ × ℕ)) (u : ℕ) → ((v : ℕ) → count ds v ≡ count cs v + one_if u v) →
-    (0 < count ds u → (v : ℕ) → count ds v ≡ count es v + one_if u v) → (v : ℕ) → count es v ≡ count cs v
-unfolding one_if
-back cs ds es u more less v =
-    let one : one_if u u ≡ 1 = grind (arith, nat_tests) in
-    let here = more u in
-    let m = more v in
-    let l = less (omega arith) v in
-    omega arith
-
-module _ (queues : List (List Entry)) (items : List (Option Item)) (cs ds : List (ℕ × ℕ)) (was : AreWaiting queues items cs) where
+module _ (queues : List (List Entry)) (items : List (Option Item)) (cs ds : List ℕ) (was : AreWaiting queues items cs) where
   module _ (f : ℕ) (l : f < length queues) (old new : List Entry) (read : old ≡ get_or queues f []) where
     pub same_queue : new ≡ old → ((v : ℕ) → count ds v ≡ count cs v) → AreWaiting (set queues f new) items ds
     same_queue is same = record {

@@ -79,12 +79,12 @@ module _ (t : List Event) (c : Tally) (k : Tells t c) (v : ℕ) where
 
 -- ---- counts that differ in who goes on alone
 
-held_alike : (old new : Tally) (ons : List Bool) (holders : List (ℕ × ℕ)) →
+held_alike : (old new : Tally) (ons : List Bool) (holders : List ℕ) →
     new ≡ record old { running = ons; holders = holders } → (a : ℕ) (o : Object) → held new a o ≡ held old a o
 held_alike old new ons holders e a (Context x) = ap (λ (d : Tally). count_of d.contexts a x) e
 held_alike old new ons holders e a (Visit v) = ap (λ (d : Tally). count_of d.visits a v) e
 
-tells_alike : (t : List Event) (old new : Tally) (ons : List Bool) (holders : List (ℕ × ℕ)) →
+tells_alike : (t : List Event) (old new : Tally) (ons : List Bool) (holders : List ℕ) →
     new ≡ record old { running = ons; holders = holders } → Tells t old → Tells t new
 tells_alike t old new ons holders e k = record {
   balance = λ a o. omega (arith, k.balance a o, held_alike old new ons holders e a o);

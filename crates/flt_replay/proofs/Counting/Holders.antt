@@ -129,7 +129,7 @@ unfolding one_when
 when_false b n e = ap (λ x. one_when x n) e
 
 module _ (c : Tally) (a v : ℕ) (rows : List (List (ℕ × ℕ))) where
-  pub gained_first : (holders : List (ℕ × ℕ)) → ((b m : ℕ) → count_of rows b m ≡ count_of c.visits b m + of_actor a b (one_if v m)) →
+  pub gained_first : (holders : List ℕ) → ((b m : ℕ) → count_of rows b m ≡ count_of c.visits b m + of_actor a b (one_if v m)) →
       is_without (get_or c.running a false) (count_of c.visits a v) ≡ true → ((m : ℕ) → count holders m ≡ count c.holders m + one_if v m) →
       Turned c (record c { visits = rows; holders = holders })
   gained_first holders one first h = record {
@@ -159,7 +159,7 @@ module _ (c : Tally) (a v : ℕ) (rows : List (List (ℕ × ℕ))) where
     };
   }
 
-  pub lost_last : (holders : List (ℕ × ℕ)) → ((b m : ℕ) → count_of c.visits b m ≡ count_of rows b m + of_actor a b (one_if v m)) →
+  pub lost_last : (holders : List ℕ) → ((b m : ℕ) → count_of c.visits b m ≡ count_of rows b m + of_actor a b (one_if v m)) →
       is_without (get_or c.running a false) (count_of rows a v) ≡ true → ((m : ℕ) → count c.holders m ≡ count holders m + one_if v m) →
       Turned c (record c { visits = rows; holders = holders })
   lost_last holders one last h = record {
@@ -242,7 +242,7 @@ module _ (c : Tally) (a : ℕ) (visits was now : List ℕ) (all : (v : ℕ) → 
       let one = share_on (get_or c.running a false) (count_of c.visits a v) on in
       omega (arith, off, one, all v, k.by_visit v)
 
-  pub stopped_on : (holders : List (ℕ × ℕ)) → get_or c.running a false ≡ true →
+  pub stopped_on : (holders : List ℕ) → get_or c.running a false ≡ true →
       (((v : ℕ) → occurs v visits ≤ count c.holders v) → (v : ℕ) → count c.holders v ≡ count holders v + occurs v visits) →
       Stopped a c (record c { running = set c.running a false; holders = holders }) was now
   stopped_on holders on less = record {
@@ -270,7 +270,7 @@ module _ (c : Tally) (a : ℕ) (visits was now : List ℕ) (all : (v : ℕ) → 
 
 -- it holds these visits already
 pub started : (c : Tally) (visits : List ℕ) → ((v : ℕ) → occurs v visits ≡ min 1 (count_of c.visits (length c.running) v)) →
-    (holders : List (ℕ × ℕ)) → ((v : ℕ) → count holders v ≡ count c.holders v + occurs v visits) →
+    (holders : List ℕ) → ((v : ℕ) → count holders v ≡ count c.holders v + occurs v visits) →
     Started c (record c { running = c.running ++ true ∷ []; holders = holders })
 started c visits all holders more = record {
   only = refl;

@@ -84,11 +84,11 @@ module _ (c : Tally) (a : ℕ) where
   pub held_if_fresh : (t : List Event) (w : World) (o : Object) → Tells t c → is_fresh w t (event.Lose a o) ≡ true → 0 < held c a o
   held_if_fresh t w o k h = ltb-true 0 (held c a o) (held_is t c a o k ∙ (and_parts (is_held t a o) (is_live t o && is_own w a o) h).0)
 
-held_freed : (c : Tally) (counts : List (ℕ × ℕ)) (x a : ℕ) (o : Object) → held (record c { freed = counts }) a o + 0 ≡ held c a o + 0
+held_freed : (c : Tally) (counts : List ℕ) (x a : ℕ) (o : Object) → held (record c { freed = counts }) a o + 0 ≡ held c a o + 0
 held_freed c counts x a (Context y) = refl
 held_freed c counts x a (Visit v) = refl
 
-held_settled : (c : Tally) (counts : List (ℕ × ℕ)) (v a : ℕ) (o : Object) → held (record c { settled = counts }) a o + 0 ≡ held c a o + 0
+held_settled : (c : Tally) (counts : List ℕ) (v a : ℕ) (o : Object) → held (record c { settled = counts }) a o + 0 ≡ held c a o + 0
 held_settled c counts v a (Context y) = refl
 held_settled c counts v a (Visit u) = refl
 
@@ -119,7 +119,7 @@ module _ (t : List Event) (c : Tally) (was : List ℕ) (k : Tells t c) (counted 
     apart = λ v z. refl;
   }
 
-  pub freed_context : (x : ℕ) (counts : List (ℕ × ℕ)) → ((n : ℕ) → count counts n ≡ count c.freed n + one_if x n) →
+  pub freed_context : (x : ℕ) (counts : List ℕ) → ((n : ℕ) → count counts n ≡ count c.freed n + one_if x n) →
       Noted t (event.Free x) c (record c { freed = counts }) was was
   freed_context x counts h = record {
     tells = told t (event.Free x) c (record c { freed = counts }) (held_freed c counts x) h (λ v. omega arith) k;
@@ -165,7 +165,7 @@ module _ (t : List Event) (c : Tally) (was : List ℕ) (k : Tells t c) (counted 
     keeps : (u : ℕ) → occurs u now ≡ 0 → occurs u was ≡ 0
     keeps u z = omega (arith, listed_more u)
 
-    pub settled_visit : (counts : List (ℕ × ℕ)) → ((n : ℕ) → count counts n ≡ count c.settled n + one_if v n) →
+    pub settled_visit : (counts : List ℕ) → ((n : ℕ) → count counts n ≡ count c.settled n + one_if v n) →
         Noted t (event.Settle v) c (record c { settled = counts }) was now
     settled_visit counts h = record {
       tells = told t (event.Settle v) c (record c { settled = counts }) (held_settled c counts v) (λ y. omega arith) h k;

@@ -5,14 +5,14 @@ ghost use Rattle.flt_model.specs.Trace.{one_if, of_actor};
 ghost use Rattle.flt_records.specs.Counts.{occurs};
 ghost use Rattle.flt_replay.specs.Rows as spec;
 
-use flt_records::Counts;
+use flt_records::SparseCounts;
 use std::alloc::{AllocError, Global};
 use std::marker::Model;
 
 /// By activation; it grows as they come.
 #[derive(Drop)]
 pub(crate) struct Rows {
-    rows: Vec<Counts>,
+    rows: Vec<SparseCounts>,
 }
 
 impl Model for Rows {
@@ -24,7 +24,7 @@ impl Model for Rows {
 }
 
 impl Rows {
-    #[tactic(auto, unfolding(crate::specs::Rows::count_of, flt_records::specs::Counts::count))]
+    #[tactic(auto, unfolding(crate::specs::Rows::count_of, flt_records::specs::Counts::count_in))]
     pub(crate) fn new(alloc: Global) -> Rows
         ensures { (a n : ℕ) → spec.count_of result a n ≡ 0 }
     {
@@ -33,7 +33,7 @@ impl Rows {
         }
     }
 
-    #[tactic(auto, unfolding(crate::specs::Rows::count_of, flt_records::specs::Counts::count))]
+    #[tactic(auto, unfolding(crate::specs::Rows::count_of, flt_records::specs::Counts::count_in))]
     pub(crate) fn count(&self, activation: usize, number: usize) -> u64
         ensures { result ≡ spec.count_of self.now activation number }
     {
@@ -43,7 +43,7 @@ impl Rows {
         }
     }
 
-    #[tactic(auto, unfolding(crate::specs::Rows::count_of, flt_records::specs::Counts::count))]
+    #[tactic(auto, unfolding(crate::specs::Rows::count_of, flt_records::specs::Counts::count_in))]
     pub(crate) fn is_empty(&self, activation: usize) -> bool
         ensures { IsTrue result ↔ ((n : ℕ) → spec.count_of self.now activation n ≡ 0) }
     {
@@ -54,7 +54,7 @@ impl Rows {
     }
 
     /// The numbers that count of an activation, each once.
-    #[tactic(auto, unfolding(crate::specs::Rows::count_of, flt_records::specs::Counts::count))]
+    #[tactic(auto, unfolding(crate::specs::Rows::count_of, flt_records::specs::Counts::count_in))]
     pub(crate) fn numbers(&self, alloc: Global, activation: usize) -> Result<Vec<usize>, AllocError>
         ensures { IfOk result (λ ns. (n : ℕ) → occurs n ns.items ≡ min 1 (spec.count_of self.now activation n)) }
     {
@@ -71,7 +71,7 @@ impl Rows {
         ensures same { OnOk result ((a n : ℕ) → spec.count_of self.new a n ≡ spec.count_of self.old a n) }
     {
         while self.rows.len() <= activation {
-            self.rows.push(Counts::new(alloc))?;
+            self.rows.push(SparseCounts::new(alloc))?;
         }
         Ok(())
     }

@@ -1,7 +1,7 @@
 //! Why `replay` has no answer, and writers that fail.
 
 use crate::commands::{Given, Kept, Outcome, run};
-use flt_commands::{CommandFault, command};
+use flt_commands::{CommandFault, Unwatched, command};
 use std::alloc::Global;
 use std::process::Abort;
 use std::test::Fail;
@@ -270,7 +270,15 @@ fn fails_in_time(
     let mut err = Kept::new(alloc);
     err.slow = slow;
     err.fails_at = Some(fails_at);
-    let answer = command(alloc, words, &Given { files: &INPUTS }, &mut out, &mut err);
+    let answer = command(
+        alloc,
+        words,
+        &Given { files: &INPUTS },
+        false,
+        &mut out,
+        &mut err,
+        &mut Unwatched,
+    );
     let failed = fails_at < if slow { calls } else { 1 };
     assert_eq!(rt; answer == Err(CommandFault::Write), failed);
     assert_eq!(rt; answer == wanted, !failed);
@@ -320,7 +328,15 @@ fn replays_within_memory(rt: HostRuntime) -> Result<(), Fail> {
     let mut out = Kept::new(alloc);
     out.bytes.reserve(6)?;
     let mut err = Kept::new(alloc);
-    let status = command(alloc, &words, &Given { files: &files }, &mut out, &mut err)?;
+    let status = command(
+        alloc,
+        &words,
+        &Given { files: &files },
+        false,
+        &mut out,
+        &mut err,
+        &mut Unwatched,
+    )?;
     assert_eq!(rt; status, 0);
     assert_eq!(rt; out.bytes.as_slice(), b"legal\n".as_slice());
     Ok(())

@@ -1,7 +1,8 @@
 use Rattle.std.proofs.Common.{◌≡◌, Err, List, ◌∷◌, ℕ, Bor, map, refl, rules}
 use Rattle.std.proofs.lemmas.List.{take_rest}
 use Rattle.flt_commands.specs.Inputs.{unread}
-use Rattle.flt_commands.proofs.Readings.{says_of_journal}
+use Rattle.flt_commands.proofs.Readings.{says_of_first}
+use Rattle.flt_commands.specs.Replay.{IsReplayed}
 use Rattle.flt_commands.specs.declared.failure.Failure.TheVariants.{OutOfMemory}
 use Rattle.flt_commands.proofs.replay.replay_files.Goals as goal
 
@@ -28,6 +29,6 @@ returns g c =
     let names : map (λ (n : Bor (List ℕ)). n.now) c.as_slice.result.now ≡ c.args.journal.now
     ∷ map (λ (n : Bor (List ℕ)). n.now) c.args.files.now =
     rw (c.as_slice.ensures.value, c.in_ok-extend_from_slice.ensures.items, c.in_ok-push.ensures.items, c.new-names.ensures.items) refl in
-    says_of_journal _ c.in_ok-texts.texts.items _ _ _ c.index.result.now _ c.index.ensures
+    says_of_first _ IsReplayed c.in_ok-texts.texts.items _ _ _ c.index.result.now _ c.index.ensures
     (rw c.deref.ensures.value (take_rest c.in_ok-texts.texts.items 1))
     (rw names at c.in_ok-texts.ensures.ok) (rw c.as_slice-2.ensures.value at c.replay_texts.ensures)

@@ -1,5 +1,5 @@
 use Rattle.flt_commands.proofs.OneAnswer.{printed_once, said_once}
-use Rattle.flt_commands.specs.Words.{asked}
+use Rattle.flt_words.specs.Words.{asked}
 use Rattle.flt_commands.proofs.single.one_answer_at_most.Goals as goal
 
 pub returns : goal.returns

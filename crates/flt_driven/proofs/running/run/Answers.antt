@@ -10,7 +10,7 @@ use Rattle.flt_tree.specs.declared.tree.Tree.{Tree}
 use Rattle.flt_driven.proofs.running.run.Goals as goal
 
 pub returns : goal.returns
-returns c =
+returns g c =
     let counted : IsCount (length c.args.texts.now) = search rules in
     let count : IsCount (length (map (λ (t : Vec ℕ Global). t.items) c.args.texts.now)) =
     subst IsCount (sym (length-map c.args.texts.now (λ (t : Vec ℕ Global). t.items))) counted in
@@ -30,3 +30,19 @@ returns c =
     comes_to _ _ _ (filters_of c.in_ok-trees.trees.items) c.in_ok-loaded.loaded c.in_ok-commands.commands _ count
     c.in_ok-trees.ensures.ok read covered distinct
     (c.in_ok-loaded.ensures.loaded _ c.in_ok-trees.ensures.ok lent distinct) c.in_ok-drive_script.ensures
+
+pub load_all-requires-clause-accepted : goal.load_all-requires-clause-accepted
+load_all-requires-clause-accepted g c =
+    let filters = filters_of c.in_ok-trees.trees.items in
+    let covered : HaveCertificates (filters_of c.in_ok-trees.trees.items)
+    (map (λ (t : Vec ℕ Global). t.items) c.in_ok-certificates.certificates.items) =
+    subst (λ (l : List Tree). HaveCertificates (filters_of l)
+    (map (λ (t : Vec ℕ Global). t.items) c.in_ok-certificates.certificates.items)) c.as_slice-2.ensures.value
+    c.in_ok-certificates.ensures.ok in
+    record {
+      filters = filters;
+      spelled = c.in_ok-trees.ensures.ok;
+      covered = subst (λ (l : List (Vec ℕ Global)). HaveCertificates filters (map (λ (t : Vec ℕ Global). t.items) l))
+          (sym c.as_slice-4.ensures.value) covered;
+      distinct = subst (λ (l : List Tree). HasDistinctAltitudes (filters_of l)) c.as_slice-3.ensures.value c.in_default.ensures;
+    }

@@ -1,4 +1,5 @@
-use Rattle.flt_records.proofs.Queues.CountWaiting.{back, same_counts}
+use Rattle.flt_records.proofs.Counting.{back}
+use Rattle.flt_records.proofs.Queues.CountWaiting.{same_counts}
 use Rattle.flt_records.proofs.waiting_list.Waiting.add_item.Goals as goal
 
 pub invariant_of-self-in-Err : goal.invariant_of-self-in-Err

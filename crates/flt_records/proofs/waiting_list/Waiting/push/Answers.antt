@@ -1,5 +1,6 @@
+use Rattle.flt_records.proofs.Counting.{back}
 use Rattle.std.proofs.Common.{[]}
-use Rattle.flt_records.proofs.Queues.CountWaiting.{back, same_queue, entry_added}
+use Rattle.flt_records.proofs.Queues.CountWaiting.{same_queue, entry_added}
 use Rattle.flt_records.proofs.waiting_list.Waiting.push.Goals as goal
 
 pub invariant_of-self-in-Err : goal.invariant_of-self-in-Err

@@ -1,0 +1,174 @@
+//! What a worker does in one hold of the lock: a ticket's move, or the step after an advance.
+ghost use Rattle.std.specs.Prelude.{◌≡◌, ◌+◌, ◌<◌, [], true, false, length, Err, IfOk, OnErr, OnOk};
+ghost use Rattle.std.specs.BTreeSet.{insert_key};
+ghost use Rattle.std.specs.Ordering.{nat_cmp};
+ghost use Rattle.flt_core.specs.Turning.{HasCommitted, IsCancel, grows};
+ghost use Rattle.flt_frame.specs.Loading.{AreLoaded};
+ghost use Rattle.flt_machine.specs.Calls.{IsAdvanced};
+ghost use Rattle.flt_run.specs.Turns as spec;
+ghost use Rattle.flt_run.specs.declared.fault.TurnFault.TheVariants as fault;
+
+use crate::board::Core;
+use crate::names::{OtherEntries, StackName};
+use flt_machine::{Advanced, ApplyFault, Commit, Loaded, OutOfMemory};
+use flt_model::{Move, Subject};
+use flt_run::one::{asked_by, stays_after};
+use flt_run::{Choices, TurnFault};
+use std::alloc::Global;
+use std::sync::ledger::Share;
+
+/// What stands behind the lock of a stack: its core, and the system's choices.
+#[derive(Drop)]
+pub struct Locked<N: StackName> {
+    pub core: Core<N>,
+    pub choices: Choices,
+}
+
+/// What a ticket's turn came to.
+#[derive(Drop)]
+pub struct Turned {
+    /// What gets a ticket by it.
+    pub next: Vec<Subject>,
+    /// Whether the ticket goes to the back.
+    pub stays: bool,
+    /// Whether a move or a step was made, and the journal has one entry more.
+    pub made: bool,
+}
+
+/// A turn in which nothing was made.
+fn unmade(alloc: Global, stays: bool) -> Turned
+    ensures next { result.next.items ≡ [] }
+    ensures stays { result.stays ≡ stays }
+    ensures made { result.made ≡ false }
+{
+    Turned {
+        next: Vec::new(alloc),
+        stays,
+        made: false,
+    }
+}
+
+impl<N: StackName> Locked<N> {
+    /// A core that has made no choice yet, and refuses none.
+    pub fn new(alloc: Global, core: Core<N>) -> Locked<N>
+        ensures core { result.core ≡ core }
+        ensures choices { (result.choices.made ≡ 0) × (result.choices.refused.keys ≡ []) }
+    {
+        Locked {
+            core,
+            choices: Choices::new(alloc),
+        }
+    }
+
+    /// From now on the choice of this number, counted from 0, is answered no, if it is still to come.
+    pub fn refuse(&mut self, choice: u64) -> Result<(), OutOfMemory>
+        ensures refused { OnOk result (self.new.choices.refused.keys ≡ insert_key nat_cmp self.old.choices.refused.keys choice) }
+        ensures same { OnErr result (self.new.choices.refused.keys ≡ self.old.choices.refused.keys) }
+        ensures rest { (self.new.core ≡ self.old.core) × (self.new.choices.made ≡ self.old.choices.made) }
+    {
+        self.choices.refused.insert(choice)?;
+        Ok(())
+    }
+
+    /// Makes the move that a ticket asks for, where it is enabled. An activation's ticket asks for none: it goes by steps.
+    pub fn move_on(
+        &mut self,
+        alloc: Global,
+        loaded: &Loaded,
+        mine: &mut Share<OtherEntries<N>>,
+        ticket: Subject,
+    ) -> Result<Turned, TurnFault>
+        requires loaded { AreLoaded N.trees loaded.now }
+        requires part { 0 < mine.old.parts }
+        ensures moved { IfOk result (λ t. spec.HasMoved loaded.now self.old.core self.new.core ticket t.stays t.next.items) }
+        ensures choices { self.new.choices ≡ self.old.choices }
+        ensures entries { IfOk result (λ t. length self.new.core.entries ≡ length self.old.core.entries + grows t.made) }
+        ensures share { IfOk result (λ t. mine.new.amount ≡ mine.old.amount + grows t.made) }
+        ensures parts { mine.new.parts ≡ mine.old.parts }
+        ensures full { result ≡ Err fault.Full → length self.old.core.entries ≡ 1000000 }
+        ensures refused { OnErr result ((self.new.core ≡ self.old.core) × (mine.new.amount ≡ mine.old.amount)) }
+    {
+        let Some(step) = asked_by(self.core.board(), loaded, ticket) else {
+            return Ok(unmade(alloc, stays_after(ticket, None)));
+        };
+        match self.core.apply(alloc, loaded, mine, step) {
+            Ok(events) => Ok(Turned {
+                next: events.next,
+                stays: stays_after(ticket, Some(step)),
+                made: true,
+            }),
+            Err(ApplyFault::NotEnabled) => Ok(unmade(alloc, stays_after(ticket, None))),
+            Err(ApplyFault::Full) => Err(TurnFault::Full),
+            Err(ApplyFault::OutOfMemory) => Err(TurnFault::OutOfMemory),
+        }
+    }
+
+    /// Makes the local steps of an advance, and the step after them, by the system's next choice. The ticket goes where the activation
+    /// isn't in the state that it was advanced from.
+    pub fn go_on(
+        &mut self,
+        alloc: Global,
+        loaded: &Loaded,
+        mine: &mut Share<OtherEntries<N>>,
+        advanced: &Advanced,
+    ) -> Result<Turned, TurnFault>
+        requires loaded { AreLoaded N.trees loaded.now }
+        requires part { 0 < mine.old.parts }
+        requires advance { IsAdvanced loaded.now advanced.now }
+        ensures gone { IfOk result (λ t. HasCommitted loaded.now self.old.core self.new.core self.old.choices self.new.choices
+            advanced.now t.made t.stays t.next.items) }
+        ensures entries { IfOk result (λ t. length self.new.core.entries ≡ length self.old.core.entries + grows t.made) }
+        ensures share { IfOk result (λ t. mine.new.amount ≡ mine.old.amount + grows t.made) }
+        ensures parts { mine.new.parts ≡ mine.old.parts }
+        ensures full { result ≡ Err fault.Full → length self.old.core.entries ≡ 1000000 }
+        ensures refused { OnErr result ((self.new.core ≡ self.old.core)
+            × ((self.new.choices ≡ self.old.choices) × (mine.new.amount ≡ mine.old.amount))) }
+    {
+        let grant = self.choices.next();
+        match self.core.commit(alloc, loaded, mine, advanced, grant) {
+            Commit::Committed(events) => {
+                self.choices.count(loaded, advanced);
+                Ok(Turned {
+                    next: events.next,
+                    stays: false,
+                    made: true,
+                })
+            }
+            Commit::Stale => Ok(unmade(alloc, false)),
+            Commit::Blocked => Ok(unmade(alloc, true)),
+            Commit::Full => Err(TurnFault::Full),
+            Commit::OutOfMemory => Err(TurnFault::OutOfMemory),
+        }
+    }
+
+    /// Cancels an operation, where it can be.
+    pub fn cancel(
+        &mut self,
+        alloc: Global,
+        loaded: &Loaded,
+        mine: &mut Share<OtherEntries<N>>,
+        serial: u32,
+    ) -> Result<Turned, TurnFault>
+        requires loaded { AreLoaded N.trees loaded.now }
+        requires part { 0 < mine.old.parts }
+        ensures cancelled { IfOk result (λ t. IsCancel loaded.now self.old.core self.new.core serial t.made t.stays t.next.items) }
+        ensures choices { self.new.choices ≡ self.old.choices }
+        ensures entries { IfOk result (λ t. length self.new.core.entries ≡ length self.old.core.entries + grows t.made) }
+        ensures share { IfOk result (λ t. mine.new.amount ≡ mine.old.amount + grows t.made) }
+        ensures parts { mine.new.parts ≡ mine.old.parts }
+        ensures full { result ≡ Err fault.Full → length self.old.core.entries ≡ 1000000 }
+        ensures refused { OnErr result ((self.new.core ≡ self.old.core) × (mine.new.amount ≡ mine.old.amount)) }
+    {
+        let step = Move::Cancel { serial };
+        match self.core.apply(alloc, loaded, mine, step) {
+            Ok(events) => Ok(Turned {
+                next: events.next,
+                stays: false,
+                made: true,
+            }),
+            Err(ApplyFault::NotEnabled) => Ok(unmade(alloc, false)),
+            Err(ApplyFault::Full) => Err(TurnFault::Full),
+            Err(ApplyFault::OutOfMemory) => Err(TurnFault::OutOfMemory),
+        }
+    }
+}

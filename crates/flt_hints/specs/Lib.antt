@@ -1,0 +1,4 @@
+pub mod Spot
+pub mod Trial
+pub mod Choices
+pub mod Trouble

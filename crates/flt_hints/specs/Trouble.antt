@@ -1,0 +1,37 @@
+-- What is said of a text that doesn't parse. This project's own program.
+use Rattle.std.specs.Prelude.{◌≡◌, true, [], Option, Some, None, IfSome}
+use Rattle.flt_syntax.specs.Spelling.{Spells}
+use Rattle.flt_syntax.specs.declared.fault.FaultKind.{FaultKind}
+use Rattle.flt_syntax.specs.declared.token.Token.{Token}
+use Rattle.flt_tree.specs.Names.{Text}
+use Rattle.flt_tree.specs.declared.filter.Filter.{Filter}
+use Rattle.flt_hints.specs.Choices.{AreChoices}
+use Rattle.flt_hints.specs.Spot.{IsSpot}
+use Rattle.flt_hints.specs.Trial.{gap_at, may_stand}
+use Rattle.flt_hints.specs.declared.troubles.Trouble.{Trouble}
+
+-- nothing may stand where there is no token
+pub record AreNone (t : Trouble) : Type 0 where
+  pub expected : t.choices.expected ≡ []
+  pub names : t.choices.names ≡ []
+  pub meant : t.meant ≡ None
+
+-- what may stand in the place of a token, and a word that is meant is one that may
+pub record AreFor (kind : FaultKind) (text : Text) (token : Token) (t : Trouble) : Type 0 where
+  pub choices : AreChoices (gap_at kind text token) t.choices
+  pub meant : IfSome t.meant (λ w. may_stand (gap_at kind text token) w.now ≡ true)
+
+-- the same where there may be a token
+abbrev pub AreOf : Text → Trouble → Option Token → Type 0
+AreOf text t None = AreNone t
+AreOf text t (Some token) = AreFor t.spot.fault.kind text token t
+
+-- a text is refused as this says
+pub record IsTrouble (text : Text) (t : Trouble) : Type 0 where
+  pub spot : IsSpot text t.spot
+  pub choices : AreOf text t t.spot.token
+
+-- a text is refused, or it spells a filter
+abbrev pub IsDescribed : Text → Option Trouble → Type 0
+IsDescribed text None = (f : Filter) × Spells text f
+IsDescribed text (Some t) = IsTrouble text t

@@ -1,0 +1,137 @@
+//! What may stand in a place of a text.
+
+ghost use Rattle.std.specs.Prelude.{◌≡◌, [], ◌++◌, map, IfOk, OnOk, IsTrue};
+ghost use Rattle.std.specs.List.{list_all};
+ghost use Rattle.flt_hints.specs.Choices as spec;
+ghost use Rattle.flt_hints.specs.Trial.{gap_of};
+ghost use Rattle.flt_hints.specs.Trial as trial;
+ghost use Rattle.flt_syntax.specs.Vocabulary.{vocabulary};
+
+use crate::trial::{Gap, may_stand};
+use flt_syntax::{Kind, keywords};
+use sqlite_items::Items;
+use std::alloc::{AllocError, Global};
+
+const SYMBOLS: [(&[u8], Kind); 8] = [
+    (b"{", Kind::OpenBrace),
+    (b"}", Kind::CloseBrace),
+    (b"=", Kind::Assign),
+    (b"==", Kind::Equal),
+    (b"!=", Kind::NotEqual),
+    (b"<", Kind::Less),
+    (b"+", Kind::Plus),
+    (b"-", Kind::Minus),
+];
+
+/// A word or symbol of the language, and its kind.
+#[derive(Clone, Copy)]
+pub struct Expected {
+    pub word: &'static [u8],
+    pub kind: Kind,
+}
+
+/// What may stand in a place of a text.
+#[derive(Drop)]
+pub struct Choices<'a> {
+    /// The words of the language that may, and behind them its symbols.
+    pub expected: Items<Expected>,
+    pub takes_number: bool,
+    pub takes_name: bool,
+    /// Names that the text declares and that may stand there.
+    pub names: Items<&'a [u8]>,
+}
+
+fn symbols() -> &'static [(&'static [u8], Kind)]
+    ensures { map (λ e. (e.0.now, e.1)) result.now ≡ spec.symbols }
+{
+    &SYMBOLS
+}
+
+/// Adds those of a table that may stand in a place.
+#[tactic(auto, unfolding(crate::specs::Choices::possible))]
+fn add_possible(
+    alloc: Global,
+    gap: Gap<'_>,
+    table: &[(&'static [u8], Kind)],
+    found: &mut Items<Expected>,
+) -> Result<(), AllocError>
+    ensures { OnOk result (map spec.entry_of found.new ≡
+        map spec.entry_of found.old ++ spec.possible (gap_of gap.entry) (map (λ e. (e.0.now, e.1)) table.now)) }
+{
+    for entry in table {
+        if may_stand(alloc, gap, entry.0)? {
+            found.push(Expected {
+                word: entry.0,
+                kind: entry.1,
+            })?;
+        }
+    }
+    Ok(())
+}
+
+/// The words and symbols of the language that may stand in a place.
+fn expected_in(alloc: Global, gap: Gap<'_>) -> Result<Items<Expected>, AllocError>
+    ensures { IfOk result (λ es. map spec.entry_of es ≡ spec.possible (gap_of gap.entry) vocabulary ++ spec.possible (gap_of gap.entry) spec.symbols) }
+{
+    let mut found = Items::new(alloc);
+    add_possible(alloc, gap, keywords(), &mut found)?;
+    add_possible(alloc, gap, symbols(), &mut found)?;
+    Ok(found)
+}
+
+/// Those of some names that may stand in a place.
+fn names_in<'a>(
+    alloc: Global,
+    gap: Gap<'_>,
+    names: &[&'a [u8]],
+) -> Result<Items<&'a [u8]>, AllocError>
+    ensures { IfOk result (λ ns. IsTrue (list_all (λ n. trial.may_stand (gap_of gap.entry) n.now) ns)) }
+{
+    let mut found = Items::new(alloc);
+    for name in names {
+        if may_stand(alloc, gap, name)? {
+            found.push(*name)?;
+        }
+    }
+    Ok(found)
+}
+
+/// What may stand in a place, of the language and of some names.
+pub(crate) fn choices_in<'a>(
+    alloc: Global,
+    gap: Gap<'_>,
+    names: &[&'a [u8]],
+) -> Result<Choices<'a>, AllocError>
+    ensures { IfOk result (λ c. spec.AreChoices (gap_of gap.entry) c) }
+{
+    let expected = expected_in(alloc, gap)?;
+    let takes_number = may_stand(alloc, gap, b"1")?;
+    let takes_name = may_stand(alloc, gap, b"a_name_of_its_own")?;
+    let names = names_in(alloc, gap, names)?;
+    Ok(Choices {
+        expected,
+        takes_number,
+        takes_name,
+        names,
+    })
+}
+
+impl<'a> Choices<'a> {
+    /// Nothing.
+    pub(crate) fn none(alloc: Global) -> Choices<'a>
+        ensures expected { result.expected ≡ [] }
+        ensures names { result.names ≡ [] }
+    {
+        Choices {
+            expected: Items::new(alloc),
+            takes_number: false,
+            takes_name: false,
+            names: Items::new(alloc),
+        }
+    }
+
+    /// Whether a word or symbol of a kind may stand there.
+    pub(crate) fn takes(&self, kind: Kind) -> bool {
+        self.expected.as_slice().iter().any(|e| e.kind == kind)
+    }
+}

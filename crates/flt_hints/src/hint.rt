@@ -1,0 +1,124 @@
+//! What is probably wrong, and how to mend it.
+
+/// What is probably wrong where a text doesn't parse.
+#[derive(Clone, Copy, PartialEq, Eq)]
+pub enum Hint {
+    // Of the text as a whole.
+    TooLarge,
+    ByteOrderMark,
+    NotAscii,
+    // Of bytes with which no token begins.
+    Comment,
+    Semicolon,
+    Bracket,
+    Address,
+    AndOr,
+    Not,
+    Greater,
+    Quote,
+    Member,
+    Operator,
+    // Of runs that are no word or number.
+    Hexadecimal,
+    LeadingZero,
+    TooGreat,
+    LettersInNumber,
+    TooLongWord,
+    // Of words that the language has, or the driver kit, or C.
+    Prefix,
+    FinalStatus,
+    Comparison,
+    Assignment,
+    EqualsNull,
+    NotEqual,
+    SecondOperator,
+    Copy,
+    CanFail,
+    NeverFails,
+    Success,
+    ElseIf,
+    LoneElse,
+    Loop,
+    Jump,
+    MissingBrace,
+    // Of names.
+    NeedsQueue,
+    OtherKind,
+    NameTwice,
+    CallbackTwice,
+    VariableTwice,
+    NeedsCanceled,
+    NeedsPre,
+    // Of limits.
+    Altitude,
+    Turns,
+    NestedBlocks,
+    NestedRepeats,
+    Locks,
+    Callbacks,
+}
+
+impl Hint {
+    /// One sentence on how to mend it.
+    pub(crate) fn sentence(self) -> &'static str {
+        match self {
+            Hint::TooLarge => "a text has at most 65,536 bytes: split the filter",
+            Hint::ByteOrderMark =>
+                "the text begins with a byte order mark: save it as ASCII or as UTF-8 without the mark",
+            Hint::NotAscii => "outside comments a text is ASCII",
+            Hint::Comment => "a comment begins with `#` and ends with the line",
+            Hint::Semicolon => "nothing stands between statements: leave the `;` out",
+            Hint::Bracket => "what a call takes follows it without brackets or commas",
+            Hint::Address => "what a call gives is named without `&`",
+            Hint::AndOr =>
+                "there is no `and` or `or`: put one `if` inside another, or use its `else`",
+            Hint::Not => "there is no `not`: use the `else` of the `if`",
+            Hint::Greater => "there is no `>`: use `<` and the `else` of the `if`",
+            Hint::Quote => "the language has no strings",
+            Hint::Member => "the language has no members: `value c0` is what a context keeps",
+            Hint::Operator => "numbers are added and subtracted only, by `+` and `-`",
+            Hint::Hexadecimal => "numbers are written in decimal digits",
+            Hint::LeadingZero => "a number has no leading zeros",
+            Hint::TooGreat => "a number is below 2^64",
+            Hint::LettersInNumber => "a word begins with a letter or `_`",
+            Hint::TooLongWord => "a word has at most 64 bytes",
+            Hint::Prefix => "the driver kit's prefix is left out",
+            Hint::FinalStatus => "a final status stands behind `COMPLETE`",
+            Hint::Comparison => "numbers are compared by `==`",
+            Hint::Assignment => "a variable is set by `=`",
+            Hint::EqualsNull =>
+                "there is no `== NULL`: test `!= NULL` and use the `else` of the `if`",
+            Hint::NotEqual =>
+                "numbers are compared by `==` and `<` only: use the `else` of the `if`",
+            Hint::SecondOperator => "a statement has one `+` or `-` at most",
+            Hint::Copy =>
+                "a variable can't be copied: `FltReferenceContext c0 as c1` gives c1 a reference of its own",
+            Hint::CanFail => "this call can fail: write `if`, the call, and a block `{ }`",
+            Hint::NeverFails => "this call always succeeds: write it without `if`",
+            Hint::Success =>
+                "the call itself stands behind `if`: the first block is taken where it succeeds",
+            Hint::ElseIf => "there is no `else if`: put the `if` into the block of the `else`",
+            Hint::LoneElse => "an `else` stands right behind the first block of its `if`",
+            Hint::Loop => "the only loop is `repeat NUMBER { }`",
+            Hint::Jump => "there are no jumps: use `if` and `else`, or `return`",
+            Hint::MissingBrace => "a `}` is missing before this",
+            Hint::NeedsQueue =>
+                "this call needs the filter's queue: write `queue` before the callbacks",
+            Hint::OtherKind => "this name is declared, but isn't of the kind that the call takes",
+            Hint::NameTwice => "this name is declared before: choose another",
+            Hint::CallbackTwice =>
+                "this callback stands in the text already: put both bodies into one",
+            Hint::VariableTwice => "a call takes a variable once: use another one",
+            Hint::NeedsCanceled => "a filter with a queue has a `canceled` callback: add one",
+            Hint::NeedsPre =>
+                "a `post` callback needs the `pre` callback of the same operation: add one",
+            Hint::Altitude => "an altitude is from 1 to 4294967295",
+            Hint::Turns => "a block is repeated 0 to 1000 times",
+            Hint::NestedBlocks => "blocks nest 32 deep, with the callback's own",
+            Hint::NestedRepeats => "`repeat` nests 4 deep",
+            Hint::Locks => "a filter has 8 locks at most",
+            Hint::Callbacks =>
+                "a text has 16 callbacks at most, and each has 512 points and a cost of 1,000,000 at most",
+        }
+    }
+}

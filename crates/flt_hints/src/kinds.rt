@@ -1,0 +1,94 @@
+//! The kinds of words that stand in like places.
+
+use flt_syntax::Kind;
+
+pub(crate) fn is_fallible(kind: Kind) -> bool {
+    matches!(
+        kind,
+        Kind::AllocateContext
+            | Kind::GetStreamContext
+            | Kind::GetInstanceContext
+            | Kind::SetStreamContext
+            | Kind::SetInstanceContext
+            | Kind::DeleteStreamContext
+            | Kind::DeleteInstanceContext
+            | Kind::InsertIo
+            | Kind::RemoveNextIo
+            | Kind::QueueDeferredIoWorkItem
+            | Kind::QueueGenericWorkItem
+    )
+}
+
+pub(crate) fn is_plain(kind: Kind) -> bool {
+    matches!(
+        kind,
+        Kind::DeleteContext
+            | Kind::ReferenceContext
+            | Kind::ReleaseContext
+            | Kind::AcquireSpinLock
+            | Kind::ReleaseSpinLock
+            | Kind::AcquireFastMutex
+            | Kind::ReleaseFastMutex
+            | Kind::AcquirePushLock
+            | Kind::AcquirePushLockShared
+            | Kind::ReleasePushLock
+            | Kind::CompletePendedPreOperation
+            | Kind::CompletePendedPostOperation
+    )
+}
+
+pub(crate) fn begins_callback(kind: Kind) -> bool {
+    matches!(
+        kind,
+        Kind::Pre
+            | Kind::Post
+            | Kind::Canceled
+            | Kind::DeferredPre
+            | Kind::DeferredPost
+            | Kind::Generic
+    )
+}
+
+pub(crate) fn is_number_variable(kind: Kind) -> bool {
+    matches!(
+        kind,
+        Kind::N0 | Kind::N1 | Kind::N2 | Kind::N3 | Kind::N4 | Kind::N5 | Kind::N6 | Kind::N7
+    )
+}
+
+pub(crate) fn is_context_variable(kind: Kind) -> bool {
+    matches!(
+        kind,
+        Kind::C0
+            | Kind::C1
+            | Kind::C2
+            | Kind::C3
+            | Kind::C4
+            | Kind::C5
+            | Kind::C6
+            | Kind::C7
+            | Kind::Arg
+    )
+}
+
+pub(crate) fn is_operation_variable(kind: Kind) -> bool {
+    matches!(kind, Kind::O0 | Kind::O1 | Kind::O2 | Kind::O3)
+}
+
+pub(crate) fn is_variable(kind: Kind) -> bool {
+    is_number_variable(kind) || is_context_variable(kind) || is_operation_variable(kind)
+}
+
+pub(crate) fn is_status(kind: Kind) -> bool {
+    matches!(
+        kind,
+        Kind::WithCallback
+            | Kind::Synchronize
+            | Kind::NoCallback
+            | Kind::Pending
+            | Kind::DisallowFastIo
+            | Kind::Complete
+            | Kind::FinishedProcessing
+            | Kind::MoreProcessingRequired
+    )
+}

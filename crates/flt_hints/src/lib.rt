@@ -1,0 +1,21 @@
+//! What is said of a text that doesn't parse: what stands where it is refused, what may stand there in its place, what is probably
+//! meant, and how to mend it. What may stand there is tried by the parser, so that no table can differ from it.
+#![tactic(auto)]
+
+mod choices;
+mod hint;
+mod hinting;
+mod kinds;
+mod names;
+mod nearest;
+mod phrases;
+mod spot;
+mod telling;
+mod trial;
+mod troubles;
+
+pub use choices::{Choices, Expected};
+pub use hint::Hint;
+pub use spot::Spot;
+pub use telling::{Told, tell};
+pub use troubles::{Trouble, describe};

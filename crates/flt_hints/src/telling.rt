@@ -1,0 +1,183 @@
+//! What is said of a text that doesn't parse, in words for people.
+
+use crate::hint::Hint;
+use crate::phrases::{Phrase, phrases};
+use crate::troubles::Trouble;
+use flt_syntax::FaultKind;
+use std::alloc::{AllocError, Global};
+
+/// What is said of a text that doesn't parse, in words.
+#[derive(Drop)]
+pub struct Told {
+    /// What is expected and what is found: one line without its end.
+    pub title: Vec<u8>,
+    /// What stands behind the marks under what is found: which word is probably meant, or nothing.
+    pub meant: Vec<u8>,
+    /// The lines below: which declared names may stand there, and how to mend what is wrong.
+    pub notes: Vec<u8>,
+}
+
+/// How many bytes of a token are shown at most.
+const MAX_SHOWN: usize = 80;
+
+fn text(out: &mut Vec<u8>, text: &str) -> Result<(), AllocError> {
+    out.extend_from_slice(text.as_bytes())
+}
+
+/// Bytes of a text in marks. What isn't printed as it stands is a `?`.
+fn quoted(out: &mut Vec<u8>, bytes: &[u8]) -> Result<(), AllocError> {
+    text(out, "`")?;
+    for byte in &bytes[..bytes.len().min(MAX_SHOWN)] {
+        let is_shown = byte.is_ascii() && !byte.is_ascii_control();
+        out.push(if is_shown { *byte } else { b'?' })?;
+    }
+    text(out, if bytes.len() > MAX_SHOWN { "..`" } else { "`" })
+}
+
+fn phrase(out: &mut Vec<u8>, phrase: Phrase<'_>) -> Result<(), AllocError> {
+    match phrase {
+        Phrase::Kind(name) => text(out, name),
+        Phrase::Word(word) => quoted(out, word),
+    }
+}
+
+/// Some phrases, with commas and an `or` between them.
+fn listed(out: &mut Vec<u8>, phrases: &[Phrase<'_>]) -> Result<(), AllocError> {
+    let mut left = phrases.len();
+    for one in phrases {
+        phrase(out, *one)?;
+        left = left.saturating_sub(1);
+        text(
+            out,
+            match left {
+                0 => "",
+                1 => " or ",
+                _ => ", ",
+            },
+        )?;
+    }
+    Ok(())
+}
+
+/// What is found.
+fn found(out: &mut Vec<u8>, trouble: &Trouble<'_>) -> Result<(), AllocError> {
+    match trouble.spot.bytes {
+        [] => text(out, "the end of the text"),
+        [byte] if !byte.is_ascii() => text(out, "a byte that isn't ASCII"),
+        bytes => quoted(out, bytes),
+    }
+}
+
+/// What is expected, and what is found.
+fn expected(
+    out: &mut Vec<u8>,
+    trouble: &Trouble<'_>,
+    phrases: &[Phrase<'_>],
+) -> Result<(), AllocError> {
+    if phrases.is_empty() {
+        text(out, "expected a name that is declared")?;
+    } else {
+        text(out, "expected ")?;
+        listed(out, phrases)?;
+    }
+    text(out, ", found ")?;
+    found(out, trouble)
+}
+
+/// What is found, behind some words and before others.
+fn around(
+    out: &mut Vec<u8>,
+    before: &str,
+    trouble: &Trouble<'_>,
+    behind: &str,
+) -> Result<(), AllocError> {
+    text(out, before)?;
+    found(out, trouble)?;
+    text(out, behind)
+}
+
+/// What is wrong with a name.
+fn unknown(
+    out: &mut Vec<u8>,
+    trouble: &Trouble<'_>,
+    phrases: &[Phrase<'_>],
+) -> Result<(), AllocError> {
+    if phrases.is_empty() || matches!(trouble.hint, Some(Hint::NeedsQueue)) {
+        around(out, "unknown name ", trouble, "")
+    } else {
+        expected(out, trouble, phrases)
+    }
+}
+
+/// What is wrong, in one line without its end: what is expected, and what is found.
+fn title(alloc: Global, out: &mut Vec<u8>, trouble: &Trouble<'_>) -> Result<(), AllocError> {
+    let phrases = phrases(alloc, &trouble.choices)?;
+    let phrases = phrases.as_slice();
+    match (trouble.spot.fault.kind, trouble.hint) {
+        (_, Some(Hint::TooLarge)) => text(out, "the text is too large"),
+        (_, Some(Hint::ByteOrderMark)) => text(out, "the text begins with a byte order mark"),
+        (_, Some(Hint::NeedsCanceled)) => text(out, "`queue` without a `canceled` callback"),
+        (_, Some(Hint::NeedsPre)) => text(out, "`post` callback without its `pre` callback"),
+        (_, Some(Hint::CallbackTwice)) => around(out, "this ", trouble, " callback stands twice"),
+        (FaultKind::E02, _) => around(out, "", trouble, " is no word or number"),
+        (FaultKind::E04, _) => unknown(out, trouble, phrases),
+        (FaultKind::E05, _) => around(out, "the name ", trouble, " is declared twice"),
+        (FaultKind::E06, _) => around(out, "a limit is passed at ", trouble, ""),
+        (FaultKind::E08, _) => around(out, "", trouble, " stands twice in one call"),
+        (FaultKind::E01 | FaultKind::E03 | FaultKind::E07, _) => expected(out, trouble, phrases),
+    }
+}
+
+/// Which word is probably meant, if one is.
+fn meant(out: &mut Vec<u8>, trouble: &Trouble<'_>) -> Result<(), AllocError> {
+    let Some(word) = trouble.meant else {
+        return Ok(());
+    };
+    text(out, "did you mean ")?;
+    quoted(out, word)?;
+    text(out, "?")
+}
+
+/// The names that may stand there.
+fn names(out: &mut Vec<u8>, names: &[&[u8]]) -> Result<(), AllocError> {
+    if names.is_empty() {
+        return Ok(());
+    }
+    let mut before = "   = note: declared here: ";
+    for name in names {
+        text(out, before)?;
+        quoted(out, name)?;
+        before = ", ";
+    }
+    text(out, "\n")
+}
+
+/// Which declared names may stand there, and how to mend what is wrong.
+fn notes(out: &mut Vec<u8>, trouble: &Trouble<'_>) -> Result<(), AllocError> {
+    if !trouble.choices.takes_name {
+        names(out, trouble.choices.names.as_slice())?;
+    }
+    let Some(hint) = trouble.hint else {
+        return Ok(());
+    };
+    text(out, "   = help: ")?;
+    text(out, hint.sentence())?;
+    text(out, "\n")
+}
+
+/// What is said of a text that doesn't parse, in words for people.
+///
+/// # Errors
+///
+/// Where a growth was refused.
+pub fn tell(alloc: Global, trouble: &Trouble<'_>) -> Result<Told, AllocError> {
+    let mut told = Told {
+        title: Vec::new(alloc),
+        meant: Vec::new(alloc),
+        notes: Vec::new(alloc),
+    };
+    title(alloc, &mut told.title, trouble)?;
+    meant(&mut told.meant, trouble)?;
+    notes(&mut told.notes, trouble)?;
+    Ok(told)
+}

@@ -1,0 +1,196 @@
+//! Where a fact comes from.
+
+ghost use Rattle.std.specs.Prelude.{◌≡◌, Some, IfOk, IfSome};
+ghost use Rattle.flt_graph.specs.Points.{successor};
+ghost use Rattle.flt_origins.specs.Origins as spec;
+
+use crate::entered::may_be_at_entry;
+use crate::facts::{Fact, keeps, makes};
+use flt_graph::{Graph, Instruction};
+use flt_ways::Step;
+use sqlite_items::Items;
+use std::alloc::{AllocError, Global};
+
+/// What makes a fact.
+#[derive(Clone, Copy)]
+pub enum Cause {
+    /// It is so when the callback is entered.
+    Entry,
+    /// This step makes it, whatever was so before.
+    Made(Step),
+}
+
+/// Where a fact comes from: what makes it, and the steps since, each of which keeps it.
+#[derive(Drop)]
+pub struct Origin {
+    pub fact: Fact,
+    pub cause: Cause,
+    pub later: Items<Step>,
+}
+
+/// The point to which an instruction leads, if it goes on.
+pub(crate) fn next(instruction: &Instruction, granted: bool) -> Option<usize>
+    ensures { result ≡ successor instruction.now granted }
+{
+    match instruction {
+        Instruction::Act(_, next) => Some(*next),
+        Instruction::Call(_, yes, no)
+        | Instruction::Test(_, yes, no)
+        | Instruction::Repeat(_, yes, no) => Some(if granted { *yes } else { *no }),
+        Instruction::Return(_) | Instruction::End => None,
+    }
+}
+
+fn is_kept(graph: &Graph, callback: usize, fact: Fact, point: usize, step: Step) -> bool
+    ensures { result ≡ spec.is_kept graph.now callback fact point step }
+{
+    step.point == point && keeps(&graph.instruction(callback, step.point), step.granted, fact)
+}
+
+/// Where steps lead, if each is of the point to which the one before leads, and keeps a fact.
+fn leads(
+    graph: &Graph,
+    callback: usize,
+    fact: Fact,
+    from: Option<usize>,
+    steps: &[Step],
+) -> Option<usize>
+    ensures { result ≡ spec.leads graph.now callback fact from steps.now }
+{
+    let [step, later @ ..] = steps else {
+        return from;
+    };
+    let point = from?;
+    if !is_kept(graph, callback, fact, point, *step) {
+        return None;
+    }
+    let next = next(&graph.instruction(callback, step.point), step.granted);
+    leads(graph, callback, fact, next, later)
+}
+
+fn is_made_by(graph: &Graph, callback: usize, fact: Fact, step: Step) -> bool
+    ensures { result ≡ spec.is_made_by graph.now callback fact step }
+{
+    makes(
+        &graph.instruction(callback, step.point),
+        step.granted,
+        step.gives,
+        fact,
+    )
+}
+
+/// Whether a cause makes a fact.
+fn is_made(alloc: Global, graph: &Graph, callback: usize, fact: Fact, cause: Cause) -> bool
+    ensures { result ≡ spec.is_made graph.now callback fact cause }
+{
+    match cause {
+        Cause::Entry => may_be_at_entry(alloc, graph.place(callback), fact),
+        Cause::Made(step) => is_made_by(graph, callback, fact, step),
+    }
+}
+
+/// The point to which a cause leads.
+fn behind(graph: &Graph, callback: usize, cause: Cause) -> Option<usize>
+    ensures { result ≡ spec.behind graph.now callback cause }
+{
+    match cause {
+        Cause::Entry => Some(0),
+        Cause::Made(step) => next(&graph.instruction(callback, step.point), step.granted),
+    }
+}
+
+/// Whether this is a point.
+fn is_at(found: Option<usize>, point: usize) -> bool
+    ensures { result ≡ spec.is_at found point }
+{
+    match found {
+        Some(found) => found == point,
+        None => false,
+    }
+}
+
+/// Whether a cause makes a fact, which later steps keep up to a point.
+fn is_origin(
+    alloc: Global,
+    graph: &Graph,
+    callback: usize,
+    fact: Fact,
+    point: usize,
+    cause: Cause,
+    later: &[Step],
+) -> bool
+    ensures { result ≡ spec.is_origin graph.now callback fact point cause later.now }
+{
+    is_made(alloc, graph, callback, fact, cause)
+        && is_at(
+            leads(graph, callback, fact, behind(graph, callback, cause), later),
+            point,
+        )
+}
+
+/// The last of these steps that makes a fact, or else the cause before them.
+fn last_cause(graph: &Graph, callback: usize, fact: Fact, before: Cause, steps: &[Step]) -> Cause
+    ensures { result ≡ spec.last_cause graph.now callback fact before steps.now }
+{
+    let [step, later @ ..] = steps else {
+        return before;
+    };
+    let cause = if is_made_by(graph, callback, fact, *step) {
+        Cause::Made(*step)
+    } else {
+        before
+    };
+    last_cause(graph, callback, fact, cause, later)
+}
+
+/// The steps since then.
+fn since<'a>(
+    graph: &Graph,
+    callback: usize,
+    fact: Fact,
+    later: &'a [Step],
+    steps: &'a [Step],
+) -> &'a [Step]
+    ensures { result.now ≡ spec.since graph.now callback fact later.now steps.now }
+{
+    let [step, rest @ ..] = steps else {
+        return later;
+    };
+    if is_made_by(graph, callback, fact, *step) {
+        since(graph, callback, fact, rest, rest)
+    } else {
+        since(graph, callback, fact, later, rest)
+    }
+}
+
+/// Whatever is so at the end of a way has an origin on it. It does nothing: its clause is the law.
+#[tactic(auto, using(crate::proofs::OnWays::have_origins))]
+pub fn ways_have_origins()
+    ensures { spec.HaveOrigins }
+{}
+
+/// Where a fact comes from that is so at a point, on the way of these steps: the last step that makes it, or the entry, and the steps
+/// since, which are a path of the graph to the point. None where they aren't, or where one of them doesn't keep the fact.
+///
+/// # Errors
+///
+/// Where a growth was refused.
+pub fn origin_on(
+    alloc: Global,
+    graph: &Graph,
+    callback: usize,
+    fact: Fact,
+    steps: &[Step],
+    point: usize,
+) -> Result<Option<Origin>, AllocError>
+    ensures value { IfOk result (λ o. o ≡ spec.origin_on graph.now callback fact steps.now point) }
+    ensures meaning { IfOk result (λ o. IfSome o (spec.IsOrigin graph.now callback fact point)) }
+{
+    let cause = last_cause(graph, callback, fact, Cause::Entry, steps);
+    let later = since(graph, callback, fact, steps, steps);
+    if !is_origin(alloc, graph, callback, fact, point, cause, later) {
+        return Ok(None);
+    }
+    let later = Items::from_slice(alloc, later)?;
+    Ok(Some(Origin { fact, cause, later }))
+}

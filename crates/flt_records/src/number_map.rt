@@ -1,0 +1,70 @@
+//! For each number another number or none, where numbers are given one after the other.
+
+ghost use Rattle.std.specs.Prelude.{◌≡◌, ◌==◌, ℕ, ◌<◌, if◌then◌else◌, Some, None, get_or, length, OnOk, OnErr};
+
+use std::alloc::{AllocError, Global};
+use std::marker::Model;
+
+/// By number. It takes as much memory as the greatest number asks for that was set.
+#[derive(Drop)]
+pub(crate) struct NumberMap {
+    /// What is past the end has none.
+    targets: Vec<Option<usize>>,
+}
+
+impl Model for NumberMap {
+    ghost use Rattle.std.specs.Prelude.{ℕ, List, Option};
+
+    ghost Value = { List (Option ℕ) };
+
+    ghost view = { λ m. m.targets.items };
+}
+
+impl NumberMap {
+    pub(crate) fn new(alloc: Global) -> NumberMap
+        ensures { (n : ℕ) → get_or result n None ≡ None }
+    {
+        NumberMap {
+            targets: Vec::new(alloc),
+        }
+    }
+
+    /// What a number has.
+    pub(crate) fn get(&self, number: usize) -> Option<usize>
+        ensures { result ≡ get_or self.now number None }
+    {
+        match self.targets.get(number) {
+            Some(target) => *target,
+            None => None,
+        }
+    }
+
+    /// Makes room for a number.
+    #[tactic(auto, using(crate::proofs::NumberMaps::filled_up))]
+    fn grow(&mut self, number: usize) -> Result<(), AllocError>
+        ensures room { OnOk result (number < length self.new) }
+        ensures same { (n : ℕ) → get_or self.new n None ≡ get_or self.old n None }
+        ensures err { OnErr result (self.new ≡ self.old) }
+    {
+        let Some(length) = number.checked_add(1) else {
+            return Err(AllocError);
+        };
+        if self.targets.len() < length {
+            self.targets.resize(length, None)?;
+        }
+        Ok(())
+    }
+
+    /// A number has this from now on.
+    #[tactic(auto, using(crate::proofs::NumberMaps::written))]
+    pub(crate) fn set(&mut self, number: usize, target: usize) -> Result<(), AllocError>
+        ensures ok { OnOk result ((n : ℕ) → get_or self.new n None ≡ (if number == n then Some target else get_or self.old n None)) }
+        ensures err { OnErr result (self.new ≡ self.old) }
+    {
+        self.grow(number)?;
+        if let Some(place) = self.targets.get_mut(number) {
+            *place = Some(target);
+        }
+        Ok(())
+    }
+}

@@ -1,0 +1,299 @@
+//! What other forms of reports say of a finding: its words and its places.
+
+ghost use Rattle.std.specs.Prelude.{◌≡◌, IfOk, map};
+
+use crate::advice::{tell_advice, tell_title};
+use crate::finding_report::Scene;
+use crate::page::Page;
+use crate::pieces::{between, pieces};
+use crate::sites::Sites;
+use crate::subjects::{state_word, tell_subject};
+use crate::tracing::{Shown, trace};
+use crate::way_lines::outcome;
+use flt_explain::Finding;
+use flt_graph::Graph;
+use flt_origins::Cause;
+use flt_syntax::Tree;
+use flt_ways::{Answer, Step, Way};
+use sqlite_items::Items;
+use std::alloc::{AllocError, Global};
+
+/// How a point comes out on a way. Points count from 0, lines and columns from 1.
+#[derive(Drop)]
+pub struct Stage {
+    pub point: usize,
+    pub line: usize,
+    pub column: usize,
+    /// The call succeeds, the test holds, a turn is left. It is true where nothing is asked.
+    pub granted: bool,
+    /// What is asked there, and how it comes out; nothing where nothing is asked.
+    pub words: Vec<u8>,
+}
+
+/// What a way to a finding is.
+#[derive(Clone, Copy)]
+pub enum WayKind {
+    /// Nothing is broken before.
+    Clean,
+    /// Other rules are broken before.
+    Behind,
+    /// No way was found.
+    Unreached,
+    /// The search was ended.
+    Unknown,
+}
+
+/// What is said of a finding in words.
+#[derive(Drop)]
+pub struct Words {
+    /// What is wrong.
+    pub title: Vec<u8>,
+    /// How to mend it.
+    pub help: Vec<u8>,
+    /// The head of its callback.
+    pub head: Vec<u8>,
+    /// What it is about.
+    pub subject: Vec<u8>,
+}
+
+/// How a finding is reached.
+#[derive(Drop)]
+pub struct Route {
+    pub kind: WayKind,
+    /// A way there, from the callback's entry.
+    pub stages: Items<Stage>,
+    /// Where ways meet with other locks, the other of them.
+    pub other: Option<Items<Stage>>,
+    /// What made it so, where that is known; none too where it is so when the callback is entered.
+    pub origin: Option<Stage>,
+    /// What the finding is about at the end of the way, in a word, where that is told.
+    pub state: Option<&'static str>,
+}
+
+/// What is said of a finding in every form.
+#[derive(Drop)]
+pub struct Detail {
+    pub finding: Finding,
+    /// Where its point's statement begins, from 1.
+    pub column: usize,
+    pub words: Words,
+    pub route: Route,
+}
+
+// ---- ways
+
+/// What is asked at a point, and how it comes out.
+fn branch_of(
+    alloc: Global,
+    scene: &Scene<'_>,
+    callback: usize,
+    step: &Step,
+) -> Result<Vec<u8>, AllocError> {
+    let mut page = Page::new(alloc, false);
+    let instruction = scene.graph.instruction(callback, step.point);
+    if let Some(word) = outcome(&instruction, step.granted) {
+        if let Some(site) = scene.sites.site(callback, step.point) {
+            page.quoted(between(scene.text, site.start, site.end))?;
+            page.text(" ")?;
+        }
+        page.text(word)?;
+    }
+    Ok(page.out)
+}
+
+/// Where the statement of a point begins, from 1.
+fn column_of(scene: &Scene<'_>, callback: usize, point: usize) -> usize {
+    match scene.sites.site(callback, point) {
+        Some(site) => site.column,
+        None => 1,
+    }
+}
+
+fn stage_of(
+    alloc: Global,
+    scene: &Scene<'_>,
+    callback: usize,
+    step: &Step,
+) -> Result<Stage, AllocError> {
+    Ok(Stage {
+        point: step.point,
+        line: scene.graph.line(callback, step.point),
+        column: column_of(scene, callback, step.point),
+        granted: step.granted,
+        words: branch_of(alloc, scene, callback, step)?,
+    })
+}
+
+fn stages(
+    alloc: Global,
+    scene: &Scene<'_>,
+    callback: usize,
+    steps: &[Step],
+) -> Result<Items<Stage>, AllocError> {
+    let mut all = Items::new(alloc);
+    for step in steps {
+        all.push(stage_of(alloc, scene, callback, step)?)?;
+    }
+    Ok(all)
+}
+
+fn kind_of(answer: &Answer) -> WayKind {
+    match answer {
+        Answer::Clean(_) => WayKind::Clean,
+        Answer::Behind(_) => WayKind::Behind,
+        Answer::Unreached => WayKind::Unreached,
+        Answer::Unknown => WayKind::Unknown,
+    }
+}
+
+/// The way that shows a finding, and the other one where two do.
+fn ways_in(answer: &Answer) -> (Option<&Way>, Option<&Way>) {
+    match answer {
+        Answer::Clean(found) | Answer::Behind(found) => (Some(&found.way), found.other.as_ref()),
+        Answer::Unreached | Answer::Unknown => (None, None),
+    }
+}
+
+/// The stages of a way, none where there is no way.
+fn stages_on(
+    alloc: Global,
+    scene: &Scene<'_>,
+    callback: usize,
+    way: Option<&Way>,
+) -> Result<Items<Stage>, AllocError> {
+    match way {
+        Some(way) => stages(alloc, scene, callback, way.steps.as_slice()),
+        None => Ok(Items::new(alloc)),
+    }
+}
+
+/// The stages of another way, if there is one.
+fn other_stages(
+    alloc: Global,
+    scene: &Scene<'_>,
+    callback: usize,
+    way: Option<&Way>,
+) -> Result<Option<Items<Stage>>, AllocError> {
+    match way {
+        Some(way) => Ok(Some(stages(alloc, scene, callback, way.steps.as_slice())?)),
+        None => Ok(None),
+    }
+}
+
+/// What made what is found so.
+fn origin_of(
+    alloc: Global,
+    scene: &Scene<'_>,
+    callback: usize,
+    shown: &Shown,
+) -> Result<Option<Stage>, AllocError> {
+    let Some(origin) = shown.origin.as_ref() else {
+        return Ok(None);
+    };
+    match origin.cause {
+        Cause::Made(step) => Ok(Some(stage_of(alloc, scene, callback, &step)?)),
+        Cause::Entry => Ok(None),
+    }
+}
+
+// ---- words
+
+fn title_of(alloc: Global, scene: &Scene<'_>, finding: &Finding) -> Result<Vec<u8>, AllocError> {
+    let mut page = Page::new(alloc, false);
+    let head = scene.sites.head(scene.text, finding.callback);
+    tell_title(&mut page, scene.tree, head, finding)?;
+    Ok(page.out)
+}
+
+fn help_of(alloc: Global, scene: &Scene<'_>, finding: &Finding) -> Result<Vec<u8>, AllocError> {
+    let mut page = Page::new(alloc, false);
+    tell_advice(&mut page, scene.tree, finding)?;
+    Ok(page.out)
+}
+
+fn subject_of(alloc: Global, scene: &Scene<'_>, finding: &Finding) -> Result<Vec<u8>, AllocError> {
+    let mut page = Page::new(alloc, false);
+    tell_subject(&mut page, scene.tree, finding.subject)?;
+    Ok(page.out)
+}
+
+fn words_of(alloc: Global, scene: &Scene<'_>, finding: &Finding) -> Result<Words, AllocError> {
+    let title = title_of(alloc, scene, finding)?;
+    let help = help_of(alloc, scene, finding)?;
+    let subject = subject_of(alloc, scene, finding)?;
+    let head = Vec::from_slice(alloc, scene.sites.head(scene.text, finding.callback))?;
+    Ok(Words {
+        title,
+        help,
+        head,
+        subject,
+    })
+}
+
+/// What a finding is about at the end of a way, in a word.
+fn state_at_end(finding: &Finding, way: Option<&Way>) -> Option<&'static str> {
+    match way {
+        Some(way) => state_word(way.end.situation.state(), finding.subject),
+        None => None,
+    }
+}
+
+// ---- findings
+
+fn route_of(alloc: Global, scene: &Scene<'_>, finding: &Finding) -> Result<Route, AllocError> {
+    let shown = trace(alloc, scene.graph, finding)?;
+    let (way, other) = ways_in(&shown.answer);
+    let stages = stages_on(alloc, scene, finding.callback, way)?;
+    let other = other_stages(alloc, scene, finding.callback, other)?;
+    let origin = origin_of(alloc, scene, finding.callback, &shown)?;
+    Ok(Route {
+        kind: kind_of(&shown.answer),
+        stages,
+        other,
+        origin,
+        state: state_at_end(finding, way),
+    })
+}
+
+fn detail_of(alloc: Global, scene: &Scene<'_>, finding: &Finding) -> Result<Detail, AllocError>
+    ensures { IfOk result (λ d. d.finding ≡ finding.now) }
+{
+    let words = words_of(alloc, scene, finding)?;
+    let route = route_of(alloc, scene, finding)?;
+    Ok(Detail {
+        finding: *finding,
+        column: column_of(scene, finding.callback, finding.point),
+        words,
+        route,
+    })
+}
+
+/// What is said of each finding of a text that parses, in their order.
+///
+/// # Errors
+///
+/// Where a growth was refused.
+pub fn details(
+    alloc: Global,
+    text: &[u8],
+    tree: &Tree,
+    graph: &Graph,
+    found: &[Finding],
+) -> Result<Items<Detail>, AllocError>
+    ensures { IfOk result (λ ds. map (λ d. d.finding) ds ≡ found.now) }
+{
+    let pieces = pieces(alloc, text)?;
+    let sites = Sites::of(alloc, text, pieces.as_slice())?;
+    let scene = Scene {
+        name: "",
+        text,
+        sites: &sites,
+        tree,
+        graph,
+    };
+    let mut all = Items::new(alloc);
+    for finding in found {
+        all.push(detail_of(alloc, &scene, finding)?)?;
+    }
+    Ok(all)
+}

@@ -1,0 +1,158 @@
+//! What shows each finding, where it comes from, and which are put together.
+
+use flt_explain::{Finding, Subject};
+use flt_graph::Graph;
+use flt_origins::{
+    Cause, Fact, Group, Origin, Traced, VariableStatus, fact_about, groups, origin_at, origin_on,
+};
+use flt_rules::Rule;
+use flt_ways::{Answer, Situation, Way, Ways, ways};
+use sqlite_items::Items;
+use std::alloc::{AllocError, Global};
+
+/// What shows a finding, and where what is found comes from, where that is known.
+#[derive(Drop)]
+pub(crate) struct Shown {
+    pub(crate) answer: Answer,
+    pub(crate) origin: Option<Origin>,
+}
+
+/// The findings of a text as they are reported.
+#[derive(Drop)]
+pub(crate) struct Traces {
+    shown: Items<Shown>,
+    pub(crate) groups: Items<Group>,
+}
+
+/// What of a situation breaks the rule of a finding. A call that isn't legal at its place is wrong whatever is so.
+fn offence(finding: &Finding, situation: &Situation) -> Option<Fact> {
+    match (finding.rule, finding.subject) {
+        (Rule::R07, _) => fact_about(finding.subject, situation),
+        (_, Subject::Call) => None,
+        _ => fact_about(finding.subject, situation),
+    }
+}
+
+/// Where that comes from at the end of a way.
+fn origin_at_end(
+    alloc: Global,
+    graph: &Graph,
+    finding: &Finding,
+    way: &Way,
+) -> Result<Option<Origin>, AllocError> {
+    match offence(finding, &way.end.situation) {
+        Some(fact) => origin_on(
+            alloc,
+            graph,
+            finding.callback,
+            fact,
+            way.steps.as_slice(),
+            way.end.point,
+        ),
+        None => Ok(None),
+    }
+}
+
+/// Whether this is the fact that a lock is held.
+fn is_held_lock(fact: Option<Fact>) -> bool {
+    matches!(fact, Some(Fact::Lock(_, true)))
+}
+
+/// Where what ways show comes from: where they meet with other locks, on the one on which the lock is held.
+fn origin_of(
+    alloc: Global,
+    graph: &Graph,
+    finding: &Finding,
+    found: &Ways,
+) -> Result<Option<Origin>, AllocError> {
+    let way = match &found.other {
+        Some(other) if !is_held_lock(offence(finding, &found.way.end.situation)) => other,
+        _ => &found.way,
+    };
+    origin_at_end(alloc, graph, finding, way)
+}
+
+/// That a variable has a status, if a finding is about one.
+fn has(finding: &Finding, status: VariableStatus) -> Option<Fact> {
+    match finding.subject {
+        Subject::Context(variable) => Some(Fact::Context(variable, status)),
+        Subject::Operation(variable) => Some(Fact::Operation(variable, status)),
+        _ => None,
+    }
+}
+
+/// What may break the rule of a finding, by the rule alone: one thing, or else another.
+fn offences(finding: &Finding) -> [Option<Fact>; 2] {
+    match (finding.rule, finding.subject) {
+        (Rule::R01 | Rule::R04 | Rule::R13, _) => [
+            has(finding, VariableStatus::Stale),
+            has(finding, VariableStatus::Null),
+        ],
+        (Rule::R02 | Rule::R03 | Rule::R05, _) => [has(finding, VariableStatus::Held), None],
+        (Rule::R10 | Rule::R11, Subject::Lock(lock)) => [Some(Fact::Lock(lock, true)), None],
+        _ => [None, None],
+    }
+}
+
+/// Where that may come from, by the graph alone.
+fn origin_without_way(
+    alloc: Global,
+    graph: &Graph,
+    finding: &Finding,
+) -> Result<Option<Origin>, AllocError> {
+    for fact in offences(finding) {
+        if let Some(fact) = fact {
+            let found = origin_at(alloc, graph, finding.callback, fact, finding.point)?;
+            if found.is_some() {
+                return Ok(found);
+            }
+        }
+    }
+    Ok(None)
+}
+
+/// What shows a finding, with its origin.
+pub(crate) fn trace(alloc: Global, graph: &Graph, finding: &Finding) -> Result<Shown, AllocError> {
+    let answer = ways(alloc, graph, finding)?;
+    let origin = match &answer {
+        Answer::Clean(found) | Answer::Behind(found) => origin_of(alloc, graph, finding, found)?,
+        Answer::Unreached | Answer::Unknown => origin_without_way(alloc, graph, finding)?,
+    };
+    Ok(Shown { answer, origin })
+}
+
+/// What made an origin's fact.
+fn cause(shown: &Shown) -> Option<Cause> {
+    match &shown.origin {
+        Some(origin) => Some(origin.cause),
+        None => None,
+    }
+}
+
+impl Traces {
+    /// What shows the findings of a text, put together by their origins.
+    pub(crate) fn of(
+        alloc: Global,
+        graph: &Graph,
+        found: &[Finding],
+    ) -> Result<Traces, AllocError> {
+        let mut all = Items::new(alloc);
+        let mut traced = Items::new(alloc);
+        for finding in found {
+            let shown = trace(alloc, graph, finding)?;
+            traced.push(Traced {
+                number: all.len(),
+                finding: *finding,
+                cause: cause(&shown),
+            })?;
+            all.push(shown)?;
+        }
+        let groups = groups(alloc, traced.as_slice())?;
+        Ok(Traces { shown: all, groups })
+    }
+
+    /// What shows a finding.
+    pub(crate) fn shown(&self, traced: &Traced) -> Option<&Shown> {
+        self.shown.get(traced.number)
+    }
+}

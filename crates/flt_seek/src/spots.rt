@@ -1,0 +1,174 @@
+//! Where a journal breaks something: the callback of the last step, and the line on which that stands.
+
+use crate::making::{go_unseen, make, world_after};
+use flt_model::{JournalEntry, Move};
+use flt_records::Upcoming;
+use flt_rules::Place;
+use flt_tree::{Callback, Filter, Head, Statement, Tree};
+use flt_world::{Stack, World};
+use std::alloc::{AllocError, Global};
+
+/// Where a break is looked for: in a callback of one of the filters, and on a line of it where that matters. Filters and callbacks
+/// count from 0, lines from 1.
+#[derive(Clone, Copy)]
+pub struct Spot {
+    pub filter: usize,
+    pub callback: usize,
+    pub line: Option<usize>,
+}
+
+/// A step of an activation: the last one of so many.
+#[derive(Clone, Copy)]
+struct Step {
+    activation: usize,
+    steps: u32,
+}
+
+/// The number of a filter from the highest altitude; that of no filter where the altitude is too great.
+fn number_of(stack: &Stack<'_>, filter: &Filter) -> usize {
+    match u32::try_from(filter.altitude) {
+        Ok(altitude) => stack.number_of(altitude),
+        Err(_) => stack.len(),
+    }
+}
+
+// ---- the callback
+
+fn is_registered(head: &Head, place: Place) -> bool {
+    match (head, place) {
+        (Head::Pre(own), Place::Pre(kind)) => *own == kind,
+        (Head::Post(own), Place::Post(kind)) => *own == kind,
+        (Head::Canceled, Place::Canceled) => true,
+        _ => false,
+    }
+}
+
+/// The number of the callback that is registered for a place that is no routine's; how many there are where none is.
+fn callback_for(filter: &Filter, place: Place) -> usize {
+    let mut number: usize = 0;
+    for callback in filter.callbacks.as_slice() {
+        if is_registered(&callback.head, place) {
+            return number;
+        }
+        number = number.saturating_add(1);
+    }
+    number
+}
+
+/// The routine of the work item that an entry starts.
+fn routine_of(world: &World<'_>, entry: JournalEntry) -> Option<usize> {
+    let JournalEntry::Move(Move::Work { item }) = entry else {
+        return None;
+    };
+    match world.items().get(item as usize) {
+        Some(Some(item)) => Some(item.routine),
+        _ => None,
+    }
+}
+
+/// The routine that the activation of a number runs; none where it is no work item's.
+fn routine_run<'a>(
+    alloc: Global,
+    stack: &Stack<'a>,
+    entries: &[JournalEntry],
+    activation: usize,
+) -> Result<Option<usize>, AllocError> {
+    let mut world = World::opening(alloc, stack.len())?;
+    for entry in entries {
+        let routine = routine_of(&world, *entry);
+        if !make(&mut world, alloc, stack, *entry)? {
+            return Ok(None);
+        }
+        if world.activations.len() > activation {
+            return Ok(routine);
+        }
+    }
+    Ok(None)
+}
+
+// ---- the line
+
+pub(crate) fn line_of(statement: &Statement) -> usize {
+    match statement {
+        Statement::Act(line, _)
+        | Statement::Call(line, _)
+        | Statement::Return(line, _)
+        | Statement::If(line, _, _, _)
+        | Statement::Repeat(line, _, _) => *line,
+    }
+}
+
+/// The line of the step: that of the closing brace where no statement is left.
+fn line_at(world: &mut World<'_>, callback: &Callback, step: Step) -> Result<usize, AllocError> {
+    if step.steps == 0 || !go_unseen(world, step.activation, step.steps - 1)? {
+        return Ok(0);
+    }
+    let Some(activation) = world.activations.get_mut(step.activation) else {
+        return Ok(0);
+    };
+    match activation.rest.first()? {
+        Some(Upcoming::Statement(statement)) => Ok(line_of(statement)),
+        Some(Upcoming::Repeat(line, _, _)) => Ok(line),
+        None => Ok(callback.end_line),
+    }
+}
+
+// ---- the spot
+
+/// Whether a step behind some entries stands in a spot.
+fn is_step_in<'a>(
+    alloc: Global,
+    stack: &Stack<'a>,
+    filter: &Filter,
+    before: &[JournalEntry],
+    step: Step,
+    spot: Spot,
+) -> Result<bool, AllocError> {
+    let Some(mut world) = world_after(alloc, stack, before)? else {
+        return Ok(false);
+    };
+    if world.filter(step.activation) != number_of(stack, filter) {
+        return Ok(false);
+    }
+    let number = match routine_run(alloc, stack, before, step.activation)? {
+        Some(routine) => routine,
+        None => callback_for(filter, world.place(step.activation)),
+    };
+    let (true, Some(callback)) = (number == spot.callback, filter.callbacks.get(number)) else {
+        return Ok(false);
+    };
+    match spot.line {
+        Some(line) => Ok(line_at(&mut world, callback, step)? == line),
+        None => Ok(true),
+    }
+}
+
+/// Whether the last of some entries is a step that stands in a spot.
+pub(crate) fn ends_in<'a>(
+    alloc: Global,
+    trees: &'a [Tree],
+    stack: &Stack<'a>,
+    entries: &[JournalEntry],
+    spot: Spot,
+) -> Result<bool, AllocError> {
+    let Some(tree) = trees.get(spot.filter) else {
+        return Ok(false);
+    };
+    match entries {
+        [
+            before @ ..,
+            JournalEntry::Go {
+                activation,
+                steps,
+                ..
+            },
+        ] => {
+            let step = Step {
+                activation: *activation as usize,
+                steps: *steps,
+            };
+            is_step_in(alloc, stack, &tree.filter, before, step, spot)
+        }
+        _ => Ok(false),
+    }
+}

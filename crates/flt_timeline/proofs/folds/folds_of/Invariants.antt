@@ -1,0 +1,13 @@
+use Rattle.std.proofs.Common.{length, ◌-◌, ◌≤◌}
+use Rattle.flt_timeline.specs.Folds as spec
+use Rattle.flt_timeline.proofs.folds.folds_of.Given as goal
+
+-- the blocks so far, with what repeats them, end here
+abbrev pub invariant-loop-first : goal.invariant-loop-first
+invariant-loop-first l = record {
+  folded : spec.AreFolds l.told l.rows 0 l.folds l.first;
+  within : l.first ≤ length l.rows;
+}
+
+abbrev pub decreases-loop-first : goal.decreases-loop-first
+decreases-loop-first l = length l.rows - l.first

@@ -1,0 +1,9 @@
+use Rattle.std.proofs.Common.{length, ◌≡◌}
+use Rattle.flt_timeline.proofs.timeline.course_of.Given as goal
+
+-- each entry so far is told, and has who was on
+abbrev pub invariant-loop-entry : goal.invariant-loop-entry
+invariant-loop-entry l = record {
+  told : length l.told ≡ l.entry-index;
+  whos : length l.whos ≡ l.entry-index;
+}

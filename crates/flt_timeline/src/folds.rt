@@ -1,0 +1,124 @@
+//! What repeats: a block of rows that comes several times, one behind the other.
+
+ghost use Rattle.std.specs.Prelude.{◌≡◌, ◌≤◌, ◌+◌, ◌<◌, length, slice_get, IfOk, IsTrue};
+ghost use Rattle.flt_timeline.specs.Folds as spec;
+
+use crate::rows::Row;
+use sqlite_items::Items;
+use std::alloc::{AllocError, Global};
+
+/// A block has fewer rows.
+const LONGEST: usize = 25;
+
+/// A block of rows, and the rows behind it that repeat it.
+#[derive(Clone, Copy)]
+pub struct Fold {
+    /// The number of the first row, from 0.
+    pub first: usize,
+    /// How many rows the block has.
+    pub block: usize,
+    /// How many rows repeat it: each is told as the row that stands `block` rows before it.
+    pub repeated: usize,
+}
+
+/// What is told in a row, by number.
+pub(crate) fn part(told: &[usize], row: Row) -> &[usize]
+    ensures { result.now ≡ spec.part told.now row }
+{
+    if row.first > told.len() {
+        return &[];
+    }
+    let behind = &told[row.first..];
+    if row.count > behind.len() {
+        return behind;
+    }
+    &behind[..row.count]
+}
+
+/// What is told in the row of a number; nothing where there is none.
+fn part_of<'a>(told: &'a [usize], rows: &[Row], number: usize) -> &'a [usize]
+    ensures { result.now ≡ spec.part_of told.now (slice_get rows.now number) }
+{
+    match rows.get(number).copied() {
+        Some(row) => part(told, row),
+        None => &[],
+    }
+}
+
+/// Whether the rows of two numbers tell the same.
+fn are_alike(told: &[usize], rows: &[Row], one: usize, other: usize) -> bool
+    ensures { IsTrue result →
+        spec.part_of told.now (slice_get rows.now one) ≡ spec.part_of told.now (slice_get rows.now other) }
+{
+    part_of(told, rows, one) == part_of(told, rows, other)
+}
+
+/// How many rows from behind a block on tell the same as those that stand a block before them.
+fn repeated(told: &[usize], rows: &[Row], first: usize, block: usize) -> usize
+    requires { first + block ≤ length rows.now }
+    ensures within { first + block + result ≤ length rows.now }
+    ensures repeats { spec.Repeats told.now rows.now first block result }
+{
+    let most = rows.len() - first - block;
+    let mut alike = 0;
+    while alike < most {
+        if !are_alike(told, rows, first + alike, first + alike + block) {
+            return alike;
+        }
+        alike += 1;
+    }
+    alike
+}
+
+/// As many of some rows as are whole blocks.
+fn whole_blocks(rows: usize, block: usize) -> usize
+    requires { 1 ≤ block }
+    ensures { result ≤ rows }
+{
+    (rows / block).saturating_mul(block).min(rows)
+}
+
+/// The shortest block at a place that comes three times, or the row alone.
+fn fold_at(told: &[usize], rows: &[Row], first: usize) -> Fold
+    requires { first < length rows.now }
+    ensures first { result.first ≡ first }
+    ensures fold { spec.IsFold told.now rows.now result }
+{
+    for block in 1..LONGEST {
+        if block > rows.len() - first {
+            break;
+        }
+        let alike = whole_blocks(repeated(told, rows, first, block), block);
+        if alike / 2 >= block {
+            return Fold {
+                first,
+                block,
+                repeated: alike,
+            };
+        }
+    }
+    Fold {
+        first,
+        block: 1,
+        repeated: 0,
+    }
+}
+
+/// The blocks of some rows.
+#[tactic(auto, using(crate::proofs::Appending::folds_append))]
+pub(crate) fn folds_of(
+    alloc: Global,
+    told: &[usize],
+    rows: &[Row],
+) -> Result<Items<Fold>, AllocError>
+    ensures { IfOk result (λ folds. spec.AreFolds told.now rows.now 0 folds (length rows.now)) }
+{
+    let mut folds = Items::new(alloc);
+    let mut first = 0;
+    while first < rows.len() {
+        let fold = fold_at(told, rows, first);
+        folds.push(fold)?;
+        first = first + fold.block + fold.repeated;
+    }
+    Ok(folds)
+}

@@ -1,0 +1,373 @@
+//! A journal is run, and what each entry comes to is written down.
+
+use crate::columns::Columns;
+use crate::outcome::sign_of;
+use crate::telling::{Happening, Started, Telling, Who};
+use flt_model::{Journal, JournalEntry, Move};
+use flt_records::Upcoming;
+use flt_rules::{Operation, Place};
+use flt_steps::Setup;
+use flt_tree::{Callback, Filter, Head, OperationVariable, Statement, Tree};
+use flt_world::{Stack, World};
+use std::alloc::{AllocError, Global};
+
+/// An activation, as it is told.
+#[derive(Clone, Copy)]
+struct Run {
+    operation: Option<usize>,
+    started: Started,
+}
+
+/// An entry, as it is told.
+#[derive(Clone, Copy)]
+pub(crate) struct Told {
+    pub(crate) telling: Telling,
+    pub(crate) who: Who,
+}
+
+/// What tells the entries of a journal, one after the other.
+#[derive(Drop)]
+pub(crate) struct Teller<'b, 'a> {
+    alloc: Global,
+    stack: &'b Stack<'a>,
+    /// From the highest altitude to the lowest.
+    filters: &'b [&'a Filter],
+    world: World<'a>,
+    columns: Columns,
+    /// By activation.
+    runs: Vec<Run>,
+}
+
+/// The filters of some trees, from the highest altitude to the lowest.
+pub(crate) fn filters_of<'a>(
+    alloc: Global,
+    stack: &Stack<'a>,
+    trees: &'a [Tree],
+) -> Result<Vec<&'a Filter>, AllocError> {
+    let mut filters = Vec::new(alloc);
+    for number in 0..stack.len() {
+        for tree in trees {
+            if number_of(stack, &tree.filter) == Some(number) {
+                filters.push(&tree.filter)?;
+            }
+        }
+    }
+    Ok(filters)
+}
+
+fn number_of(stack: &Stack<'_>, filter: &Filter) -> Option<usize> {
+    match u32::try_from(filter.altitude) {
+        Ok(altitude) => Some(stack.number_of(altitude)),
+        Err(_) => None,
+    }
+}
+
+/// How many operations arrive in a journal.
+fn arrivals(journal: &Journal) -> usize {
+    let mut arrivals: usize = 0;
+    for entry in journal.entries() {
+        if matches!(entry, JournalEntry::Move(Move::Arrive { .. })) {
+            arrivals = arrivals.saturating_add(1);
+        }
+    }
+    arrivals
+}
+
+fn is_registered(head: &Head, place: Place) -> bool {
+    match (head, place) {
+        (Head::Pre(own), Place::Pre(kind)) => *own == kind,
+        (Head::Post(own), Place::Post(kind)) => *own == kind,
+        (Head::Canceled, Place::Canceled) => true,
+        _ => false,
+    }
+}
+
+/// The number of the callback that is registered for a place that is no routine's, from 0.
+fn callback_for(filter: &Filter, place: Place) -> usize {
+    let mut number: usize = 0;
+    for callback in filter.callbacks.as_slice() {
+        if is_registered(&callback.head, place) {
+            return number;
+        }
+        number = number.saturating_add(1);
+    }
+    number
+}
+
+fn line_of(statement: &Statement) -> usize {
+    match statement {
+        Statement::Act(line, _)
+        | Statement::Call(line, _)
+        | Statement::Return(line, _)
+        | Statement::If(line, _, _, _)
+        | Statement::Repeat(line, _, _) => *line,
+    }
+}
+
+/// What a move comes to that starts no callback.
+fn happening_of(step: Move) -> Happening {
+    match step {
+        Move::Arrive {
+            operation,
+            mode,
+            file,
+        } => Happening::Arrives(operation, mode, file),
+        Move::Skip { .. } => Happening::Skips,
+        Move::Lower { .. } => Happening::Lowers,
+        Move::Cancel { .. } => Happening::Cancels,
+        Move::Detach { altitude } => Happening::Detaches(altitude),
+        Move::Unlink { altitude, key } => Happening::Unlinks(altitude, key),
+        Move::Detached { altitude } => Happening::IsDetached(altitude),
+        Move::Pre { .. }
+        | Move::Post { .. }
+        | Move::Canceled { .. }
+        | Move::Work { .. }
+        | Move::Drain { .. } => Happening::IsRefused(JournalEntry::Move(step)),
+    }
+}
+
+impl<'b, 'a> Teller<'b, 'a> {
+    pub(crate) fn new(
+        alloc: Global,
+        stack: &'b Stack<'a>,
+        filters: &'b [&'a Filter],
+        journal: &Journal,
+    ) -> Result<Teller<'b, 'a>, AllocError> {
+        Ok(Teller {
+            alloc,
+            stack,
+            filters,
+            world: World::opening(alloc, stack.len())?,
+            columns: Columns::new(arrivals(journal)),
+            runs: Vec::new(alloc),
+        })
+    }
+
+    fn told(&self, who: Who, resumed: Option<Started>, happening: Happening) -> Told {
+        Told {
+            telling: Telling {
+                column: self.columns.find(who.operation),
+                alive: self.columns.alive(&self.world),
+                resumed,
+                happening,
+            },
+            who,
+        }
+    }
+
+    /// What is told of an entry that concerns nobody.
+    pub(crate) fn aside(&self, happening: Happening) -> Told {
+        let nobody = Who {
+            operation: None,
+            activation: None,
+            ends: false,
+        };
+        self.told(nobody, None, happening)
+    }
+
+    // ---- moves
+
+    /// The routine of the work item that a move starts.
+    fn routine_of(&self, step: Move) -> Option<usize> {
+        let Move::Work { item } = step else {
+            return None;
+        };
+        match self.world.items().get(item as usize) {
+            Some(Some(item)) => Some(item.routine),
+            _ => None,
+        }
+    }
+
+    /// The operation that a move which starts nothing is about.
+    fn operation_of(&self, step: Move) -> Option<usize> {
+        match step {
+            Move::Arrive { .. } => self.world.routes.len().checked_sub(1),
+            Move::Skip { serial } | Move::Lower { serial } | Move::Cancel { serial } => {
+                Some(serial as usize)
+            }
+            _ => None,
+        }
+    }
+
+    /// A callback has started: the activation of a number.
+    fn tell_start(
+        &mut self,
+        activation: usize,
+        routine: Option<usize>,
+    ) -> Result<Told, AllocError> {
+        let filter = self.world.filter(activation);
+        let place = self.world.place(activation);
+        let callback = match (routine, self.filters.get(filter)) {
+            (Some(routine), _) => routine,
+            (None, Some(filter)) => callback_for(filter, place),
+            (None, None) => 0,
+        };
+        let started = Started {
+            filter,
+            callback,
+            draining: self.world.has_flag(activation),
+        };
+        let operation = match self.world.operation_in(activation, OperationVariable::Data) {
+            Some(visit) => Some(self.world.operation_of(visit)),
+            None => None,
+        };
+        self.runs.push(Run { operation, started })?;
+        let column = self.columns.find(operation);
+        self.columns.start(column);
+        self.columns.put_on(column, activation);
+        let who = Who {
+            operation,
+            activation: Some(activation),
+            ends: false,
+        };
+        Ok(self.told(who, None, Happening::Starts(started)))
+    }
+
+    fn tell_move(&mut self, step: Move) -> Result<Told, AllocError> {
+        let routine = self.routine_of(step);
+        let before = self.world.activations.len();
+        let alloc = self.alloc;
+        let stack = self.stack;
+        let mut events = Vec::new(alloc);
+        if !flt_moves::make(&mut self.world, alloc, stack, step, &mut events)? {
+            return Ok(self.aside(Happening::IsRefused(JournalEntry::Move(step))));
+        }
+        if self.world.activations.len() > before {
+            return self.tell_start(before, routine);
+        }
+        let operation = self.operation_of(step);
+        if let (Move::Arrive { .. }, Some(operation)) = (step, operation) {
+            self.columns.add(&self.world, operation);
+        }
+        let who = Who {
+            operation,
+            activation: None,
+            ends: false,
+        };
+        Ok(self.told(who, None, happening_of(step)))
+    }
+
+    // ---- steps
+
+    /// Makes steps that nobody else sees, unless one of them isn't such a step.
+    fn go_unseen(&mut self, activation: usize, steps: u32) -> Result<bool, AllocError> {
+        for _ in 0..steps {
+            if !flt_steps::step_unseen(&mut self.world, activation)? {
+                return Ok(false);
+            }
+        }
+        Ok(true)
+    }
+
+    /// The next statement of an activation; none at the end of its body.
+    fn next_statement(&mut self, activation: usize) -> Result<Option<&'a Statement>, AllocError> {
+        let Some(activation) = self.world.activations.get_mut(activation) else {
+            return Ok(None);
+        };
+        match activation.rest.first()? {
+            Some(Upcoming::Statement(statement)) => Ok(Some(statement)),
+            _ => Ok(None),
+        }
+    }
+
+    fn callback(&self, started: Started) -> Option<&'a Callback> {
+        self.filters
+            .get(started.filter)?
+            .callbacks
+            .get(started.callback)
+    }
+
+    /// The line of the closing brace of a callback.
+    fn end_line(&self, run: Run) -> usize {
+        match self.callback(run.started) {
+            Some(callback) => callback.end_line,
+            None => 0,
+        }
+    }
+
+    /// Makes the step that others see; none where it isn't enabled.
+    fn run_seen(
+        &mut self,
+        activation: usize,
+        grant: bool,
+        run: Run,
+    ) -> Result<Option<Happening>, AllocError> {
+        let statement = self.next_statement(activation)?;
+        let (line, sign) = match statement {
+            Some(statement) => (
+                line_of(statement),
+                sign_of(&self.world, activation, grant, statement),
+            ),
+            None => (self.end_line(run), None),
+        };
+        // Whether the activation holds its operation changes no world: only events, and those aren't read.
+        let setup = Setup {
+            alloc: self.alloc,
+            activation,
+            grant,
+            held: true,
+        };
+        let mut events = Vec::new(self.alloc);
+        if !flt_steps::step_seen(&mut self.world, self.stack, setup, &mut events)? {
+            return Ok(None);
+        }
+        let outcome = match sign {
+            Some(sign) => Some(sign.shows(&self.world, activation)),
+            None => None,
+        };
+        Ok(Some(Happening::Runs(line, outcome)))
+    }
+
+    /// An activation has gone on.
+    fn tell_run(&mut self, activation: usize, run: Run, happening: Happening) -> Told {
+        let column = self.columns.find(run.operation);
+        let ends = self.world.has_ended(activation);
+        if ends {
+            self.columns.end(column);
+        }
+        let resumed = if self.columns.put_on(column, activation) {
+            Some(run.started)
+        } else {
+            None
+        };
+        let who = Who {
+            operation: run.operation,
+            activation: Some(activation),
+            ends,
+        };
+        self.told(who, resumed, happening)
+    }
+
+    fn tell_go(
+        &mut self,
+        entry: JournalEntry,
+        activation: usize,
+        steps: u32,
+        grant: bool,
+    ) -> Result<Told, AllocError> {
+        let Some(run) = self.runs.get(activation).copied() else {
+            return Ok(self.aside(Happening::IsRefused(entry)));
+        };
+        if steps == 0 || !self.go_unseen(activation, steps - 1)? {
+            return Ok(self.aside(Happening::IsRefused(entry)));
+        }
+        match self.run_seen(activation, grant, run)? {
+            Some(happening) => Ok(self.tell_run(activation, run, happening)),
+            None => Ok(self.aside(Happening::IsRefused(entry))),
+        }
+    }
+
+    // ---- all
+
+    /// Makes an entry, and says what it came to.
+    pub(crate) fn tell(&mut self, entry: JournalEntry) -> Result<Told, AllocError> {
+        match entry {
+            JournalEntry::Move(step) => self.tell_move(step),
+            JournalEntry::Go {
+                activation,
+                steps,
+                grant,
+            } => self.tell_go(entry, activation as usize, steps, grant),
+        }
+    }
+}

@@ -1,0 +1,64 @@
+//! What is told of an entry.
+
+use flt_model::{JournalEntry, Key};
+use flt_rules::{Mode, Operation};
+
+/// Where an entry is drawn.
+#[derive(Clone, Copy, PartialEq, Eq)]
+pub(crate) enum Column {
+    /// It is about no operation.
+    Margin,
+    /// The column of an operation, from 0.
+    Own(usize),
+    /// Behind all columns, where more operations are alive than there are columns.
+    Beyond,
+}
+
+/// A callback that starts: the number of its filter, from the highest altitude, and its own in the text, both from 0.
+#[derive(Clone, Copy, PartialEq, Eq)]
+pub(crate) struct Started {
+    pub(crate) filter: usize,
+    pub(crate) callback: usize,
+    pub(crate) draining: bool,
+}
+
+/// What an entry comes to. The operation's own number isn't in it, so that two operations that go the same way are told alike.
+#[derive(Clone, Copy, PartialEq, Eq)]
+pub(crate) enum Happening {
+    /// An operation arrives, of a kind and a mode, on a file.
+    Arrives(Operation, Mode, u32),
+    Skips,
+    Lowers,
+    Cancels,
+    /// A filter of an altitude begins to be detached.
+    Detaches(u32),
+    Unlinks(u32, Key),
+    IsDetached(u32),
+    Starts(Started),
+    /// A line, from 1, whose statement others see; and where it is a call or a test, whether it succeeds or holds.
+    Runs(usize, Option<bool>),
+    /// It isn't enabled.
+    IsRefused(JournalEntry),
+    /// It stands behind the entry that ends the run.
+    IsLeftOut,
+}
+
+/// What is told of an entry.
+#[derive(Clone, Copy, PartialEq, Eq)]
+pub(crate) struct Telling {
+    pub(crate) column: Column,
+    /// The columns in which an operation isn't done, column 0 as the lowest bit.
+    pub(crate) alive: u32,
+    /// The callback that goes on, where the column was another's before. In the margin and behind the columns, each that goes on.
+    pub(crate) resumed: Option<Started>,
+    pub(crate) happening: Happening,
+}
+
+/// Who is on in an entry, by their numbers.
+#[derive(Clone, Copy)]
+pub(crate) struct Who {
+    pub(crate) operation: Option<usize>,
+    pub(crate) activation: Option<usize>,
+    /// Whether the activation, or the run, ends with it.
+    pub(crate) ends: bool,
+}

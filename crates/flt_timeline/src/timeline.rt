@@ -1,0 +1,121 @@
+//! The timeline of a journal.
+
+ghost use Rattle.std.specs.Prelude.{◌≡◌, length, IfOk};
+
+use crate::folds::{Fold, folds_of};
+use crate::rows::{Row, rows_of};
+use crate::running::{Teller, filters_of};
+use crate::telling::{Happening, Who};
+use crate::tellings::Tellings;
+use flt_model::{Journal, Verdict};
+use flt_tree::{Filter, Tree};
+use flt_world::Stack;
+use sqlite_items::Items;
+use std::alloc::{AllocError, Global};
+
+/// What happened on a stack, for people to read.
+#[derive(Drop)]
+pub struct Timeline<'a> {
+    /// From the highest altitude to the lowest.
+    pub(crate) filters: Vec<&'a Filter>,
+    pub(crate) verdict: Verdict,
+    /// What is told of entries, each once.
+    pub(crate) tellings: Tellings,
+    /// What each entry came to, by the number of what is told of it.
+    pub told: Items<usize>,
+    /// Who was on in each entry.
+    pub(crate) whos: Items<Who>,
+    pub rows: Items<Row>,
+    pub folds: Items<Fold>,
+}
+
+/// What is told of a journal.
+#[derive(Drop)]
+struct Course {
+    tellings: Tellings,
+    told: Items<usize>,
+    whos: Items<Who>,
+}
+
+/// Whether a run ends with the entry of a number.
+fn ends_at(verdict: Verdict, number: usize) -> bool {
+    match verdict {
+        Verdict::Legal => false,
+        Verdict::NotARun(last) | Verdict::Breaks(_, last) => last == number,
+    }
+}
+
+fn is_refused(happening: Happening) -> bool {
+    matches!(happening, Happening::IsRefused(_))
+}
+
+/// Tells a journal entry by entry, up to the one that ends the run.
+fn course_of<'b, 'a>(
+    alloc: Global,
+    mut teller: Teller<'b, 'a>,
+    journal: &Journal,
+    verdict: Verdict,
+) -> Result<Course, AllocError>
+    ensures told { IfOk result (λ c. length c.told ≡ length journal.now) }
+    ensures whos { IfOk result (λ c. length c.whos ≡ length journal.now) }
+{
+    let mut tellings = Tellings::new(alloc);
+    let mut told = Items::new(alloc);
+    let mut whos = Items::new(alloc);
+    let mut is_over = false;
+    for entry in journal.entries() {
+        let here = if is_over {
+            teller.aside(Happening::IsLeftOut)
+        } else {
+            teller.tell(*entry)?
+        };
+        let is_last = !is_over
+            && (ends_at(verdict, told.len()) || is_refused(here.telling.happening));
+        is_over = is_over || is_last;
+        told.push(tellings.number(here.telling)?)?;
+        whos.push(Who {
+            ends: here.who.ends || is_last,
+            ..here.who
+        })?;
+    }
+    Ok(Course {
+        tellings,
+        told,
+        whos,
+    })
+}
+
+impl<'a> Timeline<'a> {
+    ghost use Rattle.flt_timeline.specs.Timelines as spec;
+
+    /// The timeline of a journal on some filters, in any order, of which the monitor says this. What stands behind the entry that ends
+    /// the run isn't run.
+    ///
+    /// # Errors
+    ///
+    /// Where a growth was refused, or a count would pass 2^64.
+    pub fn of(
+        alloc: Global,
+        trees: &'a [Tree],
+        journal: &Journal,
+        verdict: Verdict,
+    ) -> Result<Timeline<'a>, AllocError>
+        ensures { IfOk result (spec.IsTimeline (length journal.now)) }
+    {
+        let stack = Stack::of(alloc, trees)?;
+        let filters = filters_of(alloc, &stack, trees)?;
+        let teller = Teller::new(alloc, &stack, filters.as_slice(), journal)?;
+        let course = course_of(alloc, teller, journal, verdict)?;
+        let rows = rows_of(alloc, course.whos.as_slice())?;
+        let folds = folds_of(alloc, course.told.as_slice(), rows.as_slice())?;
+        Ok(Timeline {
+            filters,
+            verdict,
+            tellings: course.tellings,
+            told: course.told,
+            whos: course.whos,
+            rows,
+            folds,
+        })
+    }
+}

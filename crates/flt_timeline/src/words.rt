@@ -1,0 +1,200 @@
+//! Words of journals and callbacks.
+
+use crate::telling::{Happening, Started};
+use flt_model::{JournalEntry, Key, Move, Violation};
+use flt_rules::{Mode, Operation};
+use flt_tree::{Filter, Head};
+use std::alloc::AllocError;
+use std::fmt::Write;
+
+pub(crate) fn kind_word(kind: Operation) -> &'static str {
+    match kind {
+        Operation::Create => "create",
+        Operation::Read => "read",
+        Operation::Write => "write",
+        Operation::Cleanup => "cleanup",
+    }
+}
+
+fn mode_word(mode: Mode) -> &'static str {
+    match mode {
+        Mode::Irp => "irp",
+        Mode::Fast => "fast",
+    }
+}
+
+pub(crate) fn violation_word(violation: Violation) -> &'static str {
+    match violation {
+        Violation::V1 => "V1",
+        Violation::V2 => "V2",
+        Violation::V3 => "V3",
+        Violation::V4 => "V4",
+        Violation::V5 => "V5",
+        Violation::V6 => "V6",
+        Violation::V7 => "V7",
+        Violation::V8 => "V8",
+    }
+}
+
+pub(crate) fn choice_word(choice: bool) -> &'static str {
+    if choice { "yes" } else { "no" }
+}
+
+/// A word and a number.
+fn put_one(out: &mut String, word: &str, number: u32) -> Result<(), AllocError> {
+    write!(out, "{word} {number}")
+}
+
+/// A word and two numbers.
+fn put_two(out: &mut String, word: &str, one: u32, other: u32) -> Result<(), AllocError> {
+    write!(out, "{word} {one} {other}")
+}
+
+fn put_arrival(out: &mut String, kind: Operation, mode: Mode, file: u32) -> Result<(), AllocError> {
+    out.push_str("arrive ")?;
+    out.push_str(kind_word(kind))?;
+    out.push_str(" ")?;
+    put_one(out, mode_word(mode), file)
+}
+
+fn put_unlink(out: &mut String, altitude: u32, key: Key) -> Result<(), AllocError> {
+    put_one(out, "unlink", altitude)?;
+    match key {
+        Key::Stream(file) => put_one(out, " stream", file),
+        Key::Instance => out.push_str(" instance"),
+    }
+}
+
+/// A move as its line in a journal.
+pub(crate) fn put_move(out: &mut String, step: Move) -> Result<(), AllocError> {
+    match step {
+        Move::Arrive {
+            operation,
+            mode,
+            file,
+        } => put_arrival(out, operation, mode, file),
+        Move::Pre { serial } => put_one(out, "pre", serial),
+        Move::Skip { serial } => put_one(out, "skip", serial),
+        Move::Lower { serial } => put_one(out, "lower", serial),
+        Move::Post { serial } => put_one(out, "post", serial),
+        Move::Cancel { serial } => put_one(out, "cancel", serial),
+        Move::Canceled { altitude, serial } => put_two(out, "canceled", altitude, serial),
+        Move::Work { item } => put_one(out, "work", item),
+        Move::Detach { altitude } => put_one(out, "detach", altitude),
+        Move::Drain { altitude, serial } => put_two(out, "drain", altitude, serial),
+        Move::Unlink { altitude, key } => put_unlink(out, altitude, key),
+        Move::Detached { altitude } => put_one(out, "detached", altitude),
+    }
+}
+
+/// An entry as its line in a journal.
+fn put_entry(out: &mut String, entry: JournalEntry) -> Result<(), AllocError> {
+    match entry {
+        JournalEntry::Move(step) => put_move(out, step),
+        JournalEntry::Go {
+            activation,
+            steps,
+            grant,
+        } => {
+            put_two(out, "go", activation, steps)?;
+            out.push_str(" ")?;
+            out.push_str(choice_word(grant))
+        }
+    }
+}
+
+fn put_name(out: &mut String, name: &[u8]) -> Result<(), AllocError> {
+    for byte in name {
+        let shown = if byte.is_ascii_graphic() { *byte } else { b'?' };
+        out.push(shown as char)?;
+    }
+    Ok(())
+}
+
+/// The head of a callback as its text has it.
+fn put_head(out: &mut String, head: &Head) -> Result<(), AllocError> {
+    match head {
+        Head::Pre(kind) => {
+            out.push_str("pre ")?;
+            out.push_str(kind_word(*kind))
+        }
+        Head::Post(kind) => {
+            out.push_str("post ")?;
+            out.push_str(kind_word(*kind))
+        }
+        Head::Canceled => out.push_str("canceled"),
+        Head::DeferredPre(name) => {
+            out.push_str("deferred_pre ")?;
+            put_name(out, name.as_slice())
+        }
+        Head::DeferredPost(name) => {
+            out.push_str("deferred_post ")?;
+            put_name(out, name.as_slice())
+        }
+        Head::Generic(name) => {
+            out.push_str("generic ")?;
+            put_name(out, name.as_slice())
+        }
+    }
+}
+
+/// A callback by its head, with the name of its filter where there are several.
+pub(crate) fn put_callback(
+    out: &mut String,
+    filters: &[&Filter],
+    started: Started,
+) -> Result<(), AllocError> {
+    let Some(filter) = filters.get(started.filter) else {
+        return Ok(());
+    };
+    out.push_str("`")?;
+    if let Some(callback) = filter.callbacks.get(started.callback) {
+        put_head(out, &callback.head)?;
+    }
+    out.push_str("`")?;
+    if filters.len() > 1 {
+        out.push_str(" of ")?;
+        put_name(out, filter.name.as_slice())?;
+    }
+    Ok(())
+}
+
+fn put_start(out: &mut String, filters: &[&Filter], started: Started) -> Result<(), AllocError> {
+    put_callback(out, filters, started)?;
+    out.push_str(" starts")?;
+    if started.draining {
+        out.push_str(", draining")?;
+    }
+    Ok(())
+}
+
+fn put_run(out: &mut String, line: usize, outcome: Option<bool>) -> Result<(), AllocError> {
+    write!(out, "{line}")?;
+    if let Some(outcome) = outcome {
+        out.push_str(" ")?;
+        out.push_str(choice_word(outcome))?;
+    }
+    Ok(())
+}
+
+/// What an entry came to that is about an operation of this number, if it is about one.
+pub(crate) fn put_happening(
+    out: &mut String,
+    filters: &[&Filter],
+    serial: u32,
+    happening: Happening,
+) -> Result<(), AllocError> {
+    match happening {
+        Happening::Arrives(kind, mode, file) => put_arrival(out, kind, mode, file),
+        Happening::Skips => put_one(out, "skip", serial),
+        Happening::Lowers => put_one(out, "lower", serial),
+        Happening::Cancels => put_one(out, "cancel", serial),
+        Happening::Detaches(altitude) => put_one(out, "detach", altitude),
+        Happening::Unlinks(altitude, key) => put_unlink(out, altitude, key),
+        Happening::IsDetached(altitude) => put_one(out, "detached", altitude),
+        Happening::Starts(started) => put_start(out, filters, started),
+        Happening::Runs(line, outcome) => put_run(out, line, outcome),
+        Happening::IsRefused(entry) => put_entry(out, entry),
+        Happening::IsLeftOut => out.push_str("not judged"),
+    }
+}

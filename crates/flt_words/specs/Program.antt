@@ -1,0 +1,77 @@
+-- The program's commands and their arguments, as `clap` takes them. This project's own program.
+use Rattle.std.specs.Prelude.{◌≡◌, Bool, true, false, Some, codes, pos}
+use Rattle.clap.specs.Lexer.{usize_max}
+use Rattle.clap.specs.Simple.{App, app_of, new_app, new_rule, with_rule, with_subcommand}
+use Rattle.clap.specs.Walk.{Rule}
+use Rattle.clap.specs.declared.builder.action.ArgAction.TheVariants.{SetTrue}
+use Rattle.clap.specs.declared.builder.command.Command.{Command}
+use Rattle.clap.specs.declared.builder.command.Command.TheViews.{out-Command as fields_of}
+use Rattle.clap.specs.declared.builder.value_parser.ValueParser.TheVariants.{Signed}
+
+-- a command takes words as this one does, and none of its arguments goes down to a subcommand
+abbrev pub IsCommand : Command → App → Type 0
+IsCommand c app = (app_of c ≡ app) × ((fields_of c).has_globals ≡ false)
+
+-- ---- arguments
+
+-- FILE of a command on one text
+abbrev pub text_rule : Rule
+text_rule = record (new_rule (codes "FILE")) { required = true }
+
+-- FILE.. of a command on several texts
+abbrev pub texts_rule : Rule
+texts_rule = record (new_rule (codes "FILE")) { required = true; range = Some (record { start_inclusive = 1; end_inclusive = usize_max }) }
+
+abbrev pub journal_rule : Rule
+journal_rule = record (new_rule (codes "JOURNAL")) { required = true }
+
+abbrev pub script_rule : Rule
+script_rule = record (new_rule (codes "SCRIPT")) { required = true }
+
+-- `--workers N`, a number from 1 to 16
+abbrev pub workers_rule : Rule
+workers_rule = record (new_rule (codes "workers")) {
+  long = Some (codes "workers");
+  value_names = 1;
+  parser = Some (Signed (pos 1) (pos 16));
+}
+
+-- `--quiet`
+abbrev pub quiet_rule : Rule
+quiet_rule = record (new_rule (codes "quiet")) { long = Some (codes "quiet"); action = Some SetTrue }
+
+-- ---- commands
+
+-- `check FILE [CERT]`
+abbrev pub check_app : App
+check_app = with_rule (with_rule (new_app (codes "check")) text_rule) (new_rule (codes "CERT"))
+
+-- `analyse FILE`
+abbrev pub analyse_app : App
+analyse_app = with_rule (new_app (codes "analyse")) text_rule
+
+abbrev pub bare_run_app : App
+bare_run_app = new_app (codes "run")
+
+-- `run [--workers N] [--quiet] SCRIPT FILE..`
+abbrev pub run_app : App
+run_app = with_rule (with_rule (with_rule (with_rule bare_run_app workers_rule) quiet_rule) script_rule) texts_rule
+
+-- `replay JOURNAL FILE..`
+abbrev pub replay_app : App
+replay_app = with_rule (with_rule (new_app (codes "replay")) journal_rule) texts_rule
+
+-- `explain FILE..`
+abbrev pub explain_app : App
+explain_app = with_rule (new_app (codes "explain")) texts_rule
+
+-- the program without its commands: one is asked for, the program's own name is left out, and `--version` answers
+abbrev pub bare_app : App
+bare_app = let a = new_app (codes "fltstack") in
+    record a { top = record a.top { subcommand_required = true; no_binary_name = true; has_version = true } }
+
+-- the program
+abbrev pub program_app : App
+program_app =
+    with_subcommand (with_subcommand (with_subcommand (with_subcommand (with_subcommand bare_app check_app.top) analyse_app.top)
+    explain_app.top) run_app.top) replay_app.top

@@ -1,0 +1,9 @@
+//! The words of a command line: what they ask for, and the texts that say how the program is used.
+#![tactic(auto)]
+
+mod program;
+mod request;
+mod words;
+
+pub use request::Request;
+pub use words::read_words;

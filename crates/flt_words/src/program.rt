@@ -1,0 +1,194 @@
+//! The program's commands with their arguments, as `clap` takes them.
+
+ghost use Rattle.std.specs.Prelude.{◌≡◌, false, IfOk};
+ghost use Rattle.clap.specs.Walk.{rule_of};
+ghost use Rattle.flt_words.specs.Program as spec;
+
+use clap::{Arg, ArgAction, Command, value_parser};
+use std::alloc::{AllocError, Global};
+
+/// What `--version` prints behind the program's name.
+const VERSION: &str = "0.1.0";
+
+/// What is said of FILE.. where the texts are those of one stack.
+const STACK: &str = "The filters' texts, up to 16";
+
+// ---- arguments
+
+/// The argument FILE of a command on one text. It goes down to no subcommand.
+fn text_argument<'a>(alloc: Global) -> Arg<'a>
+    ensures rule { rule_of result ≡ spec.text_rule }
+    ensures own { result.global ≡ false }
+{
+    Arg::new(alloc, "FILE")
+        .required(true)
+        .help("The filter's text; `-` is the standard input")
+}
+
+/// The argument FILE.. of a command on several texts, with what its help says.
+fn texts_argument<'a>(alloc: Global, help: &'a str) -> Arg<'a>
+    ensures rule { rule_of result ≡ spec.texts_rule }
+    ensures own { result.global ≡ false }
+{
+    Arg::new(alloc, "FILE")
+        .required(true)
+        .num_args(1..)
+        .help(help)
+}
+
+/// The argument JOURNAL.
+fn journal_argument<'a>(alloc: Global) -> Arg<'a>
+    ensures rule { rule_of result ≡ spec.journal_rule }
+    ensures own { result.global ≡ false }
+{
+    Arg::new(alloc, "JOURNAL")
+        .required(true)
+        .help("The journal; `-` is the standard input")
+}
+
+/// The argument SCRIPT.
+fn script_argument<'a>(alloc: Global) -> Arg<'a>
+    ensures rule { rule_of result ≡ spec.script_rule }
+    ensures own { result.global ≡ false }
+{
+    Arg::new(alloc, "SCRIPT").required(true).help(
+        "What is asked of the filters, line by line; `-` is the standard input",
+    )
+}
+
+/// The option `--workers`.
+fn workers_argument<'a>(alloc: Global) -> Arg<'a>
+    ensures rule { rule_of result ≡ spec.workers_rule }
+    ensures own { result.global ≡ false }
+{
+    Arg::new(alloc, "workers")
+        .long("workers")
+        .value_name("N")
+        .value_parser(value_parser!(u8).range(1..=16))
+        .help("How many workers drive them; 1 alone can be asked for so far")
+}
+
+/// The flag `--quiet`.
+fn quiet_argument<'a>(alloc: Global) -> Arg<'a>
+    ensures rule { rule_of result ≡ spec.quiet_rule }
+    ensures own { result.global ≡ false }
+{
+    Arg::new(alloc, "quiet")
+        .long("quiet")
+        .action(ArgAction::SetTrue)
+        .help("Tell a terminal nothing of how far the run has come")
+}
+
+// ---- commands
+
+fn check_command<'a>(alloc: Global) -> Result<Command<'a>, AllocError>
+    ensures { IfOk result (λ c. spec.IsCommand c spec.check_app) }
+{
+    let cert = Arg::new(alloc, "CERT").help(
+        "Its certificate; without it, FILE's first line `fltcert 1` begins it",
+    );
+    Command::new(alloc, "check")
+        .about("Says whether a certificate covers a filter's text")
+        .override_usage("fltstack check <FILE> [CERT]")
+        .after_help(
+            "Prints `accepted` (exit 0), or the first point and rule that refuse it (exit 1).\nErrors go to the standard error with exit 2.\n\nExample: fltstack check examples/pass_through.flt examples/pass_through.cert",
+        )
+        .arg(text_argument(alloc))?
+        .arg(cert)
+}
+
+fn analyse_command<'a>(alloc: Global) -> Result<Command<'a>, AllocError>
+    ensures { IfOk result (λ c. spec.IsCommand c spec.analyse_app) }
+{
+    Command::new(alloc, "analyse")
+        .about("Finds the least certificate that covers a filter's text")
+        .override_usage("fltstack analyse <FILE>")
+        .after_help(
+            "Prints the certificate (exit 0), or the point and rule for which there is none (exit 1).\nErrors go to the standard error with exit 2.\n\nExample: fltstack analyse examples/pending_reads.flt",
+        )
+        .arg(text_argument(alloc))
+}
+
+/// The command `run` without its arguments.
+fn bare_run<'a>(alloc: Global) -> Command<'a>
+    ensures { spec.IsCommand result spec.bare_run_app }
+{
+    Command::new(alloc, "run")
+        .about("Drives filters by a script and prints the journal of what happened")
+        .override_usage("fltstack run [--workers <N>] [--quiet] <SCRIPT> <FILE>...")
+        .after_help(
+            "Prints the journal (exit 0), or the file, the point and the rule for which it has no certificate (exit 1).\nErrors go to the standard error with exit 2. Where the journal is full, it is printed up to there, with exit 2.\n\nExample: fltstack run examples/pending_reads.script examples/pending_reads.flt",
+        )
+}
+
+fn run_command<'a>(alloc: Global) -> Result<Command<'a>, AllocError>
+    ensures { IfOk result (λ c. spec.IsCommand c spec.run_app) }
+{
+    bare_run(alloc)
+        .arg(workers_argument(alloc))?
+        .arg(quiet_argument(alloc))?
+        .arg(script_argument(alloc))?
+        .arg(texts_argument(alloc, STACK))
+}
+
+fn replay_command<'a>(alloc: Global) -> Result<Command<'a>, AllocError>
+    ensures { IfOk result (λ c. spec.IsCommand c spec.replay_app) }
+{
+    Command::new(alloc, "replay")
+        .about("Says whether a journal is a run of the machine on some filters that breaks nothing")
+        .override_usage("fltstack replay <JOURNAL> <FILE>...")
+        .after_help(
+            "Prints `legal` (exit 0), or `not a run at N` or `breaks Vk at N` for the first such entry (exit 1).\nErrors go to the standard error with exit 2.\n\nExample: fltstack replay examples/pending_reads.journal examples/pending_reads.flt",
+        )
+        .arg(journal_argument(alloc))?
+        .arg(texts_argument(alloc, STACK))
+}
+
+fn explain_command<'a>(alloc: Global) -> Result<Command<'a>, AllocError>
+    ensures { IfOk result (λ c. spec.IsCommand c spec.explain_app) }
+{
+    Command::new(alloc, "explain")
+        .about(
+            "Says all that is wrong with filters' texts, where it comes from, how to get there and how to mend it",
+        )
+        .override_usage(
+            "fltstack explain <FILE>...\n       fltstack explain <R01 to R15, V1 to V8 or E01 to E08>",
+        )
+        .after_help(
+            "Prints a report for each finding, and last what `analyse` says (exit 1), or `nothing found` (exit 0).\nWhere a text doesn't parse, it says where and why (exit 2). Of a rule, a violation or a fault of a text\nit prints the page (exit 0); `./R02` is a file of that name.\nErrors go to the standard error with exit 2.\n\nExample: fltstack explain examples/leaked_context.flt",
+        )
+        .arg(texts_argument(
+            alloc,
+            "The filters' texts; or the number of a rule, a violation or a fault of a text, alone",
+        ))
+}
+
+// ---- the program
+
+/// The program without its commands.
+fn bare_program<'a>(alloc: Global) -> Command<'a>
+    ensures { spec.IsCommand result spec.bare_app }
+{
+    Command::new(alloc, "fltstack")
+        .version(VERSION)
+        .about(
+            "A static verifier for Windows file-system minifilters, and the stack that runs what it accepts",
+        )
+        .after_help(
+            "With no words it acts as `check -`.\n\nExit status: 0 for `accepted`, a certificate, a journal, `legal` or nothing found; 1 for any other answer;\n2 where there is none, and the standard error says why.\n\nExample: fltstack analyse examples/pending_reads.flt",
+        )
+        .subcommand_required(true)
+        .no_binary_name(true)
+}
+
+/// The program with its commands.
+pub(crate) fn program<'a>(alloc: Global) -> Result<Command<'a>, AllocError>
+    ensures { IfOk result (λ c. spec.IsCommand c spec.program_app) }
+{
+    bare_program(alloc)
+        .subcommand(check_command(alloc)?)?
+        .subcommand(analyse_command(alloc)?)?
+        .subcommand(explain_command(alloc)?)?
+        .subcommand(run_command(alloc)?)?
+        .subcommand(replay_command(alloc)?)
+}

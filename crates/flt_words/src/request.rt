@@ -1,0 +1,39 @@
+//! What the words of a command line ask for.
+
+/// What the words ask for.
+#[derive(Debug, Drop)]
+pub enum Request<'a> {
+    /// Check the text of a file, with the certificate of another one or of the same.
+    Check {
+        file: &'a str,
+        cert: Option<&'a str>,
+    },
+    /// Find the least certificate of the text of a file.
+    Analyse {
+        file: &'a str,
+    },
+    /// Drive the filters of some files by a script.
+    Run {
+        /// How many workers drive them. It is 1.
+        workers: u8,
+        /// Whether a terminal is told nothing of how far the run has come.
+        quiet: bool,
+        script: &'a str,
+        files: Vec<&'a str>,
+    },
+    /// Say what a journal is on the texts of some files.
+    Replay {
+        journal: &'a str,
+        files: Vec<&'a str>,
+    },
+    /// Say all that is wrong with the texts of some files.
+    Explain {
+        files: Vec<&'a str>,
+    },
+    /// Print the page of a rule, of a violation or of a fault of a text.
+    Page {
+        name: &'a str,
+    },
+    /// They can't be taken, or ask for help or the version: the text that says so.
+    Usage(String),
+}

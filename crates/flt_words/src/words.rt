@@ -1,0 +1,184 @@
+//! What the words of a command line ask for.
+
+ghost use Rattle.std.specs.Prelude.{◌≡◌, Some, IfOk, map, option_and_then, string_bytes};
+ghost use Rattle.clap.specs.Matches.{found_of};
+ghost use Rattle.clap.specs.Simple.{subcommand_rows_of};
+ghost use Rattle.clap.specs.Walk.{rows_of};
+ghost use Rattle.flt_words.specs.Request.{asked_of};
+ghost use Rattle.flt_words.specs.Words as spec;
+
+use crate::program::program;
+use crate::request::Request;
+use clap::ArgMatches;
+use clap::error::ErrorKind;
+use flt_pages::page;
+use std::alloc::{AllocError, Global};
+
+/// What is said where another number of workers is asked for.
+const ONE_WORKER: &str =
+    "error: one worker alone can drive filters so far: `--workers` takes 1\n\nUsage: fltstack run [--workers <N>] [--quiet] <SCRIPT> <FILE>...\n\nFor more information, try '--help'.\n";
+
+// ---- values
+
+/// The value of an argument that is always there.
+fn text_of<'a>(matches: &ArgMatches<'a>, id: &str) -> &'a str
+    ensures { result.now ≡ spec.text_of id.now (rows_of (found_of matches.now)) }
+{
+    matches.get_str(id).unwrap_or("-")
+}
+
+/// The values of FILE.
+fn files_of<'a>(alloc: Global, matches: &ArgMatches<'a>) -> Result<Vec<&'a str>, AllocError>
+    ensures { IfOk result (λ files. map (λ name. name.now) files.items ≡ spec.files_of (rows_of (found_of matches.now))) }
+{
+    match matches.get_strs("FILE") {
+        Some(files) => Vec::from_slice(alloc, files),
+        None => Ok(Vec::new(alloc)),
+    }
+}
+
+/// How many workers are asked for; 1 where nothing is said.
+fn workers_of(matches: &ArgMatches) -> u8
+    ensures { result ≡ spec.workers_of (rows_of (found_of matches.now)) }
+{
+    match matches.get_str("workers") {
+        Some(text) => text.parse::<u8>().unwrap_or(0),
+        None => 1,
+    }
+}
+
+fn is_quiet(matches: &ArgMatches) -> bool
+    ensures { result ≡ spec.is_quiet (rows_of (found_of matches.now)) }
+{
+    match matches.get_str("quiet") {
+        Some(text) => text == "true",
+        None => false,
+    }
+}
+
+// ---- commands
+
+/// What the matches of `check` ask for.
+fn asked_check<'a>(check: &ArgMatches<'a>) -> Request<'a>
+    ensures { asked_of result ≡ Some (spec.check_of (rows_of (found_of check.now))) }
+{
+    Request::Check {
+        file: text_of(check, "FILE"),
+        cert: check.get_str("CERT"),
+    }
+}
+
+/// What the matches of `analyse` ask for.
+fn asked_analyse<'a>(analyse: &ArgMatches<'a>) -> Request<'a>
+    ensures { asked_of result ≡ Some (spec.analyse_of (rows_of (found_of analyse.now))) }
+{
+    Request::Analyse {
+        file: text_of(analyse, "FILE"),
+    }
+}
+
+/// What `explain` of some names asks for.
+fn explain_of<'a>(files: Vec<&'a str>) -> Request<'a>
+    ensures { asked_of result ≡ Some (spec.explain_of (map (λ name. name.now) files.entry.items)) }
+{
+    match files.as_slice() {
+        [name] if page(name).is_some() => Request::Page { name },
+        _ => Request::Explain { files },
+    }
+}
+
+/// What the matches of `explain` ask for.
+fn asked_explain<'a>(alloc: Global, explain: &ArgMatches<'a>) -> Result<Request<'a>, AllocError>
+    ensures { IfOk result (λ r. asked_of r ≡ Some (spec.explain_of (spec.files_of (rows_of (found_of explain.now))))) }
+{
+    let files = files_of(alloc, explain)?;
+    Ok(explain_of(files))
+}
+
+/// What the matches of `run` ask for.
+fn asked_run<'a>(alloc: Global, run: &ArgMatches<'a>) -> Result<Request<'a>, AllocError>
+    ensures { IfOk result (λ r. asked_of r ≡ spec.run_of (rows_of (found_of run.now))) }
+{
+    let workers = workers_of(run);
+    if workers != 1 {
+        return Ok(Request::Usage(String::from_str(alloc, ONE_WORKER)?));
+    }
+    Ok(Request::Run {
+        workers,
+        quiet: is_quiet(run),
+        script: text_of(run, "SCRIPT"),
+        files: files_of(alloc, run)?,
+    })
+}
+
+/// What the matches of `replay` ask for.
+fn asked_replay<'a>(alloc: Global, replay: &ArgMatches<'a>) -> Result<Request<'a>, AllocError>
+    ensures { IfOk result (λ r. asked_of r ≡ Some (spec.replay_of (rows_of (found_of replay.now)))) }
+{
+    Ok(Request::Replay {
+        journal: text_of(replay, "JOURNAL"),
+        files: files_of(alloc, replay)?,
+    })
+}
+
+/// What the matches of a command line ask for.
+fn matched<'a>(alloc: Global, matches: &ArgMatches<'a>) -> Result<Request<'a>, AllocError>
+    ensures { IfOk result (λ r. asked_of r ≡ option_and_then spec.asked_by (subcommand_rows_of matches.now)) }
+{
+    if let Some(check) = matches.subcommand_matches("check") {
+        return Ok(asked_check(check));
+    }
+    if let Some(analyse) = matches.subcommand_matches("analyse") {
+        return Ok(asked_analyse(analyse));
+    }
+    if let Some(explain) = matches.subcommand_matches("explain") {
+        return asked_explain(alloc, explain);
+    }
+    if let Some(run) = matches.subcommand_matches("run") {
+        return asked_run(alloc, run);
+    }
+    match matches.subcommand_matches("replay") {
+        Some(replay) => asked_replay(alloc, replay),
+        None => Ok(Request::Usage(String::new(alloc))),
+    }
+}
+
+// ---- all of it
+
+fn is_memory(kind: ErrorKind) -> bool
+    ensures { result ≡ spec.is_memory kind }
+{
+    matches!(kind, ErrorKind::OutOfMemory)
+}
+
+/// What words ask for, where there are some.
+fn take_words<'a>(alloc: Global, words: &'a [String]) -> Result<Request<'a>, AllocError>
+    ensures { IfOk result (λ r. asked_of r ≡ spec.asked_words (map string_bytes words.entry.now)) }
+{
+    match program(alloc)?.try_get_matches_from(words) {
+        Ok(matches) => matched(alloc, &matches),
+        Err(error) => {
+            if is_memory(error.kind()) {
+                return Err(AllocError);
+            }
+            Ok(Request::Usage(format!(in alloc; "{error}")?))
+        }
+    }
+}
+
+/// What a program's words ask for, its own name left out. No words ask for a check of the standard input.
+///
+/// # Errors
+///
+/// A growth was refused.
+pub fn read_words<'a>(alloc: Global, words: &'a [String]) -> Result<Request<'a>, AllocError>
+    ensures { IfOk result (λ r. asked_of r ≡ spec.asked (map string_bytes words.entry.now)) }
+{
+    match words {
+        [] => Ok(Request::Check {
+            file: "-",
+            cert: None,
+        }),
+        [_, ..] => take_words(alloc, words),
+    }
+}
