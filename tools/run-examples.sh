@@ -4,8 +4,9 @@
 #   tools/run-examples.sh [PROGRAM]
 #       runs PROGRAM, else what `rt ci`, or `rt run` in crates/fltstack, made, and pipes each journal that `run` prints into `replay`,
 #       which must call it legal. Each accepted filter is also driven by scripts in which operations of each kind arrive, with a
-#       cancel, a detach or a refused choice at each place. Ends with status 1 at any difference: another exit status, another output,
-#       a byte on the standard error, a journal that isn't legal, or a file of examples/ that no line of `expected` names.
+#       cancel, a detach or a refused choice at each place. Each journal of examples/verdicts/ must have the verdict that stands above
+#       it. Ends with status 1 at any difference: another exit status, another output, a byte on the standard error, a journal that
+#       isn't legal, or a file of examples/ that no line of `expected` names.
 set -euo pipefail
 
 top=$(cd "$(dirname "$0")/.." && pwd)
@@ -109,6 +110,63 @@ sweep() {
     done
 }
 
+# has_verdict WHAT VERDICT FILE..: `replay` says so of the journal in $work/journal, and nothing else.
+has_verdict() {
+    local what=$1 verdict=$2 status=0 wanted=1
+    shift 2
+    [ "$verdict" != legal ] || wanted=0
+    "$program" replay "$work/journal" "$@" </dev/null >"$work/out" 2>"$work/err" || status=$?
+    runs=$((runs + 1))
+    [ "$status" = "$wanted" ] && [ ! -s "$work/err" ] && [ "$(cat "$work/out")" = "$verdict" ] ||
+        differs "$what: $(cat "$work/out" "$work/err") (status $status) in place of $verdict"
+}
+
+# judge WHAT VERDICT FILE..: has this verdict the journal, with these files in either order?
+judge() {
+    local what=$1 verdict=$2 file
+    local -a turned=()
+    shift 2
+    echo end >>"$work/journal"
+    has_verdict "$what" "$verdict" "$@"
+    [ $# -gt 1 ] || return 0
+    for file in "$@"; do
+        turned=("$file" "${turned[@]}")
+    done
+    has_verdict "$what, files in turned order" "$verdict" "${turned[@]}"
+}
+
+# judges FILE: all journals of a file. It has the texts of one filter or more, each from its word `filter` on, and then journals: the
+# verdict behind `==`, and the entries. The next text begins the filters of the journals behind it.
+judges() {
+    local line number=0 at=0 verdict='' target=''
+    local -a filters=()
+    while IFS= read -r line; do
+        number=$((number + 1))
+        case $line in
+        '' | '#'*) ;;
+        '== '*)
+            [ -z "$verdict" ] || judge "$1:$at" "$verdict" "${filters[@]}"
+            verdict=${line#== }
+            at=$number
+            target=$work/journal
+            echo 'fltjournal 1' >"$target"
+            ;;
+        'filter '*)
+            if [ -n "$verdict" ]; then
+                judge "$1:$at" "$verdict" "${filters[@]}"
+                filters=()
+                verdict=
+            fi
+            target=$work/${#filters[@]}.flt
+            filters+=("$target")
+            printf '%s\n' "$line" >"$target"
+            ;;
+        *) printf '%s\n' "$line" >>"$target" ;;
+        esac
+    done <"$1"
+    [ -n "$verdict" ] && judge "$1:$at" "$verdict" "${filters[@]}" || differs "$1: no journal at its end"
+}
+
 while IFS= read -r line; do
     case $line in
     '' | '#'*) ;;
@@ -135,9 +193,13 @@ for ((number = 0; number + 1 < ${#accepted[@]}; number += 2)); do
     sweep "${accepted[number]}" "${accepted[number + 1]}"
 done
 
+for file in verdicts/*; do
+    judges "$file"
+done
+
 for file in *; do
     case $file in
-    README.md | expected) ;;
+    README.md | expected | verdicts) ;;
     *) grep -qF " $file " "$work/named" || differs "$file: no line of expected has it" ;;
     esac
 done
