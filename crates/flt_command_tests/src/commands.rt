@@ -8,6 +8,7 @@ use std::test::Fail;
 mod analysis;
 mod changes;
 mod examples;
+mod explanations;
 mod memory;
 mod reading;
 mod refusals;

@@ -1,5 +1,5 @@
 -- How the answers of commands are written. This project's own program.
-use Rattle.std.specs.Prelude.{ℕ, List, [], ◌∷◌, ◌++◌, codes, nat_lt, if◌then◌else◌}
+use Rattle.std.specs.Prelude.{ℕ, Bool, false, List, [], ◌∷◌, ◌++◌, codes, nat_lt, if◌then◌else◌}
 use Rattle.std.specs.Fmt.{decimal}
 use Rattle.flt_rules.specs.Rule.{number, text}
 use Rattle.flt_rules.specs.declared.rule.Rule.{Rule}
@@ -71,3 +71,8 @@ status_of (Explained e) = e.status
 status_of (Page text) = 0
 status_of (Ran ran) = if ran.is_full then 2 else 0
 status_of (FileRefused file f) = 1
+
+-- a journal that is full before its script has ended
+abbrev pub is_cut_off : Answer → Bool
+is_cut_off (Ran ran) = ran.is_full
+is_cut_off _ = false

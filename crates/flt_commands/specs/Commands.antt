@@ -1,7 +1,7 @@
 -- What the commands put on the standard output, and their exit status. This project's own program.
-use Rattle.std.specs.Prelude.{◌≡◌, ◌≢◌, ℕ, List, [], ◌∷◌, Option, Some, None, Result, Ok, Err}
+use Rattle.std.specs.Prelude.{◌≡◌, ◌≢◌, ℕ, false, List, [], ◌∷◌, Option, Some, None, Result, Ok, Err}
 use Rattle.flt_commands.specs.Analyse.{IsAnalysed}
-use Rattle.flt_commands.specs.Answer.{output, status_of}
+use Rattle.flt_commands.specs.Answer.{is_cut_off, output, status_of}
 use Rattle.flt_commands.specs.Check.{IsChecked}
 use Rattle.flt_commands.specs.Explain.{IsExplained, IsPaged}
 use Rattle.flt_commands.specs.Inputs.{Giving, Says, Text}
@@ -44,6 +44,11 @@ IsNothing bytes status = (bytes ≡ []) × (status ≡ 2)
 abbrev pub IsReported : Result Answer Failure → List ℕ → ℕ → Type 0
 IsReported (Ok answer) bytes status = (bytes ≡ output answer) × (status ≡ status_of answer)
 IsReported (Err f) bytes status = (f ≢ OutOfMemory) × IsNothing bytes status
+
+-- an answer that isn't a journal that was full too early: nothing stands beside it on the standard error
+abbrev pub IsWhole : Result Answer Failure → Type 0
+IsWhole (Ok answer) = is_cut_off answer ≡ false
+IsWhole (Err f) = ⊥
 
 -- what is said of what is asked for, and how it is printed; words that ask for nothing print nothing
 abbrev pub PrintsFor : Giving → Option Asked → List ℕ → ℕ → Type 0

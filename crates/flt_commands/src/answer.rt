@@ -1,6 +1,6 @@
 //! What a command answers, and how that is written.
 
-ghost use Rattle.std.specs.Prelude.{◌≡◌, Some, IfOk};
+ghost use Rattle.std.specs.Prelude.{◌≡◌, true, Some, IfOk};
 ghost use Rattle.flt_commands.specs.Answer as spec;
 
 use flt_check::Refusal;
@@ -43,6 +43,19 @@ impl Answer {
             Answer::Explained(explained) => explained.status,
             Answer::Refused(_) | Answer::FileRefused(_, _) | Answer::Judged(_) => 1,
             Answer::Ran(ran) => { if ran.is_full { 2 } else { 0 } }
+        }
+    }
+
+    /// It is a journal that was full before its script had ended.
+    pub fn is_cut_off(&self) -> bool
+        ensures value { result ≡ spec.is_cut_off self.now }
+        ensures status { result ≡ true → spec.status_of self.now ≡ 2 }
+    {
+        match self {
+            Answer::Ran(ran) => ran.is_full,
+            Answer::Accepted | Answer::Refused(_) | Answer::Certificate(_) => false,
+            Answer::Judged(_) | Answer::Explained(_) | Answer::Page(_) => false,
+            Answer::FileRefused(_, _) => false,
         }
     }
 

@@ -1,8 +1,8 @@
 //! The commands, over inputs and writers.
 
 ghost use Rattle.std.specs.Io.KnownBytes.{Appends};
-ghost use Rattle.std.specs.Prelude.{◌≡◌, ◌≢◌, ◌⊎◌, ℕ, List, OnOk, IfOk, IfErr, map, string_bytes};
-ghost use Rattle.flt_commands.specs.Answer.{output, status_of};
+ghost use Rattle.std.specs.Prelude.{◌≡◌, ◌≢◌, ◌⊎◌, ℕ, false, List, OnOk, IfOk, IfErr, map, string_bytes};
+ghost use Rattle.flt_commands.specs.Answer.{is_cut_off, output, status_of};
 ghost use Rattle.flt_commands.specs.Clean.{YesIsClean};
 ghost use Rattle.flt_commands.specs.Commands as spec;
 ghost use Rattle.flt_words.specs.Words.{asked};
@@ -64,7 +64,7 @@ impl From<WriteFault> for CommandFault {
     }
 }
 
-/// Writes an answer, and gives its status. Of a journal that is full before its script has ended it says so to `err`.
+/// Writes an answer, and gives its status. Of a journal that is full before its script has ended it says so to `err`, of nothing else.
 fn tell<O: Sink, E: Sink>(
     alloc: Global,
     answer: Answer,
@@ -77,11 +77,13 @@ fn tell<O: Sink, E: Sink>(
     ensures fine { OnOk result ((O.failures out.new ≡ O.failures out.old) × (E.failures err.new ≡ E.failures err.old)) }
     ensures memory { IfErr result (λ e. e ≡ CommandFault.OutOfMemory → (out.new ≡ out.old) × (err.new ≡ err.old)) }
     ensures quiet { IfOk result (λ status. status ≢ 2 → err.new ≡ err.old) }
+    ensures whole { is_cut_off answer ≡ false → IfOk result (λ _. err.new ≡ err.old) }
 {
     let status = answer.status();
+    let is_cut_off = answer.is_cut_off();
     let bytes = answer.output(alloc)?;
     put_all(out, bytes.as_slice())?;
-    if status == 2 {
+    if is_cut_off {
         put_all(err, b"full\n")?;
     }
     Ok(status)
@@ -113,6 +115,7 @@ fn report<O: Sink, E: Sink>(
     ensures fine { OnOk result ((O.failures out.new ≡ O.failures out.old) × (E.failures err.new ≡ E.failures err.old)) }
     ensures memory { IfErr result (λ e. e ≡ CommandFault.OutOfMemory → (out.new ≡ out.old) × (err.new ≡ err.old)) }
     ensures quiet { IfOk result (λ status. status ≢ 2 → err.new ≡ err.old) }
+    ensures whole { spec.IsWhole said.entry → IfOk result (λ _. err.new ≡ err.old) }
 {
     match said {
         Ok(answer) => tell(alloc, answer, out, err),
