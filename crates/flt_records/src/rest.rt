@@ -112,6 +112,9 @@ impl<'a> Rest<'a> {
     pub fn enter(&mut self, block: &'a [Statement]) -> Result<(), AllocError>
         ensures { OnOk result (self.new ≡ block.now ++ self.old) }
     {
+        if block.is_empty() {
+            return Ok(());
+        }
         let here = self.block;
         suspend(&mut self.after, here)?;
         self.block = block;

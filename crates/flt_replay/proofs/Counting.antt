@@ -3,6 +3,7 @@ pub mod Blank
 pub mod Concluding
 pub mod Following
 pub mod Holders
+pub mod InPlace
 pub mod Ledgers
 pub mod Noting
 pub mod Ones

@@ -1,5 +1,5 @@
 -- What the monitor's parts say of a moment and of a step, each of its share of the violations.
-use Rattle.std.specs.Prelude.{◌≡◌, ℕ, Bool, true, not, ◌==◌, List, [], ◌∷◌, Option, Some, find, set}
+use Rattle.std.specs.Prelude.{◌≡◌, ℕ, Bool, true, not, ◌==◌, List, [], ◌∷◌, Option, Some, None, if◌then◌else◌, find, set}
 use Rattle.std.specs.List.{list_all}
 use Rattle.flt_rules.specs.declared.held.HeldLock.{HeldLock}
 use Rattle.flt_tree.specs.declared.filter.Filter.{Filter}
@@ -48,6 +48,11 @@ keeps_rule p w t events V6 = levels_kept p w t events
 keeps_rule p w t events V7 = list_all (is_disciplined p w t) events
 keeps_rule p w t events V8 = legal_places p w t events
 keeps_rule p w t events _ = true
+
+-- the least violation of the rules that aren't kept
+abbrev pub least_of : Bool → Bool → Bool → Bool → Option Violation
+least_of statuses levels locks places =
+    if statuses then (if levels then (if locks then (if places then None else Some V8) else Some V7) else Some V6) else Some V5
 
 -- an event of which a rule speaks is the activation's
 abbrev pub is_by : ℕ → Event → Bool

@@ -24,6 +24,7 @@ use flt_world::World;
 use std::alloc::{AllocError, Global};
 use std::marker::Model;
 
+mod row;
 pub(crate) mod rows;
 
 use rows::Rows;
@@ -354,12 +355,11 @@ impl Ledger {
     fn stop(&mut self, alloc: Global, a: usize, touched: &mut Vec<usize>) -> Result<(), AllocError>
         ensures { OnOk result (spec.Stopped a self.old self.new touched.old.items touched.new.items) }
     {
-        let visits = self.visits.numbers(alloc, a)?;
-        touched.extend_from_slice(visits.as_slice())?;
+        self.visits.list(alloc, a, touched)?;
         if !self.is_running(a) {
             return Ok(());
         }
-        self.holders.take_each(visits.as_slice());
+        self.visits.take_from(alloc, a, &mut self.holders)?;
         self.set_ended(a);
         Ok(())
     }
@@ -368,9 +368,9 @@ impl Ledger {
     fn begin(&mut self, alloc: Global) -> Result<(), AllocError>
         ensures { OnOk result (spec.Started self.old self.new) }
     {
-        let visits = self.visits.numbers(alloc, self.activations())?;
+        let number = self.activations();
         self.running.push(true)?;
-        self.holders.add_each(visits.as_slice())?;
+        self.visits.add_to(alloc, number, &mut self.holders)?;
         Ok(())
     }
 
@@ -452,24 +452,25 @@ impl Ledger {
     }
 
     /// Takes in the events of a step, which led to the world. The answer is the least of the first four violations that they
-    /// break; after one the counts say nothing.
+    /// break; after one the counts say nothing. The last argument lends memory, and what it holds doesn't matter.
     pub(crate) fn take(
         &mut self,
         alloc: Global,
         world: &World<'_>,
         events: &[Event],
+        touched: &mut Vec<usize>,
     ) -> Result<Option<Violation>, AllocError>
         ensures { IfOk result (λ found. (p : List Filter) (m : Moment) (x : Transition) (s : Step) → spec.Agrees m self.old →
             Follows p m x s world.now events.now → (found ≡ first_of of_holding p m s)
             × (found ≡ None → spec.Agrees (after m s) self.new)) }
     {
         local_steps_are_quiet();
-        let mut touched = Vec::new(alloc);
-        let first = self.take_events(alloc, world, events, &mut touched)?;
+        touched.clear();
+        let first = self.take_events(alloc, world, events, touched)?;
         if first.is_some() {
             return Ok(first);
         }
-        self.follow_ends(alloc, events, &mut touched)?;
+        self.follow_ends(alloc, events, touched)?;
         self.follow_new(alloc, world)?;
         if self.owns_each(world, touched.as_slice()) {
             Ok(None)

@@ -40,6 +40,15 @@ pub(crate) struct Monitor<'a> {
     ledger: Ledger,
 }
 
+/// What a step is judged by; it is kept from step to step for its memory alone.
+#[derive(Drop)]
+struct Room {
+    /// The events of the step.
+    events: Vec<Event>,
+    /// The visits that are looked at after it.
+    touched: Vec<usize>,
+}
+
 impl<'a> Monitor<'a> {
     /// Whether an activation holds the visit that it was given.
     fn holds_given(&self, a: usize) -> bool
@@ -55,29 +64,41 @@ impl<'a> Monitor<'a> {
     fn judged(
         &mut self,
         alloc: Global,
-        events: &[Event],
+        room: &mut Room,
         rule: Option<Violation>,
     ) -> Result<Course, AllocError>
         ensures { IfOk result (λ c. (p : List Filter) (m : Moment) (x : Transition) (s : Step) → Agrees m self.old.ledger →
-            Follows p m x s self.old.world events.now → rule ≡ first_of of_rules p m s →
+            Follows p m x s self.old.world room.old.events.items → rule ≡ first_of of_rules p m s →
             ComesTo c self.new (spec.unless_broken (broken p m s) (spec.Reaches (after m s)))) }
     {
-        match self.ledger.take(alloc, &self.world, events)?.or(rule) {
+        let found = self.ledger.take(
+            alloc,
+            &self.world,
+            room.events.as_slice(),
+            &mut room.touched,
+        )?;
+        match found.or(rule) {
             Some(violation) => Ok(Course::Fails(violation)),
             None => Ok(Course::Reaches),
         }
     }
 
     /// What comes of a move.
-    fn make(&mut self, alloc: Global, stack: &Stack<'a>, next: Move) -> Result<Course, AllocError>
+    fn make(
+        &mut self,
+        alloc: Global,
+        stack: &Stack<'a>,
+        next: Move,
+        room: &mut Room,
+    ) -> Result<Course, AllocError>
         ensures { IfOk result (λ c. (m : Moment) → IsAt self.old m → ComesTo c self.new (spec.course stack.now m (Make next ∷ []))) }
     {
         locks_stay_exclusive();
-        let mut events = Vec::new(alloc);
-        if !flt_moves::make(&mut self.world, alloc, stack, next, &mut events)? {
+        room.events.clear();
+        if !flt_moves::make(&mut self.world, alloc, stack, next, &mut room.events)? {
             return Ok(Course::Stops);
         }
-        self.judged(alloc, events.as_slice(), None)
+        self.judged(alloc, room, None)
     }
 
     /// What comes of a step that others see.
@@ -87,6 +108,7 @@ impl<'a> Monitor<'a> {
         stack: &Stack<'a>,
         a: usize,
         grant: bool,
+        room: &mut Room,
     ) -> Result<Course, AllocError>
         ensures { IfOk result (λ c. (m : Moment) → IsAt self.old m → ComesTo c self.new (spec.course stack.now m (Board a grant ∷ []))) }
     {
@@ -98,8 +120,8 @@ impl<'a> Monitor<'a> {
             held: self.holds_given(a),
         };
         let locks = self.world.locks_of(alloc, a)?;
-        let mut events = Vec::new(alloc);
-        if !flt_steps::step_seen(&mut self.world, stack, setup, &mut events)? {
+        room.events.clear();
+        if !flt_steps::step_seen(&mut self.world, stack, setup, &mut room.events)? {
             return Ok(Course::Stops);
         }
         let scene = Scene {
@@ -109,8 +131,8 @@ impl<'a> Monitor<'a> {
             held: setup.held,
             locks: locks.as_slice(),
         };
-        let rule = scene.broken_rule(events.as_slice());
-        self.judged(alloc, events.as_slice(), rule)
+        let rule = scene.broken_rule(room.events.as_slice());
+        self.judged(alloc, room, rule)
     }
 
     /// Makes steps that nobody else sees, unless one of them isn't such a step.
@@ -136,6 +158,7 @@ impl<'a> Monitor<'a> {
         a: usize,
         steps: u32,
         grant: bool,
+        room: &mut Room,
     ) -> Result<Course, AllocError>
         ensures { IfOk result (λ c. (m : Moment) → IsAt self.old m →
             ComesTo c self.new (spec.entry_course stack.now m (spec.go_on a steps grant))) }
@@ -143,7 +166,7 @@ impl<'a> Monitor<'a> {
         if steps == 0 || !self.go_unseen(a, steps - 1)? {
             return Ok(Course::Stops);
         }
-        self.go_seen(alloc, stack, a, grant)
+        self.go_seen(alloc, stack, a, grant, room)
     }
 
     /// What comes of an entry.
@@ -152,17 +175,18 @@ impl<'a> Monitor<'a> {
         alloc: Global,
         stack: &Stack<'a>,
         entry: JournalEntry,
+        room: &mut Room,
     ) -> Result<Course, AllocError>
         ensures { IfOk result (λ c. (m : Moment) → IsAt self.old m →
             ComesTo c self.new (spec.entry_course stack.now m (spec.expansion entry))) }
     {
         match entry {
-            JournalEntry::Move(next) => self.make(alloc, stack, next),
+            JournalEntry::Move(next) => self.make(alloc, stack, next, room),
             JournalEntry::Go {
                 activation,
                 steps,
                 grant,
-            } => self.go(alloc, stack, activation as usize, steps, grant),
+            } => self.go(alloc, stack, activation as usize, steps, grant, room),
         }
     }
 }
@@ -177,8 +201,12 @@ fn verdict_of(alloc: Global, trees: &[Tree], journal: &Journal) -> Result<Verdic
         world: World::opening(alloc, stack.len())?,
         ledger: Ledger::new(alloc),
     };
+    let mut room = Room {
+        events: Vec::new(alloc),
+        touched: Vec::new(alloc),
+    };
     for (number, entry) in journal.entries().iter().enumerate() {
-        match monitor.entry(alloc, &stack, *entry)? {
+        match monitor.entry(alloc, &stack, *entry, &mut room)? {
             Course::Reaches => {}
             Course::Stops => return Ok(Verdict::NotARun(number)),
             Course::Fails(violation) => return Ok(Verdict::Breaks(violation, number)),

@@ -11,7 +11,7 @@ ghost use Rattle.flt_model.specs.Violations as spec;
 ghost use Rattle.flt_model.specs.World.{activation_at, actor_at, arrival_of, visit_at};
 ghost use Rattle.flt_model.specs.declared.event.Event.{Event};
 ghost use Rattle.flt_model.specs.declared.event.Object.TheVariants.{Visit};
-ghost use Rattle.flt_replay.specs.Judging.{is_by, keeps_rule, of_rules};
+ghost use Rattle.flt_replay.specs.Judging.{is_by, keeps_rule, least_of, of_rules};
 ghost use Rattle.flt_replay.specs.Scenes.{before};
 ghost use Rattle.flt_world.specs.Happening.{holds_visit, holds_given};
 ghost use Rattle.flt_rules.specs.Held as held;
@@ -293,64 +293,71 @@ impl<'b, 'a> Scene<'b, 'a> {
 
 // ---- all events of a step
 
+/// Which rules the events so far keep.
+#[derive(Clone, Copy)]
+struct Kept {
+    statuses: bool,
+    levels: bool,
+    locks: bool,
+    places: bool,
+}
+
+impl Kept {
+    /// The least violation of those that aren't kept.
+    fn broken(self) -> Option<Violation>
+        ensures { result ≡ least_of self.statuses self.levels self.locks self.places }
+    {
+        if !self.statuses {
+            Some(Violation::V5)
+        } else if !self.levels {
+            Some(Violation::V6)
+        } else if !self.locks {
+            Some(Violation::V7)
+        } else if !self.places {
+            Some(Violation::V8)
+        } else {
+            None
+        }
+    }
+}
+
 impl<'b, 'a> Scene<'b, 'a> {
-    fn are_legal(&self, events: &[Event]) -> bool
-        ensures { (t : List Event) → self.now.held ≡ holds_given t (before self.now) self.now.activation →
-            list_all (is_by self.now.activation) events.now ≡ true →
-            result ≡ spec.legal_statuses self.now.stack.now (before self.now) t events.now }
+    /// Which rules an event keeps beside those before it.
+    fn also(&self, event: Event, kept: Kept) -> Kept
+        ensures statuses { (t : List Event) → self.now.held ≡ holds_given t (before self.now) self.now.activation →
+            is_by self.now.activation event ≡ true →
+            result.statuses ≡ (kept.statuses && spec.is_legal self.now.stack.now (before self.now) t event) }
+        ensures levels { (t : List Event) → is_by self.now.activation event ≡ true →
+            result.levels ≡ (kept.levels && spec.is_low_enough self.now.stack.now (before self.now) t event) }
+        ensures locks { (t : List Event) → is_by self.now.activation event ≡ true →
+            result.locks ≡ (kept.locks && spec.is_disciplined self.now.stack.now (before self.now) t event) }
+        ensures places { (t : List Event) → is_by self.now.activation event ≡ true →
+            result.places ≡ (kept.places && spec.is_in_place self.now.stack.now (before self.now) t event) }
     {
-        match events {
-            [] => true,
-            [event, others @ ..] => self.is_legal(*event) && self.are_legal(others),
-        }
-    }
-
-    fn are_low_enough(&self, events: &[Event]) -> bool
-        ensures { (t : List Event) → list_all (is_by self.now.activation) events.now ≡ true →
-            result ≡ spec.levels_kept self.now.stack.now (before self.now) t events.now }
-    {
-        match events {
-            [] => true,
-            [event, others @ ..] => self.is_low_enough(*event) && self.are_low_enough(others),
-        }
-    }
-
-    fn are_disciplined(&self, events: &[Event]) -> bool
-        ensures { (t : List Event) → list_all (is_by self.now.activation) events.now ≡ true →
-            result ≡ list_all (spec.is_disciplined self.now.stack.now (before self.now) t) events.now }
-    {
-        match events {
-            [] => true,
-            [event, others @ ..] => self.is_disciplined(*event) && self.are_disciplined(others),
-        }
-    }
-
-    fn are_in_place(&self, events: &[Event]) -> bool
-        ensures { (t : List Event) → list_all (is_by self.now.activation) events.now ≡ true →
-            result ≡ spec.legal_places self.now.stack.now (before self.now) t events.now }
-    {
-        match events {
-            [] => true,
-            [event, others @ ..] => self.is_in_place(*event) && self.are_in_place(others),
+        Kept {
+            statuses: kept.statuses && self.is_legal(event),
+            levels: kept.levels && self.is_low_enough(event),
+            locks: kept.locks && self.is_disciplined(event),
+            places: kept.places && self.is_in_place(event),
         }
     }
 
     /// The least of the last four violations that the events break.
+    #[tactic(auto, using(crate::proofs::Judging::Rules::least_is))]
     pub(crate) fn broken_rule(&self, events: &[Event]) -> Option<Violation>
         ensures { (t : List Event) → self.now.held ≡ holds_given t (before self.now) self.now.activation →
             list_all (is_by self.now.activation) events.now ≡ true →
             result ≡ find (λ v. not (keeps_rule self.now.stack.now (before self.now) t events.now v)) of_rules }
     {
-        if !self.are_legal(events) {
-            Some(Violation::V5)
-        } else if !self.are_low_enough(events) {
-            Some(Violation::V6)
-        } else if !self.are_disciplined(events) {
-            Some(Violation::V7)
-        } else if !self.are_in_place(events) {
-            Some(Violation::V8)
-        } else {
-            None
+        let mut kept = Kept {
+            statuses: true,
+            levels: true,
+            locks: true,
+            places: true,
+        };
+        for event in events {
+            kept = self.also(*event, kept);
         }
+        kept.broken()
     }
 }

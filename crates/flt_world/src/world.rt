@@ -93,6 +93,16 @@ fn unheld(alloc: Global) -> [Holders; 8]
     ]
 }
 
+/// Mostly there are none to copy.
+fn copy_of(alloc: Global, locks: &[HeldLock]) -> Result<Items<HeldLock>, AllocError>
+    ensures { IfOk result (λ copied. copied ≡ locks.now) }
+{
+    if locks.is_empty() {
+        return Ok(Items::new(alloc));
+    }
+    Items::from_slice(alloc, locks)
+}
+
 // ---- what is there at a number
 
 impl<'a> World<'a> {
@@ -401,7 +411,7 @@ impl<'a> World<'a> {
         ensures { IfOk result (λ locks. locks ≡ (spec.activation_at self.now activation).locks) }
     {
         match self.activations.get(activation) {
-            Some(activation) => Items::from_slice(alloc, activation.locks.as_slice()),
+            Some(activation) => copy_of(alloc, activation.locks.as_slice()),
             None => Ok(Items::new(alloc)),
         }
     }

@@ -224,26 +224,23 @@ share_on : (goes : Bool) (n : ℕ) → goes ≡ true → share goes n ≡ min 1 
 unfolding share
 share_on goes n e = ap (λ b. share b n) e
 
-module _ (c : Tally) (a : ℕ) (visits was now : List ℕ) (all : (v : ℕ) → occurs v visits ≡ min 1 (count_of c.visits a v))
-    (listed : now ≡ was ++ visits) where
-  listed_both : (v : ℕ) → occurs v now ≡ occurs v was + occurs v visits
-  listed_both v = ap (occurs v) listed ∙ sum_by-append (λ (n : ℕ). one_if n v) was visits
-
+module _ (c : Tally) (a : ℕ) (was now : List ℕ) (all : (v : ℕ) → occurs v now ≡ occurs v was + min 1 (count_of c.visits a v)) where
   listed_keeps : (v : ℕ) → occurs v now ≡ 0 → occurs v was ≡ 0
-  listed_keeps v z = omega (arith, listed_both v)
+  listed_keeps v z = omega (arith, all v)
 
   listed_none : (v : ℕ) → occurs v now ≡ 0 → count_of c.visits a v ≡ 0
-  listed_none v z = omega (arith, listed_both v, all v)
+  listed_none v z = omega (arith, all v)
 
   -- it went on, so that each visit that it holds has a holder
-  pub stop_fits : IsCounted c → get_or c.running a false ≡ true → (v : ℕ) → occurs v visits ≤ count c.holders v
+  pub stop_fits : IsCounted c → get_or c.running a false ≡ true → (v : ℕ) → min 1 (count_of c.visits a v) ≤ count c.holders v
   stop_fits k on v =
       let off = running_off c.running (λ b. count_of c.visits b v) a 0 a (omega arith) in
       let one = share_on (get_or c.running a false) (count_of c.visits a v) on in
-      omega (arith, off, one, all v, k.by_visit v)
+      omega (arith, off, one, k.by_visit v)
 
   pub stopped_on : (holders : List ℕ) → get_or c.running a false ≡ true →
-      (((v : ℕ) → occurs v visits ≤ count c.holders v) → (v : ℕ) → count c.holders v ≡ count holders v + occurs v visits) →
+      (((v : ℕ) → min 1 (count_of c.visits a v) ≤ count c.holders v) → (v : ℕ) →
+      count c.holders v ≡ count holders v + min 1 (count_of c.visits a v)) →
       Stopped a c (record c { running = set c.running a false; holders = holders }) was now
   stopped_on holders on less = record {
     only = refl;
@@ -252,7 +249,7 @@ module _ (c : Tally) (a : ℕ) (visits was now : List ℕ) (all : (v : ℕ) → 
           let off = running_off c.running (λ b. count_of c.visits b v) a 0 a (omega arith) in
           let one = share_on (get_or c.running a false) (count_of c.visits a v) on in
           let fewer = less (stop_fits k on) v in
-          omega (arith, off, one, all v, k.by_visit v, fewer);
+          omega (arith, off, one, k.by_visit v, fewer);
     };
     listed = listed_keeps;
     released = listed_none;
@@ -269,15 +266,15 @@ module _ (c : Tally) (a : ℕ) (visits was now : List ℕ) (all : (v : ℕ) → 
       }
 
 -- it holds these visits already
-pub started : (c : Tally) (visits : List ℕ) → ((v : ℕ) → occurs v visits ≡ min 1 (count_of c.visits (length c.running) v)) →
-    (holders : List ℕ) → ((v : ℕ) → count holders v ≡ count c.holders v + occurs v visits) →
+pub started : (c : Tally) (holders : List ℕ) →
+    ((v : ℕ) → count holders v ≡ count c.holders v + min 1 (count_of c.visits (length c.running) v)) →
     Started c (record c { running = c.running ++ true ∷ []; holders = holders })
-started c visits all holders more = record {
+started c holders more = record {
   only = refl;
   counted = λ k. record {
     by_visit = λ v.
         let pushed = running_push c.running true (λ b. count_of c.visits b v) (length c.running) 0 (omega arith) in
         let one = share_on true (count_of c.visits (length c.running) v) refl in
-        omega (arith, pushed, one, all v, k.by_visit v, more v);
+        omega (arith, pushed, one, k.by_visit v, more v);
   };
 }

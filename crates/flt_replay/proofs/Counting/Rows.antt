@@ -42,16 +42,19 @@ taken rows a k counts l h b n =
     omega (arith, actor_elsewhere a b (one_if k n) ne))
     (cases_eq a b)
 
-push_empty : (rows : List (List (ℕ × ℕ))) (a : ℕ) → get_or (rows ++ [] ∷ []) a [] ≡ get_or rows a []
-push_empty [] zero = refl
-push_empty [] (suc a) = refl
-push_empty (r ∷ rows) zero = refl
-push_empty (r ∷ rows) (suc a) = push_empty rows a
+push_blank : (rows : List (List (ℕ × ℕ))) (row : List (ℕ × ℕ)) → ((n : ℕ) → count_in row n ≡ 0) → (a n : ℕ) →
+    count_in (get_or (rows ++ row ∷ []) a []) n ≡ count_in (get_or rows a []) n
+unfolding count_in
+push_blank [] row h zero n = h n
+push_blank [] row h (suc a) n = refl
+push_blank (r ∷ rows) row h zero n = refl
+push_blank (r ∷ rows) row h (suc a) n = push_blank rows row h a n
 
--- there is room for one activation more
-pub grown : (rows : List (List (ℕ × ℕ))) (a n : ℕ) → count_of (rows ++ [] ∷ []) a n ≡ count_of rows a n
+-- there is room for one activation more, of which nothing counts
+pub grown : (rows : List (List (ℕ × ℕ))) (row : List (ℕ × ℕ)) → ((n : ℕ) → count_in row n ≡ 0) → (a n : ℕ) →
+    count_of (rows ++ row ∷ []) a n ≡ count_of rows a n
 unfolding count_of
-grown rows a n = ap (λ cs. count_in cs n) (push_empty rows a)
+grown rows row h a n = push_blank rows row h a n
 
 -- no activation without room counts anything
 pub counts_no_more : (rows : List (List (ℕ × ℕ))) (a n : ℕ) → length rows ≤ a → count_of rows a n ≡ 0

@@ -1,18 +1,19 @@
 //! How often each number was counted of each activation.
 
-ghost use Rattle.std.specs.Prelude.{◌≡◌, ◌+◌, ℕ, ◌<◌, length, min, OnOk, IfOk, ◌↔◌, IsTrue};
+ghost use Rattle.std.specs.Prelude.{◌≡◌, ◌+◌, ℕ, ◌<◌, ◌≤◌, length, min, OnOk, ◌↔◌, IsTrue};
 ghost use Rattle.flt_model.specs.Trace.{one_if, of_actor};
-ghost use Rattle.flt_records.specs.Counts.{occurs};
+ghost use Rattle.flt_records.specs.Counts.{count, occurs};
 ghost use Rattle.flt_replay.specs.Rows as spec;
 
-use flt_records::SparseCounts;
+use super::row::Row;
+use flt_records::Counts;
 use std::alloc::{AllocError, Global};
 use std::marker::Model;
 
 /// By activation; it grows as they come.
 #[derive(Drop)]
 pub(crate) struct Rows {
-    rows: Vec<SparseCounts>,
+    rows: Vec<Row>,
 }
 
 impl Model for Rows {
@@ -53,14 +54,53 @@ impl Rows {
         }
     }
 
-    /// The numbers that count of an activation, each once.
+    /// Counts each number that counts of an activation once more.
     #[tactic(auto, unfolding(crate::specs::Rows::count_of, flt_records::specs::Counts::count_in))]
-    pub(crate) fn numbers(&self, alloc: Global, activation: usize) -> Result<Vec<usize>, AllocError>
-        ensures { IfOk result (λ ns. (n : ℕ) → occurs n ns.items ≡ min 1 (spec.count_of self.now activation n)) }
+    pub(crate) fn add_to(
+        &self,
+        alloc: Global,
+        activation: usize,
+        holders: &mut Counts,
+    ) -> Result<(), AllocError>
+        ensures { OnOk result ((n : ℕ) → count holders.new n ≡ count holders.old n + min 1 (spec.count_of self.now activation n)) }
     {
         match self.rows.get(activation) {
-            Some(counts) => counts.numbers(alloc),
-            None => Ok(Vec::new(alloc)),
+            Some(row) => row.add_to(alloc, holders),
+            None => Ok(()),
+        }
+    }
+
+    /// Counts each number that counts of an activation once less.
+    #[tactic(auto, unfolding(crate::specs::Rows::count_of, flt_records::specs::Counts::count_in))]
+    pub(crate) fn take_from(
+        &self,
+        alloc: Global,
+        activation: usize,
+        holders: &mut Counts,
+    ) -> Result<(), AllocError>
+        ensures { OnOk result (((n : ℕ) → min 1 (spec.count_of self.now activation n) ≤ count holders.old n) → (n : ℕ) →
+            count holders.old n ≡ count holders.new n + min 1 (spec.count_of self.now activation n)) }
+    {
+        match self.rows.get(activation) {
+            Some(row) => row.take_from(alloc, holders),
+            None => Ok(()),
+        }
+    }
+
+    /// Lists the numbers that count of an activation, each once.
+    #[tactic(auto, unfolding(crate::specs::Rows::count_of, flt_records::specs::Counts::count_in))]
+    pub(crate) fn list(
+        &self,
+        alloc: Global,
+        activation: usize,
+        numbers: &mut Vec<usize>,
+    ) -> Result<(), AllocError>
+        ensures { OnOk result ((n : ℕ) →
+            occurs n numbers.new.items ≡ occurs n numbers.old.items + min 1 (spec.count_of self.now activation n)) }
+    {
+        match self.rows.get(activation) {
+            Some(row) => row.list(alloc, numbers),
+            None => Ok(()),
         }
     }
 
@@ -71,7 +111,7 @@ impl Rows {
         ensures same { OnOk result ((a n : ℕ) → spec.count_of self.new a n ≡ spec.count_of self.old a n) }
     {
         while self.rows.len() <= activation {
-            self.rows.push(SparseCounts::new(alloc))?;
+            self.rows.push(Row::new(alloc))?;
         }
         Ok(())
     }

@@ -16,11 +16,11 @@ returns-then-owns_each c = λ p m x s agrees f.
     concluded quiet p m x s c.args.world.now c.args.events.now c.args.self.now c.take_events.new.self c.follow_ends.new.self c.follow_new.new.self
     c.take_events.new.touched.items c.follow_ends.new.touched.items agrees f
     c.in_ok-first.first (sym c.is_some.ensures ∙ c.if-is_some.false) (c.in_ok-first.ensures.first m.trace agrees.tells agrees.counted)
-    c.new-touched.result.items c.new-touched.ensures.items (λ e. c.in_ok-first.ensures.taken e m.trace agrees.tells agrees.counted)
+    c.clear.new.self.items c.clear.ensures.items (λ e. c.in_ok-first.ensures.taken e m.trace agrees.tells agrees.counted)
     c.in_ok-follow_ends.ensures c.in_ok-follow_new.ensures (sym each ∙ c.if-owns_each.true)
 
-pub returns : goal.returns
-returns c = λ p m x s agrees f.
+pub returns-else-owns_each : goal.returns-else-owns_each
+returns-else-owns_each c = λ p m x s agrees f.
     let quiet : AreQuiet = record {
       events = c.local_steps_are_quiet.ensures.events;
       alone = c.local_steps_are_quiet.ensures.alone;
@@ -30,7 +30,7 @@ returns c = λ p m x s agrees f.
       refuted quiet p m x s c.args.world.now c.args.events.now c.args.self.now c.take_events.new.self c.follow_ends.new.self c.follow_new.new.self
           c.take_events.new.touched.items c.follow_ends.new.touched.items agrees f
           c.in_ok-first.first (sym c.is_some.ensures ∙ c.if-is_some.false) (c.in_ok-first.ensures.first m.trace agrees.tells agrees.counted)
-          c.new-touched.result.items c.new-touched.ensures.items (λ e. c.in_ok-first.ensures.taken e m.trace agrees.tells agrees.counted)
+          c.clear.new.self.items c.clear.ensures.items (λ e. c.in_ok-first.ensures.taken e m.trace agrees.tells agrees.counted)
           c.in_ok-follow_ends.ensures c.in_ok-follow_new.ensures (sym each ∙ c.if-owns_each.false),
       λ e. absurd (cc),
     )

@@ -1,0 +1,30 @@
+-- The others are listed, and the number in place where it counts.
+use Rattle.std.proofs.Common.{◌≡◌, ◌≤◌, ◌<◌, ◌+◌, ℕ, List, ◌∷◌, min, subst, arith, ap, ◌∙◌}
+use Rattle.std.proofs.lemmas.List.Sums.{sum_by_push}
+use Rattle.flt_model.specs.Trace.{one_if}
+use Rattle.flt_records.specs.Counts.{count, count_in, occurs}
+use Rattle.flt_replay.proofs.Counting.InPlace.{once_each, once_others}
+use Rattle.flt_replay.proofs.ledger.row.Row.list.Goals as goal
+
+pub returns-in_ok-push : goal.returns-in_ok-push
+returns-in_ok-push c =
+    let k = c.self.inside.number in
+    let t = c.self.inside.times in
+    let es = c.self.inside.others in
+    let each : List (ℕ × ℕ) → Type 0 = λ was. (n : ℕ) → min 1 (count_in was n) ≡ one_if k n + min 1 (count_in es n) in
+    let once : each c.args.self.now = subst each c.self.view_is (once_each k t es c.if-self-gt0.true c.self.invariant) in
+    λ n.
+    let listed = c.list_others.new.numbers.items in
+    let pushed : occurs n c.push.new.self.items ≡ occurs n listed + one_if k n =
+    ap (occurs n) c.in_ok-push.ensures.items ∙ sum_by_push (λ (i : ℕ). one_if i n) listed k in
+    omega (arith, c.in_ok-list_others.ensures n, pushed, once n)
+
+pub returns-else-self-gt0 : goal.returns-else-self-gt0
+returns-else-self-gt0 c =
+    let k = c.self.inside.number in
+    let t = c.self.inside.times in
+    let es = c.self.inside.others in
+    let same : List (ℕ × ℕ) → Type 0 = λ was. (n : ℕ) → min 1 (count_in was n) ≡ min 1 (count_in es n) in
+    let once : same c.args.self.now =
+    subst same c.self.view_is (once_others k t es (omega (arith, c.if-self-gt0.false)) c.self.invariant) in
+    λ n. omega (arith, c.in_ok-list_others.ensures n, once n)
