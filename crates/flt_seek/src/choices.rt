@@ -3,7 +3,7 @@
 ghost use Rattle.std.specs.Prelude.{◌≡◌};
 
 use crate::bounds::Round;
-use crate::making::steps_to_seen;
+use crate::making::{Going, going_of};
 use crate::spots::{Spot, ends_in};
 use flt_model::{JournalEntry, Key, Move, fits_mode};
 use flt_records::{Link, Position};
@@ -327,20 +327,22 @@ impl<'b, 'a> Field<'b, 'a> {
     }
 
     /// How each activation that goes on can go on. They are spent.
-    pub(crate) fn goings(&self, world: &mut World<'a>) -> Result<Vec<JournalEntry>, AllocError> {
+    pub(crate) fn goings(&self, world: &mut World<'a>) -> Result<Vec<Going>, AllocError> {
         let mut goings = Vec::new(self.alloc);
         for activation in 0..world.activations.len() {
             if !world.has_ended(activation) {
-                let steps = steps_to_seen(world, activation)?;
-                for grant in [true, false] {
-                    goings.push(JournalEntry::Go {
-                        activation: number_of(activation),
-                        steps,
-                        grant,
-                    })?;
-                }
+                goings.push(going_of(world, activation)?)?;
             }
         }
         Ok(goings)
+    }
+}
+
+/// How an activation goes on, as an entry.
+pub(crate) fn entry_of(going: Going, grant: bool) -> JournalEntry {
+    JournalEntry::Go {
+        activation: number_of(going.activation),
+        steps: going.steps,
+        grant,
     }
 }

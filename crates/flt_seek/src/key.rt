@@ -1,7 +1,9 @@
 //! What tells worlds apart, as a number that is spread over 64 bits. Two worlds of one number are taken for the same, which loses
-//! journals at most: the order of a queue isn't in it, nor is what is behind a context that an entry has.
+//! journals at most: the order of a queue isn't in it, nor is what is behind a context that an entry has, nor what is over: freed contexts,
+//! settled visits, operations that are done and activations that have ended.
 
 use crate::choices::is_done;
+use crate::making::Going;
 use crate::spots::line_of;
 use flt_model::Key;
 use flt_records::{Context, Item, Position, Presence, Upcoming};
@@ -125,19 +127,31 @@ fn put_operations(mix: &mut Mix, world: &World<'_>) {
     }
 }
 
+fn put_visit(mix: &mut Mix, world: &World<'_>, visit: usize) {
+    if world.is_settled(visit) && world.waiting(visit) == 0 {
+        mix.put(16);
+        return;
+    }
+    mix.put_size(world.operation_of(visit));
+    mix.put_size(world.filter_of(visit));
+    mix.put_bool(matches!(world.stage(visit), Stage::Pre));
+    mix.put_bool(world.is_settled(visit));
+    mix.put(world.waiting(visit));
+}
+
 fn put_visits(mix: &mut Mix, world: &World<'_>) {
     for visit in 0..world.visit_count() {
-        mix.put_size(world.operation_of(visit));
-        mix.put_size(world.filter_of(visit));
-        mix.put_bool(matches!(world.stage(visit), Stage::Pre));
-        mix.put_bool(world.is_settled(visit));
-        mix.put(world.waiting(visit));
+        put_visit(mix, world, visit);
     }
 }
 
 // ---- contexts and work items
 
 fn put_context(mix: &mut Mix, context: &Context) {
+    if context.references == 0 {
+        mix.put(17);
+        return;
+    }
     mix.put(context.references);
     mix.put(context.value);
     match context.link {
@@ -233,29 +247,30 @@ fn put_rest(mix: &mut Mix, world: &mut World<'_>, activation: usize) {
     }
 }
 
-fn put_activation(
+/// An activation that goes on, by the step at which it stands.
+fn put_going(
     mix: &mut Mix,
     alloc: Global,
     world: &mut World<'_>,
-    activation: usize,
+    going: Going,
 ) -> Result<(), AllocError> {
-    if world.has_ended(activation) {
-        mix.put(15);
-        return Ok(());
-    }
-    put_variables(mix, world, activation);
-    put_locks(mix, alloc, world, activation)?;
-    put_rest(mix, world, activation);
+    mix.put_size(going.activation);
+    mix.put_size(going.line);
+    mix.put_bool(world.has_flag(going.activation));
+    put_variables(mix, world, going.activation);
+    put_locks(mix, alloc, world, going.activation)?;
+    put_rest(mix, world, going.activation);
     Ok(())
 }
 
 // ---- all
 
-/// The number of a world, which is spent.
+/// The number of a world whose activations are spent, by how they go on. It is spent.
 pub(crate) fn key_of<'a>(
     alloc: Global,
     stack: &Stack<'a>,
     world: &mut World<'a>,
+    goings: &[Going],
 ) -> Result<Mix, AllocError> {
     let mut mix = Mix { number: 1 };
     put_filters(&mut mix, stack, world);
@@ -263,8 +278,9 @@ pub(crate) fn key_of<'a>(
     put_visits(&mut mix, world);
     put_contexts(&mut mix, world);
     put_items(&mut mix, world);
-    for activation in 0..world.activations.len() {
-        put_activation(&mut mix, alloc, world, activation)?;
+    mix.put_size(world.activations.len());
+    for going in goings {
+        put_going(&mut mix, alloc, world, *going)?;
     }
     Ok(mix)
 }

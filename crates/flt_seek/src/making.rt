@@ -1,7 +1,10 @@
 //! Entries of journals, made in the monitor's world.
 
+use crate::spots::line_of;
 use flt_model::{JournalEntry, Move};
+use flt_records::Upcoming;
 use flt_steps::Setup;
+use flt_tree::{Condition, FallibleCall, Statement};
 use flt_world::{Stack, World};
 use std::alloc::{AllocError, Global};
 
@@ -87,12 +90,85 @@ pub(crate) fn world_after<'a>(
     Ok(Some(world))
 }
 
-/// How many steps lead to the next one that others see, and with it. The activation is spent: its next statement is gone.
-pub(crate) fn steps_to_seen(world: &mut World<'_>, activation: usize) -> Result<u32, AllocError> {
+/// How an activation goes on to the next step that others see.
+#[derive(Clone, Copy)]
+pub(crate) struct Going {
+    pub(crate) activation: usize,
+    /// How many steps lead there, and with it.
+    pub(crate) steps: u32,
+    /// The line of that step; 0 at the end of the callback.
+    pub(crate) line: usize,
+    /// Whether the system may refuse it.
+    pub(crate) is_choice: bool,
+}
+
+/// The statement at which an activation stands.
+fn upcoming<'a>(
+    world: &mut World<'a>,
+    activation: usize,
+) -> Result<Option<Upcoming<'a>>, AllocError> {
+    match world.activations.get_mut(activation) {
+        Some(activation) => activation.rest.first(),
+        None => Ok(None),
+    }
+}
+
+fn line_at(upcoming: Option<Upcoming<'_>>) -> usize {
+    match upcoming {
+        Some(Upcoming::Statement(statement)) => line_of(statement),
+        Some(Upcoming::Repeat(line, _, _)) => line,
+        None => 0,
+    }
+}
+
+/// Whether the system may refuse what a call asks for, whatever the world is.
+fn may_be_refused(call: &FallibleCall) -> bool {
+    matches!(
+        call,
+        FallibleCall::AllocateContext(_)
+            | FallibleCall::QueueDeferredIoWorkItem(_, _)
+            | FallibleCall::QueueGenericWorkItem(_, _)
+    )
+}
+
+fn asks_for_what_may_be_refused(condition: &Condition) -> bool {
+    match condition {
+        Condition::Succeeds(call) => may_be_refused(call),
+        Condition::Test(_) => false,
+    }
+}
+
+fn is_choice_of(statement: &Statement) -> bool {
+    match statement {
+        Statement::If(_, condition, _, _) => asks_for_what_may_be_refused(condition),
+        _ => false,
+    }
+}
+
+fn is_choice(upcoming: Option<Upcoming<'_>>) -> bool {
+    match upcoming {
+        Some(Upcoming::Statement(statement)) => is_choice_of(statement),
+        _ => false,
+    }
+}
+
+/// How an activation goes on. It is spent: it stands behind the next step that others see, without having made it.
+pub(crate) fn going_of(world: &mut World<'_>, activation: usize) -> Result<Going, AllocError> {
     for steps in 0..MAX_STEPS {
+        let next = upcoming(world, activation)?;
         if !flt_steps::step_unseen(world, activation)? {
-            return Ok(steps + 1);
+            return Ok(Going {
+                activation,
+                steps: steps + 1,
+                line: line_at(next),
+                is_choice: is_choice(next),
+            });
         }
     }
-    Ok(MAX_STEPS)
+    Ok(Going {
+        activation,
+        steps: MAX_STEPS,
+        line: 0,
+        is_choice: true,
+    })
 }

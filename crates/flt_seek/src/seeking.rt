@@ -5,13 +5,13 @@ ghost use Rattle.flt_world.specs.Filters.{filters_of};
 ghost use Rattle.flt_seek.specs.Found as spec;
 
 use crate::bounds::{ROUNDS, Round};
-use crate::choices::{Field, number_of};
+use crate::choices::{Field, entry_of, number_of};
 use crate::judging::{Broken, Judged, judge};
 use crate::key::key_of;
-use crate::making::world_after;
+use crate::making::{Going, world_after};
 use crate::shortening::shorten;
 use crate::spots::Spot;
-use flt_model::{JournalEntry, Violation};
+use flt_model::{JournalEntry, Move, Violation};
 use flt_tree::Tree;
 use flt_world::{Stack, World};
 use std::alloc::{AllocError, Global};
@@ -39,7 +39,7 @@ pub struct Aim<'w> {
 struct Node {
     from: usize,
     entry: Option<JournalEntry>,
-    /// The activation that is on, where it can go on.
+    /// The activation that is on before the entry, where it can go on.
     runner: Option<u32>,
     /// How often one was left that could go on.
     switches: u32,
@@ -52,6 +52,9 @@ const OPENING: Node = Node {
     switches: 0,
 };
 
+/// By how many ways a state is reached that was seen before, on the average and at most.
+const WAYS: usize = 16;
+
 /// What was reached in a round.
 #[derive(Drop)]
 struct Search {
@@ -61,16 +64,25 @@ struct Search {
     spare: Option<Node>,
 }
 
+/// Whether a move starts an activation.
+fn starts(step: Move) -> bool {
+    matches!(
+        step,
+        Move::Pre { .. }
+            | Move::Post { .. }
+            | Move::Canceled { .. }
+            | Move::Work { .. }
+            | Move::Drain { .. }
+    )
+}
+
 /// Who is on behind an entry that led to a world.
-fn runner_after(
-    world: &World<'_>,
-    before: usize,
-    entry: JournalEntry,
-    on: Option<u32>,
-) -> Option<u32> {
+fn runner_after(world: &World<'_>, entry: JournalEntry, on: Option<u32>) -> Option<u32> {
     let runner = match entry {
         JournalEntry::Go { activation, .. } => Some(activation),
-        JournalEntry::Move(_) if world.activations.len() > before => Some(number_of(before)),
+        JournalEntry::Move(step) if starts(step) => {
+            Some(number_of(world.activations.len().saturating_sub(1)))
+        }
         JournalEntry::Move(_) => on,
     };
     match runner {
@@ -122,23 +134,21 @@ impl Search {
         Ok(entries)
     }
 
-    /// Keeps the state that a world is, if it is new.
-    fn keep<'a>(
+    /// Whether the state that a world is wasn't seen before. The world's activations are spent, and so is what remains of them.
+    fn is_new<'a>(
         &mut self,
         field: &Field<'_, 'a>,
-        mut world: World<'a>,
+        world: &mut World<'a>,
+        goings: &[Going],
         node: Node,
-    ) -> Result<(), AllocError> {
-        let mut mix = key_of(field.alloc, field.stack, &mut world)?;
+    ) -> Result<bool, AllocError> {
+        let mut mix = key_of(field.alloc, field.stack, world, goings)?;
         mix.put(u64::from(node.switches));
         mix.put(match node.runner {
             Some(runner) => u64::from(runner),
             None => u64::MAX,
         });
-        if self.seen.insert(mix.number)? {
-            self.nodes.push(node)?;
-        }
-        Ok(())
+        Ok(self.seen.insert(mix.number)?)
     }
 
     /// Whether a journal breaks something where it is looked for. The first one on another line of the callback is kept, as the state
@@ -158,46 +168,35 @@ impl Search {
         Ok(false)
     }
 
-    /// What an entry makes of the state of a number. The entries that lead there have it as the last.
-    fn follow<'a>(
+    /// What the last of some entries makes of the state before it: it breaks what is wanted, or leads to a state.
+    fn follow(
         &mut self,
-        field: &Field<'_, 'a>,
+        field: &Field<'_, '_>,
         wanted: &[Violation],
         entries: &[JournalEntry],
         node: Node,
-        before: usize,
     ) -> Result<Option<Broken>, AllocError>
         ensures { IfOk result (λ found. IfSome found (spec.IsFound (filters_of field.now.trees.now) wanted.now)) }
     {
-        let Some(entry) = node.entry else {
-            return Ok(None);
-        };
-        let Some(world) = world_after(field.alloc, field.stack, entries)? else {
-            return Ok(None);
-        };
         match judge(field.alloc, field.trees, wanted, entries)? {
             Judged::Wanted(broken) => {
                 if self.is_meant(field, entries, node)? {
                     return Ok(Some(broken));
                 }
-                return Ok(None);
             }
-            Judged::Other => return Ok(None),
-            Judged::Legal => {}
+            Judged::Legal => self.nodes.push(node)?,
+            Judged::Other => {}
         }
-        let runner = runner_after(&world, before, entry, node.runner);
-        self.keep(field, world, Node { runner, ..node })?;
         Ok(None)
     }
 
     /// What an entry behind the state of a number makes of it. The entries are those that lead there, and stay so.
-    fn attempt<'a>(
+    fn attempt(
         &mut self,
-        field: &Field<'_, 'a>,
+        field: &Field<'_, '_>,
         wanted: &[Violation],
         entries: &mut Vec<JournalEntry>,
         node: Node,
-        before: usize,
     ) -> Result<Option<Broken>, AllocError>
         ensures { IfOk result (λ found. IfSome found (spec.IsFound (filters_of field.now.trees.now) wanted.now)) }
     {
@@ -208,15 +207,46 @@ impl Search {
             return Ok(None);
         }
         entries.push(entry)?;
-        let found = self.follow(field, wanted, entries.as_slice(), node, before)?;
+        let found = self.follow(field, wanted, entries.as_slice(), node)?;
         entries.pop();
         Ok(found)
     }
 
-    /// What comes of the state of a number.
-    fn expand<'a>(
+    /// The states that may be behind that of a number; none where it was seen before. A move that nobody sees comes at once, and is no
+    /// switch. The world is spent.
+    fn nodes_behind<'a>(
         &mut self,
         field: &Field<'_, 'a>,
+        world: &mut World<'a>,
+        on: Node,
+        from: usize,
+    ) -> Result<Vec<Node>, AllocError> {
+        let mut nodes = Vec::new(field.alloc);
+        let passing = field.first_passing(world);
+        let moves = field.moves(world)?;
+        let goings = field.goings(world)?;
+        if !self.is_new(field, world, goings.as_slice(), on)? {
+            return Ok(nodes);
+        }
+        if let Some(step) = passing {
+            nodes.push(Node {
+                from,
+                entry: Some(JournalEntry::Move(step)),
+                ..on
+            })?;
+            return Ok(nodes);
+        }
+        push_goings(&mut nodes, on, from, goings.as_slice())?;
+        for step in moves.as_slice() {
+            nodes.push(node_behind(on, from, JournalEntry::Move(*step)))?;
+        }
+        Ok(nodes)
+    }
+
+    /// What comes of the state of a number.
+    fn expand(
+        &mut self,
+        field: &Field<'_, '_>,
         wanted: &[Violation],
         number: usize,
     ) -> Result<Option<Broken>, AllocError>
@@ -226,15 +256,28 @@ impl Search {
         let Some(mut world) = world_after(field.alloc, field.stack, entries.as_slice())? else {
             return Ok(None);
         };
-        let before = world.activations.len();
-        let next = nodes_behind(field, &mut world, self.node(number), number)?;
+        let on = self.node(number).after(&world);
+        let next = self.nodes_behind(field, &mut world, on, number)?;
         for node in next.as_slice() {
-            let found = self.attempt(field, wanted, &mut entries, *node, before)?;
+            let found = self.attempt(field, wanted, &mut entries, *node)?;
             if found.is_some() {
                 return Ok(found);
             }
         }
         Ok(None)
+    }
+}
+
+impl Node {
+    /// The same where the entry that leads there has led to a world.
+    fn after(self, world: &World<'_>) -> Node {
+        match self.entry {
+            Some(entry) => Node {
+                runner: runner_after(world, entry, self.runner),
+                ..self
+            },
+            None => self,
+        }
     }
 }
 
@@ -253,31 +296,20 @@ fn node_behind(on: Node, from: usize, entry: JournalEntry) -> Node {
     }
 }
 
-/// What may come next. A move that nobody sees comes at once, and is no switch. The world's activations are spent.
-fn nodes_behind<'a>(
-    field: &Field<'_, 'a>,
-    world: &mut World<'a>,
+/// Adds the states behind the next steps. A step has two where the system may refuse what it asks for.
+fn push_goings(
+    nodes: &mut Vec<Node>,
     on: Node,
     from: usize,
-) -> Result<Vec<Node>, AllocError> {
-    let mut nodes = Vec::new(field.alloc);
-    if let Some(step) = field.first_passing(world) {
-        nodes.push(Node {
-            from,
-            entry: Some(JournalEntry::Move(step)),
-            ..on
-        })?;
-        return Ok(nodes);
+    goings: &[Going],
+) -> Result<(), AllocError> {
+    for going in goings {
+        nodes.push(node_behind(on, from, entry_of(*going, true)))?;
+        if going.is_choice {
+            nodes.push(node_behind(on, from, entry_of(*going, false)))?;
+        }
     }
-    let goings = field.goings(world)?;
-    for entry in goings.as_slice() {
-        nodes.push(node_behind(on, from, *entry))?;
-    }
-    let moves = field.moves(world)?;
-    for step in moves.as_slice() {
-        nodes.push(node_behind(on, from, JournalEntry::Move(*step)))?;
-    }
-    Ok(nodes)
+    Ok(())
 }
 
 /// What a round comes to that found nothing where it looked: what was kept, if there is such.
@@ -317,9 +349,12 @@ fn seek_within<'a>(
     ensures { IfOk result (spec.IsSought (filters_of field.now.trees.now) wanted.now) }
 {
     let mut search = Search::new(field.alloc)?;
-    for number in 0..states {
+    for number in 0..states.saturating_mul(WAYS) {
         if number >= search.nodes.len() {
             return ended(field, wanted, &search, Sought::NotWithin);
+        }
+        if search.seen.len() >= states {
+            break;
         }
         if let Some(broken) = search.expand(field, wanted, number)? {
             return Ok(Sought::Found(broken));
