@@ -1,0 +1,42 @@
+-- Tokens that are written one behind the other.
+use Rattle.std.proofs.Common.{◌≡◌, ℕ, ◌+◌, ◌<◌, List, [], ◌∷◌, ◌++◌, length, take, get_or, flat_map, Result, Ok, Err, refl, sym, ◌∙◌, ap, append_assoc, append-nil, arith}
+use Rattle.std.proofs.lemmas.Grind.{common_steps}
+use Rattle.json.specs.Print.{print}
+use Rattle.json.specs.Token.{Token}
+use Rattle.json.specs.Written.{Written}
+use Rattle.flt_forms.specs.Members.{Added, Adds, line_of}
+
+module _ {a b c : Written} {xs ys : List Token} where
+  -- what stands behind what stands behind
+  pub both : Added a b xs → Added b c ys → Added a c (xs ++ ys)
+  both first second = record {
+    before = second.before ∙ first.before;
+    tokens = second.tokens ∙ ap (λ ts. ts ++ ys) first.tokens ∙ append_assoc a.tokens xs ys;
+  }
+
+  -- the same of what is written last
+  pub behind : {E : Type 0} {r : Result (Unit {0}) E} → Added a b xs → Adds r b c ys → Adds r a c (xs ++ ys)
+  behind {r = Ok u} first second = record { ok = both first second.ok }
+  behind {r = Err e} first second = record { ok = tt }
+
+module _ {A : Type 0} (f : A → List Token) (all : List A) (i : ℕ) (one : A) where
+  -- what is written of one more
+  pub one_more : {a b c : Written} → i < length all → one ≡ get_or all i one → Added a b (flat_map f (take i all)) → Added b c (f one) →
+      Added a c (flat_map f (take (i + 1) all))
+  one_more {a} {b} {c} within is first second =
+      let more : flat_map f (take (i + 1) all) ≡ flat_map f (take i all) ++ f one = grind (arith, common_steps) in
+      rw more (both first second)
+
+-- what a writer wrote behind some bytes, and a line feed
+pub written : {a b : Written} (out whole ended : List ℕ) (ts : List Token) → a.before ≡ out → a.tokens ≡ [] → Added a b ts →
+    whole ≡ b.before ++ print b.tokens → ended ≡ whole ++ 10 ∷ [] → ended ≡ out ++ line_of ts
+written out whole ended ts own none added all last =
+    rw (last, all, added.before, added.tokens, own, none) (append_assoc out (print ts) (10 ∷ []))
+
+module _ {A : Type 0} (f : A → List ℕ) (all : List A) (i : ℕ) (one : A) where
+  -- the lines of one more
+  pub one_line_more : (start before after : List ℕ) → i < length all → one ≡ get_or all i one → before ≡ start ++ flat_map f (take i all) →
+      after ≡ before ++ f one → after ≡ start ++ flat_map f (take (i + 1) all)
+  one_line_more start before after within is first second =
+      let more : flat_map f (take (i + 1) all) ≡ flat_map f (take i all) ++ f one = grind (arith, common_steps) in
+      rw (second, first, more) (append_assoc start (flat_map f (take i all)) (f one))

@@ -1,0 +1,6 @@
+use Rattle.flt_forms.proofs.Adding.{behind}
+use Rattle.flt_forms.proofs.results.put_result_members.Goals as goal
+
+pub returns : goal.returns
+returns c =
+    behind c.in_ok-put_rule_name.ensures.ok (behind c.in_ok-put_level.ensures.ok (behind c.in_ok-put_message.ensures.ok (behind c.in_ok-put_finding_locations.ensures.ok (behind c.in_ok-put_related.ensures.ok (behind c.in_ok-put_flows.ensures.ok (behind c.in_ok-put_fingerprints.ensures.ok c.put_properties.ensures))))))

@@ -1,0 +1,52 @@
+-- Findings, as JSON. This project's own format.
+use Rattle.std.specs.Prelude.{◌≡◌, ℕ, List, [], ◌∷◌, ◌++◌, Option, Some, None, codes}
+use Rattle.std.specs.Borrow.{Bor}
+use Rattle.flt_rules.specs.Rule.{text}
+use Rattle.json.specs.Token.{Token, begin_object, end_object, key}
+use Rattle.flt_reports.specs.Closing.{rule_name}
+use Rattle.flt_reports.specs.declared.study.Detail.{Detail}
+use Rattle.flt_reports.specs.declared.study.Route.{Route}
+use Rattle.flt_reports.specs.declared.study.Words.{Words}
+use Rattle.flt_explain.specs.declared.finding.Finding.{Finding}
+use Rattle.flt_forms.specs.Members.{line_of, string_member, text_member, number_member, null_member}
+use Rattle.flt_forms.specs.Steps.{kind_name, step_member, steps, steps_member}
+
+-- where a finding is
+abbrev pub place : Finding → List Token
+place f =
+    number_member (codes "callback") f.callback ++ number_member (codes "point") f.point ++ number_member (codes "line") f.line
+
+-- the rule that is broken
+abbrev pub rule : Finding → List Token
+rule f = string_member (codes "rule") (rule_name f.rule) ++ string_member (codes "text") (text f.rule)
+
+-- what is said of it
+abbrev pub words : Words → List Token
+words w =
+    text_member (codes "head") w.head.items ++ text_member (codes "message") w.title.items
+    ++ text_member (codes "subject") w.subject.items ++ text_member (codes "help") w.help.items
+
+-- what it is about comes to this at the end of the way
+abbrev pub state : Option (Bor (List ℕ)) → List Token
+state None = null_member (codes "state")
+state (Some word) = string_member (codes "state") word.now
+
+-- how it is reached
+abbrev pub way : Route → List Token
+way r =
+    key (codes "way") ∷ begin_object ∷ string_member (codes "kind") (kind_name r.kind)
+    ++ (key (codes "steps") ∷ (steps r.stages ++ (steps_member (codes "other") r.other ++ end_object ∷ [])))
+
+-- where it comes from, and how it is reached
+abbrev pub route : Route → List Token
+route r = state r.state ++ (step_member (codes "origin") r.origin ++ way r)
+
+-- a finding of a file
+abbrev pub finding : List ℕ → Detail → List Token
+finding name d =
+    begin_object ∷ string_member (codes "file") name ++ (place d.finding ++ (number_member (codes "column") d.column
+    ++ (rule d.finding ++ (words d.words ++ (route d.route ++ end_object ∷ [])))))
+
+-- a line for each finding, in order
+abbrev pub finding_line : List ℕ → Detail → List ℕ
+finding_line name d = line_of (finding name d)

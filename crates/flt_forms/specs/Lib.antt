@@ -1,0 +1,7 @@
+pub mod Fault
+pub mod Finding
+pub mod Lines
+pub mod Members
+pub mod Sarif
+pub mod Steps
+pub mod Uri

@@ -1,0 +1,225 @@
+-- What is found of texts, as SARIF 2.1.0 (OASIS).
+use Rattle.std.specs.Prelude.{◌≡◌, ℕ, List, [], ◌∷◌, ◌++◌, Option, Some, None, codes, flat_map, map, max}
+use Rattle.flt_explain.specs.declared.finding.Finding.{Finding}
+use Rattle.flt_hints.specs.Trouble.{IsDescribed}
+use Rattle.flt_hints.specs.declared.troubles.Trouble.{Trouble}
+use Rattle.flt_reports.specs.Closing.{fault_name, rule_name}
+use Rattle.flt_reports.specs.Reports.{IsJudged, status_of}
+use Rattle.flt_reports.specs.declared.judged.Judged.{Judged}
+use Rattle.flt_reports.specs.declared.judged.Judged.TheVariants.{Unread, Known}
+use Rattle.flt_reports.specs.declared.reports.Source.{Source}
+use Rattle.flt_reports.specs.declared.study.Detail.{Detail}
+use Rattle.flt_reports.specs.declared.study.Route.{Route}
+use Rattle.flt_reports.specs.declared.study.Stage.{Stage}
+use Rattle.flt_reports.specs.declared.study.WayKind.{WayKind}
+use Rattle.flt_reports.specs.declared.study.WayKind.TheVariants.{Clean, Behind, Unreached, Unknown}
+use Rattle.flt_rules.specs.Rule.{text}
+use Rattle.flt_rules.specs.declared.rule.Rule.{Rule}
+use Rattle.flt_rules.specs.declared.rule.Rule.TheVariants.{R01, R02, R03, R04, R05, R06, R07, R08, R09, R10, R11, R12, R13, R14, R15}
+use Rattle.flt_syntax.specs.declared.fault.FaultKind.{FaultKind}
+use Rattle.flt_syntax.specs.declared.fault.SyntaxFault.{SyntaxFault}
+use Rattle.flt_syntax.specs.declared.fault.FaultKind.TheVariants.{E01, E02, E03, E04, E05, E06, E07, E08}
+use Rattle.json.specs.Print.{print}
+use Rattle.json.specs.Token.{Token, begin_object, end_object, key}
+use Rattle.flt_forms.specs.Members.{array_member, filled_member, line_of, number_member, object_member, string_member, text_member}
+use Rattle.flt_forms.specs.Uri.{uri_of}
+
+-- an object with these members, in an array
+abbrev pub item : List Token → List Token
+item members = begin_object ∷ (members ++ end_object ∷ [])
+
+-- ---- places
+
+-- words
+abbrev pub message : List ℕ → List Token
+message words = object_member (codes "message") (text_member (codes "text") words)
+
+-- a place in a file, from 1
+abbrev pub region : ℕ → ℕ → List Token
+region line column =
+    object_member (codes "region") (number_member (codes "startLine") line ++ number_member (codes "startColumn") column)
+
+abbrev pub physical : List ℕ → ℕ → ℕ → List Token
+physical uri line column =
+    object_member (codes "physicalLocation") (object_member (codes "artifactLocation") (text_member (codes "uri") uri)
+    ++ region line column)
+
+-- the same with words
+abbrev pub location : List ℕ → ℕ → ℕ → List ℕ → List Token
+location uri line column words = item (physical uri line column ++ message words)
+
+-- the places of a finding: one
+abbrev pub locations : List ℕ → Detail → List Token
+locations uri d = array_member (codes "locations") (location uri d.finding.line d.column d.words.title.items)
+
+-- ---- ways
+
+-- a place on a way
+abbrev pub flow_location : List ℕ → ℕ → ℕ → List ℕ → List Token
+flow_location uri line column words = item (key (codes "location") ∷ location uri line column words)
+
+-- a step at which nothing is asked isn't shown
+abbrev pub flow_step_by : List ℕ → Stage → List ℕ → List Token
+flow_step_by uri s [] = []
+flow_step_by uri s (b ∷ words) = flow_location uri s.line s.column (b ∷ words)
+
+abbrev pub flow_step : List ℕ → Stage → List Token
+flow_step uri s = flow_step_by uri s s.words.items
+
+-- the end of a way
+abbrev pub finding_place : List ℕ → Detail → List Token
+finding_place uri d = flow_location uri d.finding.line d.column d.words.title.items
+
+-- the places of a way to a finding, with the finding last
+abbrev pub thread_places : List ℕ → Detail → List Stage → List Token
+thread_places uri d stages = flat_map (flow_step uri) stages ++ finding_place uri d
+
+abbrev pub thread : List ℕ → Detail → List Stage → List Token
+thread uri d stages = item (array_member (codes "locations") (thread_places uri d stages))
+
+-- a way to a finding
+abbrev pub flow : List ℕ → Detail → List Stage → List Token
+flow uri d stages = item (array_member (codes "threadFlows") (thread uri d stages))
+
+-- the other way, if there is one
+abbrev pub other_flow : List ℕ → Detail → Option (List Stage) → List Token
+other_flow uri d None = []
+other_flow uri d (Some stages) = flow uri d stages
+
+abbrev pub both_flows : List ℕ → Detail → List Token
+both_flows uri d = flow uri d d.route.stages ++ other_flow uri d d.route.other
+
+-- the ways, where one was found
+abbrev pub flows_by : WayKind → List ℕ → Detail → List Token
+flows_by Clean uri d = both_flows uri d
+flows_by Behind uri d = both_flows uri d
+flows_by Unreached uri d = []
+flows_by Unknown uri d = []
+
+-- ---- results
+
+-- what breaks a rule is an error
+abbrev pub level : List Token
+level = string_member (codes "level") (codes "error")
+
+-- where what is found comes from
+abbrev pub origin : List ℕ → Stage → List Token
+origin uri s = location uri s.line s.column (codes "this makes it so")
+
+abbrev pub related : List ℕ → Option Stage → List Token
+related uri None = []
+related uri (Some s) = origin uri s
+
+-- what stays the same when lines move
+abbrev pub fingerprints : Detail → List Token
+fingerprints d =
+    object_member (codes "partialFingerprints")
+    (text_member (codes "callback/v1") d.words.head.items ++ text_member (codes "subject/v1") d.words.subject.items)
+
+abbrev pub properties : Detail → List Token
+properties d =
+    object_member (codes "properties") (number_member (codes "callback") d.finding.callback
+    ++ (number_member (codes "point") d.finding.point ++ text_member (codes "help") d.words.help.items))
+
+-- a finding
+abbrev pub result_members : List ℕ → Detail → List Token
+result_members uri d =
+    string_member (codes "ruleId") (rule_name d.finding.rule) ++ (level ++ (message d.words.title.items ++ (locations uri d
+    ++ (array_member (codes "relatedLocations") (related uri d.route.origin)
+    ++ (array_member (codes "codeFlows") (flows_by d.route.kind uri d) ++ (fingerprints d ++ properties d))))))
+
+abbrev pub result : List ℕ → Detail → List Token
+result uri d = item (result_members uri d)
+
+-- how to mend a fault of a text
+abbrev pub fault_properties : List ℕ → List Token
+fault_properties help = object_member (codes "properties") (filled_member (codes "help") help)
+
+-- a fault of a text, with its words
+abbrev pub fault_members : List ℕ → SyntaxFault → List ℕ → List ℕ → List Token
+fault_members uri f words help =
+    string_member (codes "ruleId") (fault_name f.kind) ++ (level ++ (message words
+    ++ (array_member (codes "locations") (location uri f.line f.column words) ++ fault_properties help)))
+
+abbrev pub fault_result : List ℕ → SyntaxFault → List ℕ → List ℕ → List Token
+fault_result uri f words help = item (fault_members uri f words help)
+
+-- the result of a text that doesn't parse; which words stand in it is in no definition
+pub record IsFaultResult (name source : List ℕ) (tokens : List Token) : Type 0 where
+  pub trouble : Trouble
+  pub described : IsDescribed source (Some trouble)
+  pub words : List ℕ
+  pub help : List ℕ
+  pub result : tokens ≡ fault_result (uri_of name) trouble.spot.fault words help
+
+-- one result for each of these findings, in their order
+pub record AreFindingResults (name : List ℕ) (found : List Finding) (tokens : List Token) : Type 0 where
+  pub details : List Detail
+  pub each : map (λ (d : Detail). d.finding) details ≡ found
+  pub results : tokens ≡ flat_map (result (uri_of name)) details
+
+-- the results of a text: one where it doesn't parse, else one for each finding
+abbrev pub HasResults : Source → Judged → List Token → Type 0
+HasResults s (Unread f) tokens = IsFaultResult s.name.now s.text.now tokens
+HasResults s (Known tree graph found) tokens = AreFindingResults s.name.now found tokens
+
+-- the same, with the text's status
+pub record IsPart (s : Source) (tokens : List Token) (status : ℕ) : Type 0 where
+  pub judged : Judged
+  pub is : IsJudged s.text.now judged
+  pub own : status ≡ status_of judged
+  pub results : HasResults s judged tokens
+
+-- the results of several texts, one text's behind the other's; the status is the greatest of theirs
+abbrev pub AreResults : List Source → List Token → ℕ → Type 0
+AreResults [] tokens status = (tokens ≡ []) × (status ≡ 0)
+AreResults (s ∷ ss) tokens status =
+    (part : List Token) × (rest : List Token) × (first : ℕ) × (others : ℕ) × IsPart s part first × AreResults ss rest others
+    × (tokens ≡ part ++ rest) × (status ≡ max first others)
+
+-- ---- the whole
+
+-- all rules, in their order
+unfoldable pub rules : List Rule
+rules = R01 ∷ R02 ∷ R03 ∷ R04 ∷ R05 ∷ R06 ∷ R07 ∷ R08 ∷ R09 ∷ R10 ∷ R11 ∷ R12 ∷ R13 ∷ R14 ∷ R15 ∷ []
+
+-- all kinds of faults, in their order
+unfoldable pub faults : List FaultKind
+faults = E01 ∷ E02 ∷ E03 ∷ E04 ∷ E05 ∷ E06 ∷ E07 ∷ E08 ∷ []
+
+-- the words of a rule
+abbrev pub description : Rule → List Token
+description r = object_member (codes "shortDescription") (string_member (codes "text") (text r))
+
+-- a rule, with its words
+abbrev pub rule_item : Rule → List Token
+rule_item r = item (string_member (codes "id") (rule_name r) ++ description r)
+
+-- a kind of fault of a text
+abbrev pub fault_item : FaultKind → List Token
+fault_item kind = item (string_member (codes "id") (fault_name kind))
+
+-- all rules, and all kinds of faults
+abbrev pub all_rules : List Token
+all_rules = flat_map rule_item rules ++ flat_map fault_item faults
+
+-- what made the results
+abbrev pub driver_members : List Token
+driver_members = string_member (codes "name") (codes "fltstack") ++ array_member (codes "rules") all_rules
+
+abbrev pub tool : List Token
+tool = object_member (codes "tool") (object_member (codes "driver") driver_members)
+
+-- a run, with these results
+abbrev pub run : List Token → List Token
+run results = begin_object ∷ (tool ++ (array_member (codes "results") results ++ end_object ∷ []))
+
+-- the whole document, with these results
+abbrev pub document : List Token → List Token
+document results =
+    begin_object ∷ (string_member (codes "$schema") (codes "https://json.schemastore.org/sarif-2.1.0.json")
+    ++ (string_member (codes "version") (codes "2.1.0") ++ (array_member (codes "runs") (run results) ++ end_object ∷ [])))
+
+-- one document for several texts
+abbrev pub IsSarif : List Source → List ℕ → ℕ → Type 0
+IsSarif sources printed status = (results : List Token) × AreResults sources results status × (printed ≡ line_of (document results))

@@ -1,0 +1,40 @@
+-- Steps of ways, as JSON.
+use Rattle.std.specs.Prelude.{ℕ, List, [], ◌∷◌, ◌++◌, Bool, codes, flat_map, if◌then◌else◌}
+use Rattle.json.specs.Token.{Token, begin_object, end_object, begin_array, end_array, key, null}
+use Rattle.std.specs.Prelude.{Option, Some, None}
+use Rattle.flt_forms.specs.Members.{filled_member, string_member, number_member, null_member}
+use Rattle.flt_reports.specs.declared.study.Stage.{Stage}
+use Rattle.flt_reports.specs.declared.study.WayKind.{WayKind}
+use Rattle.flt_reports.specs.declared.study.WayKind.TheVariants.{Clean, Behind, Unreached, Unknown}
+
+-- how a step comes out
+abbrev pub side : Bool → List ℕ
+side granted = if granted then codes "yes" else codes "no"
+
+-- a step: its point, where that stands, and how it comes out
+abbrev pub step : Stage → List Token
+step s =
+    begin_object ∷ number_member (codes "point") s.point ++ (number_member (codes "line") s.line
+    ++ (number_member (codes "column") s.column ++ (string_member (codes "side") (side s.granted)
+    ++ (filled_member (codes "words") s.words.items ++ end_object ∷ []))))
+
+-- several, in order
+abbrev pub steps : List Stage → List Token
+steps stages = begin_array ∷ flat_map step stages ++ end_array ∷ []
+
+-- a member whose value is a step, or null
+abbrev pub step_member : List ℕ → Option Stage → List Token
+step_member name None = null_member name
+step_member name (Some s) = key name ∷ step s
+
+-- a member whose value is steps, or null
+abbrev pub steps_member : List ℕ → Option (List Stage) → List Token
+steps_member name None = null_member name
+steps_member name (Some stages) = key name ∷ steps stages
+
+-- what a way is
+abbrev pub kind_name : WayKind → List ℕ
+kind_name Clean = codes "clean"
+kind_name Behind = codes "behind"
+kind_name Unreached = codes "none"
+kind_name Unknown = codes "unknown"

@@ -1,0 +1,124 @@
+//! What is found of texts, a JSON object a line.
+
+ghost use Rattle.std.specs.Prelude.{◌≡◌, ◌++◌, [], Err, IfOk, List, ℕ, max};
+ghost use Rattle.flt_forms.specs.Fault.{IsFaultLine};
+ghost use Rattle.flt_forms.specs.Finding as of_finding;
+ghost use Rattle.flt_forms.specs.Lines as spec;
+ghost use Rattle.flt_reports.specs.Reports.{IsJudged};
+ghost use Rattle.flt_syntax.specs.File.{filter_of};
+
+use crate::fault::{help_of, put_fault_line};
+use crate::finding::put_lines;
+use flt_explain::Finding;
+use flt_graph::Graph;
+use flt_hints::{describe, tell};
+use flt_reports::{Explained, Judged, Source, details, judge};
+use flt_syntax::{SyntaxFault, Tree, spelled_is_read};
+use std::alloc::{AllocError, Global};
+
+/// The line of a text that doesn't parse, behind what is there.
+fn unread(
+    alloc: Global,
+    out: Vec<u8>,
+    source: Source<'_>,
+    fault: SyntaxFault,
+) -> Result<Vec<u8>, AllocError>
+    requires { filter_of source.text.now ≡ Err fault }
+    ensures { IfOk result (λ v. (printed : List ℕ) × IsFaultLine source.entry.name.now source.entry.text.now printed
+        × (v.items ≡ out.items ++ printed)) }
+{
+    spelled_is_read();
+    let Some(trouble) = describe(alloc, source.text)? else {
+        return Ok(out);
+    };
+    let told = tell(alloc, &trouble)?;
+    let help = help_of(alloc, &told)?;
+    let written = put_fault_line(alloc, out, source.name, &trouble, &told, &help)?;
+    Ok(written)
+}
+
+/// The lines of what is found of a text that parses, behind what is there.
+fn known(
+    alloc: Global,
+    out: Vec<u8>,
+    source: Source<'_>,
+    tree: &Tree,
+    graph: &Graph,
+    found: &[Finding],
+) -> Result<Vec<u8>, AllocError>
+    ensures { IfOk result (λ v. (printed : List ℕ) × spec.AreFindingLines source.entry.name.now found.now printed
+        × (v.items ≡ out.items ++ printed)) }
+{
+    let details = details(alloc, source.text, tree, graph, found)?;
+    put_lines(alloc, out, source.name, details.as_slice())
+}
+
+fn put_judged(
+    alloc: Global,
+    out: Vec<u8>,
+    source: Source<'_>,
+    judged: &Judged,
+) -> Result<Vec<u8>, AllocError>
+    requires { IsJudged source.text.now judged.now }
+    ensures { IfOk result (λ v. (printed : List ℕ) × spec.IsPrinted source.entry judged.now printed
+        × (v.items ≡ out.items ++ printed)) }
+{
+    match judged {
+        Judged::Unread(fault) => unread(alloc, out, source, *fault),
+        Judged::Known(tree, graph, found) => {
+            known(alloc, out, source, tree, graph, found.as_slice())
+        }
+    }
+}
+
+/// The lines of a text, behind what is there, and its status.
+fn put_source(alloc: Global, out: Vec<u8>, source: Source<'_>) -> Result<Explained, AllocError>
+    ensures { IfOk result (λ e. (printed : List ℕ) × spec.IsPart source.entry printed e.status
+        × (e.output.items ≡ out.items ++ printed)) }
+{
+    let judged = judge(alloc, source.text)?;
+    let output = put_judged(alloc, out, source, &judged)?;
+    Ok(Explained {
+        output,
+        status: judged.status(),
+    })
+}
+
+pub(crate) fn greater(a: u8, b: u8) -> u8
+    ensures { result ≡ max a b }
+{
+    if a < b { b } else { a }
+}
+
+/// The lines of several texts, behind what is there, and the greatest status.
+fn put_sources(alloc: Global, out: Vec<u8>, sources: &[Source<'_>]) -> Result<Explained, AllocError>
+    ensures { IfOk result (λ e. spec.AreLines sources.now out.items e.output.items e.status) }
+{
+    match sources {
+        [] => Ok(Explained {
+            output: out,
+            status: 0,
+        }),
+        [source, others @ ..] => {
+            let first = put_source(alloc, out, *source)?;
+            let rest = put_sources(alloc, first.output, others)?;
+            Ok(Explained {
+                output: rest.output,
+                status: greater(first.status, rest.status),
+            })
+        }
+    }
+}
+
+/// What is wrong with some texts, a JSON object a line: one for each finding of a text that parses, in their order, and one for a text
+/// that doesn't. docs/FORMATS.md has their members. The status is that of `explain`: 0 where nothing is found, 1 where something is, 2
+/// where a text doesn't parse.
+///
+/// # Errors
+///
+/// Where a growth was refused.
+pub fn lines(alloc: Global, sources: &[Source<'_>]) -> Result<Explained, AllocError>
+    ensures { IfOk result (λ e. spec.AreLines sources.now [] e.output.items e.status) }
+{
+    put_sources(alloc, Vec::new(alloc), sources)
+}

@@ -1,0 +1,115 @@
+//! What is said of a text that doesn't parse, as JSON.
+
+ghost use Rattle.std.specs.Prelude.{◌≡◌, ◌++◌, IfOk, codes, map};
+ghost use Rattle.flt_forms.specs.Fault as spec;
+ghost use Rattle.flt_forms.specs.Members.{Adds, line_of, array_member, text_items};
+
+use crate::members::{
+    close_object, open_object, put_bytes, put_filled, put_number, put_string, put_text, put_texts,
+};
+use flt_hints::{Choices, Expected, Told, Trouble};
+use flt_reports::fault_name;
+use flt_syntax::SyntaxFault;
+use json::Writer;
+use sqlite_items::Items;
+use std::alloc::{AllocError, Global};
+
+/// What begins the line that says how to mend a fault.
+const HELP: &[u8] = b"   = help: ";
+
+/// How to mend a fault; empty where that isn't said.
+pub(crate) fn help_of(alloc: Global, told: &Told) -> Result<Vec<u8>, AllocError> {
+    for line in told.notes.as_slice().split(|byte| *byte == b'\n') {
+        if let Some(help) = line.strip_prefix(HELP) {
+            return Vec::from_slice(alloc, help);
+        }
+    }
+    Ok(Vec::new(alloc))
+}
+
+fn put_place(writer: &mut Writer, fault: SyntaxFault) -> Result<(), AllocError>
+    ensures { Adds result writer.old writer.new (spec.place fault) }
+{
+    put_number(writer, "line", fault.line)?;
+    put_number(writer, "column", fault.column)?;
+    put_string(writer, "rule", fault_name(fault.kind))
+}
+
+/// The words of what is expected, in order.
+fn words_of(alloc: Global, expected: &Items<Expected>) -> Result<Items<&'static [u8]>, AllocError>
+    ensures { IfOk result (λ ws. map (λ w. w.now) ws ≡ map (λ e. e.word.now) expected.now) }
+{
+    let mut words = Items::new(alloc);
+    for one in expected.as_slice() {
+        words.push(one.word)?;
+    }
+    Ok(words)
+}
+
+fn put_expected(
+    alloc: Global,
+    writer: &mut Writer,
+    expected: &Items<Expected>,
+) -> Result<(), AllocError>
+    ensures { Adds result writer.old writer.new
+        (array_member (codes "expected") (text_items (map (λ e. e.word.now) expected.now))) }
+{
+    let words = words_of(alloc, expected)?;
+    put_texts(alloc, writer, "expected", words.as_slice())
+}
+
+fn put_names(alloc: Global, writer: &mut Writer, names: &Items<&[u8]>) -> Result<(), AllocError>
+    ensures { Adds result writer.old writer.new
+        (array_member (codes "names") (text_items (map (λ n. n.now) names.now))) }
+{
+    put_texts(alloc, writer, "names", names.as_slice())
+}
+
+fn put_choices(alloc: Global, writer: &mut Writer, choices: &Choices<'_>) -> Result<(), AllocError>
+    ensures { Adds result writer.old writer.new (spec.choices choices.now) }
+{
+    put_expected(alloc, writer, &choices.expected)?;
+    put_names(alloc, writer, &choices.names)
+}
+
+/// A fault of a file, with how to mend it.
+fn put_fault(
+    alloc: Global,
+    writer: &mut Writer,
+    name: &str,
+    trouble: &Trouble<'_>,
+    told: &Told,
+    help: &Vec<u8>,
+) -> Result<(), AllocError>
+    ensures { Adds result writer.old writer.new
+        (spec.fault name.now trouble.now told.now.title.items help.now.items) }
+{
+    open_object(writer)?;
+    put_string(writer, "file", name)?;
+    put_place(writer, trouble.spot.fault)?;
+    put_bytes(alloc, writer, "found", Some(trouble.spot.bytes))?;
+    put_choices(alloc, writer, &trouble.choices)?;
+    put_bytes(alloc, writer, "meant", trouble.meant)?;
+    put_text(alloc, writer, "message", &told.title)?;
+    put_filled(alloc, writer, "help", help)?;
+    close_object(writer)
+}
+
+/// A fault on a line of its own, behind what is there.
+pub(crate) fn put_fault_line(
+    alloc: Global,
+    out: Vec<u8>,
+    name: &str,
+    trouble: &Trouble<'_>,
+    told: &Told,
+    help: &Vec<u8>,
+) -> Result<Vec<u8>, AllocError>
+    ensures { IfOk result (λ v. v.items ≡ out.items ++
+        line_of (spec.fault name.now trouble.now told.now.title.items help.now.items)) }
+{
+    let mut writer = Writer::new(out);
+    put_fault(alloc, &mut writer, name, trouble, told, help)?;
+    let mut out = writer.into_inner();
+    out.push(b'\n')?;
+    Ok(out)
+}

@@ -1,0 +1,131 @@
+//! Findings, as JSON.
+
+ghost use Rattle.std.specs.Prelude.{◌≡◌, ◌++◌, codes, flat_map, IfOk};
+ghost use Rattle.flt_forms.specs.Finding as spec;
+ghost use Rattle.flt_forms.specs.Members.{Adds, string_member};
+ghost use Rattle.flt_rules.specs.Rule.{text as rule_text};
+ghost use Rattle.flt_reports.specs.Closing.{rule_name};
+
+use crate::members::{
+    close_object, open_object, put_key, put_null, put_number, put_string, put_text,
+};
+use crate::steps::{put_kind, put_step_member, put_steps, put_steps_member};
+use flt_explain::Finding;
+use flt_reports::{Detail, Route, RuleName, Words};
+use flt_rules::{Rule, text};
+use json::Writer;
+use std::alloc::{AllocError, Global};
+
+fn put_place(writer: &mut Writer, finding: &Finding) -> Result<(), AllocError>
+    ensures { Adds result writer.old writer.new (spec.place finding.now) }
+{
+    put_number(writer, "callback", finding.callback)?;
+    put_number(writer, "point", finding.point)?;
+    put_number(writer, "line", finding.line)
+}
+
+/// A rule's number.
+fn put_rule_name(alloc: Global, writer: &mut Writer, rule: Rule) -> Result<(), AllocError>
+    ensures { Adds result writer.old writer.new (string_member (codes "rule") (rule_name rule)) }
+{
+    let rule = RuleName(rule);
+    let name = format!(in alloc; "{rule}")?;
+    put_string(writer, "rule", name.as_str())
+}
+
+/// What a rule says.
+pub(crate) fn put_rule_text(writer: &mut Writer, rule: Rule) -> Result<(), AllocError>
+    ensures { Adds result writer.old writer.new (string_member (codes "text") (rule_text rule)) }
+{
+    put_string(writer, "text", text(rule))
+}
+
+fn put_rule(alloc: Global, writer: &mut Writer, finding: &Finding) -> Result<(), AllocError>
+    ensures { Adds result writer.old writer.new (spec.rule finding.now) }
+{
+    put_rule_name(alloc, writer, finding.rule)?;
+    put_rule_text(writer, finding.rule)
+}
+
+fn put_words(alloc: Global, writer: &mut Writer, words: &Words) -> Result<(), AllocError>
+    ensures { Adds result writer.old writer.new (spec.words words.now) }
+{
+    put_text(alloc, writer, "head", &words.head)?;
+    put_text(alloc, writer, "message", &words.title)?;
+    put_text(alloc, writer, "subject", &words.subject)?;
+    put_text(alloc, writer, "help", &words.help)
+}
+
+fn put_state(writer: &mut Writer, state: Option<&'static str>) -> Result<(), AllocError>
+    ensures { Adds result writer.old writer.new (spec.state state.entry) }
+{
+    match state {
+        None => put_null(writer, "state"),
+        Some(word) => put_string(writer, "state", word),
+    }
+}
+
+fn put_way(alloc: Global, writer: &mut Writer, route: &Route) -> Result<(), AllocError>
+    ensures { Adds result writer.old writer.new (spec.way route.now) }
+{
+    put_key(writer, "way")?;
+    open_object(writer)?;
+    put_kind(writer, route.kind)?;
+    put_key(writer, "steps")?;
+    put_steps(alloc, writer, &route.stages)?;
+    put_steps_member(alloc, writer, "other", &route.other)?;
+    close_object(writer)
+}
+
+fn put_route(alloc: Global, writer: &mut Writer, route: &Route) -> Result<(), AllocError>
+    ensures { Adds result writer.old writer.new (spec.route route.now) }
+{
+    put_state(writer, route.state)?;
+    put_step_member(alloc, writer, "origin", &route.origin)?;
+    put_way(alloc, writer, route)
+}
+
+fn put_finding(
+    alloc: Global,
+    writer: &mut Writer,
+    name: &str,
+    detail: &Detail,
+) -> Result<(), AllocError>
+    ensures { Adds result writer.old writer.new (spec.finding name.now detail.now) }
+{
+    open_object(writer)?;
+    put_string(writer, "file", name)?;
+    put_place(writer, &detail.finding)?;
+    put_number(writer, "column", detail.column)?;
+    put_rule(alloc, writer, &detail.finding)?;
+    put_words(alloc, writer, &detail.words)?;
+    put_route(alloc, writer, &detail.route)?;
+    close_object(writer)
+}
+
+/// A finding on a line of its own, behind what is there.
+fn put_line(alloc: Global, out: Vec<u8>, name: &str, detail: &Detail) -> Result<Vec<u8>, AllocError>
+    ensures { IfOk result (λ v. v.items ≡ out.items ++ spec.finding_line name.now detail.now) }
+{
+    let mut writer = Writer::new(out);
+    put_finding(alloc, &mut writer, name, detail)?;
+    let mut out = writer.into_inner();
+    out.push(b'\n')?;
+    Ok(out)
+}
+
+/// A line for each finding, behind what is there.
+pub(crate) fn put_lines(
+    alloc: Global,
+    out: Vec<u8>,
+    name: &str,
+    details: &[Detail],
+) -> Result<Vec<u8>, AllocError>
+    ensures { IfOk result (λ v. v.items ≡ out.items ++ flat_map (spec.finding_line name.now) details.now) }
+{
+    let mut out = out;
+    for detail in details {
+        out = put_line(alloc, out, name, detail)?;
+    }
+    Ok(out)
+}

@@ -1,0 +1,99 @@
+//! Steps of ways, as JSON.
+
+ghost use Rattle.std.specs.Prelude.{◌≡◌, codes};
+ghost use Rattle.flt_forms.specs.Members.{Adds, string_member};
+ghost use Rattle.flt_forms.specs.Steps as spec;
+
+use crate::members::{
+    close_array, close_object, open_array, open_object, put_filled, put_key, put_null, put_number,
+    put_string,
+};
+use flt_reports::{Stage, WayKind};
+use json::Writer;
+use sqlite_items::Items;
+use std::alloc::{AllocError, Global};
+
+/// How a step comes out.
+fn put_side(writer: &mut Writer, granted: bool) -> Result<(), AllocError>
+    ensures { Adds result writer.old writer.new (string_member (codes "side") (spec.side granted)) }
+{
+    put_string(writer, "side", if granted { "yes" } else { "no" })
+}
+
+fn kind_name(kind: WayKind) -> &'static str
+    ensures { result.now ≡ spec.kind_name kind }
+{
+    match kind {
+        WayKind::Clean => "clean",
+        WayKind::Behind => "behind",
+        WayKind::Unreached => "none",
+        WayKind::Unknown => "unknown",
+    }
+}
+
+/// What a way is.
+pub(crate) fn put_kind(writer: &mut Writer, kind: WayKind) -> Result<(), AllocError>
+    ensures { Adds result writer.old writer.new (string_member (codes "kind") (spec.kind_name kind)) }
+{
+    put_string(writer, "kind", kind_name(kind))
+}
+
+fn put_step(alloc: Global, writer: &mut Writer, stage: &Stage) -> Result<(), AllocError>
+    ensures { Adds result writer.old writer.new (spec.step stage.now) }
+{
+    open_object(writer)?;
+    put_number(writer, "point", stage.point)?;
+    put_number(writer, "line", stage.line)?;
+    put_number(writer, "column", stage.column)?;
+    put_side(writer, stage.granted)?;
+    put_filled(alloc, writer, "words", &stage.words)?;
+    close_object(writer)
+}
+
+pub(crate) fn put_steps(
+    alloc: Global,
+    writer: &mut Writer,
+    stages: &Items<Stage>,
+) -> Result<(), AllocError>
+    ensures { Adds result writer.old writer.new (spec.steps stages.now) }
+{
+    open_array(writer)?;
+    for stage in stages.as_slice() {
+        put_step(alloc, writer, stage)?;
+    }
+    close_array(writer)
+}
+
+pub(crate) fn put_step_member(
+    alloc: Global,
+    writer: &mut Writer,
+    name: &str,
+    stage: &Option<Stage>,
+) -> Result<(), AllocError>
+    ensures { Adds result writer.old writer.new (spec.step_member name.now stage.now) }
+{
+    match stage {
+        None => put_null(writer, name),
+        Some(stage) => {
+            put_key(writer, name)?;
+            put_step(alloc, writer, stage)
+        }
+    }
+}
+
+pub(crate) fn put_steps_member(
+    alloc: Global,
+    writer: &mut Writer,
+    name: &str,
+    stages: &Option<Items<Stage>>,
+) -> Result<(), AllocError>
+    ensures { Adds result writer.old writer.new (spec.steps_member name.now stages.now) }
+{
+    match stages {
+        None => put_null(writer, name),
+        Some(stages) => {
+            put_key(writer, name)?;
+            put_steps(alloc, writer, stages)
+        }
+    }
+}
