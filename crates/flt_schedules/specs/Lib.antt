@@ -1,0 +1,4 @@
+pub mod HandOver
+pub mod Meeting
+pub mod Schedules
+pub mod Violations
