@@ -1,0 +1,15 @@
+//! Whoever holds receipts.
+ghost use Rattle.std.specs.Prelude.{◌≡◌, List};
+ghost use Rattle.flt_core.specs.declared.receipts.Receipt.{Receipt};
+
+use flt_core::Receipt;
+
+/// Holds receipts, as a caller's seat does.
+pub trait HoldsReceipts {
+    // The receipts that it holds.
+    ghost held: { Self → List Receipt };
+
+    /// The receipts. They are found fast where their numbers rise.
+    fn receipts(&self) -> &[Receipt]
+        ensures { result.now ≡ held self.now };
+}
