@@ -1,5 +1,5 @@
 -- What counts say of which one stands before the others.
-use Rattle.std.proofs.Common.{◌≡◌, ◌≢◌, ⊎_elim, subst, ℕ, ◌+◌, ◌-◌, ◌<◌, true, false, List, ◌∷◌, Option, Some, ap, sym, refl, ◌∙◌, arith, min}
+use Rattle.std.proofs.Common.{◌≡◌, ◌≢◌, ⊎_elim, subst, ℕ, ◌+◌, ◌-◌, ◌<◌, true, false, List, ◌∷◌, Option, Some, ap, sym, ◌∙◌, arith, min}
 use Rattle.std.proofs.lemmas.Bool.{cases_eq, cond-true, cond-false}
 use Rattle.std.proofs.lemmas.Bool.Decides.{nat_tests}
 use Rattle.std.specs.BTreeMap.{is_at}

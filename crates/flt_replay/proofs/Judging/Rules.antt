@@ -6,7 +6,6 @@ use Rattle.std.specs.List.{list_all}
 use Rattle.std.specs.Prelude.{◌&&◌, cond, find, not}
 use Rattle.flt_tree.specs.declared.filter.Filter.{Filter}
 use Rattle.flt_model.specs.declared.event.Event.{Event}
-use Rattle.flt_model.specs.declared.verdict.Violation.{Violation}
 use Rattle.flt_model.specs.declared.verdict.Violation.TheVariants.{V5, V6, V7, V8}
 use Rattle.flt_model.specs.Violations.{legal_statuses, levels_kept, is_disciplined, legal_places}
 use Rattle.flt_model.specs.World.{World}

@@ -1,7 +1,5 @@
-use Rattle.std.proofs.Common.{◌≡◌, ◌+◌, ℕ, false, get_or, min, subst, sym, ◌∙◌}
-use Rattle.flt_replay.proofs.Counting.Holders.{stopped_on, stopped_off}
-use Rattle.flt_records.specs.Counts.{occurs}
-use Rattle.flt_replay.specs.Rows.{count_of}
+use Rattle.std.proofs.Common.{◌≡◌, false, get_or, subst, sym, ◌∙◌}
+use Rattle.flt_replay.proofs.Counting.Holders.{stopped_on}
 use Rattle.flt_replay.specs.Ledger.{Tally, Stopped}
 use Rattle.flt_replay.specs.contracts.ledger.Ledger.{the_view}
 use Rattle.flt_replay.proofs.ledger.Ledger.stop.Goals as goal

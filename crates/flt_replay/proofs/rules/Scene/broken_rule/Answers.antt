@@ -2,7 +2,7 @@
 use Rattle.flt_rules.specs.declared.call.Call.TheVariants.{AllocateContext}
 use Rattle.flt_model.specs.declared.event.Event.TheVariants.{Call}
 use Rattle.flt_model.specs.Violations.{is_legal, is_low_enough, is_disciplined, is_in_place}
-use Rattle.flt_replay.proofs.Judging.Rules.{all_more, holds_at, least_is}
+use Rattle.flt_replay.proofs.Judging.Rules.{all_more, holds_at}
 use Rattle.flt_replay.specs.Judging.{is_by}
 use Rattle.flt_replay.specs.Scenes.{before}
 use Rattle.flt_replay.proofs.rules.Scene.broken_rule.Goals as goal

@@ -1,5 +1,5 @@
 -- The number in place counts once more, or takes the place, or is one of the others.
-use Rattle.std.proofs.Common.{◌≡◌, ◌+◌, ℕ, List, ◌∷◌, subst, sym, ◌∙◌, arith}
+use Rattle.std.proofs.Common.{◌≡◌, ◌+◌, ℕ, List, ◌∷◌, subst, sym, ◌∙◌}
 use Rattle.flt_model.specs.Trace.{one_if}
 use Rattle.flt_records.specs.Counts.{count_in}
 use Rattle.flt_replay.proofs.Counting.InPlace.{added_front, put_in_front, behind_changed, none_more}

@@ -1,5 +1,5 @@
 -- The number in place counts, or the others decide.
-use Rattle.std.proofs.Common.{◌≡◌, ℕ, false, List, ◌∷◌, IsTrue, subst, sym, ◌∙◌, arith}
+use Rattle.std.proofs.Common.{◌≡◌, ℕ, false, List, IsTrue, subst, arith}
 use Rattle.flt_records.specs.Counts.{count_in}
 use Rattle.flt_replay.proofs.Counting.InPlace.{front, blank, blank_behind}
 use Rattle.flt_replay.proofs.ledger.row.Row.is_empty.Goals as goal

@@ -1,8 +1,8 @@
 -- The others are listed, and the number in place where it counts.
-use Rattle.std.proofs.Common.{◌≡◌, ◌≤◌, ◌<◌, ◌+◌, ℕ, List, ◌∷◌, min, subst, arith, ap, ◌∙◌}
+use Rattle.std.proofs.Common.{◌≡◌, ◌+◌, ℕ, List, min, subst, arith, ap, ◌∙◌}
 use Rattle.std.proofs.lemmas.List.Sums.{sum_by_push}
 use Rattle.flt_model.specs.Trace.{one_if}
-use Rattle.flt_records.specs.Counts.{count, count_in, occurs}
+use Rattle.flt_records.specs.Counts.{count_in, occurs}
 use Rattle.flt_replay.proofs.Counting.InPlace.{once_each, once_others}
 use Rattle.flt_replay.proofs.ledger.row.Row.list.Goals as goal
 

@@ -1,5 +1,5 @@
 -- The others count once less, and the number in place where it counts.
-use Rattle.std.proofs.Common.{◌≡◌, ◌≤◌, ◌<◌, ◌+◌, ℕ, List, ◌∷◌, min, subst, arith}
+use Rattle.std.proofs.Common.{◌≡◌, ◌<◌, ◌+◌, ℕ, List, min, subst, arith}
 use Rattle.flt_model.specs.Trace.{one_if}
 use Rattle.flt_records.specs.Counts.{count, count_in}
 use Rattle.flt_replay.proofs.Counting.InPlace.{once_each, once_others}
