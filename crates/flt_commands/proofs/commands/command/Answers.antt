@@ -1,6 +1,6 @@
 use Rattle.flt_commands.proofs.Covered.{clean_of}
 use Rattle.flt_commands.proofs.Pages.{printed_of, says_of_page}
-use Rattle.flt_words.specs.Request.{Run, Page}
+use Rattle.flt_words.specs.Request.{Run, Show, Explain, Page}
 use Rattle.flt_commands.proofs.commands.command.Goals as goal
 
 pub returns-in-Check-clause-clean : goal.returns-in-Check-clause-clean
@@ -22,6 +22,12 @@ pub returns-in-Explain-clause-clean : goal.returns-in-Explain-clause-clean
 returns-in-Explain-clause-clean g c =
     clean_of c.covered_texts_break_nothing.ensures c.driven_texts_break_nothing.ensures _ _ _ _ _ _ (rw c.in-Explain.is at c.in_ok-text.ensures)
     (rw c.as_slice-in-Explain.ensures.value at c.explain_files-said.ensures) c.report-in-Explain.ensures.prints
+
+pub returns-in-Show-clause-clean : goal.returns-in-Show-clause-clean
+returns-in-Show-clause-clean g c =
+    clean_of c.covered_texts_break_nothing.ensures c.driven_texts_break_nothing.ensures _ _ (Show _ _ _ _) _ _ _
+    (rw c.in-Show.is at c.in_ok-text.ensures) (rw c.as_slice-in-Show.ensures.value at c.show_files-said.ensures)
+    c.report-in-Show.ensures.prints
 
 pub returns-in-Run-default-true-default-default-clause-clean : goal.returns-in-Run-default-true-default-default-clause-clean
 returns-in-Run-default-true-default-default-clause-clean g c =
