@@ -1,6 +1,6 @@
 //! The commands on texts, certificates and journals that are written out.
 
-use flt_commands::{CommandFault, Inputs, Unwatched, command};
+use flt_commands::{CommandFault, Inputs, Pictures, Unwatched, command};
 use flt_model::{Sink, WriteFault};
 use std::alloc::{AllocError, Global};
 use std::test::Fail;
@@ -14,6 +14,7 @@ mod reading;
 mod refusals;
 mod replays;
 mod runs;
+mod shown;
 
 /// A filter that pends its reads, and the least states of its points.
 const PENDING_READS: &str =
@@ -117,6 +118,30 @@ impl Sink for Kept {
     }
 }
 
+/// Pictures that are kept, with their names before them, or none that can be written.
+#[derive(Drop)]
+struct Drawn {
+    is_writable: bool,
+    bytes: Vec<u8>,
+}
+
+impl Drawn {
+    fn nowhere(alloc: Global) -> Drawn {
+        Drawn {
+            is_writable: false,
+            bytes: Vec::new(alloc),
+        }
+    }
+}
+
+impl Pictures for Drawn {
+    fn write(&mut self, name: &str, bytes: &[u8]) -> bool {
+        self.is_writable
+            && self.bytes.extend_from_slice(name.as_bytes()).is_ok()
+            && self.bytes.extend_from_slice(bytes).is_ok()
+    }
+}
+
 /// What a run of the program gave.
 #[derive(Drop)]
 struct Outcome {
@@ -136,6 +161,7 @@ fn run(alloc: Global, words: &[&str], files: &[(&str, &[u8])]) -> Result<Outcome
         alloc,
         owned.as_slice(),
         &Given { files },
+        &mut Drawn::nowhere(alloc),
         false,
         &mut out,
         &mut err,

@@ -1,5 +1,5 @@
 -- What is covered breaks nothing, and an exit status 0 says that something is covered.
-use Rattle.std.proofs.Common.{◌≡◌, ℕ, zero, suc, List, [], ◌∷◌, Bool, None, Option, Some, Result, Ok, Err, take, drop, max, refl, sym, ◌∙◌, arith}
+use Rattle.std.proofs.Common.{◌≡◌, ℕ, zero, suc, List, [], ◌∷◌, ◌++◌, Bool, None, Option, Some, Result, Ok, Err, take, drop, max, refl, sym, ◌∙◌, arith}
 use Rattle.std.proofs.Math.Path.{subst}
 use Rattle.flt_syntax.specs.Spelling.{SpellsAtMostOne, SpelledIsWellFormed}
 use Rattle.flt_graph.specs.declared.graph.Graph.{Graph}
@@ -9,7 +9,14 @@ use Rattle.flt_sound.specs.Soundness.{IsAccepted, AreAccepted, AcceptedRunsBreak
 use Rattle.flt_driven.specs.Running.{IsRun}
 use Rattle.flt_driven.specs.declared.running.Ran.{Ran}
 use Rattle.flt_explain.specs.declared.finding.Finding.{Finding}
-use Rattle.flt_reports.specs.Reports.{AreReports, IsJudged, IsKnown, findings_status, status_of as status_of_judged}
+use Rattle.flt_forms.specs.Lines.{AreLines}
+use Rattle.flt_forms.specs.Sarif.{AreResults}
+use Rattle.flt_reports.specs.Reports.{AreReports, IsJudged, IsKnown, findings_status, status_of as status_of_judged, texts_of}
+use Rattle.flt_reports.specs.declared.reports.Explained.{Explained as Told}
+use Rattle.flt_reports.specs.declared.reports.Source.{Source}
+use Rattle.flt_words.specs.declared.request.Form.{Form}
+use Rattle.flt_words.specs.declared.request.Form.TheVariants.{Human, Lines, Sarif}
+use Rattle.json.specs.Token.{Token}
 use Rattle.flt_reports.specs.declared.judged.Judged.{Judged as Found}
 use Rattle.flt_reports.specs.declared.judged.Judged.TheVariants.{Unread, Known}
 use Rattle.flt_tree.specs.declared.tree.Tree.{Tree}
@@ -23,13 +30,13 @@ use Rattle.flt_commands.specs.Answer.{status_of}
 use Rattle.flt_commands.specs.Check.{HasPoints, IsAnswer, IsChecked}
 use Rattle.flt_commands.specs.Clean.{BreakNothing, BreaksNothing, EachBreaksNothing, IsClean, YesIsClean}
 use Rattle.flt_commands.specs.Commands.{IsSaid, IsSaidOf, IsReported}
-use Rattle.flt_commands.specs.Explain.{IsExplained}
+use Rattle.flt_commands.specs.Explain.{IsExplained, IsTold}
 use Rattle.flt_commands.specs.Inputs.{Giving, given, Text}
 use Rattle.flt_commands.specs.Running.{IsRan}
-use Rattle.flt_words.specs.Request.{Asked, Check, Analyse, Run, Replay, Explain, Page}
+use Rattle.flt_words.specs.Request.{Asked, Check, Analyse, Run, Replay, Show, Explain, Page}
 use Rattle.flt_words.specs.Words.{asked}
 use Rattle.flt_commands.specs.declared.answer.Answer.{Answer}
-use Rattle.flt_commands.specs.declared.answer.Answer.TheVariants.{Accepted, Refused, Certificate as Written, Judged, Ran as has_run, FileRefused, Explained, Page as has_page}
+use Rattle.flt_commands.specs.declared.answer.Answer.TheVariants.{Accepted, Refused, Certificate as Written, Judged, Ran as has_run, FileRefused, Explained, Page as has_page, Shown}
 use Rattle.flt_commands.specs.declared.commands.CommandFault.{CommandFault}
 use Rattle.flt_commands.specs.declared.failure.Failure.{Failure}
 use Rattle.std.specs.Prelude.{IfOk}
@@ -76,6 +83,7 @@ module _ (law : Law) (runs : LawOfRuns) where
   judged text certificate (has_run ran) said good = absurd said.decided
   judged text certificate (FileRefused n f) said good = absurd said.decided
   judged text certificate (Explained r) said good = absurd said.decided
+  judged text certificate (Shown rows v) said good = absurd said.decided
   judged text certificate (has_page t) said good = absurd said.decided
 
   checked : (texts : List Text) (answer : Answer) (file : Text) (cert : Option Text) → IsChecked texts (Ok answer) →
@@ -95,6 +103,7 @@ module _ (law : Law) (runs : LawOfRuns) where
   analysed (text ∷ []) (has_run ran) file said good = absurd said
   analysed (text ∷ []) (FileRefused n f) file said good = absurd said
   analysed (text ∷ []) (Explained r) file said good = absurd said
+  analysed (text ∷ []) (Shown rows v) file said good = absurd said
   analysed (text ∷ []) (has_page t) file said good = absurd said
   analysed (text ∷ more ∷ texts) answer file said good = said
 
@@ -105,6 +114,7 @@ module _ (law : Law) (runs : LawOfRuns) where
   driven (bytes ∷ texts) (FileRefused n f) workers quiet script files said good = absurd (omega (arith, good))
   driven (bytes ∷ texts) Accepted workers quiet script files said good = absurd said
   driven (bytes ∷ texts) (Explained r) workers quiet script files said good = absurd said
+  driven (bytes ∷ texts) (Shown rows v) workers quiet script files said good = absurd said
   driven (bytes ∷ texts) (has_page t) workers quiet script files said good = absurd said
   driven (bytes ∷ texts) (Refused f) workers quiet script files said good = absurd said
   driven (bytes ∷ texts) (Written c) workers quiet script files said good = absurd said
@@ -137,16 +147,36 @@ module _ (law : Law) (runs : LawOfRuns) where
       let zeros = both_zero first others (sym greatest ∙ good) in
       (found_well t j is (sym same ∙ zeros.0), reported (u ∷ ts) printed others rest zeros.1)
 
-  explained : (texts : List Text) (answer : Answer) (files : List Text) → IsExplained texts (Ok answer) → status_of answer ≡ 0 →
-      IsClean (Explain files) texts
-  explained texts (Explained r) files said good = reported texts r.output.items r.status said good
-  explained texts (has_page t) files said good = absurd said
-  explained texts (has_run ran) files said good = absurd said
-  explained texts (FileRefused n f) files said good = absurd said
-  explained texts Accepted files said good = absurd said
-  explained texts (Refused f) files said good = absurd said
-  explained texts (Written c) files said good = absurd said
-  explained texts (Judged v) files said good = absurd said
+  in_lines : (sources : List Source) (before printed : List ℕ) (status : ℕ) → AreLines sources before printed status → status ≡ 0 →
+      EachBreaksNothing (texts_of sources)
+  in_lines [] before printed status said good = tt
+  in_lines (s ∷ ss) before printed status (part, first, others, own, rest, greatest) good =
+      let zeros = both_zero first others (sym greatest ∙ good) in
+      (found_well s.text.now own.judged own.is (sym own.own ∙ zeros.0), in_lines ss (before ++ part) printed others rest zeros.1)
+
+  in_results : (sources : List Source) (tokens : List Token) (status : ℕ) → AreResults sources tokens status → status ≡ 0 →
+      EachBreaksNothing (texts_of sources)
+  in_results [] tokens status said good = tt
+  in_results (s ∷ ss) tokens status (part, others_tokens, first, others, own, rest, joined, greatest) good =
+      let zeros = both_zero first others (sym greatest ∙ good) in
+      (found_well s.text.now own.judged own.is (sym own.own ∙ zeros.0), in_results ss others_tokens others rest zeros.1)
+
+  told_well : (form : Form) (sources : List Source) (e : Told) → IsTold form sources e → e.status ≡ 0 → EachBreaksNothing (texts_of sources)
+  told_well Human sources e told good = reported (texts_of sources) e.output.items e.status told good
+  told_well Lines sources e told good = in_lines sources [] e.output.items e.status told good
+  told_well Sarif sources e told good = in_results sources told.0 e.status told.1 good
+
+  explained : (form : Form) (names texts : List Text) (answer : Answer) → IsExplained form names texts (Ok answer) → status_of answer ≡ 0 →
+      IsClean (Explain form names) texts
+  explained form files texts (Explained e) said good = subst EachBreaksNothing said.given (told_well form said.sources e said.told good)
+  explained form files texts (Shown rows v) said good = absurd said
+  explained form files texts (has_page t) said good = absurd said
+  explained form files texts (has_run ran) said good = absurd said
+  explained form files texts (FileRefused n f) said good = absurd said
+  explained form files texts Accepted said good = absurd said
+  explained form files texts (Refused f) said good = absurd said
+  explained form files texts (Written c) said good = absurd said
+  explained form files texts (Judged v) said good = absurd said
 
   said_is_clean : (request : Asked) (texts : List Text) (answer : Answer) → IsSaidOf request texts (Ok answer) →
       status_of answer ≡ 0 → IsClean request texts
@@ -154,7 +184,8 @@ module _ (law : Law) (runs : LawOfRuns) where
   said_is_clean (Analyse file) texts answer said good = analysed texts answer file said good
   said_is_clean (Run workers quiet script files) texts answer said good = driven texts answer workers quiet script files said good
   said_is_clean (Replay journal files) texts answer said good = tt
-  said_is_clean (Explain files) texts answer said good = explained texts answer files said good
+  said_is_clean (Show timeline picture journal files) texts answer said good = tt
+  said_is_clean (Explain form files) texts answer said good = explained form files texts answer said good
   said_is_clean (Page name) texts answer said good = tt
 
   of_said : (gives : Giving) (request : Asked) (said : Result Answer Failure) (bytes : List ℕ) → IsSaid gives request said →

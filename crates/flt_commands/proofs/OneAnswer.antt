@@ -8,7 +8,7 @@ use Rattle.flt_commands.specs.Commands.{IsReported, IsSaid, IsSaidOf, PrintsFor,
 use Rattle.flt_commands.specs.Inputs.{Giving}
 use Rattle.flt_commands.specs.Replay.{IsReplayed}
 use Rattle.flt_commands.specs.Single.{AreSame, AskForOne, GivesOne, HasOneAnswer, SaysOne, seen, told}
-use Rattle.flt_words.specs.Request.{Asked, Check, Analyse, Run, Replay, Explain, Page}
+use Rattle.flt_words.specs.Request.{Asked, Check, Analyse, Run, Replay, Show, Explain, Page}
 use Rattle.flt_commands.specs.declared.answer.Answer.{Answer}
 use Rattle.flt_commands.specs.declared.failure.Failure.{Failure}
 use Rattle.flt_commands.specs.declared.failure.Failure.TheVariants.{OutOfMemory}
@@ -47,7 +47,8 @@ module _ (checked : SaysOne IsChecked) (analysed : SaysOne IsAnalysed) (replayed
   of_one (Check file cert) has = checked
   of_one (Analyse file) has = analysed
   of_one (Run workers quiet script files) has = absurd has
-  of_one (Explain files) has = absurd has
+  of_one (Show timeline picture journal files) has = absurd has
+  of_one (Explain form files) has = absurd has
   of_one (Page name) has = absurd has
   of_one (Replay journal files) has = replayed
 

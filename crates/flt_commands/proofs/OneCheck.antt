@@ -19,7 +19,7 @@ use Rattle.flt_commands.specs.Inputs.{Text}
 use Rattle.flt_commands.specs.Single.{AreSame, SaysOne, seen, told}
 use Rattle.flt_commands.specs.Split.{IsCertificateStart, is_header_at}
 use Rattle.flt_commands.specs.declared.answer.Answer.{Answer}
-use Rattle.flt_commands.specs.declared.answer.Answer.TheVariants.{Accepted, Refused, Certificate as Written, Judged, Ran, FileRefused, Explained, Page}
+use Rattle.flt_commands.specs.declared.answer.Answer.TheVariants.{Accepted, Refused, Certificate as Written, Judged, Ran, FileRefused, Explained, Page, Shown}
 use Rattle.flt_commands.specs.declared.failure.Failure.{Failure}
 use Rattle.flt_commands.specs.declared.failure.Failure.TheVariants.{Syntax, Certificate as CertificateLine, OutOfMemory}
 
@@ -89,6 +89,7 @@ module _ (faultless : (g : Graph) (k : Certificate) → Covers g k → IsFaultle
   decided_once g k Accepted (Ran ran) x y = absurd y
   decided_once g k Accepted (FileRefused n h) x y = absurd y
   decided_once g k Accepted (Explained r) x y = absurd y
+  decided_once g k Accepted (Shown rows v) x y = absurd y
   decided_once g k Accepted (Page t) x y = absurd y
   decided_once g k (Refused f) Accepted x y = absurd (faulty g k f x (faultless g k y))
   decided_once g k (Refused f) (Refused h) x y = ap (λ r. seen (Ok (Refused r))) (least g k f h x y)
@@ -97,12 +98,14 @@ module _ (faultless : (g : Graph) (k : Certificate) → Covers g k → IsFaultle
   decided_once g k (Refused f) (Ran ran) x y = absurd y
   decided_once g k (Refused f) (FileRefused n h) x y = absurd y
   decided_once g k (Refused f) (Explained r) x y = absurd y
+  decided_once g k (Refused f) (Shown rows v) x y = absurd y
   decided_once g k (Refused f) (Page t) x y = absurd y
   decided_once g k (Written c) b x y = absurd x
   decided_once g k (Judged v) b x y = absurd x
   decided_once g k (Ran ran) b x y = absurd x
   decided_once g k (FileRefused n f) b x y = absurd x
   decided_once g k (Explained r) b x y = absurd x
+  decided_once g k (Shown rows v) b x y = absurd x
   decided_once g k (Page t) b x y = absurd x
 
   -- ---- what is said

@@ -9,7 +9,7 @@ use Rattle.flt_model.specs.declared.verdict.Verdict.TheVariants.{Legal, NotARun,
 use Rattle.flt_model.specs.declared.verdict.Violation.{Violation}
 use Rattle.flt_model.specs.declared.verdict.Violation.TheVariants.{V1, V2, V3, V4, V5, V6, V7, V8}
 use Rattle.flt_commands.specs.declared.answer.Answer.{Answer}
-use Rattle.flt_commands.specs.declared.answer.Answer.TheVariants.{Accepted, Refused, Certificate, Judged, Explained, Page, Ran, FileRefused}
+use Rattle.flt_commands.specs.declared.answer.Answer.TheVariants.{Accepted, Refused, Certificate, Judged, Explained, Page, Ran, FileRefused, Shown}
 
 -- `R01` to `R15`
 abbrev pub rule_name : Rule → List ℕ
@@ -48,7 +48,8 @@ verdict_line Legal = codes "legal"
 verdict_line (NotARun n) = codes "not a run at " ++ decimal n
 verdict_line (Breaks v n) = codes "breaks V" ++ decimal (violation_number v) ++ codes " at " ++ decimal n
 
--- what stands on the standard output: the certificate, reports, a page, the journal, or a line and a line feed
+-- what stands on the standard output: the certificate, reports, a page, the journal, or a line and a line feed; of a
+-- journal that is shown, rows before that line
 abbrev pub output : Answer → List ℕ
 output Accepted = codes "accepted" ++ 10 ∷ []
 output (Refused f) = refusal_line f ++ 10 ∷ []
@@ -57,6 +58,7 @@ output (Judged v) = verdict_line v ++ 10 ∷ []
 output (Explained e) = e.output.items
 output (Page text) = text.now
 output (Ran ran) = ran.journal.items
+output (Shown rows v) = rows.items ++ (verdict_line v ++ 10 ∷ [])
 output (FileRefused file f) = file_refusal_line file f ++ 10 ∷ []
 
 -- the exit status: 0 where the certificate covers or is found, nothing is broken, or the script has ended, and of a page; 2 where the
@@ -71,6 +73,8 @@ status_of (Explained e) = e.status
 status_of (Page text) = 0
 status_of (Ran ran) = if ran.is_full then 2 else 0
 status_of (FileRefused file f) = 1
+status_of (Shown rows Legal) = 0
+status_of (Shown rows _) = 1
 
 -- a journal that is full before its script has ended
 abbrev pub is_cut_off : Answer → Bool

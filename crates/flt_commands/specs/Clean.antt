@@ -9,7 +9,7 @@ use Rattle.flt_commands.specs.Commands.{names_of}
 use Rattle.flt_commands.specs.Inputs.{AreGiven, Giving, Text}
 use Rattle.flt_commands.specs.Replay.{AreSpelled}
 use Rattle.flt_commands.specs.Split.{IsCertificateStart}
-use Rattle.flt_words.specs.Request.{Asked, Check, Analyse, Run, Replay, Explain, Page}
+use Rattle.flt_words.specs.Request.{Asked, Check, Analyse, Run, Replay, Show, Explain, Page}
 
 -- the filter that the text spells breaks nothing: whatever transitions are tried on it, in whatever order and however many
 abbrev pub BreaksNothing : Text → Type 0
@@ -34,7 +34,8 @@ IsClean (Check file cert) (text ∷ certificate ∷ []) = BreaksNothing text
 IsClean (Analyse file) (text ∷ []) = BreaksNothing text
 IsClean (Run workers quiet script files) (bytes ∷ texts) = BreakNothing texts
 IsClean (Replay journal files) texts = Unit {0}
-IsClean (Explain files) texts = EachBreaksNothing texts
+IsClean (Show timeline picture journal files) texts = Unit {0}
+IsClean (Explain form files) texts = EachBreaksNothing texts
 IsClean (Page name) texts = Unit {0}
 IsClean _ _ = ⊥
 

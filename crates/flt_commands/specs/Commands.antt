@@ -5,9 +5,9 @@ use Rattle.flt_commands.specs.Answer.{is_cut_off, output, status_of}
 use Rattle.flt_commands.specs.Check.{IsChecked}
 use Rattle.flt_commands.specs.Explain.{IsExplained, IsPaged}
 use Rattle.flt_commands.specs.Inputs.{Giving, Says, Text}
-use Rattle.flt_commands.specs.Replay.{IsReplayed}
+use Rattle.flt_commands.specs.Replay.{IsReplayed, IsShown}
 use Rattle.flt_commands.specs.Running.{IsRan}
-use Rattle.flt_words.specs.Request.{Asked, Check, Analyse, Run, Replay, Explain, Page}
+use Rattle.flt_words.specs.Request.{Asked, Check, Analyse, Run, Replay, Show, Explain, Page}
 use Rattle.flt_words.specs.Words.{asked}
 use Rattle.flt_commands.specs.declared.answer.Answer.{Answer}
 use Rattle.flt_commands.specs.declared.failure.Failure.{Failure}
@@ -20,7 +20,8 @@ names_of (Check file (Some cert)) = file ∷ cert ∷ []
 names_of (Analyse file) = file ∷ []
 names_of (Run workers quiet script files) = script ∷ files
 names_of (Replay journal files) = journal ∷ files
-names_of (Explain files) = files
+names_of (Show timeline picture journal files) = journal ∷ files
+names_of (Explain form files) = files
 names_of (Page name) = []
 
 -- what is said of the bytes that they give
@@ -29,7 +30,8 @@ IsSaidOf (Check file cert) = IsChecked
 IsSaidOf (Analyse file) = IsAnalysed
 IsSaidOf (Run workers quiet script files) = IsRan
 IsSaidOf (Replay journal files) = IsReplayed
-IsSaidOf (Explain files) = IsExplained
+IsSaidOf (Show timeline picture journal files) = IsShown timeline picture
+IsSaidOf (Explain form files) = IsExplained form files
 IsSaidOf (Page name) = λ texts. IsPaged name
 
 -- what is said of what is asked for: an answer, or why there is none

@@ -1,5 +1,5 @@
 -- What `replay` says. This project's own program.
-use Rattle.std.specs.Prelude.{◌≡◌, ℕ, ◌≤◌, ◌<◌, List, ◌∷◌, ◌++◌, length, Result, Ok, Err, []}
+use Rattle.std.specs.Prelude.{◌≡◌, ℕ, ◌≤◌, ◌<◌, List, ◌∷◌, ◌++◌, length, Result, Ok, Err, [], Bool, false, Option, Some}
 use Rattle.std.specs.List.{AllZip}
 use Rattle.flt_syntax.specs.Spelling.{Spells}
 use Rattle.flt_syntax.specs.File.{filter_of}
@@ -11,9 +11,9 @@ use Rattle.flt_model.specs.Program.{HasDistinctAltitudes, IsRepeated}
 use Rattle.flt_model.specs.declared.verdict.Verdict.{Verdict}
 use Rattle.flt_commands.specs.Inputs.{Text}
 use Rattle.flt_commands.specs.declared.answer.Answer.{Answer}
-use Rattle.flt_commands.specs.declared.answer.Answer.TheVariants.{Judged}
+use Rattle.flt_commands.specs.declared.answer.Answer.TheVariants.{Judged, Shown}
 use Rattle.flt_commands.specs.declared.failure.Failure.{Failure}
-use Rattle.flt_commands.specs.declared.failure.Failure.TheVariants.{TooManyFiles, FileSyntax, JournalLine, Altitude, OutOfMemory}
+use Rattle.flt_commands.specs.declared.failure.Failure.TheVariants.{CannotWrite, TooManyFiles, FileSyntax, JournalLine, Altitude, OutOfMemory}
 
 -- ---- the filters
 
@@ -79,6 +79,26 @@ abbrev pub Judges : Text → List Text → Result Answer Failure → Type 0
 Judges journal texts (Ok (Judged v)) = IsVerdict journal texts v
 Judges journal texts (Ok _) = ⊥
 Judges journal texts (Err f) = IsFailure journal texts f
+
+-- an answer that shows a journal with this verdict; memory may run out
+abbrev pub IsShownOf : Bool → Option Text → Verdict → Result Answer Failure → Type 0
+IsShownOf timeline picture verdict (Ok (Shown rows v)) = (v ≡ verdict) × (timeline ≡ false → rows.items ≡ [])
+IsShownOf timeline picture verdict (Ok _) = ⊥
+IsShownOf timeline picture verdict (Err (CannotWrite name)) = picture ≡ Some name.now
+IsShownOf timeline picture verdict (Err OutOfMemory) = Unit {0}
+IsShownOf timeline picture verdict (Err _) = ⊥
+
+-- the same of a journal that is shown: without a timeline there are no rows, and a picture may not be written
+abbrev pub ShownJudges : Bool → Option Text → Text → List Text → Result Answer Failure → Type 0
+ShownJudges timeline picture journal texts (Ok (Shown rows v)) = IsVerdict journal texts v × (timeline ≡ false → rows.items ≡ [])
+ShownJudges timeline picture journal texts (Ok _) = ⊥
+ShownJudges timeline picture journal texts (Err (CannotWrite name)) = picture ≡ Some name.now
+ShownJudges timeline picture journal texts (Err f) = IsFailure journal texts f
+
+-- what is said of the bytes of JOURNAL and of each FILE, where the journal is shown
+abbrev pub IsShown : Bool → Option Text → List Text → Result Answer Failure → Type 0
+IsShown timeline picture (journal ∷ texts) result = ShownJudges timeline picture journal texts result
+IsShown timeline picture [] result = ⊥
 
 -- what is said of the bytes of JOURNAL and of each FILE
 abbrev pub IsReplayed : List Text → Result Answer Failure → Type 0

@@ -1,6 +1,6 @@
 //! What a command answers, and how that is written.
 
-ghost use Rattle.std.specs.Prelude.{◌≡◌, true, Some, IfOk};
+ghost use Rattle.std.specs.Prelude.{◌≡◌, [], ◌∷◌, ◌++◌, true, Some, IfOk};
 ghost use Rattle.flt_commands.specs.Answer as spec;
 
 use flt_check::Refusal;
@@ -28,6 +28,8 @@ pub enum Answer {
     Page(&'static str),
     /// What a script came to.
     Ran(Ran),
+    /// What a journal is, behind the rows in which it is shown.
+    Shown(Vec<u8>, Verdict),
     /// A point of the text of one of several files, numbered from 0, is refused.
     FileRefused(usize, Refusal),
 }
@@ -39,9 +41,10 @@ impl Answer {
     {
         match self {
             Answer::Accepted | Answer::Certificate(_) | Answer::Judged(Verdict::Legal) => 0,
-            Answer::Page(_) => 0,
+            Answer::Page(_) | Answer::Shown(_, Verdict::Legal) => 0,
             Answer::Explained(explained) => explained.status,
             Answer::Refused(_) | Answer::FileRefused(_, _) | Answer::Judged(_) => 1,
+            Answer::Shown(_, _) => 1,
             Answer::Ran(ran) => { if ran.is_full { 2 } else { 0 } }
         }
     }
@@ -55,7 +58,7 @@ impl Answer {
             Answer::Ran(ran) => ran.is_full,
             Answer::Accepted | Answer::Refused(_) | Answer::Certificate(_) => false,
             Answer::Judged(_) | Answer::Explained(_) | Answer::Page(_) => false,
-            Answer::FileRefused(_, _) => false,
+            Answer::FileRefused(_, _) | Answer::Shown(_, _) => false,
         }
     }
 
@@ -67,6 +70,7 @@ impl Answer {
             Answer::Certificate(bytes) => return Ok(bytes),
             Answer::Explained(explained) => return Ok(explained.output),
             Answer::Ran(ran) => return Ok(ran.journal),
+            Answer::Shown(rows, verdict) => return shown(alloc, rows, verdict),
             Answer::Page(text) => String::from_str(alloc, text)?,
             Answer::Accepted => String::from_str(alloc, "accepted\n")?,
             Answer::Refused(refusal) => {
@@ -84,6 +88,17 @@ impl Answer {
         };
         Ok(line.into_bytes())
     }
+}
+
+/// What a journal is, behind its rows.
+fn shown(alloc: Global, rows: Vec<u8>, verdict: Verdict) -> Result<Vec<u8>, AllocError>
+    ensures { IfOk result (λ bytes. bytes.items ≡ rows.items ++ (spec.verdict_line verdict ++ 10 ∷ [])) }
+{
+    let line = VerdictLine(verdict);
+    let line = format!(in alloc; "{line}\n")?;
+    let mut bytes = rows;
+    bytes.extend_from_slice(line.as_bytes())?;
+    Ok(bytes)
 }
 
 /// `R01` to `R15`.

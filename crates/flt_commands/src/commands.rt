@@ -13,9 +13,10 @@ use crate::check::check_files;
 use crate::clean::{covered_texts_break_nothing, driven_texts_break_nothing};
 use crate::explain::{explain_files, page_of};
 use crate::failure::Failure;
-use crate::inputs::Inputs;
+use crate::inputs::{Inputs, Pictures};
 use crate::replay::replay_files;
 use crate::running::run_files;
+use crate::showing::show_files;
 use flt_driven::{Unwatched, Watch};
 use flt_model::{Sink, WriteFault, put_all};
 use flt_words::{Request, read_words};
@@ -126,11 +127,12 @@ fn report<O: Sink, E: Sink>(
 
 /// Runs the command of a program's words, its own name left out, and answers the exit status: 0 for yes, 1 for no, and 2
 /// where there is no answer, or a journal was full before its script had ended. What it says goes to `out`, why there is no answer, or
-/// `full`, to `err`. Reports have the colours of a terminal where it is `coloured`. Where it drives filters, it shows the board to `watch` after each line of the script, unless it is asked to be quiet.
-pub fn command<I: Inputs, O: Sink, E: Sink, W: Watch>(
+/// `full`, to `err`; a picture to `pictures`. Reports have the colours of a terminal where it is `coloured`. Where it drives filters, it shows the board to `watch` after each line of the script, unless it is asked to be quiet.
+pub fn command<I: Inputs, P: Pictures, O: Sink, E: Sink, W: Watch>(
     alloc: Global,
     words: &[String],
     inputs: &I,
+    pictures: &mut P,
     coloured: bool,
     out: &mut O,
     err: &mut E,
@@ -177,8 +179,25 @@ pub fn command<I: Inputs, O: Sink, E: Sink, W: Watch>(
             let said = replay_files(alloc, inputs, journal, files.as_slice());
             report(alloc, said, out, err)
         }
-        Request::Explain { files } => {
-            let said = explain_files(alloc, coloured, inputs, files.as_slice());
+        Request::Show {
+            timeline,
+            picture,
+            journal,
+            files,
+        } => {
+            let said = show_files(
+                alloc,
+                inputs,
+                timeline,
+                picture,
+                journal,
+                files.as_slice(),
+                pictures,
+            );
+            report(alloc, said, out, err)
+        }
+        Request::Explain { form, files } => {
+            let said = explain_files(alloc, coloured, form, inputs, files.as_slice());
             report(alloc, said, out, err)
         }
         Request::Page { name } => {

@@ -8,8 +8,10 @@ ghost use Rattle.flt_reports.specs.Reports.{texts_of};
 use crate::answer::Answer;
 use crate::failure::Failure;
 use crate::inputs::{Inputs, read_all};
+use flt_forms::{lines, sarif};
 use flt_pages::page;
-use flt_reports::{Source, explain};
+use flt_reports::{Explained, Source, explain};
+use flt_words::Form;
 use std::alloc::{AllocError, Global};
 
 /// The texts, each under its name.
@@ -19,7 +21,8 @@ fn sources<'s, 'a: 's>(
     texts: &'s [Vec<u8>],
 ) -> Result<Vec<Source<'s>>, AllocError>
     requires { length texts.now ≡ length names.now }
-    ensures { IfOk result (λ found. texts_of found.items ≡ map (λ text. text.items) texts.now) }
+    ensures texts { IfOk result (λ found. texts_of found.items ≡ map (λ text. text.items) texts.now) }
+    ensures names { IfOk result (λ found. spec.names_in found.items ≡ map (λ name. name.now) names.now) }
 {
     let mut found = Vec::new(alloc);
     for (number, text) in texts.iter().enumerate() {
@@ -32,18 +35,36 @@ fn sources<'s, 'a: 's>(
     Ok(found)
 }
 
-/// What `explain` says of the names that it is given.
+/// What is found of some texts, in a form.
+fn told(
+    alloc: Global,
+    coloured: bool,
+    form: Form,
+    sources: &[Source<'_>],
+) -> Result<Explained, AllocError>
+    ensures { IfOk result (spec.IsTold form sources.now) }
+{
+    match form {
+        Form::Human => explain(alloc, coloured, sources),
+        Form::Lines => lines(alloc, sources),
+        Form::Sarif => sarif(alloc, sources),
+    }
+}
+
+/// What `explain` says of the names that it is given, in a form.
 pub fn explain_files<'a, I: Inputs>(
     alloc: Global,
     coloured: bool,
+    form: Form,
     inputs: &I,
     files: &[&'a str],
 ) -> Result<Answer, Failure<'a>>
-    ensures { Says (I.gives inputs.now) (map (λ name. name.now) files.now) spec.IsExplained result }
+    ensures { Says (I.gives inputs.now) (map (λ name. name.now) files.now)
+        (spec.IsExplained form (map (λ name. name.now) files.now)) result }
 {
     let texts = read_all(alloc, inputs, files)?;
     let sources = sources(alloc, files, texts.as_slice())?;
-    let explained = explain(alloc, coloured, sources.as_slice())?;
+    let explained = told(alloc, coloured, form, sources.as_slice())?;
     Ok(Answer::Explained(explained))
 }
 

@@ -12,6 +12,7 @@ use std::fmt;
 #[derive(Debug, Drop)]
 pub enum Failure<'a> {
     CannotRead(&'a str),
+    CannotWrite(&'a str),
     /// A run without a file.
     NoFile,
     /// More than `MAX_FILTERS` files.
@@ -34,6 +35,7 @@ impl fmt::Display for Failure<'_> {
     fn fmt<W: fmt::Write>(&self, f: &mut fmt::Formatter<W>) -> fmt::Result {
         match self {
             Failure::CannotRead(name) => write!(f, "cannot read {name}"),
+            Failure::CannotWrite(name) => write!(f, "cannot write {name}"),
             Failure::NoFile => write!(f, "no file"),
             Failure::TooManyFiles => write!(f, "too many files"),
             Failure::Syntax(fault) => write!(f, "syntax {fault}"),

@@ -1,7 +1,7 @@
 //! The files and the streams of the system.
 
 use crate::commands::{CommandFault, command};
-use crate::inputs::{Inputs, read_within};
+use crate::inputs::{Inputs, Pictures, read_within};
 use flt_driven::Watch;
 use flt_machine::Board;
 use flt_model::{Sink, WriteFault};
@@ -29,6 +29,19 @@ impl Inputs for Files<'_> {
             Ok(mut file) => read_within(alloc, &mut file),
             Err(_) => Ok(None),
         }
+    }
+}
+
+/// Writes all of some bytes into a file of the system.
+fn write_file(rt: &HostRuntime, name: &str, bytes: &[u8]) -> io::Result<()> {
+    let mut file = fs::create(rt, name)?;
+    file.write_all(bytes)?;
+    file.flush()
+}
+
+impl Pictures for Files<'_> {
+    fn write(&mut self, name: &str, bytes: &[u8]) -> bool {
+        write_file(self.rt, name, bytes).is_ok()
     }
 }
 
@@ -126,6 +139,7 @@ pub fn run(rt: &HostRuntime) -> u8 {
             alloc,
             words.as_slice(),
             &inputs,
+            &mut Files { rt },
             rt.stdout().is_terminal(),
             &mut out,
             &mut err,

@@ -18,6 +18,12 @@ pub trait Inputs {
         ensures { IfOk result (λ found. gives self.now name.now (option_map (λ v. v.items) found)) };
 }
 
+/// Where pictures are written.
+pub trait Pictures {
+    /// Writes these bytes as the file of this name. Whether that could be done.
+    fn write(&mut self, name: &str, bytes: &[u8]) -> bool;
+}
+
 /// How many bytes an input has at most.
 pub const MAX_INPUT: usize = 67_108_864;
 

@@ -13,11 +13,12 @@ mod host;
 mod inputs;
 mod replay;
 mod running;
+mod showing;
 mod single;
 mod split;
 
 pub use commands::{CommandFault, command};
 pub use flt_driven::{Unwatched, Watch};
 pub use host::run;
-pub use inputs::{Inputs, MAX_INPUT, read_within};
+pub use inputs::{Inputs, MAX_INPUT, Pictures, read_within};
 pub use single::one_answer_at_most;

@@ -10,7 +10,7 @@ ghost use Rattle.flt_words.specs.Request.{Replay};
 use crate::answer::Answer;
 use crate::failure::Failure;
 use crate::inputs::{Inputs, read_all};
-use flt_model::{Journal, JournalFault, ReadFault, Source, first_repeated, read};
+use flt_model::{Journal, JournalFault, ReadFault, Source, Verdict, first_repeated, read};
 use flt_replay::replay;
 use flt_syntax::{ParseError, Tree, parse};
 use std::alloc::Global;
@@ -76,9 +76,22 @@ fn read_journal<'a>(alloc: Global, written: &[u8]) -> Result<Journal, Failure<'a
 
 // ---- both
 
-/// The verdict about a journal on some texts.
-fn replay_texts<'a>(alloc: Global, written: &[u8], texts: &[Vec<u8>]) -> Result<Answer, Failure<'a>>
-    ensures { spec.Judges written.now (map (λ text. text.items) texts.now) result }
+/// A journal on some filters, and the verdict about it.
+#[derive(Drop)]
+pub(crate) struct Replayed {
+    pub(crate) trees: Vec<Tree>,
+    pub(crate) journal: Journal,
+    pub(crate) verdict: Verdict,
+}
+
+/// The verdict about a journal on some texts, with what they spell.
+pub(crate) fn replay_all<'a>(
+    alloc: Global,
+    written: &[u8],
+    texts: &[Vec<u8>],
+) -> Result<Replayed, Failure<'a>>
+    ensures ok { IfOk result (λ r. spec.IsVerdict written.now (map (λ text. text.items) texts.now) r.verdict) }
+    ensures err { IfErr result (spec.IsFailure written.now (map (λ text. text.items) texts.now)) }
 {
     if MAX_FILTERS < texts.len() {
         return Err(Failure::TooManyFiles);
@@ -87,8 +100,23 @@ fn replay_texts<'a>(alloc: Global, written: &[u8], texts: &[Vec<u8>]) -> Result<
     let journal = read_journal(alloc, written)?;
     match first_repeated(trees.as_slice()) {
         Some(number) => Err(Failure::Altitude(number)),
-        None => Ok(Answer::Judged(replay(alloc, trees.as_slice(), &journal)?)),
+        None => {
+            let verdict = replay(alloc, trees.as_slice(), &journal)?;
+            Ok(Replayed {
+                trees,
+                journal,
+                verdict,
+            })
+        }
     }
+}
+
+/// The verdict about a journal on some texts.
+fn replay_texts<'a>(alloc: Global, written: &[u8], texts: &[Vec<u8>]) -> Result<Answer, Failure<'a>>
+    ensures { spec.Judges written.now (map (λ text. text.items) texts.now) result }
+{
+    let replayed = replay_all(alloc, written, texts)?;
+    Ok(Answer::Judged(replayed.verdict))
 }
 
 /// What `replay` says of the names that it is given.

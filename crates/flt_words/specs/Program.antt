@@ -40,6 +40,18 @@ workers_rule = record (new_rule (codes "workers")) {
 abbrev pub quiet_rule : Rule
 quiet_rule = record (new_rule (codes "quiet")) { long = Some (codes "quiet"); action = Some SetTrue }
 
+-- `--form FORM`
+abbrev pub form_rule : Rule
+form_rule = record (new_rule (codes "form")) { long = Some (codes "form"); value_names = 1 }
+
+-- `--timeline`
+abbrev pub timeline_rule : Rule
+timeline_rule = record (new_rule (codes "timeline")) { long = Some (codes "timeline"); action = Some SetTrue }
+
+-- `--svg FILE`
+abbrev pub picture_rule : Rule
+picture_rule = record (new_rule (codes "svg")) { long = Some (codes "svg"); value_names = 1 }
+
 -- ---- commands
 
 -- `check FILE [CERT]`
@@ -57,13 +69,19 @@ bare_run_app = new_app (codes "run")
 abbrev pub run_app : App
 run_app = with_rule (with_rule (with_rule (with_rule bare_run_app workers_rule) quiet_rule) script_rule) texts_rule
 
--- `replay JOURNAL FILE..`
-abbrev pub replay_app : App
-replay_app = with_rule (with_rule (new_app (codes "replay")) journal_rule) texts_rule
+abbrev pub bare_replay_app : App
+bare_replay_app = new_app (codes "replay")
 
--- `explain FILE..`
+-- `replay [--timeline] [--svg FILE] JOURNAL FILE..`
+abbrev pub replay_app : App
+replay_app = with_rule (with_rule (with_rule (with_rule bare_replay_app timeline_rule) picture_rule) journal_rule) texts_rule
+
+abbrev pub bare_explain_app : App
+bare_explain_app = new_app (codes "explain")
+
+-- `explain [--form FORM] FILE..`
 abbrev pub explain_app : App
-explain_app = with_rule (new_app (codes "explain")) texts_rule
+explain_app = with_rule (with_rule bare_explain_app form_rule) texts_rule
 
 -- the program without its commands: one is asked for, the program's own name is left out, and `--version` answers
 abbrev pub bare_app : App

@@ -1,6 +1,7 @@
 -- What is asked of the program. This project's own program.
 use Rattle.std.specs.Prelude.{ℕ, List, Bool, Option, Some, None, option_map, map}
 use Rattle.clap.specs.Walk.{Text}
+use Rattle.flt_words.specs.declared.request.Form.{Form}
 use Rattle.flt_words.specs.declared.request.Request.{Request}
 use Rattle.flt_words.specs.declared.request.Request.TheVariants as request
 
@@ -10,7 +11,8 @@ pub data Asked : Type 0 where
   Analyse : (file : Text) → Asked
   Run : (workers : ℕ) (quiet : Bool) (script : Text) (files : List Text) → Asked
   Replay : (journal : Text) (files : List Text) → Asked
-  Explain : (files : List Text) → Asked
+  Show : (timeline : Bool) (picture : Option Text) (journal : Text) (files : List Text) → Asked
+  Explain : (form : Form) (files : List Text) → Asked
   Page : (name : Text) → Asked
 
 -- what a request asks for, none where it is for a text of the program's own: its use, or its version
@@ -19,6 +21,8 @@ asked_of (request.Check file cert) = Some (Check file.now (option_map (λ name. 
 asked_of (request.Analyse file) = Some (Analyse file.now)
 asked_of (request.Run workers quiet script files) = Some (Run workers quiet script.now (map (λ name. name.now) files.items))
 asked_of (request.Replay journal files) = Some (Replay journal.now (map (λ name. name.now) files.items))
-asked_of (request.Explain files) = Some (Explain (map (λ name. name.now) files.items))
+asked_of (request.Show timeline picture journal files) =
+    Some (Show timeline (option_map (λ name. name.now) picture) journal.now (map (λ name. name.now) files.items))
+asked_of (request.Explain form files) = Some (Explain form (map (λ name. name.now) files.items))
 asked_of (request.Page name) = Some (Page name.now)
 asked_of (request.Usage text) = None

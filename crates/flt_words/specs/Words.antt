@@ -1,5 +1,5 @@
 -- What the words of a command line ask for. This project's own program.
-use Rattle.std.specs.Prelude.{ℕ, ◌==◌, List, [], ◌∷◌, Bool, true, false, Option, Some, None, codes, if◌then◌else◌, unwrap_or, option_and_then}
+use Rattle.std.specs.Prelude.{ℕ, ◌==◌, List, [], ◌∷◌, Bool, true, false, Option, Some, None, codes, if◌then◌else◌, unwrap_or, option_and_then, option_map}
 use Rattle.std.specs.Option.{option_map_or}
 use Rattle.std.specs.Str.{bytes_eq}
 use Rattle.clap.specs.Faults.{fault_of}
@@ -10,7 +10,9 @@ use Rattle.clap.specs.declared.error.kind.ErrorKind.{ErrorKind}
 use Rattle.clap.specs.declared.error.kind.ErrorKind.TheVariants.{OutOfMemory}
 use Rattle.flt_words.specs.Program.{program_app}
 use Rattle.flt_pages.specs.Pages.{has_page}
-use Rattle.flt_words.specs.Request.{Asked, Check, Analyse, Run, Replay, Explain, Page}
+use Rattle.flt_words.specs.declared.request.Form.{Form}
+use Rattle.flt_words.specs.declared.request.Form.TheVariants.{Human, Lines, Sarif}
+use Rattle.flt_words.specs.Request.{Asked, Check, Analyse, Run, Replay, Show, Explain, Page}
 
 -- ---- values
 
@@ -26,9 +28,20 @@ files_of rows = unwrap_or (all_of (codes "FILE") rows) []
 abbrev pub workers_of : List Row → ℕ
 workers_of rows = option_map_or byte_or_zero (first_of (codes "workers") rows) 1
 
--- `--quiet` is there
-abbrev pub is_quiet : List Row → Bool
-is_quiet rows = option_map_or (λ text. bytes_eq text (codes "true")) (first_of (codes "quiet") rows) false
+-- a flag is there
+abbrev pub is_set : Text → List Row → Bool
+is_set id rows = option_map_or (λ text. bytes_eq text (codes "true")) (first_of id rows) false
+
+-- the form of a name
+abbrev pub form_named : Text → Option Form
+form_named name =
+    if bytes_eq name (codes "human") then Some Human
+    else (if bytes_eq name (codes "lines") then Some Lines
+    else (if bytes_eq name (codes "sarif") then Some Sarif else None))
+
+-- the form behind `--form`, that for people where there is none
+abbrev pub form_of : List Row → Option Form
+form_of rows = option_map_or form_named (first_of (codes "form") rows) (Some Human)
 
 -- ---- commands
 
@@ -41,23 +54,34 @@ analyse_of rows = Analyse (text_of (codes "FILE") rows)
 -- one worker alone can be asked for so far
 abbrev pub run_of : List Row → Option Asked
 run_of rows = if workers_of rows == 1
-    then Some (Run (workers_of rows) (is_quiet rows) (text_of (codes "SCRIPT") rows) (files_of rows))
+    then Some (Run (workers_of rows) (is_set (codes "quiet") rows) (text_of (codes "SCRIPT") rows) (files_of rows))
     else None
 
-abbrev pub replay_of : List Row → Asked
-replay_of rows = Replay (text_of (codes "JOURNAL") rows) (files_of rows)
+-- a journal that isn't shown is judged alone
+abbrev pub replay_by : Bool → Option Text → Text → List Text → Asked
+replay_by true picture journal files = Show true picture journal files
+replay_by false (Some picture) journal files = Show false (Some picture) journal files
+replay_by false None journal files = Replay journal files
 
--- one name that a page has asks for the page, all else for reports
-abbrev pub explain_of : List Text → Asked
-explain_of (name ∷ []) = if has_page name then Page name else Explain (name ∷ [])
-explain_of files = Explain files
+abbrev pub replay_of : List Row → Asked
+replay_of rows =
+    replay_by (is_set (codes "timeline") rows) (first_of (codes "svg") rows) (text_of (codes "JOURNAL") rows) (files_of rows)
+
+-- for people one name that a page has asks for the page, all else for reports
+abbrev pub explain_of : Form → List Text → Asked
+explain_of Human (name ∷ []) = if has_page name then Page name else Explain Human (name ∷ [])
+explain_of form files = Explain form files
+
+-- a form that there isn't asks for nothing
+abbrev pub explain_by : List Row → Option Asked
+explain_by rows = option_map (λ form. explain_of form (files_of rows)) (form_of rows)
 
 -- what a subcommand with its arguments asks for
 abbrev pub asked_by : Text × List Row → Option Asked
 asked_by (name, rows) =
     if bytes_eq name (codes "check") then Some (check_of rows)
     else (if bytes_eq name (codes "analyse") then Some (analyse_of rows)
-    else (if bytes_eq name (codes "explain") then Some (explain_of (files_of rows))
+    else (if bytes_eq name (codes "explain") then explain_by rows
     else (if bytes_eq name (codes "run") then run_of rows
     else (if bytes_eq name (codes "replay") then Some (replay_of rows) else None))))
 

@@ -5,5 +5,5 @@ mod program;
 mod request;
 mod words;
 
-pub use request::Request;
+pub use request::{Form, Request};
 pub use words::read_words;

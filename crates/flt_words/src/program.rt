@@ -79,6 +79,38 @@ fn quiet_argument<'a>(alloc: Global) -> Arg<'a>
         .help("Tell a terminal nothing of how far the run has come")
 }
 
+/// The option `--form`.
+fn form_argument<'a>(alloc: Global) -> Arg<'a>
+    ensures rule { rule_of result ≡ spec.form_rule }
+    ensures own { result.global ≡ false }
+{
+    Arg::new(alloc, "form").long("form").value_name("FORM").help(
+        "How it is told: `human`, or `lines` (JSON) or `sarif` for other programs",
+    )
+}
+
+/// The flag `--timeline`.
+fn timeline_argument<'a>(alloc: Global) -> Arg<'a>
+    ensures rule { rule_of result ≡ spec.timeline_rule }
+    ensures own { result.global ≡ false }
+{
+    Arg::new(alloc, "timeline")
+        .long("timeline")
+        .action(ArgAction::SetTrue)
+        .help("Show the journal as rows, one for each stretch in which one activation is on")
+}
+
+/// The option `--svg`.
+fn picture_argument<'a>(alloc: Global) -> Arg<'a>
+    ensures rule { rule_of result ≡ spec.picture_rule }
+    ensures own { result.global ≡ false }
+{
+    Arg::new(alloc, "svg")
+        .long("svg")
+        .value_name("PICTURE")
+        .help("Draw the journal into this file")
+}
+
 // ---- commands
 
 fn check_command<'a>(alloc: Global) -> Result<Command<'a>, AllocError>
@@ -131,32 +163,49 @@ fn run_command<'a>(alloc: Global) -> Result<Command<'a>, AllocError>
         .arg(texts_argument(alloc, STACK))
 }
 
-fn replay_command<'a>(alloc: Global) -> Result<Command<'a>, AllocError>
-    ensures { IfOk result (λ c. spec.IsCommand c spec.replay_app) }
+/// The command `replay` without its arguments.
+fn bare_replay<'a>(alloc: Global) -> Command<'a>
+    ensures { spec.IsCommand result spec.bare_replay_app }
 {
     Command::new(alloc, "replay")
         .about("Says whether a journal is a run of the machine on some filters that breaks nothing")
-        .override_usage("fltstack replay <JOURNAL> <FILE>...")
+        .override_usage("fltstack replay [--timeline] [--svg <PICTURE>] <JOURNAL> <FILE>...")
         .after_help(
-            "Prints `legal` (exit 0), or `not a run at N` or `breaks Vk at N` for the first such entry (exit 1).\nErrors go to the standard error with exit 2.\n\nExample: fltstack replay examples/pending_reads.journal examples/pending_reads.flt",
+            "Prints `legal` (exit 0), or `not a run at N` or `breaks Vk at N` for the first such entry (exit 1),\nbehind the rows where they are asked for. Errors go to the standard error with exit 2.\n\nExample: fltstack replay examples/pending_reads.journal examples/pending_reads.flt",
         )
+}
+
+fn replay_command<'a>(alloc: Global) -> Result<Command<'a>, AllocError>
+    ensures { IfOk result (λ c. spec.IsCommand c spec.replay_app) }
+{
+    bare_replay(alloc)
+        .arg(timeline_argument(alloc))?
+        .arg(picture_argument(alloc))?
         .arg(journal_argument(alloc))?
         .arg(texts_argument(alloc, STACK))
 }
 
-fn explain_command<'a>(alloc: Global) -> Result<Command<'a>, AllocError>
-    ensures { IfOk result (λ c. spec.IsCommand c spec.explain_app) }
+/// The command `explain` without its arguments.
+fn bare_explain<'a>(alloc: Global) -> Command<'a>
+    ensures { spec.IsCommand result spec.bare_explain_app }
 {
     Command::new(alloc, "explain")
         .about(
             "Says all that is wrong with filters' texts, where it comes from, how to get there and how to mend it",
         )
         .override_usage(
-            "fltstack explain <FILE>...\n       fltstack explain <R01 to R15, V1 to V8 or E01 to E08>",
+            "fltstack explain [--form <FORM>] <FILE>...\n       fltstack explain <R01 to R15, V1 to V8 or E01 to E08>",
         )
         .after_help(
-            "Prints a report for each finding, and last what `analyse` says (exit 1), or `nothing found` (exit 0).\nWhere a text doesn't parse, it says where and why (exit 2). Of a rule, a violation or a fault of a text\nit prints the page (exit 0); `./R02` is a file of that name.\nErrors go to the standard error with exit 2.\n\nExample: fltstack explain examples/leaked_context.flt",
+            "Prints a report for each finding, and last what `analyse` says (exit 1), or `nothing found` (exit 0).\nWhere a text doesn't parse, it says where and why (exit 2). `--form lines` prints a JSON object for each\nfinding, `--form sarif` a SARIF document. Of a rule, a violation or a fault of a text it prints the page\n(exit 0); `./R02` is a file of that name. Errors go to the standard error with exit 2.\n\nExample: fltstack explain examples/leaked_context.flt",
         )
+}
+
+fn explain_command<'a>(alloc: Global) -> Result<Command<'a>, AllocError>
+    ensures { IfOk result (λ c. spec.IsCommand c spec.explain_app) }
+{
+    bare_explain(alloc)
+        .arg(form_argument(alloc))?
         .arg(texts_argument(
             alloc,
             "The filters' texts; or the number of a rule, a violation or a fault of a text, alone",

@@ -1,5 +1,16 @@
 //! What the words of a command line ask for.
 
+/// How what is found is told.
+#[derive(Clone, Copy, Debug)]
+pub enum Form {
+    /// For people.
+    Human,
+    /// A JSON object a line.
+    Lines,
+    /// SARIF 2.1.0.
+    Sarif,
+}
+
 /// What the words ask for.
 #[derive(Debug, Drop)]
 pub enum Request<'a> {
@@ -26,8 +37,17 @@ pub enum Request<'a> {
         journal: &'a str,
         files: Vec<&'a str>,
     },
+    /// The same, and show the journal, as rows or as a picture.
+    Show {
+        timeline: bool,
+        /// The file into which it is drawn.
+        picture: Option<&'a str>,
+        journal: &'a str,
+        files: Vec<&'a str>,
+    },
     /// Say all that is wrong with the texts of some files.
     Explain {
+        form: Form,
         files: Vec<&'a str>,
     },
     /// Print the page of a rule, of a violation or of a fault of a text.

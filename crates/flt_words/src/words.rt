@@ -1,6 +1,6 @@
 //! What the words of a command line ask for.
 
-ghost use Rattle.std.specs.Prelude.{◌≡◌, Some, IfOk, map, option_and_then, string_bytes};
+ghost use Rattle.std.specs.Prelude.{◌≡◌, Some, IfOk, map, option_and_then, option_map, string_bytes};
 ghost use Rattle.clap.specs.Matches.{found_of};
 ghost use Rattle.clap.specs.Simple.{subcommand_rows_of};
 ghost use Rattle.clap.specs.Walk.{rows_of};
@@ -8,7 +8,7 @@ ghost use Rattle.flt_words.specs.Request.{asked_of};
 ghost use Rattle.flt_words.specs.Words as spec;
 
 use crate::program::program;
-use crate::request::Request;
+use crate::request::{Form, Request};
 use clap::ArgMatches;
 use clap::error::ErrorKind;
 use flt_pages::page;
@@ -17,6 +17,10 @@ use std::alloc::{AllocError, Global};
 /// What is said where another number of workers is asked for.
 const ONE_WORKER: &str =
     "error: one worker alone can drive filters so far: `--workers` takes 1\n\nUsage: fltstack run [--workers <N>] [--quiet] <SCRIPT> <FILE>...\n\nFor more information, try '--help'.\n";
+
+/// What is said where a form is asked for that there isn't.
+const NO_FORM: &str =
+    "error: `--form` takes `human`, `lines` or `sarif`\n\nUsage: fltstack explain [--form <FORM>] <FILE>...\n\nFor more information, try '--help'.\n";
 
 // ---- values
 
@@ -47,12 +51,35 @@ fn workers_of(matches: &ArgMatches) -> u8
     }
 }
 
-fn is_quiet(matches: &ArgMatches) -> bool
-    ensures { result ≡ spec.is_quiet (rows_of (found_of matches.now)) }
+/// Whether a flag is there.
+fn is_set(matches: &ArgMatches, id: &str) -> bool
+    ensures { result ≡ spec.is_set id.now (rows_of (found_of matches.now)) }
 {
-    match matches.get_str("quiet") {
+    match matches.get_str(id) {
         Some(text) => text == "true",
         None => false,
+    }
+}
+
+/// The form of a name.
+fn form_named(name: &str) -> Option<Form>
+    ensures { result ≡ spec.form_named name.now }
+{
+    match name {
+        "human" => Some(Form::Human),
+        "lines" => Some(Form::Lines),
+        "sarif" => Some(Form::Sarif),
+        _ => None,
+    }
+}
+
+/// The form that is asked for, if there is such a form; that for people where nothing is said.
+fn form_of(matches: &ArgMatches) -> Option<Form>
+    ensures { result ≡ spec.form_of (rows_of (found_of matches.now)) }
+{
+    match matches.get_str("form") {
+        Some(name) => form_named(name),
+        None => Some(Form::Human),
     }
 }
 
@@ -78,21 +105,24 @@ fn asked_analyse<'a>(analyse: &ArgMatches<'a>) -> Request<'a>
 }
 
 /// What `explain` of some names asks for.
-fn explain_of<'a>(files: Vec<&'a str>) -> Request<'a>
-    ensures { asked_of result ≡ Some (spec.explain_of (map (λ name. name.now) files.entry.items)) }
+fn explain_of<'a>(form: Form, files: Vec<&'a str>) -> Request<'a>
+    ensures { asked_of result ≡ Some (spec.explain_of form (map (λ name. name.now) files.entry.items)) }
 {
-    match files.as_slice() {
-        [name] if page(name).is_some() => Request::Page { name },
-        _ => Request::Explain { files },
+    match (form, files.as_slice()) {
+        (Form::Human, [name]) if page(name).is_some() => Request::Page { name },
+        _ => Request::Explain { form, files },
     }
 }
 
 /// What the matches of `explain` ask for.
 fn asked_explain<'a>(alloc: Global, explain: &ArgMatches<'a>) -> Result<Request<'a>, AllocError>
-    ensures { IfOk result (λ r. asked_of r ≡ Some (spec.explain_of (spec.files_of (rows_of (found_of explain.now))))) }
+    ensures { IfOk result (λ r. asked_of r ≡ spec.explain_by (rows_of (found_of explain.now))) }
 {
+    let Some(form) = form_of(explain) else {
+        return Ok(Request::Usage(String::from_str(alloc, NO_FORM)?));
+    };
     let files = files_of(alloc, explain)?;
-    Ok(explain_of(files))
+    Ok(explain_of(form, files))
 }
 
 /// What the matches of `run` ask for.
@@ -105,20 +135,44 @@ fn asked_run<'a>(alloc: Global, run: &ArgMatches<'a>) -> Result<Request<'a>, All
     }
     Ok(Request::Run {
         workers,
-        quiet: is_quiet(run),
+        quiet: is_set(run, "quiet"),
         script: text_of(run, "SCRIPT"),
         files: files_of(alloc, run)?,
     })
+}
+
+/// What `replay` of a journal on some files asks for.
+fn replay_by<'a>(
+    timeline: bool,
+    picture: Option<&'a str>,
+    journal: &'a str,
+    files: Vec<&'a str>,
+) -> Request<'a>
+    ensures { asked_of result ≡ Some (spec.replay_by timeline (option_map (λ name. name.now) picture.entry) journal.entry.now
+        (map (λ name. name.now) files.entry.items)) }
+{
+    match (timeline, picture) {
+        (false, None) => Request::Replay { journal, files },
+        _ => Request::Show {
+            timeline,
+            picture,
+            journal,
+            files,
+        },
+    }
 }
 
 /// What the matches of `replay` ask for.
 fn asked_replay<'a>(alloc: Global, replay: &ArgMatches<'a>) -> Result<Request<'a>, AllocError>
     ensures { IfOk result (λ r. asked_of r ≡ Some (spec.replay_of (rows_of (found_of replay.now)))) }
 {
-    Ok(Request::Replay {
-        journal: text_of(replay, "JOURNAL"),
-        files: files_of(alloc, replay)?,
-    })
+    let files = files_of(alloc, replay)?;
+    Ok(replay_by(
+        is_set(replay, "timeline"),
+        replay.get_str("svg"),
+        text_of(replay, "JOURNAL"),
+        files,
+    ))
 }
 
 /// What the matches of a command line ask for.

@@ -1,6 +1,6 @@
 //! The smallest filter, and each way in which `check` ends.
 
-use super::{Given, Kept, run};
+use super::{Drawn, Given, Kept, run};
 use flt_commands::{CommandFault, Unwatched, command};
 use std::alloc::Global;
 use std::process::Abort;
@@ -125,6 +125,7 @@ fn tells_a_writer_that_fails(rt: HostRuntime) -> Result<(), Fail> {
                 alloc,
                 &[],
                 &Given { files: &files },
+                &mut Drawn::nowhere(alloc),
                 false,
                 &mut out,
                 &mut err,

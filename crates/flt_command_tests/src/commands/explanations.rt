@@ -16,7 +16,7 @@ const PASSES: &str = "filter a altitude 100\npre read {\n  return NO_CALLBACK\n}
 type Case = (&'static [&'static str], &'static str, &'static str, u8);
 
 /// Reports stand on the standard output, those of a text that doesn't parse too; the standard error has what can't be read.
-const REPORTS: [Case; 5] = [
+const REPORTS: [Case; 9] = [
     (
         &["misspelt.flt"],
         "error[E03]: expected a statement or `}`, found `FltRelaeseContext`\n  --> misspelt.flt:3:3\n3 |   FltRelaeseContext c0\n  |   ^^^^^^^^^^^^^^^^^ did you mean `FltReleaseContext`?\nsyntax 3:3 E03\n",
@@ -39,6 +39,26 @@ const REPORTS: [Case; 5] = [
         &["passes.flt", "nothing.flt"],
         "",
         "cannot read nothing.flt\n",
+        2,
+    ),
+    // In another form.
+    (
+        &["--form", "lines", "leaks.flt", "passes.flt"],
+        "{\"file\":\"leaks.flt\",\"callback\":0,\"point\":1,\"line\":4,\"column\":5,\"rule\":\"R02\",\"text\":\"context held at end\",\"head\":\"pre read\",\"message\":\"`c0` may still be held when `pre read` ends\",\"subject\":\"`c0`\",\"help\":\"release `c0` on this way, or hand it over\",\"state\":\"held\",\"origin\":{\"point\":0,\"line\":3,\"column\":6,\"side\":\"yes\",\"words\":\"`FltAllocateContext c0` succeeds\"},\"way\":{\"kind\":\"clean\",\"steps\":[{\"point\":0,\"line\":3,\"column\":6,\"side\":\"yes\",\"words\":\"`FltAllocateContext c0` succeeds\"}],\"other\":null}}\n",
+        "",
+        1,
+    ),
+    (&["passes.flt", "--form=lines"], "", "", 0),
+    (
+        &["--form", "human", "passes.flt"],
+        "passes.flt: a certificate covers this text, so that no run of it breaks V1 to V8\n   = help: `fltstack analyse passes.flt` prints the certificate\nnothing found\n",
+        "",
+        0,
+    ),
+    (
+        &["--form", "loud", "passes.flt"],
+        "",
+        "error: `--form` takes `human`, `lines` or `sarif`\n\nUsage: fltstack explain [--form <FORM>] <FILE>...\n\nFor more information, try '--help'.\n",
         2,
     ),
     (&["R99"], "", "cannot read R99\n", 2),
@@ -64,6 +84,24 @@ fn reports_go_to_the_standard_output(rt: HostRuntime) -> Result<(), Fail> {
         assert_eq!(rt; told.out.as_slice(), out.as_bytes(), "of {out}");
         assert_eq!(rt; told.err.as_slice(), err.as_bytes(), "of {out}");
         assert_eq!(rt; told.status, status, "of {out}");
+    }
+    Ok(())
+}
+
+/// A SARIF document of a text that breaks a rule, and one of a text that doesn't parse.
+#[test]
+fn sarif_goes_to_the_standard_output(rt: HostRuntime) -> Result<(), Fail> {
+    for (name, status) in [("leaks.flt", 1), ("misspelt.flt", 2), ("passes.flt", 0)] {
+        let told = explained(rt.alloc(), &["--form", "sarif", name])?;
+        let out = told.out.as_slice();
+        assert!(rt;
+            out.starts_with(
+                b"{\"$schema\":\"https://json.schemastore.org/sarif-2.1.0.json\",\"version\":\"2.1.0\",\"runs\":[{\"tool\":"
+            )
+        );
+        assert!(rt; out.ends_with(b"]}]}\n"));
+        assert!(rt; told.err.is_empty());
+        assert_eq!(rt; told.status, status);
     }
     Ok(())
 }

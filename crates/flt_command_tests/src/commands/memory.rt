@@ -1,7 +1,7 @@
 //! What is asked of memory from a text to its answer. `tools/refuse-allocations.sh tests flt_command_tests memory` refuses each of these
 //! requests in turn.
 
-use super::{Given, Kept};
+use super::{Drawn, Given, Kept};
 use flt_commands::{Unwatched, command};
 use flt_graph::lower;
 use flt_syntax::parse;
@@ -40,6 +40,7 @@ fn checks_within_memory(rt: HostRuntime) -> Result<(), Fail> {
         alloc,
         &words,
         &Given { files: &files },
+        &mut Drawn::nowhere(alloc),
         false,
         &mut out,
         &mut err,

@@ -1,6 +1,6 @@
 //! Why `replay` has no answer, and writers that fail.
 
-use crate::commands::{Given, Kept, Outcome, run};
+use crate::commands::{Drawn, Given, Kept, Outcome, run};
 use flt_commands::{CommandFault, Unwatched, command};
 use std::alloc::Global;
 use std::process::Abort;
@@ -274,6 +274,7 @@ fn fails_in_time(
         alloc,
         words,
         &Given { files: &INPUTS },
+        &mut Drawn::nowhere(alloc),
         false,
         &mut out,
         &mut err,
@@ -332,6 +333,7 @@ fn replays_within_memory(rt: HostRuntime) -> Result<(), Fail> {
         alloc,
         &words,
         &Given { files: &files },
+        &mut Drawn::nowhere(alloc),
         false,
         &mut out,
         &mut err,

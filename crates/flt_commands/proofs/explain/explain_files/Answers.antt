@@ -1,4 +1,4 @@
-use Rattle.std.proofs.Common.{◌≡◌, Err, rules}
+use Rattle.std.proofs.Common.{◌≡◌, ℕ, Err, Vec, Global, map, ap, ◌∙◌, rules}
 use Rattle.flt_commands.specs.Inputs.{given, unread}
 use Rattle.flt_commands.specs.declared.failure.Failure.TheVariants.{OutOfMemory}
 use Rattle.flt_commands.proofs.explain.explain_files.Goals as goal
@@ -21,4 +21,9 @@ returns-in_err-explained g c =
 pub returns : goal.returns
 returns g c =
     given _ _ c.in_ok-texts.ensures.ok
-    (rw (← c.as_slice.ensures.value, ← c.in_ok-sources.ensures, ← c.as_slice-2.ensures.value) c.in_ok-explained.ensures)
+    (record {
+      sources = c.in_ok-sources.sources.items;
+      named = c.in_ok-sources.ensures.names;
+      given = c.in_ok-sources.ensures.texts ∙ ap (λ ts. map (λ (t : Vec ℕ Global). t.items) ts) c.as_slice.ensures.value;
+      told = rw c.as_slice-2.ensures.value at c.in_ok-explained.ensures;
+    })

@@ -1,0 +1,103 @@
+//! What `replay` says of the names that it is given, where the journal is shown.
+
+ghost use Rattle.std.specs.Prelude.{◌≡◌, [], ◌∷◌, false, IfOk, map, option_map};
+ghost use Rattle.flt_commands.specs.Inputs.{Says};
+ghost use Rattle.flt_commands.specs.Replay as spec;
+
+use crate::answer::Answer;
+use crate::failure::Failure;
+use crate::inputs::{Inputs, Pictures, read_all};
+use crate::replay::{Replayed, replay_all};
+use flt_model::{Journal, Verdict};
+use flt_picture::picture;
+use flt_timeline::Timeline;
+use flt_tree::Tree;
+use std::alloc::{AllocError, Global};
+
+/// The rows of a timeline, if they are asked for.
+fn rows_of(alloc: Global, is_asked: bool, timeline: &Timeline<'_>) -> Result<Vec<u8>, AllocError>
+    ensures { IfOk result (λ rows. is_asked ≡ false → rows.items ≡ []) }
+{
+    if !is_asked {
+        return Ok(Vec::new(alloc));
+    }
+    Ok(timeline.text(alloc, 0)?.into_bytes())
+}
+
+/// Draws a journal into a file. Whether that could be written.
+fn draw<P: Pictures>(
+    alloc: Global,
+    name: &str,
+    trees: &[Tree],
+    journal: &Journal,
+    timeline: &Timeline<'_>,
+    pictures: &mut P,
+) -> Result<bool, AllocError> {
+    let drawn = picture(alloc, trees, journal, timeline)?;
+    Ok(pictures.write(name, drawn.as_bytes()))
+}
+
+/// Shows a journal on some filters, of which the monitor says this.
+fn show<'a, P: Pictures>(
+    alloc: Global,
+    is_asked: bool,
+    name: Option<&'a str>,
+    replayed: &Replayed,
+    pictures: &mut P,
+) -> Result<Answer, Failure<'a>>
+    ensures { spec.IsShownOf is_asked (option_map (λ name. name.now) name.entry) replayed.now.verdict result }
+{
+    let trees = replayed.trees.as_slice();
+    let timeline = Timeline::of(alloc, trees, &replayed.journal, replayed.verdict)?;
+    if let Some(name) = name {
+        if !draw(alloc, name, trees, &replayed.journal, &timeline, pictures)? {
+            return Err(Failure::CannotWrite(name));
+        }
+    }
+    let rows = rows_of(alloc, is_asked, &timeline)?;
+    Ok(Answer::Shown(rows, replayed.verdict))
+}
+
+/// What is said of a journal on some texts, where it is shown.
+fn show_texts<'a, P: Pictures>(
+    alloc: Global,
+    is_asked: bool,
+    name: Option<&'a str>,
+    written: &[u8],
+    texts: &[Vec<u8>],
+    pictures: &mut P,
+) -> Result<Answer, Failure<'a>>
+    ensures { spec.ShownJudges is_asked (option_map (λ name. name.now) name.entry) written.now
+        (map (λ text. text.items) texts.now) result }
+{
+    let replayed = replay_all(alloc, written, texts)?;
+    show(alloc, is_asked, name, &replayed, pictures)
+}
+
+/// What `replay` says of the names that it is given, where the journal is shown: as rows, where they are asked for, and in a file, where
+/// one is named.
+pub fn show_files<'a, I: Inputs, P: Pictures>(
+    alloc: Global,
+    inputs: &I,
+    is_asked: bool,
+    name: Option<&'a str>,
+    journal: &'a str,
+    files: &[&'a str],
+    pictures: &mut P,
+) -> Result<Answer, Failure<'a>>
+    ensures { Says (I.gives inputs.now) (journal.entry.now ∷ map (λ name. name.now) files.now)
+        (spec.IsShown is_asked (option_map (λ name. name.now) name.entry)) result }
+{
+    let mut names = Vec::new(alloc);
+    names.push(journal)?;
+    names.extend_from_slice(files)?;
+    let texts = read_all(alloc, inputs, names.as_slice())?;
+    show_texts(
+        alloc,
+        is_asked,
+        name,
+        texts[0].as_slice(),
+        &texts[1..],
+        pictures,
+    )
+}
