@@ -1,6 +1,6 @@
 use Rattle.flt_commands.proofs.Covered.{clean_of}
 use Rattle.flt_commands.proofs.Pages.{printed_of, says_of_page}
-use Rattle.flt_words.specs.Request.{Run, Show, Explain, Page}
+use Rattle.flt_words.specs.Request.{Run, Show, Page}
 use Rattle.flt_commands.proofs.commands.command.Goals as goal
 
 pub returns-in-Check-clause-clean : goal.returns-in-Check-clause-clean
@@ -50,3 +50,8 @@ pub returns-in-Page-clause-clean : goal.returns-in-Page-clause-clean
 returns-in-Page-clause-clean g c =
     clean_of c.covered_texts_break_nothing.ensures c.driven_texts_break_nothing.ensures _ _ (Page _) _ _ _
     (rw c.in-Page.is at c.in_ok-text.ensures) (says_of_page _ _ _ c.page_of-said.ensures) c.report-in-Page.ensures.prints
+
+pub returns-in-Show-clause-prints : goal.returns-in-Show-clause-prints
+returns-in-Show-clause-prints g c =
+    printed_of _ _ (Show _ _ _ _) _ _ _ (rw c.in-Show.is at c.in_ok-text.ensures)
+    (rw c.as_slice-in-Show.ensures.value at c.show_files-said.ensures) c.report-in-Show.ensures.prints
