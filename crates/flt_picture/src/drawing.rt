@@ -13,6 +13,7 @@ pub(crate) enum Look {
     Faint,
     Bad,
     Inside,
+    Above,
 }
 
 /// A picture that is drawn.
@@ -27,6 +28,7 @@ fn look_words(look: Look) -> &'static str {
         Look::Faint => "fill=\"#808080\"",
         Look::Bad => "fill=\"#b00020\" font-weight=\"bold\"",
         Look::Inside => "fill=\"#ffffff\" text-anchor=\"middle\"",
+        Look::Above => "fill=\"#808080\" text-anchor=\"middle\"",
     }
 }
 
@@ -98,8 +100,14 @@ impl Drawing {
     }
 
     /// A number round a place.
-    pub(crate) fn number(&mut self, x: usize, y: usize, number: u64) -> Result<(), AllocError> {
-        let look = look_words(Look::Inside);
+    pub(crate) fn number(
+        &mut self,
+        x: usize,
+        y: usize,
+        look: Look,
+        number: u64,
+    ) -> Result<(), AllocError> {
+        let look = look_words(look);
         write!(
             self.out,
             "<text x=\"{x}\" y=\"{y}\" {look}>{number}</text>\n"

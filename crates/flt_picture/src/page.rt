@@ -5,7 +5,7 @@ ghost use Rattle.flt_picture.specs.Pictures as spec;
 
 use crate::course::Course;
 use crate::drawing::{Drawing, Look};
-use flt_model::Journal;
+use flt_model::{Journal, JournalEntry, Move};
 use flt_timeline::{Fold, Row, Timeline};
 use flt_tree::Tree;
 use flt_world::Stack;
@@ -37,7 +37,33 @@ const ORANGE: &str = "#c07818";
 
 const GREY: &str = "#909090";
 
+const PURPLE: &str = "#7a5a9a";
+
 const PINK: &str = "#fde3e6";
+
+/// What the colours say.
+const KEY: [(&str, &str); 5] = [
+    (BLUE, "a callback is on"),
+    (GREY, "the filter manager is on"),
+    (
+        ORANGE,
+        "how many operations wait in queues and work items when the row ends",
+    ),
+    (
+        GREEN,
+        "how many references a context has then, and that it is linked",
+    ),
+    (PURPLE, "the same of a context that isn't linked"),
+];
+
+/// How many pixels a letter takes, at most.
+const LETTER: usize = 8;
+
+/// How many letters there is room for, at least.
+const LEAST_LETTERS: usize = 40;
+
+/// Up to how many operations each has a column of its own.
+const OWN_COLUMNS: usize = 8;
 
 /// What is drawn, and how many lanes there are.
 #[derive(Clone, Copy)]
@@ -45,6 +71,8 @@ struct Plan<'b, 'a> {
     alloc: Global,
     timeline: &'b Timeline<'a>,
     columns: usize,
+    /// Whether a column is that of one operation alone.
+    is_numbered: bool,
     contexts: usize,
 }
 
@@ -80,6 +108,34 @@ fn lines_of(timeline: &Timeline<'_>) -> usize {
     lines.min(MOST_LINES)
 }
 
+/// How many letters the longest words of a timeline's blocks have.
+fn letters_of(alloc: Global, timeline: &Timeline<'_>) -> Result<usize, AllocError> {
+    let mut letters: usize = 0;
+    for fold in timeline.folds.as_slice() {
+        for number in 0..fold.block {
+            if let Some(row) = timeline.rows.get(fold.first.saturating_add(number)) {
+                letters = letters.max(timeline.words(alloc, *row)?.len());
+            }
+        }
+    }
+    Ok(letters)
+}
+
+fn is_arrival(entry: &JournalEntry) -> bool {
+    matches!(entry, JournalEntry::Move(Move::Arrive { .. }))
+}
+
+/// How many operations arrive in a journal.
+fn operations_of(journal: &Journal) -> usize {
+    let mut operations: usize = 0;
+    for entry in journal.entries() {
+        if is_arrival(entry) {
+            operations = operations.saturating_add(1);
+        }
+    }
+    operations
+}
+
 /// The number behind a row's last entry.
 fn end_of(row: Row) -> usize {
     row.first.saturating_add(row.count)
@@ -93,19 +149,25 @@ impl<'b, 'a> Plan<'b, 'a> {
         }
     }
 
-    /// The left side of a lane.
+    /// The left side of a lane. The first one is that of what concerns no operation.
     fn lane(&self, number: usize) -> usize {
         LANES.saturating_add(LANE.saturating_mul(number))
     }
 
+    /// The left side of an operation's lane.
+    fn operation(&self, column: usize) -> usize {
+        self.lane(column.saturating_add(1))
+    }
+
     /// The left side of the lane of what waits.
     fn queue(&self) -> usize {
-        self.lane(self.columns).saturating_add(LANE)
+        self.operation(self.columns.max(3).saturating_add(1))
     }
 
     /// The left side of a context's lane.
     fn context(&self, number: usize) -> usize {
-        self.lane(self.columns.saturating_add(4).saturating_add(number))
+        let lanes = number.saturating_add(3);
+        self.queue().saturating_add(LANE.saturating_mul(lanes))
     }
 
     /// The left side of the words.
@@ -115,28 +177,37 @@ impl<'b, 'a> Plan<'b, 'a> {
 
     // ---- lanes
 
+    /// Who is on in a row, in a lane.
+    fn draw_turn(
+        &self,
+        sheet: &mut Sheet<'_, '_>,
+        row: Row,
+        left: usize,
+    ) -> Result<(), AllocError> {
+        let colour = if self.timeline.is_running(row) {
+            BLUE
+        } else {
+            GREY
+        };
+        let top = sheet.top.saturating_add(2);
+        let inner = left.saturating_add(4);
+        sheet.drawing.fill(inner, top, LANE - 8, LINE - 4, colour)
+    }
+
     /// The lanes of the operations.
     fn draw_operations(&self, sheet: &mut Sheet<'_, '_>, row: Row) -> Result<(), AllocError> {
         let top = sheet.top;
         for column in 0..self.columns {
-            let left = self.lane(column);
             if self.timeline.is_alive(row, column) {
-                let middle = left.saturating_add(LANE / 2);
+                let middle = self.operation(column).saturating_add(LANE / 2);
                 sheet.drawing.rule(middle, top, top.saturating_add(LINE))?;
             }
-            if self.timeline.column(row) == Some(column) {
-                let colour = if self.timeline.is_running(row) {
-                    BLUE
-                } else {
-                    GREY
-                };
-                let inner = left.saturating_add(4);
-                sheet
-                    .drawing
-                    .fill(inner, top.saturating_add(2), LANE - 8, LINE - 4, colour)?;
-            }
         }
-        Ok(())
+        let left = match self.timeline.column(row) {
+            Some(column) => self.operation(column),
+            None => self.lane(0),
+        };
+        self.draw_turn(sheet, row, left)
     }
 
     /// How many visits wait.
@@ -153,10 +224,10 @@ impl<'b, 'a> Plan<'b, 'a> {
         let middle = left.saturating_add(LANE / 2 - 2);
         sheet
             .drawing
-            .number(middle, top.saturating_add(15), waiting)
+            .number(middle, top.saturating_add(15), Look::Inside, waiting)
     }
 
-    /// The references of a context, green where it is linked.
+    /// The references of a context.
     fn draw_context(&self, sheet: &mut Sheet<'_, '_>, number: usize) -> Result<(), AllocError> {
         let references = sheet.course.references(number);
         if references == 0 {
@@ -165,7 +236,7 @@ impl<'b, 'a> Plan<'b, 'a> {
         let colour = if sheet.course.is_linked(number) {
             GREEN
         } else {
-            GREY
+            PURPLE
         };
         let left = self.context(number).saturating_add(2);
         let top = sheet.top;
@@ -175,7 +246,7 @@ impl<'b, 'a> Plan<'b, 'a> {
         let middle = left.saturating_add(LANE / 2 - 2);
         sheet
             .drawing
-            .number(middle, top.saturating_add(15), references)
+            .number(middle, top.saturating_add(15), Look::Inside, references)
     }
 
     fn draw_state(&self, sheet: &mut Sheet<'_, '_>) -> Result<(), AllocError> {
@@ -188,18 +259,58 @@ impl<'b, 'a> Plan<'b, 'a> {
 
     // ---- lines
 
+    /// The number of a lane, above it.
+    fn draw_number(
+        &self,
+        sheet: &mut Sheet<'_, '_>,
+        left: usize,
+        number: usize,
+    ) -> Result<(), AllocError> {
+        let middle = left.saturating_add(LANE / 2);
+        sheet.drawing.number(middle, 34, Look::Above, number as u64)
+    }
+
+    /// The numbers of operations and contexts.
+    fn draw_numbers(&self, sheet: &mut Sheet<'_, '_>) -> Result<(), AllocError> {
+        if self.is_numbered {
+            for column in 0..self.columns {
+                self.draw_number(sheet, self.operation(column), column)?;
+            }
+        }
+        for number in 0..self.contexts {
+            self.draw_number(sheet, self.context(number), number)?;
+        }
+        Ok(())
+    }
+
     fn draw_heads(&self, sheet: &mut Sheet<'_, '_>) -> Result<(), AllocError> {
         let drawing = &mut sheet.drawing;
-        drawing.words(30, 16, Look::Faint, "entries")?;
-        drawing.words(LANES, 16, Look::Faint, "operations")?;
-        drawing.words(self.queue(), 32, Look::Faint, "waiting")?;
-        drawing.words(self.context(0), 16, Look::Faint, "references of contexts")?;
+        drawing.words(LANES - 65, 16, Look::Faint, "entries")?;
+        drawing.words(self.operation(0), 16, Look::Faint, "operations")?;
+        drawing.words(self.queue(), 16, Look::Faint, "waiting")?;
+        drawing.words(self.context(0), 16, Look::Faint, "contexts")?;
         drawing.words(
             self.words(),
-            32,
+            16,
             Look::Faint,
             "lines that ran, and how calls went",
-        )
+        )?;
+        self.draw_numbers(sheet)
+    }
+
+    /// What the colours say, below the lines.
+    fn draw_key(&self, sheet: &mut Sheet<'_, '_>) -> Result<(), AllocError> {
+        sheet.top = sheet.top.saturating_add(LINE / 2);
+        for (colour, said) in KEY {
+            let top = sheet.top;
+            sheet.drawing.fill(LANES + 4, top.saturating_add(2), LANE - 8, LINE - 4, colour)?;
+            let base = top.saturating_add(15);
+            sheet
+                .drawing
+                .words(LANES + LANE + 8, base, Look::Faint, said)?;
+            sheet.top = top.saturating_add(LINE);
+        }
+        Ok(())
     }
 
     fn draw_row(
@@ -276,9 +387,9 @@ fn contexts_of<'b, 'a>(
     Ok(course.contexts().min(MOST_CONTEXTS))
 }
 
-/// A journal as a picture, in SVG: the rows of its timeline, with lanes for operations (grey where the system is on), for how many
-/// visits wait in queues and work items when a row ends, and for the references that each context then has (green while it is linked).
-/// The filters and the journal are those of the timeline. At most 1,000 lines are drawn, and the first twelve contexts.
+/// A journal as a picture, in SVG: the rows of its timeline, with lanes for operations, for how many visits wait in queues and work items
+/// when a row ends, and for the references that each context then has. Below it stands what the colours say. The filters and the journal
+/// are those of the timeline. At most 1,000 lines are drawn, and the first twelve contexts.
 ///
 /// # Errors
 ///
@@ -296,10 +407,16 @@ pub fn picture(
         alloc,
         timeline,
         columns: columns_of(timeline),
+        is_numbered: operations_of(journal) <= OWN_COLUMNS,
         contexts: contexts_of(alloc, &stack, journal)?,
     };
-    let width = plan.words().saturating_add(760);
-    let height = lines_of(timeline).saturating_add(3).saturating_mul(LINE);
+    let letters = letters_of(alloc, timeline)?.max(LEAST_LETTERS);
+    let width = plan
+        .words()
+        .saturating_add(letters.saturating_mul(LETTER))
+        .saturating_add(LANE);
+    let lines = lines_of(timeline).saturating_add(KEY.len() + 3);
+    let height = lines.saturating_mul(LINE);
     let mut sheet = Sheet {
         drawing: Drawing::new(alloc, width, height)?,
         course: Course::new(alloc, &stack, journal)?,
@@ -311,5 +428,6 @@ pub fn picture(
             plan.draw_fold(&mut sheet, width, *fold)?;
         }
     }
+    plan.draw_key(&mut sheet)?;
     sheet.drawing.close()
 }
