@@ -1,0 +1,14 @@
+use Rattle.std.proofs.Common.{◌≡◌, ◌+◌, ◌*◌, ◌≤◌, []}
+use Rattle.flt_running.specs.Waiting.{tickets}
+use Rattle.flt_workers.specs.Places.{IsWorkerOf}
+use Rattle.flt_running.proofs.stack.Stack.work.Given as goal
+
+abbrev pub invariant-loop : goal.invariant-loop
+invariant-loop g l = record {
+  seat : IsWorkerOf l.self.exchange l.seat.place;
+  waiting : tickets l.seat.waiting ≡ [];
+  share : l.seat.share.amount ≡ l.fn.seat.share.amount + l.made;
+  few : l.made ≤ 65600 * l.counter + 65600;
+  taken : l.taken ≤ l.counter;
+  parts : l.seat.share.parts ≡ l.fn.seat.share.parts;
+}

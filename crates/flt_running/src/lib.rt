@@ -1,0 +1,24 @@
+//! The running stack: loaded filters, one board of them behind a lock, and callers and workers round it.
+//!
+//! A caller lets operations arrive, cancels them and begins teardowns; each goes through a seat of its own, which keeps the receipts of
+//! what succeeded. A worker has a seat too. Whenever the lock is free the board's journal is a run of the machine on the loaded filters
+//! that breaks nothing, and so is the journal that the end hands out.
+#![tactic(auto)]
+
+mod asking;
+mod ending;
+mod opening;
+mod requests;
+mod seats;
+mod stack;
+mod waiting;
+mod working;
+
+pub use ending::Differ;
+pub use flt_core::{ArriveFault, Counts, DetachFault, Receipt, StackName};
+pub use flt_pool::Gate;
+pub use flt_run::TurnFault;
+pub use seats::{CallerSeat, WorkerSeat};
+pub use stack::Stack;
+/// What opening a stack answers where there is no memory.
+pub use std::alloc::AllocError as OutOfMemory;

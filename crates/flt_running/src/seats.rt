@@ -1,0 +1,41 @@
+//! The seats of callers and of workers.
+ghost use Rattle.std.specs.Prelude.{◌<◌};
+
+use crate::requests::Requests;
+use crate::waiting::Waiting;
+use flt_core::{OtherEntries, Receipt, Receipts, StackName};
+use flt_receipts::HoldsReceipts;
+use flt_workers::{CallerPlace, WorkerPlace};
+use std::sync::ledger::Share;
+
+/// A caller's seat: its place at the exchange of the stack that gave it, and the receipts of its arrivals and detaches, with its share of
+/// the callers' entries. It may go to another thread.
+#[derive(Drop)]
+pub struct CallerSeat<N: StackName> {
+    pub(crate) place: CallerPlace,
+    pub(crate) receipts: Receipts<N>,
+}
+
+/// The receipts of the seat's calls that succeeded, in their order.
+impl<N: StackName> HoldsReceipts for CallerSeat<N> {
+    ghost held = { λ seat. seat.receipts.list.items };
+
+    fn receipts(&self) -> &[Receipt] {
+        self.receipts.list.as_slice()
+    }
+}
+
+/// A worker's seat: its place at the exchange of the stack that gave it, its share of the other entries, and what its work left over. It
+/// may go to another thread.
+#[derive(Drop)]
+pub struct WorkerSeat<N: StackName> {
+    /// Workers are numbered from 0.
+    pub(crate) number: usize,
+    pub(crate) place: WorkerPlace,
+    pub(crate) share: Share<OtherEntries<N>>,
+    /// How many changes were announced to a gate.
+    pub(crate) changes: u64,
+    pub(crate) waiting: Waiting,
+    pub(crate) requests: Requests,
+    pub(crate) ghost backed: { 0 < share.parts },
+}

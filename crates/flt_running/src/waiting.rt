@@ -1,0 +1,102 @@
+//! What a worker still has to push.
+ghost use Rattle.std.specs.Prelude.{◌≡◌, ◌++◌, ◌∷◌, [], OnOk};
+ghost use Rattle.flt_running.specs.Waiting as spec;
+ghost use Rattle.flt_running.specs.Waiting.{put_own};
+ghost use Rattle.flt_workers.specs.Places.{other_deques, own_deque};
+
+use crate::OutOfMemory;
+use flt_workers::{Ticket, WorkerPlace};
+use std::alloc::{AllocError, Global};
+
+/// Tickets that wait to be pushed: what a move gave a ticket, and then the move's own ticket, where it goes to the back. They stay here
+/// where a push is refused, so that none is lost.
+#[derive(Drop)]
+pub(crate) struct Waiting {
+    /// What the move gave a ticket.
+    named: Vec<Ticket>,
+    /// How many of these are pushed.
+    pushed: usize,
+    /// The move's own ticket.
+    own: Option<Ticket>,
+}
+
+impl Waiting {
+    /// Nothing waits.
+    pub(crate) fn new(alloc: Global) -> Waiting
+        ensures { spec.tickets result ≡ [] }
+    {
+        Waiting {
+            named: Vec::new(alloc),
+            pushed: 0,
+            own: None,
+        }
+    }
+
+    /// These wait.
+    pub(crate) fn of(named: Vec<Ticket>, own: Option<Ticket>) -> Waiting
+        ensures { spec.tickets result ≡ named.items ++ spec.listed own }
+    {
+        Waiting {
+            named,
+            pushed: 0,
+            own,
+        }
+    }
+
+    /// A ticket waits, where none did.
+    pub(crate) fn keep(&mut self, ticket: Ticket)
+        requires { spec.tickets self.old ≡ [] }
+        ensures { spec.tickets self.new ≡ ticket ∷ [] }
+    {
+        self.own = Some(ticket);
+    }
+
+    /// Pushes what waits, in its order, until one is refused.
+    pub(crate) fn push_all(&mut self, place: &mut WorkerPlace) -> Result<(), OutOfMemory>
+        ensures pushed { put_own place.new ++ spec.tickets self.new ≡ put_own place.old ++ spec.tickets self.old }
+        ensures all { OnOk result (spec.tickets self.new ≡ []) }
+        ensures pass { place.new.tickets.pass ≡ place.old.tickets.pass }
+        ensures deques { (own_deque place.new ≡ own_deque place.old) × (other_deques place.new ≡ other_deques place.old) }
+        ensures requests { place.new.requests ≡ place.old.requests }
+    {
+        self.push_named(place)?;
+        self.push_own(place)
+    }
+
+    /// Pushes what the move gave a ticket, in its order, until one is refused.
+    fn push_named(&mut self, place: &mut WorkerPlace) -> Result<(), OutOfMemory>
+        ensures pushed { put_own place.new ++ spec.tickets self.new ≡ put_own place.old ++ spec.tickets self.old }
+        ensures all { OnOk result (spec.tickets self.new ≡ spec.listed self.new.own) }
+        ensures pass { place.new.tickets.pass ≡ place.old.tickets.pass }
+        ensures deques { (own_deque place.new ≡ own_deque place.old) × (other_deques place.new ≡ other_deques place.old) }
+        ensures requests { place.new.requests ≡ place.old.requests }
+    {
+        while self.pushed < self.named.len() {
+            let ticket = self.named[self.pushed];
+            if place.push(ticket).is_err() {
+                return Err(AllocError);
+            }
+            self.pushed += 1;
+        }
+        Ok(())
+    }
+
+    /// Pushes the move's own ticket, where it waits. All others are pushed.
+    fn push_own(&mut self, place: &mut WorkerPlace) -> Result<(), OutOfMemory>
+        requires { spec.tickets self.old ≡ spec.listed self.old.own }
+        ensures pushed { put_own place.new ++ spec.tickets self.new ≡ put_own place.old ++ spec.tickets self.old }
+        ensures all { OnOk result (spec.tickets self.new ≡ []) }
+        ensures pass { place.new.tickets.pass ≡ place.old.tickets.pass }
+        ensures deques { (own_deque place.new ≡ own_deque place.old) × (other_deques place.new ≡ other_deques place.old) }
+        ensures requests { place.new.requests ≡ place.old.requests }
+    {
+        let Some(ticket) = self.own else {
+            return Ok(());
+        };
+        if place.push(ticket).is_err() {
+            return Err(AllocError);
+        }
+        self.own = None;
+        Ok(())
+    }
+}

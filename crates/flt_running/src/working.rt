@@ -1,0 +1,343 @@
+//! What a worker does: it takes a ticket and makes its move, over and over.
+ghost use Rattle.std.specs.Prelude.{◌≡◌, ◌+◌, ◌<◌, ◌≤◌, ◌++◌, [], IfOk, IfSome, None, OnErr, OnOk};
+ghost use Rattle.flt_core.specs.Turning.{grows};
+ghost use Rattle.flt_running.specs.Waiting as waiting;
+ghost use Rattle.flt_running.specs.Waiting.{put_own};
+ghost use Rattle.flt_workers.specs.Places.{IsWorkerOf};
+
+use crate::OutOfMemory;
+use crate::requests::Requests;
+use crate::seats::WorkerSeat;
+use crate::stack::Stack;
+use crate::waiting::Waiting;
+use flt_core::{StackName, Turned};
+use flt_machine::{Frame, advance};
+use flt_pool::Gate;
+use flt_run::TurnFault;
+use flt_workers::Ticket;
+use std::alloc::Global;
+use std::sync::Wait;
+
+/// How many words of requests there are.
+const WORDS: usize = 1024;
+
+/// How many tickets are taken in one call at most.
+const MAX_TICKETS: u32 = 1_000_000;
+
+/// How often a worker looks for something to do in one call at most: for each ticket, for each entry that a request may add, and once
+/// more.
+const MAX_LOOKS: u32 = 2_000_001;
+
+/// What a look came to.
+#[derive(Clone, Copy)]
+struct Looked {
+    /// How many entries were made.
+    made: u64,
+    /// How many tickets were taken, one at most.
+    taken: u32,
+}
+
+impl<N: StackName> WorkerSeat<N> {
+    /// A change is about to be made: the gate is called before it.
+    fn pass<G: Gate>(&mut self, gate: &mut G)
+        ensures place { self.new.place ≡ self.old.place }
+        ensures share { self.new.share ≡ self.old.share }
+        ensures waiting { self.new.waiting ≡ self.old.waiting }
+        ensures requests { self.new.requests ≡ self.old.requests }
+    {
+        gate.before(self.number, self.changes);
+        self.changes = self.changes.saturating_add(1);
+    }
+
+    /// Pushes what a turn gave a ticket, and the turn's own ticket, where it stays.
+    fn settle(&mut self, turned: Turned, own: Option<Ticket>) -> Result<bool, OutOfMemory>
+        requires { waiting.tickets self.old.waiting ≡ [] }
+        ensures made { IfOk result (λ made. made ≡ turned.made) }
+        ensures pushed { put_own self.new.place ++ waiting.tickets self.new.waiting
+            ≡ put_own self.old.place ++ (turned.next.items ++ waiting.listed own) }
+        ensures all { OnOk result (waiting.tickets self.new.waiting ≡ []) }
+        ensures share { self.new.share ≡ self.old.share }
+        ensures pass { self.new.place.tickets.pass ≡ self.old.place.tickets.pass }
+        ensures requests { self.new.place.requests ≡ self.old.place.requests }
+    {
+        let Turned {
+            next,
+            stays: _,
+            made,
+        } = turned;
+        self.waiting = Waiting::of(next, own);
+        self.waiting.push_all(&mut self.place)?;
+        Ok(made)
+    }
+}
+
+impl<N: StackName> Stack<N> {
+    /// Works until one look at all deques finds no ticket, or 1,000,000 tickets were taken, and answers how many entries it added. The
+    /// worker of number 0 also collects what was asked to be cancelled: before its first ticket, and again where it finds none. What an
+    /// earlier call left over comes first. The gate is called before each change, with no lock held.
+    ///
+    /// # Errors
+    ///
+    /// There are 1,000,000 entries, or a growth was refused. The entries that were made before stay, and what is left over stays in the
+    /// seat.
+    pub fn work<R: Wait, G: Gate>(
+        &self,
+        rt: &R,
+        alloc: Global,
+        seat: &mut WorkerSeat<N>,
+        gate: &mut G,
+    ) -> Result<u64, TurnFault>
+        requires { IsWorkerOf self.now.exchange seat.old.place }
+        ensures seat { IsWorkerOf self.now.exchange seat.new.place }
+        ensures share { IfOk result (λ made. seat.new.share.amount ≡ seat.old.share.amount + made) }
+        ensures grown { seat.old.share.amount ≤ seat.new.share.amount }
+        ensures parts { seat.new.share.parts ≡ seat.old.share.parts }
+    {
+        seat.waiting.push_all(&mut seat.place)?;
+        let mut made = self.collect(rt, alloc, seat, gate)?;
+        let mut taken: u32 = 0;
+        for _ in 0..MAX_LOOKS {
+            if taken == MAX_TICKETS {
+                return Ok(made);
+            }
+            let Some(looked) = self.look(rt, alloc, seat, gate)? else {
+                return Ok(made);
+            };
+            made += looked.made;
+            taken += looked.taken;
+        }
+        Ok(made)
+    }
+
+    /// Serves a ticket, or else what was asked to be cancelled. It answers none where it finds neither.
+    fn look<R: Wait, G: Gate>(
+        &self,
+        rt: &R,
+        alloc: Global,
+        seat: &mut WorkerSeat<N>,
+        gate: &mut G,
+    ) -> Result<Option<Looked>, TurnFault>
+        requires seat { IsWorkerOf self.now.exchange seat.old.place }
+        requires waiting { waiting.tickets seat.old.waiting ≡ [] }
+        ensures seat { IsWorkerOf self.now.exchange seat.new.place }
+        ensures waiting { OnOk result (waiting.tickets seat.new.waiting ≡ []) }
+        ensures share { IfOk result (λ looked. IfSome looked (λ l. seat.new.share.amount ≡ seat.old.share.amount + l.made)) }
+        ensures idle { IfOk result (λ looked. looked ≡ None → seat.new.share.amount ≡ seat.old.share.amount) }
+        ensures few { IfOk result (λ looked. IfSome looked (λ l. (l.made ≤ 65600) × (l.taken ≤ 1))) }
+        ensures grown { seat.old.share.amount ≤ seat.new.share.amount }
+        ensures parts { seat.new.share.parts ≡ seat.old.share.parts }
+    {
+        if let Some(ticket) = self.exchange.take(rt, &mut seat.place) {
+            let made = self.serve(rt, alloc, seat, gate, ticket)?;
+            return Ok(Some(Looked {
+                made: made as u64,
+                taken: 1,
+            }));
+        }
+        let made = self.collect(rt, alloc, seat, gate)?;
+        if made == 0 {
+            return Ok(None);
+        }
+        Ok(Some(Looked { made, taken: 0 }))
+    }
+
+    // ---- tickets
+
+    /// A ticket's turn. It answers whether an entry was made. The ticket stays in the seat where the turn is refused.
+    fn serve<R: Wait, G: Gate>(
+        &self,
+        rt: &R,
+        alloc: Global,
+        seat: &mut WorkerSeat<N>,
+        gate: &mut G,
+        ticket: Ticket,
+    ) -> Result<bool, TurnFault>
+        requires seat { IsWorkerOf self.now.exchange seat.old.place }
+        requires waiting { waiting.tickets seat.old.waiting ≡ [] }
+        ensures seat { IsWorkerOf self.now.exchange seat.new.place }
+        ensures waiting { OnOk result (waiting.tickets seat.new.waiting ≡ []) }
+        ensures share { IfOk result (λ made. seat.new.share.amount ≡ seat.old.share.amount + grows made) }
+        ensures grown { seat.old.share.amount ≤ seat.new.share.amount }
+        ensures parts { seat.new.share.parts ≡ seat.old.share.parts }
+    {
+        match self.turn(rt, alloc, seat, gate, ticket) {
+            Ok(turned) => {
+                let own = if turned.stays { Some(ticket) } else { None };
+                Ok(seat.settle(turned, own)?)
+            }
+            Err(fault) => {
+                seat.waiting.keep(ticket);
+                Err(fault)
+            }
+        }
+    }
+
+    /// Makes the move that a ticket asks for, or an activation's steps.
+    fn turn<R: Wait, G: Gate>(
+        &self,
+        rt: &R,
+        alloc: Global,
+        seat: &mut WorkerSeat<N>,
+        gate: &mut G,
+        ticket: Ticket,
+    ) -> Result<Turned, TurnFault>
+        ensures share { IfOk result (λ t. seat.new.share.amount ≡ seat.old.share.amount + grows t.made) }
+        ensures refused { OnErr result (seat.new.share.amount ≡ seat.old.share.amount) }
+        ensures parts { seat.new.share.parts ≡ seat.old.share.parts }
+        ensures place { seat.new.place ≡ seat.old.place }
+        ensures waiting { seat.new.waiting ≡ seat.old.waiting }
+    {
+        match ticket {
+            Ticket::Activation(activation) => self.go_on(rt, alloc, seat, gate, activation),
+            _ => self.move_on(rt, alloc, seat, gate, ticket),
+        }
+    }
+
+    /// Makes the move that a ticket asks for. It is chosen and made in one hold of the lock.
+    fn move_on<R: Wait, G: Gate>(
+        &self,
+        rt: &R,
+        alloc: Global,
+        seat: &mut WorkerSeat<N>,
+        gate: &mut G,
+        ticket: Ticket,
+    ) -> Result<Turned, TurnFault>
+        ensures share { IfOk result (λ t. seat.new.share.amount ≡ seat.old.share.amount + grows t.made) }
+        ensures refused { OnErr result (seat.new.share.amount ≡ seat.old.share.amount) }
+        ensures parts { seat.new.share.parts ≡ seat.old.share.parts }
+        ensures place { seat.new.place ≡ seat.old.place }
+        ensures waiting { seat.new.waiting ≡ seat.old.waiting }
+    {
+        let machine = self.machine();
+        seat.pass(gate);
+        self.locked
+            .lock(rt)
+            .move_on(alloc, machine, &mut seat.share, ticket)
+    }
+
+    /// Makes an activation's steps. It is taken from the board in one hold of the lock, and comes back in another; between them it makes
+    /// its local steps.
+    fn go_on<R: Wait, G: Gate>(
+        &self,
+        rt: &R,
+        alloc: Global,
+        seat: &mut WorkerSeat<N>,
+        gate: &mut G,
+        activation: u32,
+    ) -> Result<Turned, TurnFault>
+        ensures share { IfOk result (λ t. seat.new.share.amount ≡ seat.old.share.amount + grows t.made) }
+        ensures refused { OnErr result (seat.new.share.amount ≡ seat.old.share.amount) }
+        ensures parts { seat.new.share.parts ≡ seat.old.share.parts }
+        ensures place { seat.new.place ≡ seat.old.place }
+        ensures waiting { seat.new.waiting ≡ seat.old.waiting }
+    {
+        let machine = self.machine();
+        let Some(frame) = self.checkout(rt, activation) else {
+            return Ok(Turned {
+                next: Vec::new(alloc),
+                stays: false,
+                made: false,
+            });
+        };
+        let advanced = advance(machine, frame);
+        seat.pass(gate);
+        self.locked
+            .lock(rt)
+            .go_on(alloc, machine, &mut seat.share, &advanced)
+    }
+
+    /// An activation as it stands on the board; none where it has ended.
+    fn checkout<R: Wait>(&self, rt: &R, activation: u32) -> Option<Frame> {
+        self.locked.lock(rt).core.board().checkout(activation)
+    }
+
+    // ---- requests
+
+    /// Cancels what was asked to be cancelled, in the order of the serial numbers, where it can be. It answers how many entries were made.
+    /// Only the worker of number 0 does so.
+    fn collect<R: Wait, G: Gate>(
+        &self,
+        rt: &R,
+        alloc: Global,
+        seat: &mut WorkerSeat<N>,
+        gate: &mut G,
+    ) -> Result<u64, TurnFault>
+        requires seat { IsWorkerOf self.now.exchange seat.old.place }
+        requires waiting { waiting.tickets seat.old.waiting ≡ [] }
+        ensures seat { IsWorkerOf self.now.exchange seat.new.place }
+        ensures waiting { OnOk result (waiting.tickets seat.new.waiting ≡ []) }
+        ensures share { IfOk result (λ made. seat.new.share.amount ≡ seat.old.share.amount + made) }
+        ensures few { IfOk result (λ made. made ≤ 65600) }
+        ensures grown { seat.old.share.amount ≤ seat.new.share.amount }
+        ensures parts { seat.new.share.parts ≡ seat.old.share.parts }
+    {
+        if seat.number != 0 {
+            return Ok(0);
+        }
+        let mut made = self.cancel_all(rt, alloc, seat, gate)?;
+        for word in 0..WORDS {
+            let bits = self.exchange.collect(&mut seat.place, word);
+            seat.requests = Requests { word, bits };
+            made += self.cancel_all(rt, alloc, seat, gate)?;
+        }
+        Ok(made)
+    }
+
+    /// Cancels what the seat's requests ask for, where it can be. It answers how many entries were made.
+    fn cancel_all<R: Wait, G: Gate>(
+        &self,
+        rt: &R,
+        alloc: Global,
+        seat: &mut WorkerSeat<N>,
+        gate: &mut G,
+    ) -> Result<u64, TurnFault>
+        requires seat { IsWorkerOf self.now.exchange seat.old.place }
+        requires waiting { waiting.tickets seat.old.waiting ≡ [] }
+        ensures seat { IsWorkerOf self.now.exchange seat.new.place }
+        ensures waiting { OnOk result (waiting.tickets seat.new.waiting ≡ []) }
+        ensures share { IfOk result (λ made. seat.new.share.amount ≡ seat.old.share.amount + made) }
+        ensures few { IfOk result (λ made. made ≤ 64) }
+        ensures grown { seat.old.share.amount ≤ seat.new.share.amount }
+        ensures parts { seat.new.share.parts ≡ seat.old.share.parts }
+    {
+        let mut made: u64 = 0;
+        if seat.requests.bits == 0 {
+            return Ok(made);
+        }
+        for bit in 0..64 {
+            if seat.requests.has(bit) {
+                made += self.cancel_one(rt, alloc, seat, gate, bit)? as u64;
+            }
+        }
+        Ok(made)
+    }
+
+    /// Cancels the operation that a bit of the seat's requests stands for, where it can be. It answers whether an entry was made.
+    fn cancel_one<R: Wait, G: Gate>(
+        &self,
+        rt: &R,
+        alloc: Global,
+        seat: &mut WorkerSeat<N>,
+        gate: &mut G,
+        bit: u32,
+    ) -> Result<bool, TurnFault>
+        requires bit { bit < 64 }
+        requires seat { IsWorkerOf self.now.exchange seat.old.place }
+        requires waiting { waiting.tickets seat.old.waiting ≡ [] }
+        ensures seat { IsWorkerOf self.now.exchange seat.new.place }
+        ensures waiting { OnOk result (waiting.tickets seat.new.waiting ≡ []) }
+        ensures share { IfOk result (λ made. seat.new.share.amount ≡ seat.old.share.amount + grows made) }
+        ensures grown { seat.old.share.amount ≤ seat.new.share.amount }
+        ensures parts { seat.new.share.parts ≡ seat.old.share.parts }
+    {
+        let machine = self.machine();
+        let serial = seat.requests.serial(bit);
+        seat.pass(gate);
+        let turned = self
+            .locked
+            .lock(rt)
+            .cancel(alloc, machine, &mut seat.share, serial)?;
+        seat.requests.remove(bit);
+        Ok(seat.settle(turned, None)?)
+    }
+}
