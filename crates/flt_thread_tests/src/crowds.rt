@@ -287,7 +287,7 @@ struct Count {
     all_odd: bool,
 }
 
-fn count(journal: &Journal) -> Count {
+fn counted(journal: &Journal) -> Count {
     let mut count = Count {
         arrivals: 0,
         cancels: 0,
@@ -322,7 +322,7 @@ fn eight_callers_beside_four_workers(rt: HostRuntime) -> Result<(), Fail> {
         arrivals,
         cancels,
         all_odd,
-    } = count(&journal);
+    } = counted(&journal);
     assert!(rt; arrivals == 200);
     assert!(rt; cancels <= 100);
     assert!(rt; all_odd);
