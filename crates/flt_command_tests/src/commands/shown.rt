@@ -23,7 +23,7 @@ struct Shown {
     drawn: Vec<u8>,
 }
 
-fn shown(alloc: Global, words: &[&str], is_writable: bool) -> Result<Shown, Fail> {
+fn show(alloc: Global, words: &[&str], is_writable: bool) -> Result<Shown, Fail> {
     let files = [
         ("journal", JOURNAL.as_bytes()),
         ("leaks", LEAKS.as_bytes()),
@@ -62,7 +62,7 @@ fn shown(alloc: Global, words: &[&str], is_writable: bool) -> Result<Shown, Fail
 #[test]
 fn shows_rows(rt: HostRuntime) -> Result<(), Fail> {
     let alloc = rt.alloc();
-    let told = shown(alloc, &["--timeline", "journal", "leaks"], true)?;
+    let told = show(alloc, &["--timeline", "journal", "leaks"], true)?;
     let wanted = format!(in alloc; "{ROWS}breaks V2 at 3\n")?;
     assert_eq!(rt; told.out.as_slice(), wanted.as_bytes());
     assert!(rt; told.err.is_empty() && told.drawn.is_empty());
@@ -74,13 +74,13 @@ fn shows_rows(rt: HostRuntime) -> Result<(), Fail> {
 #[test]
 fn draws_pictures(rt: HostRuntime) -> Result<(), Fail> {
     let alloc = rt.alloc();
-    let told = shown(alloc, &["--svg", "a.svg", "journal", "leaks"], true)?;
+    let told = show(alloc, &["--svg", "a.svg", "journal", "leaks"], true)?;
     assert_eq!(rt; told.out.as_slice(), b"breaks V2 at 3\n".as_slice());
     assert!(rt; told.err.is_empty());
     assert_eq!(rt; told.status, 1);
     assert!(rt; told.drawn.as_slice().starts_with(b"a.svg<svg "));
     assert!(rt; told.drawn.as_slice().ends_with(b"</svg>"));
-    let both = shown(
+    let both = show(
         alloc,
         &["--timeline", "--svg=b.svg", "journal", "leaks"],
         true,
@@ -95,11 +95,11 @@ fn draws_pictures(rt: HostRuntime) -> Result<(), Fail> {
 #[test]
 fn refuses_by_name(rt: HostRuntime) -> Result<(), Fail> {
     let alloc = rt.alloc();
-    let told = shown(alloc, &["--svg", "a.svg", "journal", "leaks"], false)?;
+    let told = show(alloc, &["--svg", "a.svg", "journal", "leaks"], false)?;
     assert!(rt; told.out.is_empty());
     assert_eq!(rt; told.err.as_slice(), b"cannot write a.svg\n".as_slice());
     assert_eq!(rt; told.status, 2);
-    let told = shown(alloc, &["--svg", "a.svg", "short", "leaks"], false)?;
+    let told = show(alloc, &["--svg", "a.svg", "short", "leaks"], false)?;
     assert!(rt; told.out.is_empty());
     assert_eq!(rt; told.err.as_slice(), b"journal line 2\n".as_slice());
     assert_eq!(rt; told.status, 2);
