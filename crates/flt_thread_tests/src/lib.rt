@@ -6,8 +6,4 @@ mod analyses;
 #[cfg(test)]
 mod cancel_pads;
 #[cfg(test)]
-mod crowds;
-#[cfg(test)]
-mod stacks;
-#[cfg(test)]
 mod tickets;
