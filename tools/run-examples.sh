@@ -5,7 +5,9 @@
 #       runs PROGRAM, else what `rt ci`, or `rt run` in crates/fltstack, made, and pipes each journal that `run` prints into `replay`,
 #       which must call it legal. Each accepted filter is also driven by scripts in which operations of each kind arrive, with a
 #       cancel, a detach or a refused choice at each place. Each journal of examples/verdicts/ must have the verdict that stands above
-#       it. Ends with status 1 at any difference: another exit status, another output, a byte on the standard error, a journal that
+#       it. `tools/run-cases` runs those of examples/cases/. Each report of a broken filter has a run, and `replay` says the same of the
+#       journal that `explain --journal` writes of it; of an accepted filter there is none. Ends with status 1 at any difference: another
+#       exit status, another output, a byte on the standard error, a journal that
 #       isn't legal, or a file of examples/ that no line of `expected` names.
 set -euo pipefail
 
@@ -62,6 +64,33 @@ is_legal() {
     done
     runs=$((runs + 1))
     [ "$("$program" replay - "${each[@]:1}" <"$work/out" 2>&1)" = legal ] || differs "$1: replay doesn't call its journal legal"
+}
+
+# has_journal WORDS: the report that was just printed has a run, `explain --journal` writes it, `replay` says the same of it on these
+# files, and it is no longer than the journal beside a single file.
+has_journal() {
+    local said beside
+    local -a each
+    read -ra each <<<"$1"
+    each=("${each[@]:1}")
+    beside=${each[0]%.flt}.journal
+    said=$(sed -n '/^   = journal: breaks/{s/^   = journal: \(breaks V[1-8] at [0-9]*\), .*/\1/p;q}' "$work/out")
+    rm -f "$work/found"
+    "$program" explain --journal "$work/found" "${each[@]}" >/dev/null 2>&1 || true
+    runs=$((runs + 1))
+    [ -n "$said" ] && [ "$("$program" replay "$work/found" "${each[@]}" 2>&1)" = "$said" ] ||
+        differs "$1: replay doesn't say of its journal that it '$said'"
+    [ ${#each[@]} -gt 1 ] || [ "$(wc -l <"$work/found")" -le "$(wc -l <"$beside")" ] || differs "$1: its journal is longer than $beside"
+}
+
+# has_no_journal FILE: `explain` finds nothing wrong with a filter, and writes no journal.
+has_no_journal() {
+    local status=0
+    rm -f "$work/found"
+    "$program" explain --journal "$work/found" "$1" >"$work/out" 2>&1 || status=$?
+    runs=$((runs + 1))
+    [ "$status" = 0 ] && [ "$(tail -1 "$work/out")" = 'nothing found' ] && [ ! -e "$work/found" ] ||
+        differs "explain --journal $1: status $status, or a journal"
 }
 
 # What arrives in each script of the sweep.
@@ -178,8 +207,11 @@ while IFS= read -r line; do
         wants "$words" "${rest%% *}" "${rest#* }"
         case $words' '${rest%% *} in
         'run '*' 0') is_legal "$words" ;;
+        'explain --'*) ;;
+        'explain '*.flt' 1') has_journal "$words" ;;
         'analyse '*' 0')
             accepted+=("${words#analyse }")
+            has_no_journal "${words#analyse }"
             sweep "${words#analyse }"
             ;;
         esac
@@ -199,7 +231,7 @@ done
 
 for file in *; do
     case $file in
-    README.md | expected | verdicts) ;;
+    README.md | expected | verdicts | cases) ;;
     *) grep -qF " $file " "$work/named" || differs "$file: no line of expected has it" ;;
     esac
 done
@@ -209,3 +241,4 @@ done
     exit 1
 }
 echo "$runs runs as expected"
+"$top/tools/run-cases" "$@"

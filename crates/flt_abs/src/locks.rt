@@ -91,6 +91,10 @@ impl LockList {
         ensures { result ≡ self.now }
     {
         let alloc = *self.locks.allocator();
+        // Mostly no lock is held.
+        if self.is_empty() {
+            return LockList::none(alloc);
+        }
         LockList {
             locks: SmallVec::from_slice(alloc, self.locks.as_slice()).unwrap(),
         }

@@ -1,8 +1,8 @@
 -- The first line of a text.
 use Rattle.std.proofs.Common.{◌≡◌, ◌<◌, ◌≤◌, ◌+◌, ℕ, suc, Bool, true, false, List, [], ◌∷◌, length, take, drop, refl, ap, arith}
-use Rattle.std.specs.Prelude.{◌==◌, nat_lt, if◌then◌else◌, Err, Some, None}
-use Rattle.std.specs.List.{position, position_or_len}
-use Rattle.std.proofs.lemmas.Bool.{eqb-true, ltb-true, ltb-false}
+use Rattle.std.specs.Prelude.{◌==◌, if◌then◌else◌, Err}
+use Rattle.std.specs.List.{position_or_len}
+use Rattle.std.proofs.lemmas.Bool.{eqb-true}
 use Rattle.flt_cert.specs.Text.{Text, lines_of, begun_by}
 use Rattle.flt_cert.specs.Reading.{Place, closed_by}
 
@@ -25,15 +25,10 @@ whole [] h = absurd (omega arith)
 whole (b ∷ text) h = first_byte b text (b == 10) refl h (whole text)
 
 -- a line that ends with LF
-pub whole_line : (text : Text) (place : ℕ) → position (λ b. b == 10) text ≡ Some place →
-    lines_of text ≡ take (place + 1) text ∷ lines_of (drop (place + 1) text)
+pub whole_line : (text : Text) (len : ℕ) → len ≡ position_or_len (λ b. b == 10) text → len < length text →
+    lines_of text ≡ take (len + 1) text ∷ lines_of (drop (len + 1) text)
 unfolding Whole
-whole_line text place h = at_place (nat_lt (length_before text) (length text)) refl h
-  where
-    at_place : (x : Bool) → nat_lt (length_before text) (length text) ≡ x → (if x then Some (length_before text) else None) ≡ Some place →
-        lines_of text ≡ take (place + 1) text ∷ lines_of (drop (place + 1) text)
-    at_place true e h = let same : length_before text ≡ place = cc in rw (← same) (whole text (ltb-true _ _ e))
-    at_place false e h = cc
+whole_line text len e h = rw e (whole text (rw e at h))
 
 unended : (text : Text) → length text ≤ length_before text → 0 < length text → lines_of text ≡ text ∷ []
 unended [] h k = absurd (omega arith)
@@ -54,14 +49,9 @@ nothing_after [] = refl
 nothing_after (b ∷ text) = nothing_after text
 
 -- the last line, without LF
-pub unended_line : (text : Text) → 0 < length text → position (λ b. b == 10) text ≡ None →
+pub unended_line : (text : Text) (len : ℕ) → 0 < length text → len ≡ position_or_len (λ b. b == 10) text → length text ≤ len →
     lines_of text ≡ take (length text) text ∷ lines_of (drop (length text) text)
-unended_line text k h = rw (whole_front text, nothing_after text) (at_place (nat_lt (length_before text) (length text)) refl h)
-  where
-    at_place : (x : Bool) → nat_lt (length_before text) (length text) ≡ x →
-        (if x then Some (length_before text) else None) ≡ None → lines_of text ≡ text ∷ []
-    at_place true e h = cc
-    at_place false e h = unended text (ltb-false _ _ e) k
+unended_line text len k e h = rw (whole_front text, nothing_after text) (unended text (rw e at h) k)
 
 -- a text that isn't empty has a line
 pub some_line : (text : Text) → 0 < length text → (line : Text) × (lines : List Text) × (lines_of text ≡ line ∷ lines)

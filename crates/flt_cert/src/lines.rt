@@ -2,7 +2,7 @@
 
 ghost use Rattle.std.specs.Prelude.{◌≡◌, ◌==◌, ◌<◌, ◌≤◌, ◌∷◌, length, take, drop, IfOk};
 ghost use Rattle.flt_cert.specs.Reading as spec;
-ghost use Rattle.std.specs.List.{position};
+ghost use Rattle.std.specs.List.{position_or_len};
 ghost use Rattle.flt_cert.specs.Text.{lines_of};
 
 use crate::fault::CertFault;
@@ -80,10 +80,40 @@ impl<'a> Lines<'a> {
     }
 }
 
-fn end_of_line(text: &[u8]) -> Option<usize>
-    ensures { result ≡ position (λ b. b == 10) text.now }
+/// How many of a few bytes stand before the first line feed.
+fn len_of_few(text: &[u8]) -> usize
+    ensures value { result ≡ position_or_len (λ b. b == 10) text.now }
+    ensures within { result ≤ length text.now }
 {
-    text.iter().position(|b| *b == b'\n')
+    let mut len = 0;
+    while len < text.len() && text[len] != b'\n' {
+        len += 1;
+    }
+    len
+}
+
+/// How many bytes stand before the first line feed, or are there at all. It looks at four at once.
+fn len_before_feed(text: &[u8]) -> usize
+    ensures { result ≡ position_or_len (λ b. b == 10) text.now }
+{
+    let mut rest = text;
+    while let [a, b, c, d, after @ ..] = rest {
+        let passed = text.len() - rest.len();
+        if *a == b'\n' {
+            return passed;
+        }
+        if *b == b'\n' {
+            return passed + 1;
+        }
+        if *c == b'\n' {
+            return passed + 2;
+        }
+        if *d == b'\n' {
+            return passed + 3;
+        }
+        rest = after;
+    }
+    text.len() - rest.len() + len_of_few(rest)
 }
 
 /// How long the first line is, with its LF if it has one.
@@ -94,8 +124,10 @@ fn line_len(text: &[u8]) -> usize
     ensures some { 0 < result }
     ensures lines { lines_of text.now ≡ take result text.now ∷ lines_of (drop result text.now) }
 {
-    match end_of_line(text) {
-        Some(place) => place + 1,
-        None => text.len(),
+    let len = len_before_feed(text);
+    if len < text.len() {
+        len + 1
+    } else {
+        text.len()
     }
 }

@@ -135,6 +135,10 @@ impl Drawn {
 }
 
 impl Pictures for Drawn {
+    ghost use Rattle.std.specs.Prelude.{⊤};
+
+    ghost written = { λ _ _ _. ⊤ };
+
     fn write(&mut self, name: &str, bytes: &[u8]) -> bool {
         self.is_writable
             && self.bytes.extend_from_slice(name.as_bytes()).is_ok()

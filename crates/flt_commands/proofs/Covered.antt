@@ -166,17 +166,17 @@ module _ (law : Law) (runs : LawOfRuns) where
   told_well Lines sources e told good = in_lines sources [] e.output.items e.status told good
   told_well Sarif sources e told good = in_results sources told.0 e.status told.1 good
 
-  explained : (form : Form) (names texts : List Text) (answer : Answer) → IsExplained form names texts (Ok answer) → status_of answer ≡ 0 →
-      IsClean (Explain form names) texts
-  explained form files texts (Explained e) said good = subst EachBreaksNothing said.given (told_well form said.sources e said.told good)
-  explained form files texts (Shown rows v) said good = absurd said
-  explained form files texts (has_page t) said good = absurd said
-  explained form files texts (has_run ran) said good = absurd said
-  explained form files texts (FileRefused n f) said good = absurd said
-  explained form files texts Accepted said good = absurd said
-  explained form files texts (Refused f) said good = absurd said
-  explained form files texts (Written c) said good = absurd said
-  explained form files texts (Judged v) said good = absurd said
+  explained : (form : Form) (states : ℕ) (journal : Option Text) (names texts : List Text) (answer : Answer) → IsExplained form journal names texts (Ok answer) → status_of answer ≡ 0 →
+      IsClean (Explain form states journal names) texts
+  explained form states journal files texts (Explained e) said good = subst EachBreaksNothing said.given (told_well form said.sources e.explained said.told good)
+  explained form states journal files texts (Shown rows v) said good = absurd said
+  explained form states journal files texts (has_page t) said good = absurd said
+  explained form states journal files texts (has_run ran) said good = absurd said
+  explained form states journal files texts (FileRefused n f) said good = absurd said
+  explained form states journal files texts Accepted said good = absurd said
+  explained form states journal files texts (Refused f) said good = absurd said
+  explained form states journal files texts (Written c) said good = absurd said
+  explained form states journal files texts (Judged v) said good = absurd said
 
   said_is_clean : (request : Asked) (texts : List Text) (answer : Answer) → IsSaidOf request texts (Ok answer) →
       status_of answer ≡ 0 → IsClean request texts
@@ -185,7 +185,7 @@ module _ (law : Law) (runs : LawOfRuns) where
   said_is_clean (Run workers quiet script files) texts answer said good = driven texts answer workers quiet script files said good
   said_is_clean (Replay journal files) texts answer said good = tt
   said_is_clean (Show timeline picture journal files) texts answer said good = tt
-  said_is_clean (Explain form files) texts answer said good = explained form files texts answer said good
+  said_is_clean (Explain form states journal files) texts answer said good = explained form states journal files texts answer said good
   said_is_clean (Page name) texts answer said good = tt
 
   of_said : (gives : Giving) (request : Asked) (said : Result Answer Failure) (bytes : List ℕ) → IsSaid gives request said →

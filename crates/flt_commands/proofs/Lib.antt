@@ -1,5 +1,6 @@
 pub mod Covered
 pub mod Firsts
+pub mod Kept
 pub mod OneAnalysis
 pub mod OneAnswer
 pub mod OneCheck

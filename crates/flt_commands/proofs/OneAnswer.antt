@@ -48,7 +48,7 @@ module _ (checked : SaysOne IsChecked) (analysed : SaysOne IsAnalysed) (replayed
   of_one (Analyse file) has = analysed
   of_one (Run workers quiet script files) has = absurd has
   of_one (Show timeline picture journal files) has = absurd has
-  of_one (Explain form files) has = absurd has
+  of_one (Explain form states journal files) has = absurd has
   of_one (Page name) has = absurd has
   of_one (Replay journal files) has = replayed
 

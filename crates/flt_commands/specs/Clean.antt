@@ -35,7 +35,7 @@ IsClean (Analyse file) (text ∷ []) = BreaksNothing text
 IsClean (Run workers quiet script files) (bytes ∷ texts) = BreakNothing texts
 IsClean (Replay journal files) texts = Unit {0}
 IsClean (Show timeline picture journal files) texts = Unit {0}
-IsClean (Explain form files) texts = EachBreaksNothing texts
+IsClean (Explain form states journal files) texts = EachBreaksNothing texts
 IsClean (Page name) texts = Unit {0}
 IsClean _ _ = ⊥
 

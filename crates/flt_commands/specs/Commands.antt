@@ -3,8 +3,8 @@ use Rattle.std.specs.Prelude.{◌≡◌, ◌≢◌, ℕ, false, List, [], ◌∷
 use Rattle.flt_commands.specs.Analyse.{IsAnalysed}
 use Rattle.flt_commands.specs.Answer.{is_cut_off, output, status_of}
 use Rattle.flt_commands.specs.Check.{IsChecked}
-use Rattle.flt_commands.specs.Explain.{IsExplained, IsPaged}
-use Rattle.flt_commands.specs.Inputs.{Giving, Says, Text}
+use Rattle.flt_commands.specs.Explain.{IsExplained, IsKept, IsPaged}
+use Rattle.flt_commands.specs.Inputs.{AreGiven, Giving, Says, Text}
 use Rattle.flt_commands.specs.Replay.{IsReplayed, IsShown}
 use Rattle.flt_commands.specs.Running.{IsRan}
 use Rattle.flt_words.specs.Request.{Asked, Check, Analyse, Run, Replay, Show, Explain, Page}
@@ -21,7 +21,7 @@ names_of (Analyse file) = file ∷ []
 names_of (Run workers quiet script files) = script ∷ files
 names_of (Replay journal files) = journal ∷ files
 names_of (Show timeline picture journal files) = journal ∷ files
-names_of (Explain form files) = files
+names_of (Explain form states journal files) = files
 names_of (Page name) = []
 
 -- what is said of the bytes that they give
@@ -31,12 +31,18 @@ IsSaidOf (Analyse file) = IsAnalysed
 IsSaidOf (Run workers quiet script files) = IsRan
 IsSaidOf (Replay journal files) = IsReplayed
 IsSaidOf (Show timeline picture journal files) = IsShown timeline picture
-IsSaidOf (Explain form files) = IsExplained form files
+IsSaidOf (Explain form states journal files) = IsExplained form journal files
 IsSaidOf (Page name) = λ texts. IsPaged name
 
 -- what is said of what is asked for: an answer, or why there is none
 abbrev pub IsSaid : Giving → Asked → Result Answer Failure → Type 0
 IsSaid gives request = Says gives (names_of request) (IsSaidOf request)
+
+-- where a file is named for the journal of a finding, it is written there
+abbrev pub KeepsFor : Giving → (Text → Text → Type 0) → Option Asked → Type 0
+KeepsFor gives written (Some (Explain form states (Some name) files)) =
+    (texts : List Text) × AreGiven gives files texts × IsKept written name texts
+KeepsFor gives written _ = Unit {0}
 
 -- nothing on the standard output, and the status 2: the words can't be taken, something can't be read, or is wrong
 abbrev pub IsNothing : List ℕ → ℕ → Type 0

@@ -31,7 +31,7 @@ AreSame a b = a ≢ Err OutOfMemory → b ≢ Err OutOfMemory → seen a ≡ see
 abbrev pub HasOneAnswer : Asked → Type 0
 HasOneAnswer (Run workers quiet script files) = ⊥
 HasOneAnswer (Show timeline picture journal files) = ⊥
-HasOneAnswer (Explain form files) = ⊥
+HasOneAnswer (Explain form states journal files) = ⊥
 HasOneAnswer (Page name) = ⊥
 HasOneAnswer _ = Unit {0}
 

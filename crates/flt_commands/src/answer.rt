@@ -6,7 +6,7 @@ ghost use Rattle.flt_commands.specs.Answer as spec;
 use flt_check::Refusal;
 use flt_driven::Ran;
 use flt_model::{Verdict, Violation};
-use flt_reports::Explained;
+use flt_notes::Told;
 use flt_rules::{Rule, number, text};
 use std::alloc::{AllocError, Global};
 use std::fmt;
@@ -22,8 +22,8 @@ pub enum Answer {
     Certificate(Vec<u8>),
     /// What a journal is.
     Judged(Verdict),
-    /// Reports of texts.
-    Explained(Explained),
+    /// Reports of texts, with what came of the findings in runs.
+    Explained(Told),
     /// The page of a rule, of a violation or of a fault of a text.
     Page(&'static str),
     /// What a script came to.
@@ -42,7 +42,7 @@ impl Answer {
         match self {
             Answer::Accepted | Answer::Certificate(_) | Answer::Judged(Verdict::Legal) => 0,
             Answer::Page(_) | Answer::Shown(_, Verdict::Legal) => 0,
-            Answer::Explained(explained) => explained.status,
+            Answer::Explained(told) => told.explained.status,
             Answer::Refused(_) | Answer::FileRefused(_, _) | Answer::Judged(_) => 1,
             Answer::Shown(_, _) => 1,
             Answer::Ran(ran) => { if ran.is_full { 2 } else { 0 } }
@@ -68,7 +68,7 @@ impl Answer {
     {
         let line = match self {
             Answer::Certificate(bytes) => return Ok(bytes),
-            Answer::Explained(explained) => return Ok(explained.output),
+            Answer::Explained(told) => return Ok(told.explained.output),
             Answer::Ran(ran) => return Ok(ran.journal),
             Answer::Shown(rows, verdict) => return shown(alloc, rows, verdict),
             Answer::Page(text) => String::from_str(alloc, text)?,

@@ -11,7 +11,7 @@ use crate::analyse::analyse_file;
 use crate::answer::Answer;
 use crate::check::check_files;
 use crate::clean::{covered_texts_break_nothing, driven_texts_break_nothing};
-use crate::explain::{explain_files, page_of};
+use crate::explain::{Asked, explain_files, page_of};
 use crate::failure::Failure;
 use crate::inputs::{Inputs, Pictures};
 use crate::replay::replay_files;
@@ -127,7 +127,7 @@ fn report<O: Sink, E: Sink>(
 
 /// Runs the command of a program's words, its own name left out, and answers the exit status: 0 for yes, 1 for no, and 2
 /// where there is no answer, or a journal was full before its script had ended. What it says goes to `out`, why there is no answer, or
-/// `full`, to `err`; a picture to `pictures`. Reports have the colours of a terminal where it is `coloured`. Where it drives filters, it shows the board to `watch` after each line of the script, unless it is asked to be quiet.
+/// `full`, to `err`; a picture or a journal to `pictures`. Reports have the colours of a terminal where it is `coloured`. Where it drives filters, it shows the board to `watch` after each line of the script, unless it is asked to be quiet.
 pub fn command<I: Inputs, P: Pictures, O: Sink, E: Sink, W: Watch>(
     alloc: Global,
     words: &[String],
@@ -146,6 +146,8 @@ pub fn command<I: Inputs, P: Pictures, O: Sink, E: Sink, W: Watch>(
     ensures memory { IfErr result (λ e. e ≡ CommandFault.OutOfMemory → (out.new ≡ out.old) × (err.new ≡ err.old)) }
     ensures quiet { IfOk result (λ status. status ≢ 2 → err.new ≡ err.old) }
     ensures clean { IfOk result (λ status. status ≡ 0 → YesIsClean (I.gives inputs.now) (asked (map string_bytes words.now))) }
+    ensures journal { IfOk result (λ status. status ≢ 2 →
+        spec.KeepsFor (I.gives inputs.now) (P.written pictures.new) (asked (map string_bytes words.now))) }
 {
     covered_texts_break_nothing();
     driven_texts_break_nothing();
@@ -196,8 +198,22 @@ pub fn command<I: Inputs, P: Pictures, O: Sink, E: Sink, W: Watch>(
             );
             report(alloc, said, out, err)
         }
-        Request::Explain { form, files } => {
-            let said = explain_files(alloc, coloured, form, inputs, files.as_slice());
+        Request::Explain {
+            form,
+            states,
+            journal,
+            files,
+        } => {
+            let asked = Asked { states, journal };
+            let said = explain_files(
+                alloc,
+                coloured,
+                form,
+                asked,
+                inputs,
+                files.as_slice(),
+                pictures,
+            );
             report(alloc, said, out, err)
         }
         Request::Page { name } => {

@@ -1,17 +1,22 @@
 //! What `explain` says of the names that it is given: reports of files, or a page.
 
-ghost use Rattle.std.specs.Prelude.{◌≡◌, IfOk, length, map};
+ghost use Rattle.std.specs.Prelude.{◌≡◌, IfOk, IsTrue, length, map, option_map};
 ghost use Rattle.flt_commands.specs.Explain as spec;
 ghost use Rattle.flt_commands.specs.Inputs.{Says};
+ghost use Rattle.flt_notes.specs.Noted.{first_journal};
+ghost use Rattle.flt_notes.specs.Told.{AreNoted};
 ghost use Rattle.flt_reports.specs.Reports.{texts_of};
 
 use crate::answer::Answer;
 use crate::failure::Failure;
-use crate::inputs::{Inputs, read_all};
+use crate::inputs::{Inputs, Pictures, read_all};
+use flt_driven::journal_bytes;
 use flt_forms::{lines, sarif};
+use flt_notes::{Noted, Told, explain, first_journal};
 use flt_pages::page;
-use flt_reports::{Explained, Source, explain};
+use flt_reports::Source;
 use flt_words::Form;
+use sqlite_items::Items;
 use std::alloc::{AllocError, Global};
 
 /// The texts, each under its name.
@@ -35,37 +40,93 @@ fn sources<'s, 'a: 's>(
     Ok(found)
 }
 
+/// What is asked of texts beside their reports.
+#[derive(Clone, Copy)]
+pub struct Asked<'a> {
+    /// How many states a round of the search for a run has at most.
+    pub states: u32,
+    /// The file into which the journal of the first finding that has one is written.
+    pub journal: Option<&'a str>,
+}
+
+/// What comes of findings in runs, where a journal is asked for.
+fn noted(
+    alloc: Global,
+    asked: Asked<'_>,
+    sources: &[Source<'_>],
+) -> Result<Items<Noted>, AllocError>
+    ensures { IfOk result (AreNoted (texts_of sources.now)) }
+{
+    if asked.journal.is_none() {
+        return Ok(Items::new(alloc));
+    }
+    let told = explain(alloc, false, sources, asked.states as usize)?;
+    Ok(told.noted)
+}
+
 /// What is found of some texts, in a form.
 fn told(
     alloc: Global,
     coloured: bool,
     form: Form,
+    asked: Asked<'_>,
     sources: &[Source<'_>],
-) -> Result<Explained, AllocError>
-    ensures { IfOk result (spec.IsTold form sources.now) }
+) -> Result<Told, AllocError>
+    ensures told { IfOk result (λ t. spec.IsTold form sources.now t.explained) }
+    ensures noted { IfOk result (λ t. AreNoted (texts_of sources.now) t.noted) }
+    ensures notes { IfOk result (spec.IsNoteTold form) }
 {
-    match form {
-        Form::Human => explain(alloc, coloured, sources),
-        Form::Lines => lines(alloc, sources),
-        Form::Sarif => sarif(alloc, sources),
+    let explained = match form {
+        Form::Human => return explain(alloc, coloured, sources, asked.states as usize),
+        Form::Lines => lines(alloc, sources)?,
+        Form::Sarif => sarif(alloc, sources)?,
+    };
+    let noted = noted(alloc, asked, sources)?;
+    Ok(Told { explained, noted })
+}
+
+/// Writes the journal of the first finding that has one, if there is one. Whether that could be done.
+fn write_journal<P: Pictures>(
+    alloc: Global,
+    name: &str,
+    noted: &[Noted],
+    pictures: &mut P,
+) -> Result<bool, AllocError>
+    ensures { IfOk result (λ done. IsTrue done → spec.IsSpelledAs (P.written pictures.new) name.now (first_journal noted.now)) }
+{
+    match first_journal(noted) {
+        Some(journal) => {
+            let bytes = journal_bytes(alloc, journal)?;
+            Ok(pictures.write(name, bytes.as_slice()))
+        }
+        None => Ok(true),
     }
 }
 
-/// What `explain` says of the names that it is given, in a form.
-pub fn explain_files<'a, I: Inputs>(
+/// What `explain` says of the names that it is given, in a form. The journal of the first finding that has one is written into a file,
+/// where one is named.
+pub fn explain_files<'a, I: Inputs, P: Pictures>(
     alloc: Global,
     coloured: bool,
     form: Form,
+    asked: Asked<'a>,
     inputs: &I,
     files: &[&'a str],
+    pictures: &mut P,
 ) -> Result<Answer, Failure<'a>>
-    ensures { Says (I.gives inputs.now) (map (λ name. name.now) files.now)
-        (spec.IsExplained form (map (λ name. name.now) files.now)) result }
+    ensures said { Says (I.gives inputs.now) (map (λ name. name.now) files.now)
+        (spec.IsExplained form (option_map (λ name. name.now) asked.entry.journal) (map (λ name. name.now) files.now)) result }
+    ensures written { IfOk result (spec.IsWritten (P.written pictures.new) (option_map (λ name. name.now) asked.entry.journal)) }
 {
     let texts = read_all(alloc, inputs, files)?;
     let sources = sources(alloc, files, texts.as_slice())?;
-    let explained = told(alloc, coloured, form, sources.as_slice())?;
-    Ok(Answer::Explained(explained))
+    let told = told(alloc, coloured, form, asked, sources.as_slice())?;
+    if let Some(name) = asked.journal {
+        if !write_journal(alloc, name, told.noted.as_slice(), pictures)? {
+            return Err(Failure::CannotWrite(name));
+        }
+    }
+    Ok(Answer::Explained(told))
 }
 
 /// The page of a name.

@@ -1,7 +1,7 @@
 //! What a command reads.
 
 ghost use Rattle.std.specs.Io.KnownBytes.{Consumes, IsAtEnd};
-ghost use Rattle.std.specs.Prelude.{◌≡◌, ◌≤◌, ℕ, List, Option, IfOk, IfErr, IfSome, length, map, option_map};
+ghost use Rattle.std.specs.Prelude.{◌≡◌, ◌≤◌, ℕ, List, Option, IfOk, IfErr, IfSome, IsTrue, length, map, option_map};
 ghost use Rattle.flt_commands.specs.Inputs as spec;
 
 use crate::failure::Failure;
@@ -18,10 +18,14 @@ pub trait Inputs {
         ensures { IfOk result (λ found. gives self.now name.now (option_map (λ v. v.items) found)) };
 }
 
-/// Where pictures are written.
+/// Where pictures and journals are written.
 pub trait Pictures {
+    // What holds once these bytes are written under a name.
+    ghost written: { Self → List ℕ → List ℕ → Type 0 };
+
     /// Writes these bytes as the file of this name. Whether that could be done.
-    fn write(&mut self, name: &str, bytes: &[u8]) -> bool;
+    fn write(&mut self, name: &str, bytes: &[u8]) -> bool
+        ensures { IsTrue result → written self.new name.now bytes.now };
 }
 
 /// How many bytes an input has at most.

@@ -12,3 +12,4 @@ mod written;
 pub use fault::RunFault;
 pub use flt_run::{Unwatched, Watch};
 pub use running::{Ran, run};
+pub use written::journal_bytes;

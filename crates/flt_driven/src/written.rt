@@ -30,7 +30,11 @@ impl Sink for Kept {
 }
 
 /// The one spelling of a journal.
-pub(crate) fn journal_bytes(alloc: Global, journal: &Journal) -> Result<Vec<u8>, AllocError>
+///
+/// # Errors
+///
+/// Where a growth was refused.
+pub fn journal_bytes(alloc: Global, journal: &Journal) -> Result<Vec<u8>, AllocError>
     ensures { IfOk result (λ bytes. bytes.items ≡ spelling journal.now) }
 {
     let mut kept = Kept {

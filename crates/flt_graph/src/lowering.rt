@@ -48,6 +48,18 @@ fn entry(block: &[Statement], at: usize, after: usize) -> usize
     if block.is_empty() { after } else { at }
 }
 
+/// Where a block begins that stands behind another one; how many points that one has is counted only if this one has some.
+fn entry_behind(before: &[Statement], block: &[Statement], at: usize, after: usize) -> usize
+    requires { at + points before.now ≤ max_points }
+    ensures { result ≡ entry_of block.now (at + points before.now) after }
+{
+    if block.is_empty() {
+        after
+    } else {
+        at + total(before)
+    }
+}
+
 /// What is done at the point of a statement, where it stands at a point and the next one at another.
 fn instruction(
     callbacks: &[Callback],
@@ -63,9 +75,9 @@ fn instruction(
         Statement::Call(_, call) => Instruction::Call(plain(*call), after, after),
         Statement::Return(_, status) => Instruction::Return(*status),
         Statement::If(_, condition, granted, refused) => {
-            let second = at + 1 + total(granted.as_slice());
-            let yes = entry(granted.as_slice(), at + 1, after);
-            let no = entry(refused.as_slice(), second, after);
+            let (granted, refused) = (granted.as_slice(), refused.as_slice());
+            let yes = entry(granted, at + 1, after);
+            let no = entry_behind(granted, refused, at + 1, after);
             match condition {
                 Condition::Test(test) => Instruction::Test(*test, yes, no),
                 Condition::Succeeds(call) => Instruction::Call(fallible(callbacks, call), yes, no),

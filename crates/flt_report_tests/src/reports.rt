@@ -1,8 +1,6 @@
 //! Whole reports, written by hand from the texts and the rules.
 
 use crate::reported::{Example, first_other};
-use flt_reports::{Source, explain};
-use std::alloc::{AllocError, Global};
 use std::test::Fail;
 
 const EXAMPLES: [Example; 9] = [
@@ -71,36 +69,9 @@ const EXAMPLES: [Example; 9] = [
     ),
 ];
 
-/// The status of a text that is fine, a broken one and one that doesn't parse, as far as they are asked for.
-fn status_of(alloc: Global, broken: bool, unread: bool) -> Result<u8, AllocError> {
-    let fine = Source {
-        name: "fine",
-        text: EXAMPLES[8].1.as_bytes(),
-    };
-    let leaked = Source {
-        name: "leaked",
-        text: EXAMPLES[0].1.as_bytes(),
-    };
-    let word = Source {
-        name: "word",
-        text: b"filter\n".as_slice(),
-    };
-    let second = if broken { leaked } else { fine };
-    let first = if unread { word } else { fine };
-    Ok(explain(alloc, true, &[first, second])?.status)
-}
-
 #[test]
 fn reports_within_memory(rt: HostRuntime) -> Result<(), Fail> {
     let other = first_other(rt.alloc(), &EXAMPLES)?;
     assert!(rt; other.is_none());
-    Ok(())
-}
-
-#[test]
-fn the_greatest_status_counts(rt: HostRuntime) -> Result<(), Fail> {
-    assert!(rt; status_of(rt.alloc(), false, false)? == 0);
-    assert!(rt; status_of(rt.alloc(), true, false)? == 1);
-    assert!(rt; status_of(rt.alloc(), true, true)? == 2);
     Ok(())
 }

@@ -1,7 +1,7 @@
 //! Whole reports of texts that don't parse, written by hand from the language and its words.
 
-use crate::reported::{Example, first_other};
-use flt_reports::{Explained, Source, explain};
+use crate::reported::{Example, first_other, report_of};
+use flt_reports::{Source, judge};
 use std::alloc::{AllocError, Global};
 use std::test::Fail;
 
@@ -58,7 +58,7 @@ const EXAMPLES: [Example; 7] = [
 ];
 
 /// What is reported of a text of 65,537 bytes, which is one too many.
-fn large(alloc: Global) -> Result<Explained, AllocError> {
+fn large(alloc: Global) -> Result<Vec<u8>, AllocError> {
     let mut text = Vec::new(alloc);
     for _byte in 0..65_537 {
         text.push(b' ')?;
@@ -67,7 +67,8 @@ fn large(alloc: Global) -> Result<Explained, AllocError> {
         name: "large.flt",
         text: text.as_slice(),
     };
-    explain(alloc, false, &[source])
+    let judged = judge(alloc, source.text)?;
+    report_of(alloc, source, &judged)
 }
 
 #[test]
@@ -80,9 +81,8 @@ fn reports_of_unread_texts_within_memory(rt: HostRuntime) -> Result<(), Fail> {
 #[test]
 fn the_report_of_a_text_that_is_too_large_within_memory(rt: HostRuntime) -> Result<(), Fail> {
     let told = large(rt.alloc())?;
-    assert!(rt; told.status == 2);
     assert!(rt;
-        told.output.as_slice()
+        told.as_slice()
             == b"error[E06]: the text is too large\n  --> large.flt:1:1\n   = help: a text has at most 65,536 bytes: split the filter\nsyntax 1:1 E06\n".as_slice()
     );
     Ok(())

@@ -1,10 +1,8 @@
-//! The line that ends a report.
+//! The lines that end reports.
 
-ghost use Rattle.std.specs.Prelude.{◌≡◌, ◌++◌, Some, OnOk};
+ghost use Rattle.std.specs.Prelude.{◌≡◌, ◌++◌, ◌∷◌, [], Some, IfOk, string_bytes};
 ghost use Rattle.flt_reports.specs.Closing as spec;
 
-use crate::judged::Judged;
-use crate::page::Page;
 use flt_explain::Finding;
 use flt_rules::{Rule, number, text};
 use flt_syntax::{FaultKind, SyntaxFault};
@@ -76,28 +74,31 @@ impl fmt::Display for SyntaxLine {
     }
 }
 
-/// Ends a report where there are findings, by the first of them.
-fn close_findings(alloc: Global, page: &mut Page, found: &[Finding]) -> Result<(), AllocError>
-    ensures { OnOk result (page.new.out.items ≡ page.old.out.items ++ spec.findings_closing found.now) }
+/// The last line of a report where these are found: where the first of them is, and its rule, or that nothing is found.
+///
+/// # Errors
+///
+/// Where a growth was refused.
+pub fn findings_line(alloc: Global, found: &[Finding]) -> Result<String, AllocError>
+    ensures { IfOk result (λ line. string_bytes line ≡ spec.findings_closing found.now) }
 {
-    let [first, ..] = found else {
-        return page.text("nothing found\n");
-    };
-    let line = RefusalLine(*first);
-    let line = format!(in alloc; "{line}\n")?;
-    page.text(line.as_str())
+    match found {
+        [first, ..] => {
+            let line = RefusalLine(*first);
+            format!(in alloc; "{line}\n")
+        }
+        [] => String::from_str(alloc, "nothing found\n"),
+    }
 }
 
-/// Ends a report by its last line.
-pub(crate) fn close(alloc: Global, page: &mut Page, judged: &Judged) -> Result<(), AllocError>
-    ensures { OnOk result (page.new.out.items ≡ page.old.out.items ++ spec.closing judged.now) }
+/// The last line of a report of a text that doesn't parse: its first fault.
+///
+/// # Errors
+///
+/// Where a growth was refused.
+pub fn fault_line(alloc: Global, fault: SyntaxFault) -> Result<String, AllocError>
+    ensures { IfOk result (λ line. string_bytes line ≡ spec.syntax_line fault ++ 10 ∷ []) }
 {
-    match judged {
-        Judged::Unread(fault) => {
-            let line = SyntaxLine(*fault);
-            let line = format!(in alloc; "{line}\n")?;
-            page.text(line.as_str())
-        }
-        Judged::Known(_, _, found) => close_findings(alloc, page, found.as_slice()),
-    }
+    let line = SyntaxLine(fault);
+    format!(in alloc; "{line}\n")
 }

@@ -1,5 +1,5 @@
 //! Reports for people: what is wrong with a text, with the lines that show it, a way that leads there, and how to mend it. It exports
-//! `explain`, and for other forms of reports `judge` and `details`.
+//! what is found of a text (`judge`), the parts of its report, which `flt_notes` puts together, and for other forms `details`.
 #![tactic(auto)]
 
 mod advice;
@@ -18,7 +18,7 @@ mod subjects;
 mod tracing;
 mod way_lines;
 
-pub use closing::{RuleName, fault_name};
+pub use closing::{RuleName, fault_line, fault_name, findings_line};
 pub use judged::{Judged, judge};
-pub use reports::{Explained, Source, explain};
+pub use reports::{Explained, Report, Source, report_findings, report_nothing, report_unread};
 pub use study::{Detail, Route, Stage, WayKind, Words, details};

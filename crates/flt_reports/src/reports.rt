@@ -1,12 +1,7 @@
-//! Reports of texts.
+//! Reports of texts, part by part.
 
-ghost use Rattle.std.specs.Prelude.{◌≡◌, IfOk, map, max};
-ghost use Rattle.flt_reports.specs.Reports as spec;
-
-use crate::closing::close;
 use crate::fault_report::report_fault;
 use crate::finding_report::{Scene, report_group};
-use crate::judged::{Judged, judge};
 use crate::page::Page;
 use crate::pieces::pieces;
 use crate::sites::Sites;
@@ -14,6 +9,7 @@ use crate::tracing::Traces;
 use flt_explain::Finding;
 use flt_graph::Graph;
 use flt_syntax::Tree;
+use sqlite_items::Items;
 use std::alloc::{AllocError, Global};
 
 /// A text, and the name under which it is reported.
@@ -30,41 +26,31 @@ pub struct Explained {
     pub status: u8,
 }
 
-/// Writes all findings of a text, those of one origin in one report.
-fn report_findings(
-    alloc: Global,
-    page: &mut Page,
-    scene: &Scene<'_>,
-    found: &[Finding],
-) -> Result<(), AllocError> {
-    let traces = Traces::of(alloc, scene.graph, found)?;
-    for group in traces.groups.as_slice() {
-        report_group(alloc, page, scene, &traces, group)?;
-    }
-    Ok(())
+/// What is reported of a finding, and of those of the same origin.
+#[derive(Drop)]
+pub struct Report {
+    /// The number of the finding among those of its text, from 0.
+    pub finding: usize,
+    /// Whether each way to it that was found breaks another rule before.
+    pub is_behind: bool,
+    /// Whole lines.
+    pub lines: Vec<u8>,
 }
 
-/// Says that nothing is found, and what that promises.
-fn report_nothing(page: &mut Page, source: Source<'_>) -> Result<(), AllocError> {
-    page.bytes(source.name.as_bytes())?;
-    page.text(": a certificate covers this text, so that no run of it breaks V1 to V8\n")?;
-    page.text("   = help: `fltstack analyse ")?;
-    page.bytes(source.name.as_bytes())?;
-    page.text("` prints the certificate\n")
-}
-
-/// Writes what is found of a text that parses.
-fn report_known(
+/// The reports of the findings of a text that parses, in their order, those of one origin in one report: each with the lines that show
+/// it, a way that leads there, and how to mend it. With `coloured`, marks of a terminal colour them.
+///
+/// # Errors
+///
+/// Where a growth was refused.
+pub fn report_findings(
     alloc: Global,
-    page: &mut Page,
+    coloured: bool,
     source: Source<'_>,
     tree: &Tree,
     graph: &Graph,
     found: &[Finding],
-) -> Result<(), AllocError> {
-    if found.is_empty() {
-        return report_nothing(page, source);
-    }
+) -> Result<Items<Report>, AllocError> {
     let pieces = pieces(alloc, source.text)?;
     let sites = Sites::of(alloc, source.text, pieces.as_slice())?;
     let scene = Scene {
@@ -74,73 +60,46 @@ fn report_known(
         tree,
         graph,
     };
-    report_findings(alloc, page, &scene, found)
-}
-
-/// Writes what is found of a text, but for the last line.
-fn report_judged(
-    alloc: Global,
-    page: &mut Page,
-    source: Source<'_>,
-    judged: &Judged,
-) -> Result<(), AllocError> {
-    match judged {
-        Judged::Unread(_) => report_fault(alloc, page, source.name, source.text),
-        Judged::Known(tree, graph, found) => {
-            report_known(alloc, page, source, tree, graph, found.as_slice())
-        }
+    let traces = Traces::of(alloc, graph, found)?;
+    let mut all = Items::new(alloc);
+    for group in traces.groups.as_slice() {
+        let mut page = Page::new(alloc, coloured);
+        report_group(alloc, &mut page, &scene, &traces, group)?;
+        all.push(Report {
+            finding: group.first.number,
+            is_behind: traces.is_behind(&group.first),
+            lines: page.out,
+        })?;
     }
+    Ok(all)
 }
 
-/// Writes what is found of a text, and gives its status.
-fn report(alloc: Global, page: &mut Page, source: Source<'_>) -> Result<u8, AllocError>
-    ensures { IfOk result (spec.IsReport source.entry.text.now page.new.out.items) }
-{
-    let judged = judge(alloc, source.text)?;
-    report_judged(alloc, page, source, &judged)?;
-    close(alloc, page, &judged)?;
-    Ok(judged.status())
-}
-
-fn greater(a: u8, b: u8) -> u8
-    ensures { result ≡ max a b }
-{
-    if a < b { b } else { a }
-}
-
-/// Writes what is found of each text, and gives the greatest status.
-fn report_all(alloc: Global, page: &mut Page, sources: &[Source<'_>]) -> Result<u8, AllocError>
-    ensures { IfOk result (spec.AreReports (spec.texts_of sources.now) page.new.out.items) }
-{
-    match sources {
-        [] => Ok(0),
-        [source] => report(alloc, page, *source),
-        [source, others @ ..] => {
-            let first = report(alloc, page, *source)?;
-            page.text("\n")?;
-            let rest = report_all(alloc, page, others)?;
-            Ok(greater(first, rest))
-        }
-    }
-}
-
-/// What is wrong with some texts, for people to read: each finding with the lines that show it, a way that leads there, and how to
-/// mend it. The last line of each text is what `analyse` says of it, or `nothing found`. With `coloured`, marks of a terminal colour it.
+/// What is reported of a text of which nothing is found, and what that promises; whole lines.
 ///
 /// # Errors
 ///
 /// Where a growth was refused.
-pub fn explain(
+pub fn report_nothing(alloc: Global, source: Source<'_>) -> Result<Vec<u8>, AllocError> {
+    let mut page = Page::new(alloc, false);
+    page.bytes(source.name.as_bytes())?;
+    page.text(": a certificate covers this text, so that no run of it breaks V1 to V8\n")?;
+    page.text("   = help: `fltstack analyse ")?;
+    page.bytes(source.name.as_bytes())?;
+    page.text("` prints the certificate\n")?;
+    Ok(page.out)
+}
+
+/// What is reported of a text that doesn't parse: where and why, and how to mend it; nothing of one that parses. Whole lines.
+///
+/// # Errors
+///
+/// Where a growth was refused.
+pub fn report_unread(
     alloc: Global,
     coloured: bool,
-    sources: &[Source<'_>],
-) -> Result<Explained, AllocError>
-    ensures { IfOk result (λ e. spec.AreReports (spec.texts_of sources.now) e.output.items e.status) }
-{
+    source: Source<'_>,
+) -> Result<Vec<u8>, AllocError> {
     let mut page = Page::new(alloc, coloured);
-    let status = report_all(alloc, &mut page, sources)?;
-    Ok(Explained {
-        output: page.out,
-        status,
-    })
+    report_fault(alloc, &mut page, source.name, source.text)?;
+    Ok(page.out)
 }

@@ -155,4 +155,12 @@ impl Traces {
     pub(crate) fn shown(&self, traced: &Traced) -> Option<&Shown> {
         self.shown.get(traced.number)
     }
+
+    /// Whether each way to a finding that was found breaks another rule before.
+    pub(crate) fn is_behind(&self, traced: &Traced) -> bool {
+        match self.shown(traced) {
+            Some(shown) => matches!(shown.answer, Answer::Behind(_)),
+            None => false,
+        }
+    }
 }

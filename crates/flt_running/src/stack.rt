@@ -108,7 +108,8 @@ impl<N: StackName> Stack<N> {
     ///
     /// # Errors
     ///
-    /// There are 1,000,000 entries or 65,536 operations, or a growth was refused.
+    /// There are 1,000,000 entries or 65,536 operations, or a growth was refused. Where one was refused after the ticket had been put, this
+    /// stays until a worker takes it, and no move comes of it.
     pub fn arrive<R: Wait>(
         &self,
         rt: &R,
@@ -151,6 +152,8 @@ impl<N: StackName> Stack<N> {
     /// # Errors
     ///
     /// The first of these: no filter has the altitude; its teardown has begun before; there are 1,000,000 entries; a growth was refused.
+    /// Where one was refused after tickets had been put, these stay, and no move comes of them. A worker drops those of entries. That of
+    /// the teardown goes to the back each time, so that `work` ends after 1,000,000 tickets from then on.
     pub fn detach<R: Wait>(
         &self,
         rt: &R,

@@ -2,6 +2,7 @@ pub mod Complete
 pub mod CompleteCalls
 pub mod CompleteFiles
 pub mod CompleteStatements
+pub mod Cut
 pub mod FineCalls
 pub mod FineFiles
 pub mod FirstBytes

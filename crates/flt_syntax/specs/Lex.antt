@@ -23,6 +23,10 @@ past b at = if b == 10 then record { line = at.line + 1; column = 1 } else recor
 abbrev pub one_column_on : Position → Position
 one_column_on at = record { line = at.line; column = at.column + 1 }
 
+-- where a text ends, by how many bytes its last line has: behind the last of them, or at `end` where there are none
+abbrev pub end_of : ℕ → ℕ → Position → Position
+end_of line from end = if from == 0 then end else record { line = line; column = from - 0 + 1 }
+
 -- ---- words and numbers
 
 -- `==` on kinds
@@ -79,6 +83,20 @@ token z =
     else (if b == 60 then (word k.Less, 1) else (if b == 43 then (word k.Plus, 1) else (if b == 45 then (word k.Minus, 1)
     else (if b == 61 then pair_or k.Equal k.Assign z else (if b == 33 then pair_or k.NotEqual k.Stray z
     else (if is_word b then run z else (word k.Stray, 1))))))))
+
+-- the token at the front of a text that stands at a place, behind so many bytes, and its length
+abbrev pub token_at : Position → ℕ → Text → Token × ℕ
+token_at at start z = let t = token z in (record { word = t.0; position = at; start = start; end = start + t.1 }, t.1)
+
+-- what follows the spaces at the front of a text
+abbrev pub after_spaces : Text → Text
+after_spaces [] = []
+after_spaces (b ∷ z) = if b == 32 then after_spaces z else b ∷ z
+
+-- what follows a comment: its line feed, or nothing at the end of the text
+abbrev pub after_comment : Text → Text
+after_comment [] = []
+after_comment (b ∷ z) = if b == 10 then b ∷ z else after_comment z
 
 -- what is no token, at which reading ends
 abbrev pub is_fault : Kind → Bool

@@ -1,6 +1,6 @@
 //! Cuts a text into tokens.
 
-ghost use Rattle.std.specs.Prelude.{◌≡◌, ◌≢◌, ◌<◌, ◌≤◌, ◌+◌, ◌^◌, length, map, slice_index, IfOk, true, false};
+ghost use Rattle.std.specs.Prelude.{◌≡◌, ◌≢◌, ◌<◌, ◌≤◌, ◌+◌, ◌-◌, ◌^◌, length, map, slice_index, IfOk, true, false};
 ghost use Rattle.std.specs.List.{prefix_len};
 ghost use Rattle.std.specs.Str.{bytes_eq};
 ghost use Rattle.flt_syntax.specs.Lex as spec;
@@ -9,12 +9,35 @@ ghost use Rattle.flt_syntax.specs.Written.{ReadsBackWords};
 ghost use Rattle.flt_tree.specs.Names as names;
 
 use crate::token::{Kind, Token, Word};
-use crate::words::words_from;
+use crate::words::{variables, words_from};
 use flt_tree::Position;
 use sqlite_items::Items;
 use std::alloc::{AllocError, Global};
 
 const MAX_WORD: usize = 64;
+
+/// Which bytes stand in words: letters, digits and `_`.
+const WORD_BYTES: [bool; 256] = [
+    false, false, false, false, false, false, false, false, false, false, false, false, false,
+    false, false, false, false, false, false, false, false, false, false, false, false, false,
+    false, false, false, false, false, false, false, false, false, false, false, false, false,
+    false, false, false, false, false, false, false, false, false, true, true, true, true, true,
+    true, true, true, true, true, false, false, false, false, false, false, false, true, true,
+    true, true, true, true, true, true, true, true, true, true, true, true, true, true, true, true,
+    true, true, true, true, true, true, true, true, false, false, false, false, true, false, true,
+    true, true, true, true, true, true, true, true, true, true, true, true, true, true, true, true,
+    true, true, true, true, true, true, true, true, true, false, false, false, false, false, false,
+    false, false, false, false, false, false, false, false, false, false, false, false, false,
+    false, false, false, false, false, false, false, false, false, false, false, false, false,
+    false, false, false, false, false, false, false, false, false, false, false, false, false,
+    false, false, false, false, false, false, false, false, false, false, false, false, false,
+    false, false, false, false, false, false, false, false, false, false, false, false, false,
+    false, false, false, false, false, false, false, false, false, false, false, false, false,
+    false, false, false, false, false, false, false, false, false, false, false, false, false,
+    false, false, false, false, false, false, false, false, false, false, false, false, false,
+    false, false, false, false, false, false, false, false, false, false, false, false, false,
+    false, false, false, false, false, false, false, false, false, false,
+];
 
 /// Whether both are one kind.
 #[tactic(auto, unfolding(crate::specs::Lex::same_kind))]
@@ -32,23 +55,24 @@ fn word(kind: Kind) -> Word
     Word { kind, value: 0 }
 }
 
-/// The place of the byte after `b`, which stands at a place.
-fn past(b: u8, at: Position) -> Position
-    requires line { at.line < 2 ^ 32 }
-    requires column { at.column < 2 ^ 32 }
-    ensures { result ≡ spec.past b at }
+/// The place in a line at which so many bytes are left, of those that were left at its start.
+fn place(line: usize, from: usize, left: usize) -> Position
+    requires within { left ≤ from }
+    requires small { from < 2 ^ 32 }
+    ensures { result ≡ record { line = line; column = from - left + 1 } }
 {
-    if b == b'\n' {
-        Position {
-            line: at.line + 1,
-            column: 1,
-        }
-    } else {
-        Position {
-            line: at.line,
-            column: at.column + 1,
-        }
+    Position {
+        line,
+        column: from - left + 1,
     }
+}
+
+/// Where a text ends: behind its last byte, or at `end` where that is a line feed.
+fn end_of(line: usize, from: usize, end: Position) -> Position
+    requires { from < 2 ^ 32 }
+    ensures { result ≡ spec.end_of line from end }
+{
+    if from == 0 { end } else { place(line, from, 0) }
 }
 
 fn is_blank(b: u8) -> bool
@@ -60,7 +84,7 @@ fn is_blank(b: u8) -> bool
 fn is_word(b: u8) -> bool
     ensures { result ≡ names.is_word b }
 {
-    b.is_ascii_alphanumeric() || b == b'_'
+    WORD_BYTES[b as usize]
 }
 
 /// Whether a name is a word: as long, and of the same bytes.
@@ -89,6 +113,7 @@ fn kind_of(name: &[u8]) -> Kind
     ensures { result ≡ spec.lookup vocabulary name.now }
 {
     match name {
+        [letter, digit] => lookup(variables(*letter, *digit), name),
         [first, ..] => lookup(words_from(*first), name),
         [] => Kind::Name,
     }
@@ -200,58 +225,92 @@ fn token(z: &[u8]) -> (Word, usize)
     }
 }
 
+/// The token at the front of a text that stands at a place, behind so many bytes, and its length.
+fn token_at(at: Position, start: usize, z: &[u8]) -> (Token, usize)
+    requires some { 0 < length z.now }
+    requires small { start + length z.now < 2 ^ 32 }
+    ensures value { result ≡ spec.token_at at start z.now }
+    ensures within { (1 ≤ result.1) × (result.1 ≤ length z.now) }
+{
+    let (word, len) = token(z);
+    let token = Token {
+        word,
+        position: at,
+        start,
+        end: start + len,
+    };
+    (token, len)
+}
+
 fn is_fault(kind: Kind) -> bool
     ensures { result ≡ spec.is_fault kind }
 {
     matches!(kind, Kind::Stray | Kind::Malformed)
 }
 
+/// What follows the spaces at the front of a text.
+fn after_spaces(mut rest: &[u8]) -> &[u8]
+    ensures { result.now ≡ spec.after_spaces rest.entry.now }
+{
+    while let [b' ', after @ ..] = rest {
+        rest = after;
+    }
+    rest
+}
+
+/// What follows a comment: its line feed, or nothing at the end of the text.
+fn after_comment(mut rest: &[u8]) -> &[u8]
+    ensures { result.now ≡ spec.after_comment rest.entry.now }
+{
+    while let [b, after @ ..] = rest {
+        if *b == b'\n' {
+            return rest;
+        }
+        rest = after;
+    }
+    rest
+}
+
 /// The tokens up to the end or the first that is none.
-#[tactic(auto, unfolding(crate::specs::Lex::tokens))]
 pub fn tokens(alloc: Global, text: &[u8]) -> Result<Items<Token>, AllocError>
     requires { length text.now < 2 ^ 32 }
     ensures { IfOk result (λ ts. ts ≡ spec.tokens text.now) }
 {
     let mut found = Items::new(alloc);
-    let mut left = 0;
-    let mut comment = false;
-    let mut last = 0;
-    let mut at = Position { line: 1, column: 0 };
-    let mut offset = 0;
+    let mut line = 1;
+    // How many bytes were left at the start of the line, and where the text ends if it does there.
+    let mut from = text.len();
+    let mut end = place(1, 0, 0);
     let mut rest = text;
     while let [b, after @ ..] = rest {
-        at = past(last, at);
-        if left > 0 {
-            left -= 1;
-        } else if comment {
-            comment = *b != b'\n';
-        } else if *b == b'#' {
-            comment = true;
-        } else if !is_blank(*b) {
-            let (word, len) = token(rest);
-            found.push(Token {
-                word,
-                position: at,
-                start: offset,
-                end: offset + len,
-            })?;
-            if is_fault(word.kind) {
-                return Ok(found);
-            }
-            left = len - 1;
+        if *b == b'\n' {
+            end = place(line, from, after.len());
+            line += 1;
+            from = after.len();
+            rest = after;
+            continue;
         }
-        last = *b;
-        offset += 1;
-        rest = after;
+        if is_blank(*b) {
+            rest = after_spaces(after);
+            continue;
+        }
+        if *b == b'#' {
+            rest = after_comment(after);
+            continue;
+        }
+        let at = place(line, from, rest.len());
+        let (token, len) = token_at(at, text.len() - rest.len(), rest);
+        found.push(token)?;
+        if is_fault(token.word.kind) {
+            return Ok(found);
+        }
+        rest = &rest[len..];
     }
     found.push(Token {
         word: word(Kind::End),
-        position: Position {
-            line: at.line,
-            column: at.column + 1,
-        },
-        start: offset,
-        end: offset,
+        position: end_of(line, from, end),
+        start: text.len(),
+        end: text.len(),
     })?;
     Ok(found)
 }

@@ -191,3 +191,62 @@ pub(crate) fn words_from(first: u8) -> &'static [(&'static [u8], Kind)]
         _ => keywords(),
     }
 }
+
+/// The words that begin with `c` and a digit; all with `c` where none begins so.
+fn contexts(digit: u8) -> &'static [(&'static [u8], Kind)]
+    ensures { (rest : Text) → lookup (map (λ e. (e.0.now, e.1)) result.now) (99 ∷ (digit ∷ rest)) ≡ lookup vocabulary (99 ∷ (digit ∷ rest)) }
+{
+    match digit {
+        b'0' => &LOWER_C[4..5],
+        b'1' => &LOWER_C[5..6],
+        b'2' => &LOWER_C[6..7],
+        b'3' => &LOWER_C[7..8],
+        b'4' => &LOWER_C[8..9],
+        b'5' => &LOWER_C[9..10],
+        b'6' => &LOWER_C[10..11],
+        b'7' => &LOWER_C[11..12],
+        _ => words_from(b'c'),
+    }
+}
+
+/// The words that begin with `n` and a digit; all with `n` where none begins so.
+fn numbers(digit: u8) -> &'static [(&'static [u8], Kind)]
+    ensures { (rest : Text) → lookup (map (λ e. (e.0.now, e.1)) result.now) (110 ∷ (digit ∷ rest)) ≡ lookup vocabulary (110 ∷ (digit ∷ rest)) }
+{
+    match digit {
+        b'0' => &LOWER_N[0..1],
+        b'1' => &LOWER_N[1..2],
+        b'2' => &LOWER_N[2..3],
+        b'3' => &LOWER_N[3..4],
+        b'4' => &LOWER_N[4..5],
+        b'5' => &LOWER_N[5..6],
+        b'6' => &LOWER_N[6..7],
+        b'7' => &LOWER_N[7..8],
+        _ => words_from(b'n'),
+    }
+}
+
+/// The words that begin with `o` and a digit; all with `o` where none begins so.
+fn operations(digit: u8) -> &'static [(&'static [u8], Kind)]
+    ensures { (rest : Text) → lookup (map (λ e. (e.0.now, e.1)) result.now) (111 ∷ (digit ∷ rest)) ≡ lookup vocabulary (111 ∷ (digit ∷ rest)) }
+{
+    match digit {
+        b'0' => &LOWER_O[1..2],
+        b'1' => &LOWER_O[2..3],
+        b'2' => &LOWER_O[3..4],
+        b'3' => &LOWER_O[4..5],
+        _ => words_from(b'o'),
+    }
+}
+
+/// The words that begin with two bytes: one for a variable's, and else those that begin with the first of them.
+pub(crate) fn variables(letter: u8, digit: u8) -> &'static [(&'static [u8], Kind)]
+    ensures { (rest : Text) → lookup (map (λ e. (e.0.now, e.1)) result.now) (letter ∷ (digit ∷ rest)) ≡ lookup vocabulary (letter ∷ (digit ∷ rest)) }
+{
+    match letter {
+        b'c' => contexts(digit),
+        b'n' => numbers(digit),
+        b'o' => operations(digit),
+        _ => words_from(letter),
+    }
+}

@@ -44,6 +44,18 @@ quiet_rule = record (new_rule (codes "quiet")) { long = Some (codes "quiet"); ac
 abbrev pub form_rule : Rule
 form_rule = record (new_rule (codes "form")) { long = Some (codes "form"); value_names = 1 }
 
+-- `--states N`, a number from 1 to 100,000,000
+abbrev pub states_rule : Rule
+states_rule = record (new_rule (codes "states")) {
+  long = Some (codes "states");
+  value_names = 1;
+  parser = Some (Signed (pos 1) (pos 100000000));
+}
+
+-- `--journal FILE`
+abbrev pub written_rule : Rule
+written_rule = record (new_rule (codes "journal")) { long = Some (codes "journal"); value_names = 1 }
+
 -- `--timeline`
 abbrev pub timeline_rule : Rule
 timeline_rule = record (new_rule (codes "timeline")) { long = Some (codes "timeline"); action = Some SetTrue }
@@ -79,9 +91,9 @@ replay_app = with_rule (with_rule (with_rule (with_rule bare_replay_app timeline
 abbrev pub bare_explain_app : App
 bare_explain_app = new_app (codes "explain")
 
--- `explain [--form FORM] FILE..`
+-- `explain [--form FORM] [--states N] [--journal FILE] FILE..`
 abbrev pub explain_app : App
-explain_app = with_rule (with_rule bare_explain_app form_rule) texts_rule
+explain_app = with_rule (with_rule (with_rule (with_rule bare_explain_app form_rule) states_rule) written_rule) texts_rule
 
 -- the program without its commands: one is asked for, the program's own name is left out, and `--version` answers
 abbrev pub bare_app : App

@@ -12,7 +12,7 @@ pub data Asked : Type 0 where
   Run : (workers : ℕ) (quiet : Bool) (script : Text) (files : List Text) → Asked
   Replay : (journal : Text) (files : List Text) → Asked
   Show : (timeline : Bool) (picture : Option Text) (journal : Text) (files : List Text) → Asked
-  Explain : (form : Form) (files : List Text) → Asked
+  Explain : (form : Form) (states : ℕ) (journal : Option Text) (files : List Text) → Asked
   Page : (name : Text) → Asked
 
 -- what a request asks for, none where it is for a text of the program's own: its use, or its version
@@ -23,6 +23,7 @@ asked_of (request.Run workers quiet script files) = Some (Run workers quiet scri
 asked_of (request.Replay journal files) = Some (Replay journal.now (map (λ name. name.now) files.items))
 asked_of (request.Show timeline picture journal files) =
     Some (Show timeline (option_map (λ name. name.now) picture) journal.now (map (λ name. name.now) files.items))
-asked_of (request.Explain form files) = Some (Explain form (map (λ name. name.now) files.items))
+asked_of (request.Explain form states journal files) =
+    Some (Explain form states (option_map (λ name. name.now) journal) (map (λ name. name.now) files.items))
 asked_of (request.Page name) = Some (Page name.now)
 asked_of (request.Usage text) = None

@@ -1,7 +1,10 @@
 -- What the words of a command line ask for. This project's own program.
-use Rattle.std.specs.Prelude.{ℕ, ◌==◌, List, [], ◌∷◌, Bool, true, false, Option, Some, None, codes, if◌then◌else◌, unwrap_or, option_and_then, option_map}
+use Rattle.std.specs.Char.{digit_value}
+use Rattle.std.specs.List.{list_all}
+use Rattle.std.specs.Prelude.{ℕ, ◌==◌, ◌&&◌, List, [], ◌∷◌, Bool, true, false, Option, Some, None, codes, if◌then◌else◌, length, nat_lt, unwrap_or, option_and_then, option_map}
 use Rattle.std.specs.Option.{option_map_or}
 use Rattle.std.specs.Str.{bytes_eq}
+use Rattle.std.specs.Str.Parse.{digits_value, without_leading_plus}
 use Rattle.clap.specs.Faults.{fault_of}
 use Rattle.clap.specs.Kinds.{Kinds}
 use Rattle.clap.specs.Simple.{subcommand_of}
@@ -27,6 +30,17 @@ files_of rows = unwrap_or (all_of (codes "FILE") rows) []
 -- the number behind `--workers`, 1 where there is none
 abbrev pub workers_of : List Row → ℕ
 workers_of rows = option_map_or byte_or_zero (first_of (codes "workers") rows) 1
+
+-- `text.parse::<u32>().unwrap_or(0)`
+abbrev pub count_or_zero : Text → ℕ
+count_or_zero text =
+    let ds = without_leading_plus text in
+    if nat_lt 0 (length ds) && list_all (λ d. nat_lt (digit_value d) 10) ds && nat_lt (digits_value 10 ds) 4294967296
+    then digits_value 10 ds else 0
+
+-- the number behind `--states`, 20,000 where there is none
+abbrev pub states_of : List Row → ℕ
+states_of rows = option_map_or count_or_zero (first_of (codes "states") rows) 20000
 
 -- a flag is there
 abbrev pub is_set : Text → List Row → Bool
@@ -68,13 +82,14 @@ replay_of rows =
     replay_by (is_set (codes "timeline") rows) (first_of (codes "svg") rows) (text_of (codes "JOURNAL") rows) (files_of rows)
 
 -- for people one name that a page has asks for the page, all else for reports
-abbrev pub explain_of : Form → List Text → Asked
-explain_of Human (name ∷ []) = if has_page name then Page name else Explain Human (name ∷ [])
-explain_of form files = Explain form files
+abbrev pub explain_of : Form → ℕ → Option Text → List Text → Asked
+explain_of Human states journal (name ∷ []) = if has_page name then Page name else Explain Human states journal (name ∷ [])
+explain_of form states journal files = Explain form states journal files
 
 -- a form that there isn't asks for nothing
 abbrev pub explain_by : List Row → Option Asked
-explain_by rows = option_map (λ form. explain_of form (files_of rows)) (form_of rows)
+explain_by rows =
+    option_map (λ form. explain_of form (states_of rows) (first_of (codes "journal") rows) (files_of rows)) (form_of rows)
 
 -- what a subcommand with its arguments asks for
 abbrev pub asked_by : Text × List Row → Option Asked

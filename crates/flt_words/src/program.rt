@@ -89,6 +89,31 @@ fn form_argument<'a>(alloc: Global) -> Arg<'a>
     )
 }
 
+/// The option `--states`.
+fn states_argument<'a>(alloc: Global) -> Arg<'a>
+    ensures rule { rule_of result ≡ spec.states_rule }
+    ensures own { result.global ≡ false }
+{
+    Arg::new(alloc, "states")
+        .long("states")
+        .value_name("N")
+        .value_parser(value_parser!(u32).range(1..=100_000_000))
+        .help(
+            "How many states each round of the search for a run has at most; 20000 where nothing is said",
+        )
+}
+
+/// The option `--journal`.
+fn written_argument<'a>(alloc: Global) -> Arg<'a>
+    ensures rule { rule_of result ≡ spec.written_rule }
+    ensures own { result.global ≡ false }
+{
+    Arg::new(alloc, "journal")
+        .long("journal")
+        .value_name("JOURNAL")
+        .help("Write the journal of the first finding that has one into this file")
+}
+
 /// The flag `--timeline`.
 fn timeline_argument<'a>(alloc: Global) -> Arg<'a>
     ensures rule { rule_of result ≡ spec.timeline_rule }
@@ -194,10 +219,10 @@ fn bare_explain<'a>(alloc: Global) -> Command<'a>
             "Says all that is wrong with filters' texts, where it comes from, how to get there and how to mend it",
         )
         .override_usage(
-            "fltstack explain [--form <FORM>] <FILE>...\n       fltstack explain <R01 to R15, V1 to V8 or E01 to E08>",
+            "fltstack explain [--form <FORM>] [--states <N>] [--journal <JOURNAL>] <FILE>...\n       fltstack explain <R01 to R15, V1 to V8 or E01 to E08>",
         )
         .after_help(
-            "Prints a report for each finding, and last what `analyse` says (exit 1), or `nothing found` (exit 0).\nWhere a text doesn't parse, it says where and why (exit 2). `--form lines` prints a JSON object for each\nfinding, `--form sarif` a SARIF document. Of a rule, a violation or a fault of a text it prints the page\n(exit 0); `./R02` is a file of that name. Errors go to the standard error with exit 2.\n\nExample: fltstack explain examples/leaked_context.flt",
+            "Prints a report for each finding, with a run that breaks something because of it, and last what `analyse`\nsays (exit 1), or `nothing found` (exit 0). Where a text doesn't parse, it says where and why (exit 2).\n`--form lines` prints a JSON object for each finding, `--form sarif` a SARIF document. Of a rule, a violation\nor a fault of a text it prints the page (exit 0); `./R02` is a file of that name. Errors go to the standard\nerror with exit 2.\n\nExample: fltstack explain examples/leaked_context.flt",
         )
 }
 
@@ -206,6 +231,8 @@ fn explain_command<'a>(alloc: Global) -> Result<Command<'a>, AllocError>
 {
     bare_explain(alloc)
         .arg(form_argument(alloc))?
+        .arg(states_argument(alloc))?
+        .arg(written_argument(alloc))?
         .arg(texts_argument(
             alloc,
             "The filters' texts; or the number of a rule, a violation or a fault of a text, alone",

@@ -45,9 +45,13 @@ pub enum Request<'a> {
         journal: &'a str,
         files: Vec<&'a str>,
     },
-    /// Say all that is wrong with the texts of some files.
+    /// Say all that is wrong with the texts of some files, and what comes of it in runs.
     Explain {
         form: Form,
+        /// How many states a round of the search for a run has at most.
+        states: u32,
+        /// The file into which the journal of the first finding that has one is written.
+        journal: Option<&'a str>,
         files: Vec<&'a str>,
     },
     /// Print the page of a rule, of a violation or of a fault of a text.

@@ -18,9 +18,12 @@ use std::alloc::{AllocError, Global};
 const ONE_WORKER: &str =
     "error: one worker alone can drive filters so far: `--workers` takes 1\n\nUsage: fltstack run [--workers <N>] [--quiet] <SCRIPT> <FILE>...\n\nFor more information, try '--help'.\n";
 
+/// How many states a round of a search has where nothing is said.
+const STATES: u32 = 20_000;
+
 /// What is said where a form is asked for that there isn't.
 const NO_FORM: &str =
-    "error: `--form` takes `human`, `lines` or `sarif`\n\nUsage: fltstack explain [--form <FORM>] <FILE>...\n\nFor more information, try '--help'.\n";
+    "error: `--form` takes `human`, `lines` or `sarif`\n\nUsage: fltstack explain [--form <FORM>] [--states <N>] [--journal <JOURNAL>] <FILE>...\n\nFor more information, try '--help'.\n";
 
 // ---- values
 
@@ -48,6 +51,16 @@ fn workers_of(matches: &ArgMatches) -> u8
     match matches.get_str("workers") {
         Some(text) => text.parse::<u8>().unwrap_or(0),
         None => 1,
+    }
+}
+
+/// How many states a round of a search has.
+fn states_of(matches: &ArgMatches) -> u32
+    ensures { result ≡ spec.states_of (rows_of (found_of matches.now)) }
+{
+    match matches.get_str("states") {
+        Some(text) => text.parse::<u32>().unwrap_or(0),
+        None => STATES,
     }
 }
 
@@ -105,12 +118,23 @@ fn asked_analyse<'a>(analyse: &ArgMatches<'a>) -> Request<'a>
 }
 
 /// What `explain` of some names asks for.
-fn explain_of<'a>(form: Form, files: Vec<&'a str>) -> Request<'a>
-    ensures { asked_of result ≡ Some (spec.explain_of form (map (λ name. name.now) files.entry.items)) }
+fn explain_of<'a>(
+    form: Form,
+    states: u32,
+    journal: Option<&'a str>,
+    files: Vec<&'a str>,
+) -> Request<'a>
+    ensures { asked_of result ≡ Some (spec.explain_of form states (option_map (λ name. name.now) journal.entry)
+        (map (λ name. name.now) files.entry.items)) }
 {
     match (form, files.as_slice()) {
         (Form::Human, [name]) if page(name).is_some() => Request::Page { name },
-        _ => Request::Explain { form, files },
+        _ => Request::Explain {
+            form,
+            states,
+            journal,
+            files,
+        },
     }
 }
 
@@ -122,7 +146,7 @@ fn asked_explain<'a>(alloc: Global, explain: &ArgMatches<'a>) -> Result<Request<
         return Ok(Request::Usage(String::from_str(alloc, NO_FORM)?));
     };
     let files = files_of(alloc, explain)?;
-    Ok(explain_of(form, files))
+    Ok(explain_of(form, states_of(explain), explain.get_str("journal"), files))
 }
 
 /// What the matches of `run` ask for.

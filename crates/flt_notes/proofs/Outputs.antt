@@ -1,0 +1,89 @@
+-- What is printed with a part more.
+use Rattle.std.proofs.Common.{◌≡◌, ℕ, List, [], ◌∷◌, ◌++◌, Some, Result, Ok, Err, All, IfOk, map, refl, sym, ap, ◌∙◌, append_assoc, slice_get}
+use Rattle.std.proofs.Math.Path.{subst}
+use Rattle.std.proofs.lemmas.List.Elements.{All-nil, All-push, All-weaker}
+use Rattle.flt_model.specs.Program.{filters_of}
+use Rattle.flt_notes.specs.Readings.{filters_in}
+use Rattle.std.specs.declared.alloc.AllocError.{AllocError}
+use Rattle.flt_syntax.specs.File.{filter_of}
+use Rattle.flt_syntax.specs.declared.fault.SyntaxFault.{SyntaxFault}
+use Rattle.flt_tree.specs.Names.{Text}
+use Rattle.flt_tree.specs.declared.tree.Tree.{Tree}
+use Rattle.flt_graph.specs.declared.graph.Graph.{Graph}
+use Rattle.flt_explain.specs.declared.finding.Finding.{Finding}
+use Rattle.flt_reports.specs.Reports.{IsKnown, IsReport, IsStatus}
+use Rattle.flt_reports.specs.declared.judged.Judged.TheVariants.{Unread, Known as Found}
+use Rattle.flt_notes.specs.Lines.{BeginsWith, said}
+use Rattle.flt_notes.specs.Noted.{IsNoted}
+use Rattle.flt_notes.specs.Printing.{ClosesFault, ClosesFindings, IsKnownIn, IsNoteOf, IsOutput}
+use Rattle.flt_notes.specs.Told.{AreNoted, IsNotedOf, StandIn}
+use Rattle.flt_notes.specs.declared.noted.Noted.{Noted}
+use Rattle.flt_notes.specs.declared.printing.Known.{Known}
+use Rattle.flt_notes.specs.declared.printing.Output.{Output}
+use Rattle.flt_notes.proofs.Printed.{stand_in_more, stand_with_one}
+
+said_with_one : (noted : List Noted) (n : Noted) →
+    map (λ (n : Noted). said n.scheduled) (noted ++ n ∷ []) ≡ map (λ (n : Noted). said n.scheduled) noted ++ said n.scheduled ∷ []
+said_with_one [] n = refl
+said_with_one (m ∷ noted) n = ap (λ ones. said m.scheduled ∷ ones) (said_with_one noted n)
+
+-- with lines more
+pub output_more : (trees : List Tree) (old new : Output) (more : List ℕ) → IsOutput trees old →
+    new.bytes.items ≡ old.bytes.items ++ more → new.noted ≡ old.noted → IsOutput trees new
+output_more trees old new more is added same = record {
+  noted = rw same is.noted;
+  said = rw (same, added) (stand_in_more (map (λ (n : Noted). said n.scheduled) old.noted) old.bytes.items more is.said);
+}
+
+-- what comes of a finding is noted
+pub noted_of : (trees : List Tree) (k : Known) (number : ℕ) (finding : Finding) (n : Noted) → IsKnownIn trees k →
+    slice_get k.found.now number ≡ Some finding → IsNoteOf trees k number finding n → IsNoted trees n
+noted_of trees k number finding n known at note = record {
+  tree = known.tree;
+  own = rw note.filter known.own;
+  suspect = note.suspect;
+  filter = note.suspect_filter ∙ sym note.filter;
+  lowered = rw note.points known.lowered;
+  found = k.found.now;
+  findings = rw note.points known.findings;
+  finding = rw (note.finding_number, note.own) at;
+  scheduled = note.scheduled;
+}
+
+-- with a note more
+pub output_noted : (trees : List Tree) (old new : Output) (n : Noted) (lines : List ℕ) → IsOutput trees old → IsNoted trees n →
+    BeginsWith lines (said n.scheduled) → new.bytes.items ≡ old.bytes.items ++ lines → new.noted ≡ old.noted ++ n ∷ [] → IsOutput trees new
+output_noted trees old new n lines is note (rest, begins) added pushed = record {
+  noted = rw pushed (All-push (IsNoted trees) old.noted n is.noted note);
+  said = rw (pushed, said_with_one old.noted n, added, begins)
+      (subst (λ bytes. StandIn (map (λ (n : Noted). said n.scheduled) old.noted ++ said n.scheduled ∷ []) bytes) (append_assoc old.bytes.items (said n.scheduled) rest)
+      (stand_with_one (map (λ (n : Noted). said n.scheduled) old.noted) old.bytes.items (said n.scheduled) rest is.said));
+}
+
+-- how a text's reports end
+pub reports_fault : (text : Text) (f : SyntaxFault) (printed : List ℕ) (r : Result ℕ AllocError) → filter_of text ≡ Err f →
+    IfOk r (ClosesFault f printed) → IfOk r (IsReport text printed)
+reports_fault text f printed (Ok status) fault (two, ends) = (Unread f, fault, two, ends)
+reports_fault text f printed (Err e) fault closes = tt
+
+pub reports_findings : (text : Text) (tree : Tree) (graph : Graph) (found : List Finding) (printed : List ℕ) (r : Result ℕ AllocError) →
+    IsKnown text tree graph found → IfOk r (ClosesFindings found printed) → IfOk r (IsReport text printed)
+reports_findings text tree graph found printed (Ok status) known (same, ends) = (Found tree graph found, known, same, ends)
+reports_findings text tree graph found printed (Err e) known closes = tt
+
+-- whatever is printed behind a report, its status stays
+pub status_of_report : (text : Text) (printed : List ℕ) (status : ℕ) → IsReport text printed status → IsStatus text status
+status_of_report text printed status (j, judged, same, ends) = (j, judged, same)
+
+-- nothing is noted before anything is printed
+pub output_none : (trees : List Tree) (o : Output) → o.noted ≡ [] → IsOutput trees o
+output_none trees o none = record {
+  noted = rw none (All-nil (IsNoted trees));
+  said = rw none tt;
+}
+
+-- what is noted of these trees came of these texts
+pub all_noted : (texts : List Text) (trees : List Tree) (noted : List Noted) → filters_of trees ≡ filters_in texts →
+    All (IsNoted trees) noted → AreNoted texts noted
+all_noted texts trees noted parsed all =
+    All-weaker (IsNoted trees) (IsNotedOf texts) (λ n is. record { trees = trees; parsed = parsed; is = is }) noted all

@@ -1,0 +1,83 @@
+-- What texts are, with one more.
+use Rattle.std.proofs.Common.{◌≡◌, ℕ, zero, suc, List, [], ◌∷◌, ◌++◌, Some, Result, Ok, Err, refl, sym, ap, ◌∙◌, append-nil, drop, slice_get, length}
+use Rattle.flt_model.specs.Program.{filters_of}
+use Rattle.flt_syntax.specs.File.{filter_of}
+use Rattle.flt_syntax.specs.declared.fault.SyntaxFault.{SyntaxFault}
+use Rattle.flt_tree.specs.Names.{Text}
+use Rattle.flt_tree.specs.declared.filter.Filter.{Filter}
+use Rattle.flt_tree.specs.declared.tree.Tree.{Tree}
+use Rattle.flt_notes.specs.Readings.{AreStudied, IsReading, IsStudied, filters_in, texts_read, with_filter}
+use Rattle.flt_notes.specs.declared.readings.Reading.{Reading}
+use Rattle.flt_notes.specs.declared.readings.Reading.TheVariants.{Unread, Known}
+use Rattle.flt_notes.specs.declared.readings.Studied.{Studied}
+
+with_filter-append : (r : Result Filter SyntaxFault) (fs gs : List Filter) → with_filter r (fs ++ gs) ≡ with_filter r fs ++ gs
+with_filter-append (Ok f) fs gs = refl
+with_filter-append (Err e) fs gs = refl
+
+-- the filters of some texts and of one more
+pub filters_in-push : (ts : List Text) (t : Text) → filters_in (ts ++ t ∷ []) ≡ filters_in ts ++ with_filter (filter_of t) []
+filters_in-push [] t = refl
+filters_in-push (s ∷ ts) t = ap (with_filter (filter_of s)) (filters_in-push ts t) ∙ with_filter-append (filter_of s) (filters_in ts) _
+
+-- what stands at a place stands there where one more stands at the end
+pub get_of_more : {X : Type 0} (xs : List X) (y x : X) (i : ℕ) → slice_get xs i ≡ Some x → slice_get (xs ++ y ∷ []) i ≡ Some x
+get_of_more [] y x i is = absurd (cc is)
+get_of_more (z ∷ xs) y x zero is = is
+get_of_more (z ∷ xs) y x (suc i) is = get_of_more xs y x i is
+
+-- the last stands behind the others
+pub get_last : {X : Type 0} (xs : List X) (y : X) → slice_get (xs ++ y ∷ []) (length xs) ≡ Some y
+get_last [] y = refl
+get_last (x ∷ xs) y = get_last xs y
+
+-- one more text
+studied_push : (trees : List Tree) (each : List Studied) (s : Studied) → AreStudied trees each → IsStudied trees s →
+    AreStudied trees (each ++ s ∷ [])
+studied_push trees [] s are is = (is, tt)
+studied_push trees (t ∷ each) s are is = (are.0, studied_push trees each s are.1 is)
+
+-- the others are what they are said to be
+pub studied_rest : (trees : List Tree) (each : List Studied) → AreStudied trees each → AreStudied trees (drop 1 each)
+studied_rest trees [] are = tt
+studied_rest trees (s ∷ each) are = are.1
+
+texts-push : (each : List Studied) (s : Studied) → texts_read (each ++ s ∷ []) ≡ texts_read each ++ s.source.text.now ∷ []
+texts-push [] s = refl
+texts-push (t ∷ each) s = ap (λ ts. t.source.text.now ∷ ts) (texts-push each s)
+
+filters-push : (trees : List Tree) (tree : Tree) → filters_of (trees ++ tree ∷ []) ≡ filters_of trees ++ tree.filter ∷ []
+filters-push [] tree = refl
+filters-push (t ∷ trees) tree = ap (λ fs. t.filter ∷ fs) (filters-push trees tree)
+
+module _ (trees : List Tree) (tree : Tree) where
+  reading_of_more : (text : Text) (r : Reading) → IsReading trees text r → IsReading (trees ++ tree ∷ []) text r
+  reading_of_more text (Unread f) is = is
+  reading_of_more text (Known place graph found) is =
+      record { tree = is.tree; own = get_of_more trees tree is.tree place is.own; known = is.known }
+
+  -- what texts are stays so where a tree more stands at the end
+  all_of_more : (each : List Studied) → AreStudied trees each → AreStudied (trees ++ tree ∷ []) each
+  all_of_more [] are = tt
+  all_of_more (s ∷ each) are = (reading_of_more s.source.text.now s.reading are.0, all_of_more each are.1)
+
+module _ (trees : List Tree) (each : List Studied) (are : AreStudied trees each)
+    (filters : filters_of trees ≡ filters_in (texts_read each)) (s : Studied) where
+  -- with a text that doesn't parse
+  pub with_unread : (f : SyntaxFault) → filter_of s.source.text.now ≡ Err f → IsStudied trees s →
+      AreStudied trees (each ++ s ∷ []) × (filters_of trees ≡ filters_in (texts_read (each ++ s ∷ [])))
+  with_unread f fault is = (
+    studied_push trees each s are is,
+    filters ∙ sym (ap filters_in (texts-push each s) ∙ filters_in-push (texts_read each) s.source.text.now
+        ∙ ap (λ r. filters_in (texts_read each) ++ with_filter r []) fault ∙ append-nil (filters_in (texts_read each))),
+  )
+
+  -- with a text that parses
+  pub with_known : (tree : Tree) → filter_of s.source.text.now ≡ Ok tree.filter → IsStudied (trees ++ tree ∷ []) s →
+      AreStudied (trees ++ tree ∷ []) (each ++ s ∷ []) × (filters_of (trees ++ tree ∷ []) ≡ filters_in (texts_read (each ++ s ∷ [])))
+  with_known tree read is = (
+    studied_push (trees ++ tree ∷ []) each s (all_of_more trees tree each are) is,
+    filters-push trees tree ∙ ap (λ fs. fs ++ tree.filter ∷ []) filters
+        ∙ sym (ap filters_in (texts-push each s) ∙ filters_in-push (texts_read each) s.source.text.now
+        ∙ ap (λ r. filters_in (texts_read each) ++ with_filter r []) read),
+  )

@@ -1,0 +1,22 @@
+use Rattle.std.proofs.Common.{◌≡◌, Err}
+use Rattle.flt_syntax.specs.File.{filter_of}
+use Rattle.flt_notes.specs.Readings.{IsKnownBy}
+use Rattle.flt_notes.proofs.Outputs.{reports_fault, reports_findings}
+use Rattle.flt_notes.proofs.printing.Stage.put_text.Goals as goal
+
+pub put_known-requires-clause-known : goal.put_known-requires-clause-known
+put_known-requires-clause-known c =
+    let is : IsKnownBy c.args.self.now.trees.now c.args.studied.now.source.text.now c.in-Known.place c.in-Known.graph c.in-Known.found =
+    rw c.in-Known.is at c.requires.text in
+    record { tree = is.tree; own = is.own; lowered = is.known.lowered; findings = rw c.as_slice.ensures is.known.findings }
+
+pub returns-in-Unread-clause-report : goal.returns-in-Unread-clause-report
+returns-in-Unread-clause-report c =
+    let is : filter_of c.args.studied.now.source.text.now ≡ Err c.in-Unread.fault = rw c.in-Unread.is at c.requires.text in
+    reports_fault _ _ _ _ is c.put_unread.ensures.report
+
+pub returns-in-Known-clause-report : goal.returns-in-Known-clause-report
+returns-in-Known-clause-report c =
+    let is : IsKnownBy c.args.self.now.trees.now c.args.studied.now.source.text.now c.in-Known.place c.in-Known.graph c.in-Known.found =
+    rw c.in-Known.is at c.requires.text in
+    reports_findings _ is.tree _ _ _ _ is.known (rw c.as_slice.ensures at c.put_known.ensures.report)

@@ -1,0 +1,5 @@
+pub mod Lines
+pub mod Noted
+pub mod Printing
+pub mod Readings
+pub mod Told

@@ -1,0 +1,46 @@
+-- Reports and notes, put together. This project's own program.
+use Rattle.std.specs.Prelude.{◌≡◌, ℕ, All, List, [], ◌∷◌, ◌++◌, Some, slice_get}
+use Rattle.flt_syntax.specs.declared.fault.SyntaxFault.{SyntaxFault}
+use Rattle.flt_tree.specs.declared.tree.Tree.{Tree}
+use Rattle.flt_graph.specs.Lowering.{IsLowered}
+use Rattle.flt_explain.specs.Findings.{AreFindings}
+use Rattle.flt_explain.specs.declared.finding.Finding.{Finding}
+use Rattle.flt_reports.specs.Closing.{findings_closing, syntax_line}
+use Rattle.flt_reports.specs.Reports.{EndsWith, findings_status}
+use Rattle.flt_schedules.specs.Schedules.{IsScheduled}
+use Rattle.flt_schedules.specs.declared.schedules.Suspect.{Suspect}
+use Rattle.flt_notes.specs.Noted.{IsNoted}
+use Rattle.flt_notes.specs.Told.{AreSaid}
+use Rattle.flt_notes.specs.declared.noted.Noted.{Noted}
+use Rattle.flt_notes.specs.declared.printing.Known.{Known}
+use Rattle.flt_notes.specs.declared.printing.Output.{Output}
+
+-- what is noted so far came of findings of these filters, and stands in what is printed
+pub record IsOutput (trees : List Tree) (o : Output) : Type 0 where
+  pub noted : All (IsNoted trees) o.noted
+  pub said : AreSaid o.noted o.bytes.items
+
+-- the tree of this number has these points and findings
+pub record IsKnownIn (trees : List Tree) (k : Known) : Type 0 where
+  pub tree : Tree
+  pub own : slice_get trees k.place ≡ Some tree
+  pub lowered : IsLowered tree.filter k.graph.now
+  pub findings : AreFindings k.graph.now k.found.now
+
+-- what comes of a finding of a text that parses, which has this number
+pub record IsNoteOf (trees : List Tree) (k : Known) (number : ℕ) (finding : Finding) (n : Noted) : Type 0 where
+  pub filter : n.filter ≡ k.place
+  pub finding_number : n.finding ≡ number
+  pub suspect : Suspect
+  pub suspect_filter : suspect.filter ≡ k.place
+  pub points : suspect.graph.now ≡ k.graph.now
+  pub own : suspect.finding ≡ finding
+  pub scheduled : IsScheduled trees suspect n.scheduled
+
+-- the status of what is found, and what ends what is printed
+abbrev pub ClosesFindings : List Finding → List ℕ → ℕ → Type 0
+ClosesFindings found printed status = (status ≡ findings_status found) × EndsWith printed (findings_closing found)
+
+-- the same of a text that doesn't parse
+abbrev pub ClosesFault : SyntaxFault → List ℕ → ℕ → Type 0
+ClosesFault f printed status = (status ≡ 2) × EndsWith printed (syntax_line f ++ 10 ∷ [])

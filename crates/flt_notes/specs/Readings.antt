@@ -1,0 +1,52 @@
+-- What texts are found to be. This project's own definitions.
+use Rattle.std.specs.Prelude.{◌≡◌, ℕ, List, [], ◌∷◌, Some, Result, Ok, Err, map, slice_get}
+use Rattle.flt_syntax.specs.File.{filter_of}
+use Rattle.flt_syntax.specs.declared.fault.SyntaxFault.{SyntaxFault}
+use Rattle.flt_tree.specs.Names.{Text}
+use Rattle.flt_tree.specs.declared.filter.Filter.{Filter}
+use Rattle.flt_tree.specs.declared.tree.Tree.{Tree}
+use Rattle.flt_graph.specs.declared.graph.Graph.{Graph}
+use Rattle.flt_explain.specs.declared.finding.Finding.{Finding}
+use Rattle.flt_model.specs.Program.{filters_of}
+use Rattle.flt_reports.specs.Reports.{IsKnown}
+use Rattle.flt_notes.specs.declared.readings.Reading.{Reading}
+use Rattle.flt_notes.specs.declared.readings.Reading.TheVariants.{Unread, Known}
+use Rattle.flt_notes.specs.declared.readings.Readings.{Readings}
+use Rattle.flt_notes.specs.declared.readings.Studied.{Studied}
+
+-- the filter that a text spells, if it spells one, before others
+abbrev pub with_filter : Result Filter SyntaxFault → List Filter → List Filter
+with_filter (Ok f) fs = f ∷ fs
+with_filter (Err e) fs = fs
+
+-- the filters of the texts that parse, in their order
+abbrev pub filters_in : List Text → List Filter
+filters_in [] = []
+filters_in (t ∷ ts) = with_filter (filter_of t) (filters_in ts)
+
+-- a text spells the tree of this number, which has these points, and this is what is found
+pub record IsKnownBy (trees : List Tree) (text : Text) (place : ℕ) (graph : Graph) (found : List Finding) : Type 0 where
+  pub tree : Tree
+  pub own : slice_get trees place ≡ Some tree
+  pub known : IsKnown text tree graph found
+
+-- what a text is
+abbrev pub IsReading : List Tree → Text → Reading → Type 0
+IsReading trees text (Unread f) = filter_of text ≡ Err f
+IsReading trees text (Known place graph found) = IsKnownBy trees text place graph found
+
+abbrev pub IsStudied : List Tree → Studied → Type 0
+IsStudied trees s = IsReading trees s.source.text.now s.reading
+
+abbrev pub texts_read : List Studied → List Text
+texts_read each = map (λ (s : Studied). s.source.text.now) each
+
+-- each text is what it is said to be
+abbrev pub AreStudied : List Tree → List Studied → Type 0
+AreStudied trees [] = Unit {0}
+AreStudied trees (s ∷ ss) = IsStudied trees s × AreStudied trees ss
+
+-- the same, and the trees are those of the texts that parse
+pub record AreReadings (r : Readings) : Type 0 where
+  pub each : AreStudied r.trees r.each.items
+  pub filters : filters_of r.trees ≡ filters_in (texts_read r.each.items)

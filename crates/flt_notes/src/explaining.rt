@@ -1,0 +1,59 @@
+//! What is wrong with some texts, and what comes of it in runs.
+
+ghost use Rattle.std.specs.Prelude.{◌≡◌, IfOk};
+ghost use Rattle.flt_notes.specs.Told as spec;
+ghost use Rattle.flt_reports.specs.Reports.{AreReports, texts_of};
+
+use crate::noted::Noted;
+use crate::printing::{Output, Stage};
+use crate::readings::read_all;
+use flt_reports::{Explained, Source};
+use sqlite_items::Items;
+use std::alloc::{AllocError, Global};
+
+/// What is printed, and what came of the findings in it: for each that is reported by itself, in their order.
+#[derive(Drop)]
+pub struct Told {
+    pub explained: Explained,
+    pub noted: Items<Noted>,
+}
+
+/// What is wrong with some texts, for people to read: each finding with the lines that show it, a way that leads there, how to mend it,
+/// and a journal that breaks what its rule prevents, if one is found. A journal is looked for in rounds of growing bounds, each up to so
+/// many states: where several texts parse and the finding's filter meets another one on an operation, on all that parse, else, or where
+/// none is found, on the filter alone. The last line of each text is what `analyse` says of it, or `nothing found`. With `coloured`,
+/// marks of a terminal colour it.
+///
+/// # Errors
+///
+/// Where a growth was refused, or a count would pass 2^64.
+pub fn explain(
+    alloc: Global,
+    coloured: bool,
+    sources: &[Source<'_>],
+    states: usize,
+) -> Result<Told, AllocError>
+    ensures reports { IfOk result (λ t. AreReports (texts_of sources.now) t.explained.output.items t.explained.status) }
+    ensures noted { IfOk result (λ t. spec.AreNoted (texts_of sources.now) t.noted) }
+    ensures said { IfOk result (λ t. spec.AreSaid t.noted t.explained.output.items) }
+{
+    let readings = read_all(alloc, sources)?;
+    let stage = Stage {
+        alloc,
+        coloured,
+        trees: readings.trees.as_slice(),
+        states,
+    };
+    let mut output = Output {
+        bytes: Vec::new(alloc),
+        noted: Items::new(alloc),
+    };
+    let status = stage.put_all(&mut output, readings.each.as_slice())?;
+    Ok(Told {
+        explained: Explained {
+            output: output.bytes,
+            status,
+        },
+        noted: output.noted,
+    })
+}

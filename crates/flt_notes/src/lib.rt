@@ -1,0 +1,15 @@
+//! Reports for people, with what comes of their findings in runs: behind a report's help stands a journal that breaks what its rule
+//! prevents, row by row, or why there is none.
+//!
+//! `readings` has what each text is found to be, beside the trees of all that parse. `noted` says what comes of a finding, `lines` has
+//! the words for it, and `printing` puts reports and notes together. It exports `explain`, and `first_journal`.
+#![tactic(auto)]
+
+mod explaining;
+mod lines;
+mod noted;
+mod printing;
+mod readings;
+
+pub use explaining::{Told, explain};
+pub use noted::{Noted, first_journal};

@@ -1,0 +1,213 @@
+//! What is said of what comes of a finding.
+
+ghost use Rattle.std.specs.Prelude.{◌≡◌, Some, IfOk, string_bytes};
+ghost use Rattle.flt_notes.specs.Lines as spec;
+
+use crate::noted::schedule_of;
+use flt_model::{Journal, JournalEntry, Move, Verdict, Violation};
+use flt_schedules::{Schedule, Scheduled, only};
+use flt_seek::Broken;
+use flt_timeline::Timeline;
+use flt_tree::Tree;
+use std::alloc::{AllocError, Global};
+use std::fmt;
+use std::fmt::Write;
+
+/// How many blanks stand before a timeline's rows.
+const INDENT: usize = 4;
+
+// ---- how a note begins
+
+/// What a journal breaks, and where, as `replay` says it.
+#[derive(Drop)]
+struct BreakWords(Violation, usize);
+
+fn violation_number(violation: Violation) -> u8
+    ensures { result ≡ spec.violation_number violation }
+{
+    match violation {
+        Violation::V1 => 1,
+        Violation::V2 => 2,
+        Violation::V3 => 3,
+        Violation::V4 => 4,
+        Violation::V5 => 5,
+        Violation::V6 => 6,
+        Violation::V7 => 7,
+        Violation::V8 => 8,
+    }
+}
+
+impl fmt::Display for BreakWords {
+    ghost output = { λ b. Some (spec.break_words b.0 b.1) };
+
+    fn fmt<W: fmt::Write>(&self, f: &mut fmt::Formatter<W>) -> fmt::Result {
+        let number = violation_number(self.0);
+        let entry = self.1;
+        write!(f, "breaks V{number} at {entry}")
+    }
+}
+
+/// What a note says first: what is broken, or that there is no journal.
+fn beginning(alloc: Global, schedule: &Schedule) -> Result<String, AllocError>
+    ensures { IfOk result (λ line. string_bytes line ≡ spec.beginning schedule.now) }
+{
+    match schedule {
+        Schedule::Breaks(broken) => {
+            let words = BreakWords(broken.violation, broken.entry);
+            format!(in alloc; "   = journal: {words}")
+        }
+        Schedule::NotWithin | Schedule::Cut | Schedule::NeverHanded => {
+            String::from_str(alloc, "   = journal: none")
+        }
+    }
+}
+
+// ---- a journal
+
+/// How many operations arrive.
+fn operations_of(journal: &Journal) -> usize {
+    let mut count: usize = 0;
+    for entry in journal.entries() {
+        if matches!(entry, JournalEntry::Move(Move::Arrive { .. })) {
+            count = count.saturating_add(1);
+        }
+    }
+    count
+}
+
+/// How long a journal is.
+fn put_counts(out: &mut String, journal: &Journal) -> Result<(), AllocError> {
+    let operations = operations_of(journal);
+    let entries = journal.len();
+    let many = if operations == 1 { "" } else { "s" };
+    write!(
+        out,
+        ", with {operations} operation{many} and {entries} entries"
+    )
+}
+
+/// A filter's name.
+fn put_name(out: &mut String, tree: &Tree) -> Result<(), AllocError> {
+    for byte in tree.filter.name.as_slice() {
+        let shown = if byte.is_ascii_graphic() { *byte } else { b'?' };
+        out.push(shown as char)?;
+    }
+    Ok(())
+}
+
+/// The filters on which a journal runs, where there are others beside it.
+fn put_filters(out: &mut String, trees: &[Tree], own: &[Tree]) -> Result<(), AllocError> {
+    if trees.len() <= 1 {
+        return Ok(());
+    }
+    let mut word = ", on ";
+    for tree in own {
+        out.push_str(word)?;
+        put_name(out, tree)?;
+        word = " and ";
+    }
+    Ok(())
+}
+
+/// A journal as rows.
+fn put_rows(
+    alloc: Global,
+    out: &mut String,
+    own: &[Tree],
+    broken: &Broken,
+) -> Result<(), AllocError> {
+    let verdict = Verdict::Breaks(broken.violation, broken.entry);
+    let timeline = Timeline::of(alloc, own, &broken.journal, verdict)?;
+    let rows = timeline.text(alloc, INDENT)?;
+    out.push_str(rows.as_str())
+}
+
+fn put_journal(
+    alloc: Global,
+    out: &mut String,
+    trees: &[Tree],
+    own: &[Tree],
+    broken: &Broken,
+) -> Result<(), AllocError> {
+    put_counts(out, &broken.journal)?;
+    put_filters(out, trees, own)?;
+    out.push_str("\n")?;
+    put_rows(alloc, out, own, broken)
+}
+
+// ---- no journal
+
+/// Where there is none, how the search for one went.
+#[derive(Clone, Copy)]
+pub(crate) struct Bounds {
+    /// Each way to the finding that is known breaks another rule before.
+    pub(crate) is_behind: bool,
+    /// How many states a round has at most.
+    pub(crate) states: usize,
+}
+
+fn put_missing(out: &mut String, bounds: Bounds, is_cut: bool) -> Result<(), AllocError> {
+    if bounds.is_behind {
+        return out.push_str(
+            " was found: a run ends with what it breaks first, which is something else here\n",
+        );
+    }
+    if is_cut {
+        let states = bounds.states;
+        return write!(
+            out,
+            " was found in {states} states a round: `--states N` sets another bound\n"
+        );
+    }
+    out.push_str(
+        " was found: no run within the bounds of the search breaks what the rule prevents\n",
+    )
+}
+
+// ---- both
+
+/// The filters on which what comes of the finding of the filter of a number was looked for.
+fn own_trees<'t>(trees: &'t [Tree], number: usize, scheduled: &Scheduled) -> &'t [Tree] {
+    match scheduled {
+        Scheduled::Together(_) => trees,
+        Scheduled::Alone(_) => only(trees, number),
+    }
+}
+
+/// Writes what stands behind the beginning.
+fn put_rest(
+    alloc: Global,
+    out: &mut String,
+    trees: &[Tree],
+    own: &[Tree],
+    schedule: &Schedule,
+    bounds: Bounds,
+) -> Result<(), AllocError> {
+    match schedule {
+        Schedule::Breaks(broken) => put_journal(alloc, out, trees, own, broken),
+        Schedule::NotWithin => put_missing(out, bounds, false),
+        Schedule::Cut => put_missing(out, bounds, true),
+        Schedule::NeverHanded => {
+            out.push_str(": nothing hands this callback a context, so `arg` is never held in it\n")
+        }
+    }
+}
+
+/// What is said of what comes of a finding of the filter of a number, from 0: whole lines.
+pub(crate) fn note_lines(
+    alloc: Global,
+    trees: &[Tree],
+    number: usize,
+    scheduled: &Scheduled,
+    bounds: Bounds,
+) -> Result<Vec<u8>, AllocError>
+    ensures { IfOk result (λ lines. spec.BeginsWith lines.items (spec.said scheduled.now)) }
+{
+    let schedule = schedule_of(scheduled);
+    let own = own_trees(trees, number, scheduled);
+    let mut lines = beginning(alloc, schedule)?.into_bytes();
+    let mut rest = String::new(alloc);
+    put_rest(alloc, &mut rest, trees, own, schedule, bounds)?;
+    lines.extend_from_slice(rest.as_bytes())?;
+    Ok(lines)
+}

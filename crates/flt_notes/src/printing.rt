@@ -1,0 +1,267 @@
+//! Reports and notes, put together.
+
+ghost use Rattle.std.specs.Prelude.{◌≡◌, ◌++◌, IfOk, OnOk, max, slice_get};
+ghost use Rattle.flt_notes.specs.Printing as spec;
+ghost use Rattle.flt_notes.specs.Readings.{AreStudied, IsStudied, texts_read};
+ghost use Rattle.flt_reports.specs.Reports.{AreReports, IsReport, IsStatus};
+
+use crate::lines::{Bounds, note_lines};
+use crate::noted::Noted;
+use crate::readings::{Reading, Studied};
+use flt_explain::Finding;
+use flt_graph::Graph;
+use flt_reports::{
+    Report, Source, fault_line, findings_line, report_findings, report_nothing, report_unread,
+};
+use flt_schedules::{Suspect, schedule_among};
+use flt_syntax::SyntaxFault;
+use flt_tree::Tree;
+use sqlite_items::Items;
+use std::alloc::{AllocError, Global};
+
+/// What is printed so far, and what came of the findings in it.
+#[derive(Drop)]
+pub(crate) struct Output {
+    pub(crate) bytes: Vec<u8>,
+    pub(crate) noted: Items<Noted>,
+}
+
+impl Output {
+    /// Lines as they stand.
+    fn lines(&mut self, lines: &[u8]) -> Result<(), AllocError>
+        ensures { OnOk result ((self.new.bytes.items ≡ self.old.bytes.items ++ lines.now) × (self.new.noted ≡ self.old.noted)) }
+    {
+        self.bytes.extend_from_slice(lines)
+    }
+}
+
+/// What all reports have in common.
+#[derive(Clone, Copy)]
+pub(crate) struct Stage<'a> {
+    pub(crate) alloc: Global,
+    pub(crate) coloured: bool,
+    /// Those of the texts that parse.
+    pub(crate) trees: &'a [Tree],
+    /// How many states a round of a search has at most.
+    pub(crate) states: usize,
+}
+
+/// A text that parses: the number of its tree, its points and its findings.
+#[derive(Clone, Copy)]
+struct Known<'a> {
+    place: usize,
+    graph: &'a Graph,
+    found: &'a [Finding],
+}
+
+/// The finding of a number, from 0.
+fn finding_at(found: &[Finding], number: usize) -> Option<Finding>
+    ensures { result ≡ slice_get found.now number }
+{
+    found.get(number).copied()
+}
+
+impl Stage<'_> {
+    /// What comes of a finding of the filter of a number.
+    fn note(&self, known: Known<'_>, number: usize, finding: Finding) -> Result<Noted, AllocError>
+        ensures { IfOk result (spec.IsNoteOf self.now.trees.now known.entry number finding) }
+    {
+        let suspect = Suspect {
+            filter: known.place,
+            graph: known.graph,
+            finding,
+        };
+        let scheduled = schedule_among(self.alloc, self.trees, &suspect, self.states)?;
+        Ok(Noted {
+            filter: known.place,
+            finding: number,
+            scheduled,
+        })
+    }
+
+    /// Writes the report of a finding, and what comes of it.
+    fn put_report(
+        &self,
+        output: &mut Output,
+        known: Known<'_>,
+        report: &Report,
+    ) -> Result<(), AllocError>
+        requires known { spec.IsKnownIn self.now.trees.now known }
+        requires old { spec.IsOutput self.now.trees.now output.old }
+        ensures { OnOk result (spec.IsOutput self.now.trees.now output.new) }
+    {
+        output.lines(report.lines.as_slice())?;
+        let Some(finding) = finding_at(known.found, report.finding) else {
+            return Ok(());
+        };
+        let noted = self.note(known, report.finding, finding)?;
+        let bounds = Bounds {
+            is_behind: report.is_behind,
+            states: self.states,
+        };
+        let lines = note_lines(
+            self.alloc,
+            self.trees,
+            known.place,
+            &noted.scheduled,
+            bounds,
+        )?;
+        output.lines(lines.as_slice())?;
+        output.noted.push(noted)?;
+        Ok(())
+    }
+
+    /// Writes the reports of a text's findings.
+    fn put_reports(
+        &self,
+        output: &mut Output,
+        known: Known<'_>,
+        reports: &[Report],
+    ) -> Result<(), AllocError>
+        requires known { spec.IsKnownIn self.now.trees.now known }
+        requires old { spec.IsOutput self.now.trees.now output.old }
+        ensures { OnOk result (spec.IsOutput self.now.trees.now output.new) }
+    {
+        for report in reports {
+            self.put_report(output, known, report)?;
+        }
+        Ok(())
+    }
+
+    /// Writes what is found of a text that parses, where something is found.
+    fn put_found(
+        &self,
+        output: &mut Output,
+        source: Source<'_>,
+        known: Known<'_>,
+    ) -> Result<(), AllocError>
+        requires known { spec.IsKnownIn self.now.trees.now known }
+        requires old { spec.IsOutput self.now.trees.now output.old }
+        ensures { OnOk result (spec.IsOutput self.now.trees.now output.new) }
+    {
+        let Some(tree) = self.trees.get(known.place) else {
+            return Ok(());
+        };
+        let reports = report_findings(
+            self.alloc,
+            self.coloured,
+            source,
+            tree,
+            known.graph,
+            known.found,
+        )?;
+        self.put_reports(output, known, reports.as_slice())
+    }
+
+    /// Writes what is found of a text that parses.
+    fn put_findings(
+        &self,
+        output: &mut Output,
+        source: Source<'_>,
+        known: Known<'_>,
+    ) -> Result<(), AllocError>
+        requires known { spec.IsKnownIn self.now.trees.now known }
+        requires old { spec.IsOutput self.now.trees.now output.old }
+        ensures { OnOk result (spec.IsOutput self.now.trees.now output.new) }
+    {
+        if !known.found.is_empty() {
+            return self.put_found(output, source, known);
+        }
+        output.lines(report_nothing(self.alloc, source)?.as_slice())?;
+        Ok(())
+    }
+
+    /// Writes what is found of a text that parses, and the line that ends its reports.
+    fn put_known(
+        &self,
+        output: &mut Output,
+        source: Source<'_>,
+        known: Known<'_>,
+    ) -> Result<u8, AllocError>
+        requires known { spec.IsKnownIn self.now.trees.now known }
+        requires old { spec.IsOutput self.now.trees.now output.old }
+        ensures output { OnOk result (spec.IsOutput self.now.trees.now output.new) }
+        ensures report { IfOk result (spec.ClosesFindings known.entry.found.now output.new.bytes.items) }
+    {
+        self.put_findings(output, source, known)?;
+        output.lines(findings_line(self.alloc, known.found)?.as_bytes())?;
+        Ok(u8::from(!known.found.is_empty()))
+    }
+
+    /// Writes what is reported of a text that doesn't parse.
+    fn put_unread(
+        &self,
+        output: &mut Output,
+        source: Source<'_>,
+        fault: SyntaxFault,
+    ) -> Result<u8, AllocError>
+        requires old { spec.IsOutput self.now.trees.now output.old }
+        ensures output { OnOk result (spec.IsOutput self.now.trees.now output.new) }
+        ensures report { IfOk result (spec.ClosesFault fault output.new.bytes.items) }
+    {
+        output.lines(report_unread(self.alloc, self.coloured, source)?.as_slice())?;
+        output.lines(fault_line(self.alloc, fault)?.as_bytes())?;
+        Ok(2)
+    }
+
+    /// Writes what is found of a text, and gives its status.
+    fn put_text(&self, output: &mut Output, studied: &Studied<'_>) -> Result<u8, AllocError>
+        requires text { IsStudied self.now.trees.now studied.now }
+        requires old { spec.IsOutput self.now.trees.now output.old }
+        ensures output { OnOk result (spec.IsOutput self.now.trees.now output.new) }
+        ensures report { IfOk result (IsReport studied.now.source.text.now output.new.bytes.items) }
+    {
+        match &studied.reading {
+            Reading::Unread(fault) => self.put_unread(output, studied.source, *fault),
+            Reading::Known(place, graph, found) => {
+                let known = Known {
+                    place: *place,
+                    graph,
+                    found: found.as_slice(),
+                };
+                self.put_known(output, studied.source, known)
+            }
+        }
+    }
+
+    /// Writes what is found of a text, with an empty line behind it, and gives its status.
+    fn put_before(&self, output: &mut Output, studied: &Studied<'_>) -> Result<u8, AllocError>
+        requires text { IsStudied self.now.trees.now studied.now }
+        requires old { spec.IsOutput self.now.trees.now output.old }
+        ensures output { OnOk result (spec.IsOutput self.now.trees.now output.new) }
+        ensures status { IfOk result (IsStatus studied.now.source.text.now) }
+    {
+        let status = self.put_text(output, studied)?;
+        output.lines(b"\n")?;
+        Ok(status)
+    }
+
+    /// Writes what is found of each text, and gives the greatest status.
+    #[tactic(auto, using(crate::proofs::Studied::studied_rest))]
+    pub(crate) fn put_all(
+        &self,
+        output: &mut Output,
+        each: &[Studied<'_>],
+    ) -> Result<u8, AllocError>
+        requires texts { AreStudied self.now.trees.now each.now }
+        requires old { spec.IsOutput self.now.trees.now output.old }
+        ensures output { OnOk result (spec.IsOutput self.now.trees.now output.new) }
+        ensures reports { IfOk result (AreReports (texts_read each.now) output.new.bytes.items) }
+    {
+        match each {
+            [] => Ok(0),
+            [studied] => self.put_text(output, studied),
+            [studied, others @ ..] => {
+                let first = self.put_before(output, studied)?;
+                let rest = self.put_all(output, others)?;
+                Ok(greater(first, rest))
+            }
+        }
+    }
+}
+
+fn greater(a: u8, b: u8) -> u8
+    ensures { result ≡ max a b }
+{
+    if a < b { b } else { a }
+}

@@ -1,0 +1,145 @@
+//! What is wrong in a line of a journal.
+
+use crate::cursor::{Cursor, is_decimal, last_number};
+use crate::lines::{Line, Lines};
+use crate::trouble::{Subject, Trouble, asked, exact, line_end, wanted_by};
+use crate::wanted::Wanted;
+
+/// How many entries there are at most.
+const MAX_ENTRIES: usize = 1_000_000;
+
+/// What stands behind an entry's word.
+#[derive(Clone, Copy)]
+enum Field {
+    Number,
+    Operation,
+    Mode,
+    Key,
+    Answer,
+}
+
+const ONE_NUMBER: [Field; 1] = [Field::Number];
+
+const TWO_NUMBERS: [Field; 2] = [Field::Number, Field::Number];
+
+const ARRIVAL: [Field; 3] = [Field::Operation, Field::Mode, Field::Number];
+
+const UNLINK: [Field; 2] = [Field::Number, Field::Key];
+
+const GO: [Field; 3] = [Field::Number, Field::Number, Field::Answer];
+
+/// What stands behind an entry's word; none if no entry begins with it.
+fn fields_of(word: &[u8]) -> Option<&'static [Field]> {
+    match word {
+        b"arrive" => Some(&ARRIVAL),
+        b"pre" | b"skip" | b"lower" | b"post" | b"cancel" => Some(&ONE_NUMBER),
+        b"work" | b"detach" | b"detached" => Some(&ONE_NUMBER),
+        b"canceled" | b"drain" => Some(&TWO_NUMBERS),
+        b"unlink" => Some(&UNLINK),
+        b"go" => Some(&GO),
+        _ => None,
+    }
+}
+
+/// One of the words that are wanted.
+fn word(cursor: &mut Cursor<'_>, wanted: Wanted) -> Result<(), Wanted> {
+    let own = cursor.word();
+    asked(wanted.words().iter().any(|word| *word == own), wanted)?;
+    cursor.pass_word();
+    Ok(())
+}
+
+fn number(cursor: &mut Cursor<'_>) -> Result<(), Wanted> {
+    let own = cursor.word();
+    let is_small = last_number(own) <= u64::from(u32::MAX);
+    asked(is_decimal(own) && is_small, Wanted::AnyNumber)?;
+    cursor.pass_word();
+    Ok(())
+}
+
+/// A stream with its file, or the instance.
+fn key(cursor: &mut Cursor<'_>) -> Result<(), Wanted> {
+    let is_stream = cursor.word() == b"stream".as_slice();
+    word(cursor, Wanted::Key)?;
+    if !is_stream {
+        return Ok(());
+    }
+    asked(cursor.byte(b' '), Wanted::Blank)?;
+    number(cursor)
+}
+
+fn read_field(cursor: &mut Cursor<'_>, field: Field) -> Result<(), Wanted> {
+    asked(cursor.byte(b' '), Wanted::Blank)?;
+    match field {
+        Field::Number => number(cursor),
+        Field::Operation => word(cursor, Wanted::Operation),
+        Field::Mode => word(cursor, Wanted::Mode),
+        Field::Key => key(cursor),
+        Field::Answer => word(cursor, Wanted::Answer),
+    }
+}
+
+/// An entry, or the last line.
+fn entry(cursor: &mut Cursor<'_>) -> Result<(), Wanted> {
+    if cursor.word() == b"end".as_slice() {
+        return exact(cursor, "end", Wanted::End);
+    }
+    let Some(fields) = fields_of(cursor.word()) else {
+        return Err(Wanted::Entry);
+    };
+    cursor.pass_word();
+    for one in fields {
+        read_field(cursor, *one)?;
+    }
+    line_end(cursor)
+}
+
+/// Reads a line, up to what is wrong in it.
+fn read(cursor: &mut Cursor<'_>, subject: Subject) -> Result<(), Wanted> {
+    match subject {
+        Subject::First => exact(cursor, "fltjournal 1", Wanted::FirstLine("fltjournal 1")),
+        Subject::Entry(_) => entry(cursor),
+        Subject::Last => exact(cursor, "end", Wanted::End),
+        _ => Err(Wanted::Nothing),
+    }
+}
+
+/// What is wrong in a line, by which line it is.
+fn trouble_in<'a>(line: Option<Line<'a>>, subject: Subject) -> Trouble<'a> {
+    let mut cursor = Cursor {
+        left: match line {
+            Some(line) => line.bytes,
+            None => &[],
+        },
+    };
+    let read = read(&mut cursor, subject);
+    Trouble {
+        subject,
+        line,
+        left: cursor.left,
+        wanted: wanted_by(read),
+    }
+}
+
+/// Which line it is behind another one, by its number, from 1.
+fn subject(before: Option<Line<'_>>, line: usize) -> Subject {
+    let entries = line.saturating_sub(2);
+    match before {
+        Some(Line { bytes: b"end", .. }) => Subject::Behind,
+        _ if entries < MAX_ENTRIES => Subject::Entry(entries),
+        _ => Subject::Last,
+    }
+}
+
+/// What is wrong in the first malformed line of a journal, by its number, from 1.
+pub(crate) fn trouble<'a>(input: &'a [u8], line: usize) -> Trouble<'a> {
+    let mut lines = Lines { left: input };
+    if line <= 1 {
+        return trouble_in(lines.next(), Subject::First);
+    }
+    let mut before = lines.next();
+    for _number in 2..line {
+        before = lines.next();
+    }
+    trouble_in(lines.next(), subject(before, line))
+}

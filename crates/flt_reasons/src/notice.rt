@@ -1,0 +1,111 @@
+//! What is said of an input that isn't the text of a filter.
+
+ghost use Rattle.std.specs.Prelude.{◌≡◌};
+ghost use Rattle.flt_reasons.specs.Notice as spec;
+
+/// What an input is, where it isn't the text of a filter.
+#[derive(Clone, Copy, PartialEq, Eq)]
+pub enum Kind {
+    Certificate,
+    Journal,
+}
+
+/// Why nothing is read for a name.
+#[derive(Clone, Copy, Debug, PartialEq, Eq)]
+pub enum Unread {
+    /// There is no such file.
+    Missing,
+    Folder,
+    Denied,
+    /// It has more bytes than an input may have.
+    TooLong,
+    /// It is the standard input, which another name before it is, too.
+    Again,
+    /// Anything else.
+    Failed,
+}
+
+/// What is wrong in a line. Lines and columns count from 1.
+#[derive(Drop)]
+pub struct Reason<'a> {
+    /// The first malformed line of the certificate or journal. A missing line counts.
+    pub line: usize,
+    /// The same line of the file that it stands in.
+    pub file_line: usize,
+    /// Where in it.
+    pub column: usize,
+    /// What of the line is shown; nothing where it is missing.
+    pub shown: &'a [u8],
+    /// What stands there; nothing at the end of the line.
+    pub found: &'a [u8],
+    /// What is wrong: words without an end of line, as all of these.
+    pub title: Vec<u8>,
+    /// What was expected there, and what is found.
+    pub note: Vec<u8>,
+    /// Both, for other programs.
+    pub message: Vec<u8>,
+    /// Which word is probably meant; or nothing.
+    pub meant: Vec<u8>,
+    /// How to mend it.
+    pub help: &'static str,
+}
+
+/// What is said of an input that isn't the text of a filter.
+#[derive(Drop)]
+pub enum Notice<'a> {
+    /// It is well-formed: how many callbacks or entries it has.
+    Whole(Kind, usize),
+    Malformed(Kind, Reason<'a>),
+    Unread(Unread),
+}
+
+impl Notice<'_> {
+    /// 0 where nothing is wrong, else 2.
+    pub fn status(&self) -> u8
+        ensures { result ≡ spec.status_of self.now }
+    {
+        match self {
+            Notice::Whole(_, _) => 0,
+            Notice::Malformed(_, _) | Notice::Unread(_) => 2,
+        }
+    }
+}
+
+impl Kind {
+    /// What it is called, as `rule` of what is told of it to other programs, too.
+    pub fn name(self) -> &'static str
+        ensures { result.now ≡ spec.kind_name self }
+    {
+        match self {
+            Kind::Certificate => "certificate",
+            Kind::Journal => "journal",
+        }
+    }
+}
+
+impl Unread {
+    /// Why nothing is read, in words.
+    pub fn words(self) -> &'static str {
+        match self {
+            Unread::Missing => "there is no such file",
+            Unread::Folder => "this is a folder",
+            Unread::Denied => "reading it isn't permitted",
+            Unread::TooLong => "it has more than 67,108,864 bytes",
+            Unread::Again => "the standard input is read once, for the first `-`",
+            Unread::Failed => "reading it failed",
+        }
+    }
+
+    /// What to do about it.
+    pub fn help(self) -> &'static str {
+        match self {
+            Unread::Missing =>
+                "a name is a path from the current folder, or `-` for the standard input; R01 to R15, V1 to V8 and E01 to E08 alone are pages",
+            Unread::Folder => "name the files in it",
+            Unread::Denied => "see who may read it",
+            Unread::TooLong => "a text has at most 65,536 bytes, a journal 1,000,000 entries",
+            Unread::Again => "name each input once",
+            Unread::Failed => "copy it into a file first",
+        }
+    }
+}

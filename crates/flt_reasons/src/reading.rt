@@ -1,0 +1,87 @@
+//! What is said of a certificate or of a journal.
+
+ghost use Rattle.std.specs.Prelude.{IfOk};
+ghost use Rattle.flt_reasons.specs.Notice as spec;
+
+use crate::notice::{Kind, Notice};
+use crate::telling::reason;
+use crate::{certificates, journals};
+use flt_cert::CertFault;
+use flt_model::{JournalFault, ReadFault, Source};
+use std::alloc::{AllocError, Global};
+
+/// Bytes that are all there. No read fails.
+#[derive(Drop)]
+struct Bytes<'a> {
+    left: &'a [u8],
+}
+
+impl Source for Bytes<'_> {
+    ghost coming = { λ s. s.left.now };
+
+    ghost failures = { λ _. 0 };
+
+    ghost reads = { λ _. 0 };
+
+    fn next(&mut self) -> Result<Option<u8>, ReadFault> {
+        match self.left {
+            [first, others @ ..] => {
+                self.left = others;
+                Ok(Some(*first))
+            }
+            [] => Ok(None),
+        }
+    }
+}
+
+fn of_certificate<'a>(
+    alloc: Global,
+    before: usize,
+    input: &'a [u8],
+) -> Result<Notice<'a>, AllocError>
+    ensures { IfOk result (spec.IsNotice Kind.Certificate input.now) }
+{
+    match flt_cert::read(alloc, input) {
+        Ok(cert) => Ok(Notice::Whole(Kind::Certificate, cert.callbacks().len())),
+        Err(CertFault::Line(line)) => {
+            let trouble = certificates::trouble(input, line);
+            let reason = reason(alloc, Kind::Certificate, before, line, &trouble)?;
+            Ok(Notice::Malformed(Kind::Certificate, reason))
+        }
+        Err(CertFault::OutOfMemory) => Err(AllocError),
+    }
+}
+
+fn of_journal<'a>(alloc: Global, before: usize, input: &'a [u8]) -> Result<Notice<'a>, AllocError>
+    ensures { IfOk result (spec.IsNotice Kind.Journal input.now) }
+{
+    match flt_model::read(alloc, &mut Bytes { left: input }) {
+        Ok(journal) => Ok(Notice::Whole(Kind::Journal, journal.len())),
+        Err(JournalFault::Line(line)) => {
+            let trouble = journals::trouble(input, line);
+            let reason = reason(alloc, Kind::Journal, before, line, &trouble)?;
+            Ok(Notice::Malformed(Kind::Journal, reason))
+        }
+        Err(JournalFault::Read | JournalFault::OutOfMemory) => Err(AllocError),
+    }
+}
+
+/// What is said of an input that is taken for a certificate or for a journal: how many callbacks or entries it has, or what is wrong in
+/// its first malformed line. It may stand in a file behind some lines of something else.
+///
+/// # Errors
+///
+/// Where a growth was refused.
+pub fn describe<'a>(
+    alloc: Global,
+    kind: Kind,
+    before: usize,
+    input: &'a [u8],
+) -> Result<Notice<'a>, AllocError>
+    ensures { IfOk result (spec.IsNotice kind input.now) }
+{
+    match kind {
+        Kind::Certificate => of_certificate(alloc, before, input),
+        Kind::Journal => of_journal(alloc, before, input),
+    }
+}

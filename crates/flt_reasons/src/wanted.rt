@@ -1,0 +1,166 @@
+//! What is wanted in a place of a line.
+
+use std::fmt;
+
+/// What is wanted in a place of a line.
+#[derive(Clone, Copy)]
+pub(crate) enum Wanted {
+    // Of both.
+    /// The first line.
+    FirstLine(&'static str),
+    Blank,
+    LineEnd,
+    LineFeed,
+    /// The end of the input.
+    Nothing,
+    /// The last line.
+    End,
+    // Of certificates.
+    /// The first line of the callback of a number, or the last line.
+    Callback(usize),
+    /// The number of a callback or of a point.
+    Number(usize),
+    Count,
+    /// The digit of the first variable, or that the point isn't reached.
+    State,
+    Status(&'static str),
+    Modes,
+    Draining,
+    Locks,
+    OtherLock,
+    LockEnd,
+    // Of journals.
+    Entry,
+    Operation,
+    Mode,
+    Key,
+    Answer,
+    AnyNumber,
+}
+
+const ENTRIES: [&[u8]; 14] = [
+    b"arrive",
+    b"pre",
+    b"skip",
+    b"lower",
+    b"post",
+    b"cancel",
+    b"canceled",
+    b"work",
+    b"detach",
+    b"detached",
+    b"drain",
+    b"unlink",
+    b"go",
+    b"end",
+];
+
+const OPERATIONS: [&[u8]; 4] = [b"create", b"read", b"write", b"cleanup"];
+
+const MODES: [&[u8]; 2] = [b"irp", b"fast"];
+
+const KEYS: [&[u8]; 2] = [b"stream", b"instance"];
+
+const ANSWERS: [&[u8]; 2] = [b"yes", b"no"];
+
+impl Wanted {
+    /// One byte is wanted.
+    pub(crate) fn is_byte(self) -> bool {
+        matches!(
+            self,
+            Wanted::State
+                | Wanted::Status(_)
+                | Wanted::Modes
+                | Wanted::Draining
+                | Wanted::Locks
+                | Wanted::OtherLock
+                | Wanted::LockEnd
+        )
+    }
+
+    /// The whole line is wanted.
+    pub(crate) fn is_line(self) -> bool {
+        matches!(
+            self,
+            Wanted::FirstLine(_) | Wanted::Nothing | Wanted::End | Wanted::LineEnd
+        )
+    }
+
+    /// The words that may stand there, where one of few is wanted.
+    pub(crate) fn words(self) -> &'static [&'static [u8]] {
+        match self {
+            Wanted::Entry => &ENTRIES,
+            Wanted::Operation => &OPERATIONS,
+            Wanted::Mode => &MODES,
+            Wanted::Key => &KEYS,
+            Wanted::Answer => &ANSWERS,
+            _ => &[],
+        }
+    }
+
+    /// How to mend what stands there instead.
+    pub(crate) fn help(self) -> &'static str {
+        match self {
+            Wanted::FirstLine(_) =>
+                "the first line says which format follows, and in which version",
+            Wanted::Blank => "one blank stands between fields",
+            Wanted::LineEnd => "nothing follows the last field of a line, not even a blank",
+            Wanted::LineFeed => "each line ends in a line feed, the last one too",
+            Wanted::Nothing => "nothing follows the line `end`, not even an empty line",
+            Wanted::End =>
+                "a certificate has 16 callbacks, and a journal 1,000,000 entries at most",
+            Wanted::Callback(0) =>
+                "the second line is `callback 0 POINTS`, and the lines of its points follow",
+            Wanted::Callback(_) =>
+                "behind the points of a callback stands the next one, `callback NUMBER POINTS`, or `end`",
+            Wanted::Number(_) =>
+                "callbacks and the points of each count from 0, without leading zeros, none left out",
+            Wanted::Count =>
+                "the line of a callback ends with how many points it has, 1 to 512, and as many lines follow",
+            Wanted::State | Wanted::Status(_) =>
+                "behind a point's number stands `!` where it isn't reached, else a digit for each variable: NULL 1, held 2 and stale 4, added",
+            Wanted::Modes => "the third field is the modes: IRP 1 and fast I/O 2, added",
+            Wanted::Draining =>
+                "the fourth field is draining: not draining 1 and draining 2, added",
+            Wanted::Locks | Wanted::OtherLock | Wanted::LockEnd =>
+                "the last field has the locks that are held, the oldest first, each once, as `0,1s` (`s` for a shared one), or `-` for none",
+            Wanted::Entry =>
+                "an entry begins with `arrive`, `pre`, `skip`, `lower`, `post`, `cancel`, `canceled`, `work`, `detach`, `drain`, `unlink`, `detached` or `go`",
+            Wanted::Operation | Wanted::Mode => "what arrives: `arrive OPERATION MODE FILE`",
+            Wanted::Key =>
+                "what is unlinked: `unlink ALTITUDE stream FILE` or `unlink ALTITUDE instance`",
+            Wanted::Answer => "what the system answered: `go ACTIVATION STEPS yes` or `no`",
+            Wanted::AnyNumber => "a number is decimal, without leading zeros, and below 2^32",
+        }
+    }
+}
+
+impl fmt::Display for Wanted {
+    fn fmt<W: fmt::Write>(&self, f: &mut fmt::Formatter<W>) -> fmt::Result {
+        match self {
+            Wanted::FirstLine(line) => write!(f, "`{line}`"),
+            Wanted::Blank => write!(f, "a blank"),
+            Wanted::LineEnd => write!(f, "the end of the line"),
+            Wanted::LineFeed => write!(f, "a line feed"),
+            Wanted::Nothing => write!(f, "nothing behind `end`"),
+            Wanted::End => write!(f, "`end`"),
+            Wanted::Callback(0) => write!(f, "`callback 0`"),
+            Wanted::Callback(number) => write!(f, "`callback {number}` or `end`"),
+            Wanted::Number(number) => write!(f, "the number {number}"),
+            Wanted::Count => write!(f, "a number of points, 1 to 512"),
+            Wanted::State => write!(f, "`!`, or the digit of `c0`, 1 to 7"),
+            Wanted::Status(name) => write!(f, "the digit of `{name}`, 1 to 7"),
+            Wanted::Modes => write!(f, "the digit of the modes, 1 to 3"),
+            Wanted::Draining => write!(f, "the digit of draining, 1 to 3"),
+            Wanted::Locks => write!(f, "`-`, or the number of a lock, 0 to 7"),
+            Wanted::OtherLock => write!(f, "the number of another lock, 0 to 7"),
+            Wanted::LockEnd => write!(f, "`,` or the end of the line"),
+            Wanted::Entry => write!(f, "an entry or `end`"),
+            Wanted::Operation => write!(f, "`create`, `read`, `write` or `cleanup`"),
+            Wanted::Mode => write!(f, "`irp` or `fast`"),
+            Wanted::Key => write!(f, "`stream` or `instance`"),
+            Wanted::Answer => write!(f, "`yes` or `no`"),
+            Wanted::AnyNumber => write!(f, "a number"),
+        }
+    }
+}
