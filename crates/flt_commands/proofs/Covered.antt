@@ -1,6 +1,8 @@
 -- What is covered breaks nothing, and an exit status 0 says that something is covered.
 use Rattle.std.proofs.Common.{◌≡◌, ℕ, zero, suc, List, [], ◌∷◌, ◌++◌, Bool, None, Option, Some, Result, Ok, Err, take, drop, max, refl, sym, ◌∙◌, arith}
 use Rattle.std.proofs.Math.Path.{subst}
+use Rattle.flt_syntax.specs.File.{filter_of}
+use Rattle.flt_syntax.specs.declared.fault.SyntaxFault.{SyntaxFault}
 use Rattle.flt_syntax.specs.Spelling.{SpellsAtMostOne, SpelledIsWellFormed}
 use Rattle.flt_graph.specs.declared.graph.Graph.{Graph}
 use Rattle.flt_cert.specs.Format.{Certificate}
@@ -11,7 +13,10 @@ use Rattle.flt_driven.specs.declared.running.Ran.{Ran}
 use Rattle.flt_explain.specs.declared.finding.Finding.{Finding}
 use Rattle.flt_forms.specs.Lines.{AreLines}
 use Rattle.flt_forms.specs.Sarif.{AreResults}
-use Rattle.flt_reports.specs.Reports.{AreReports, IsJudged, IsKnown, findings_status, status_of as status_of_judged, texts_of}
+use Rattle.flt_notes.specs.Readings.{IsOther}
+use Rattle.flt_notes.specs.Reported.{AreReports, IsReport, IsStatus, IsText}
+use Rattle.flt_reasons.specs.declared.notice.Notice.{Notice}
+use Rattle.flt_reports.specs.Reports.{IsJudged, IsKnown, findings_status, status_of as status_of_judged, texts_of}
 use Rattle.flt_reports.specs.declared.reports.Explained.{Explained as Told}
 use Rattle.flt_reports.specs.declared.reports.Source.{Source}
 use Rattle.flt_words.specs.declared.request.Form.{Form}
@@ -48,6 +53,9 @@ Law = (text : Text) (graph : Graph) (cert : Certificate) → HasPoints text grap
 abbrev pub LawOfRuns : Type 0
 LawOfRuns = (script : Text) (texts : List Text) (ran : Ran) → IsRun script texts ran → BreakNothing texts
 
+abbrev pub LawOfReading : Type 0
+LawOfReading = (text : Text) (f : Filter) → Spells text f → filter_of text ≡ Ok f
+
 pub covered_is_clean : SpellsAtMostOne → SpelledIsWellFormed → AcceptedRunsBreakNothing → Law
 covered_is_clean one fine theorem text graph cert points covers f transitions spelled = theorem (f ∷ []) transitions all
   where
@@ -73,7 +81,7 @@ driven_is_clean one script texts ran is filters transitions spelled =
     let same : is.filters ≡ filters = zipped_once Spells one texts is.filters filters is.spelled spelled in
     subst (λ (fs : List Filter). breaks (by_altitude fs) transitions ≡ None) same (is.clean transitions)
 
-module _ (law : Law) (runs : LawOfRuns) where
+module _ (law : Law) (runs : LawOfRuns) (read : LawOfReading) where
   -- what is said of a text and its certificate with the status 0 is that it is accepted
   judged : (text certificate : Text) (answer : Answer) → IsAnswer text certificate answer → status_of answer ≡ 0 → BreaksNothing text
   judged text certificate Accepted said good = law text said.graph said.cert said.points said.decided
@@ -133,6 +141,22 @@ module _ (law : Law) (runs : LawOfRuns) where
   found_well text (Unread f) is good = absurd (omega (arith, good))
   found_well text (Known tree graph found) is good = unfound text tree graph found is good
 
+  -- a text that doesn't parse spells no filter
+  unspelled : (text : Text) (f : SyntaxFault) → filter_of text ≡ Err f → BreaksNothing text
+  unspelled text f fault filter transitions spelled = absurd (cc (fault, read text filter spelled))
+
+  text_well : (text : Text) (j : Found) → IsText text j → status_of_judged j ≡ 0 → BreaksNothing text
+  text_well text (Unread f) is good = absurd (omega (arith, good))
+  text_well text (Known tree graph found) is good = unfound text tree graph found is good
+
+  report_well : (text : Text) (printed : List ℕ) (status : ℕ) → IsReport text printed status → status ≡ 0 → BreaksNothing text
+  report_well text printed status (inl (j, is, same, ends)) good = text_well text j is (sym same ∙ good)
+  report_well text printed status (inr (n, is, same, ends)) good = unspelled text is.fault is.unread
+
+  status_well : (text : Text) (status : ℕ) → IsStatus text status → status ≡ 0 → BreaksNothing text
+  status_well text status (inl (j, is, same)) good = text_well text j is (sym same ∙ good)
+  status_well text status (inr (n, is, same)) good = unspelled text is.fault is.unread
+
   -- the greatest of two statuses is 0 only where both are
   both_zero : (m n : ℕ) → max m n ≡ 0 → (m ≡ 0) × (n ≡ 0)
   both_zero zero zero good = (refl, refl)
@@ -142,10 +166,10 @@ module _ (law : Law) (runs : LawOfRuns) where
 
   reported : (texts : List Text) (printed : List ℕ) (status : ℕ) → AreReports texts printed status → status ≡ 0 → EachBreaksNothing texts
   reported [] printed status said good = tt
-  reported (t ∷ []) printed status (j, is, same, ends) good = (found_well t j is (sym same ∙ good), tt)
-  reported (t ∷ u ∷ ts) printed status (first, others, (j, is, same), rest, greatest) good =
+  reported (t ∷ []) printed status is good = (report_well t printed status is good, tt)
+  reported (t ∷ u ∷ ts) printed status (first, others, is, rest, greatest) good =
       let zeros = both_zero first others (sym greatest ∙ good) in
-      (found_well t j is (sym same ∙ zeros.0), reported (u ∷ ts) printed others rest zeros.1)
+      (status_well t first is zeros.0, reported (u ∷ ts) printed others rest zeros.1)
 
   in_lines : (sources : List Source) (before printed : List ℕ) (status : ℕ) → AreLines sources before printed status → status ≡ 0 →
       EachBreaksNothing (texts_of sources)

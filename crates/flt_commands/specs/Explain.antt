@@ -6,10 +6,11 @@ use Rattle.flt_forms.specs.Lines.{AreLines}
 use Rattle.flt_forms.specs.Sarif.{IsSarif}
 use Rattle.flt_model.specs.JournalText.{Entries, spelling}
 use Rattle.flt_notes.specs.Noted.{first_journal}
+use Rattle.flt_notes.specs.Reported.{AreReports}
 use Rattle.flt_notes.specs.Told.{AreNoted, AreSaid}
 use Rattle.flt_notes.specs.declared.explaining.Told.{Told}
 use Rattle.flt_notes.specs.declared.noted.Noted.{Noted}
-use Rattle.flt_reports.specs.Reports.{AreReports, texts_of}
+use Rattle.flt_reports.specs.Reports.{texts_of}
 use Rattle.flt_reports.specs.declared.reports.Explained.{Explained as Reported}
 use Rattle.flt_reports.specs.declared.reports.Source.{Source}
 use Rattle.flt_words.specs.declared.request.Form.{Form}

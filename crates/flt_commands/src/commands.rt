@@ -17,8 +17,10 @@ use crate::inputs::{Inputs, Pictures};
 use crate::replay::replay_files;
 use crate::running::run_files;
 use crate::showing::show_files;
+use crate::unread::why_unread;
 use flt_driven::{Unwatched, Watch};
 use flt_model::{Sink, WriteFault, put_all};
+use flt_syntax::spelled_is_read;
 use flt_words::{Request, read_words};
 use std::alloc::{AllocError, AllocFailed, Global};
 use thiserror::Error;
@@ -90,16 +92,47 @@ fn tell<O: Sink, E: Sink>(
     Ok(status)
 }
 
-/// Writes in one line why there is no answer, and gives the status of that.
-fn excuse<E: Sink>(alloc: Global, failure: &Failure, err: &mut E) -> Result<u8, CommandFault>
+/// Writes in one line why there is no answer, behind some other lines, and gives the status of that.
+fn excuse<E: Sink>(
+    alloc: Global,
+    before: Vec<u8>,
+    failure: &Failure,
+    err: &mut E,
+) -> Result<u8, CommandFault>
     ensures status { IfOk result (λ status. status ≡ 2) }
     ensures write { IfErr result (λ e. e ≡ CommandFault.Write → E.failures err.new ≢ E.failures err.old) }
     ensures fine { OnOk result (E.failures err.new ≡ E.failures err.old) }
     ensures memory { IfErr result (λ e. e ≡ CommandFault.OutOfMemory → err.new ≡ err.old) }
 {
     let line = format!(in alloc; "{failure}\n")?;
-    put_all(err, line.as_bytes())?;
+    let mut lines = before;
+    lines.extend_from_slice(line.as_bytes())?;
+    put_all(err, lines.as_slice())?;
     Ok(2)
+}
+
+/// Writes what a command says: its answer to `out`, or why it has none to `err`, behind some other lines.
+fn report_behind<O: Sink, E: Sink>(
+    alloc: Global,
+    before: Vec<u8>,
+    said: Result<Answer, Failure>,
+    out: &mut O,
+    err: &mut E,
+) -> Result<u8, CommandFault>
+    ensures prints { IfOk result (λ status. (bytes : List ℕ) × spec.IsReported said.entry bytes status
+        × Appends (O.taken out.old) (O.taken out.new) bytes) }
+    ensures write { IfErr result (λ e. e ≡ CommandFault.Write → (O.failures out.new ≢ O.failures out.old)
+        ⊎ (E.failures err.new ≢ E.failures err.old)) }
+    ensures fine { OnOk result ((O.failures out.new ≡ O.failures out.old) × (E.failures err.new ≡ E.failures err.old)) }
+    ensures memory { IfErr result (λ e. e ≡ CommandFault.OutOfMemory → (out.new ≡ out.old) × (err.new ≡ err.old)) }
+    ensures quiet { IfOk result (λ status. status ≢ 2 → err.new ≡ err.old) }
+    ensures whole { spec.IsWhole said.entry → IfOk result (λ _. err.new ≡ err.old) }
+{
+    match said {
+        Ok(answer) => tell(alloc, answer, out, err),
+        Err(Failure::OutOfMemory) => Err(CommandFault::OutOfMemory),
+        Err(failure) => excuse(alloc, before, &failure, err),
+    }
 }
 
 /// Writes what a command says: its answer to `out`, or why it has none to `err`.
@@ -118,11 +151,7 @@ fn report<O: Sink, E: Sink>(
     ensures quiet { IfOk result (λ status. status ≢ 2 → err.new ≡ err.old) }
     ensures whole { spec.IsWhole said.entry → IfOk result (λ _. err.new ≡ err.old) }
 {
-    match said {
-        Ok(answer) => tell(alloc, answer, out, err),
-        Err(Failure::OutOfMemory) => Err(CommandFault::OutOfMemory),
-        Err(failure) => excuse(alloc, &failure, err),
-    }
+    report_behind(alloc, Vec::new(alloc), said, out, err)
 }
 
 /// Runs the command of a program's words, its own name left out, and answers the exit status: 0 for yes, 1 for no, and 2
@@ -151,6 +180,7 @@ pub fn command<I: Inputs, P: Pictures, O: Sink, E: Sink, W: Watch>(
 {
     covered_texts_break_nothing();
     driven_texts_break_nothing();
+    spelled_is_read();
     match read_words(alloc, words)? {
         Request::Usage(text) => {
             put_all(err, text.as_bytes())?;
@@ -214,7 +244,8 @@ pub fn command<I: Inputs, P: Pictures, O: Sink, E: Sink, W: Watch>(
                 files.as_slice(),
                 pictures,
             );
-            report(alloc, said, out, err)
+            let before = why_unread(alloc, inputs, files.as_slice(), &said)?;
+            report_behind(alloc, before, said, out, err)
         }
         Request::Page { name } => {
             let said = page_of(name);

@@ -1,10 +1,11 @@
 //! The files and the streams of the system.
 
 use crate::commands::{CommandFault, command};
-use crate::inputs::{Inputs, Pictures, read_within};
+use crate::inputs::{Inputs, MAX_INPUT, Pictures, read_within};
 use flt_driven::Watch;
 use flt_machine::Board;
 use flt_model::{Sink, WriteFault};
+use flt_reasons::Unread;
 use std::alloc::{AllocError, Global};
 use std::io::{IsTerminal, Write};
 use std::{env, fs, io};
@@ -29,6 +30,36 @@ impl Inputs for Files<'_> {
             Ok(mut file) => read_within(alloc, &mut file),
             Err(_) => Ok(None),
         }
+    }
+
+    fn why(&self, name: &str) -> Unread {
+        if name == "-" {
+            return Unread::Failed;
+        }
+        match fs::metadata(self.rt, name) {
+            Ok(found) => why_not(&found),
+            Err(fault) => why_missing(fault.kind()),
+        }
+    }
+}
+
+/// Why a file that is there isn't read.
+fn why_not(found: &fs::Metadata) -> Unread {
+    if found.is_dir() {
+        return Unread::Folder;
+    }
+    if found.len() > MAX_INPUT as u64 {
+        return Unread::TooLong;
+    }
+    Unread::Denied
+}
+
+/// Why nothing is found under a name.
+fn why_missing(kind: io::ErrorKind) -> Unread {
+    match kind {
+        io::ErrorKind::NotFound | io::ErrorKind::NotADirectory => Unread::Missing,
+        io::ErrorKind::PermissionDenied => Unread::Denied,
+        _ => Unread::Failed,
     }
 }
 

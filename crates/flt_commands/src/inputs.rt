@@ -5,6 +5,7 @@ ghost use Rattle.std.specs.Prelude.{◌≡◌, ◌≤◌, ℕ, List, Option, IfO
 ghost use Rattle.flt_commands.specs.Inputs as spec;
 
 use crate::failure::Failure;
+use flt_reasons::Unread;
 use std::alloc::{AllocError, Global};
 use std::io::Read;
 
@@ -16,6 +17,11 @@ pub trait Inputs {
     /// The bytes of a name; none if it can't be read or has more than `MAX_INPUT`.
     fn read(&self, alloc: Global, name: &str) -> Result<Option<Vec<u8>>, AllocError>
         ensures { IfOk result (λ found. gives self.now name.now (option_map (λ v. v.items) found)) };
+
+    /// Why nothing was given for a name, as far as can be said.
+    fn why(&self, _name: &str) -> Unread {
+        Unread::Failed
+    }
 }
 
 /// Where pictures and journals are written.
@@ -52,7 +58,7 @@ pub fn read_within<R: Read>(alloc: Global, reader: &mut R) -> Result<Option<Vec<
     Ok(None)
 }
 
-fn is_standard(name: &str) -> bool
+pub(crate) fn is_standard(name: &str) -> bool
     ensures { result ≡ spec.is_standard name.now }
 {
     name == "-"

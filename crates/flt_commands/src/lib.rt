@@ -16,9 +16,11 @@ mod running;
 mod showing;
 mod single;
 mod split;
+mod unread;
 
 pub use commands::{CommandFault, command};
 pub use flt_driven::{Unwatched, Watch};
+pub use flt_reasons::Unread;
 pub use host::run;
 pub use inputs::{Inputs, MAX_INPUT, Pictures, read_within};
 pub use single::one_answer_at_most;

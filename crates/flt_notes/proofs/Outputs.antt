@@ -3,19 +3,20 @@ use Rattle.std.proofs.Common.{◌≡◌, ℕ, List, [], ◌∷◌, ◌++◌, Som
 use Rattle.std.proofs.Math.Path.{subst}
 use Rattle.std.proofs.lemmas.List.Elements.{All-nil, All-push, All-weaker}
 use Rattle.flt_model.specs.Program.{filters_of}
-use Rattle.flt_notes.specs.Readings.{filters_in}
+use Rattle.flt_notes.specs.Readings.{IsOther, IsUnread, filters_in}
+use Rattle.flt_notes.specs.Reported.{IsReport, IsStatus}
 use Rattle.std.specs.declared.alloc.AllocError.{AllocError}
-use Rattle.flt_syntax.specs.File.{filter_of}
 use Rattle.flt_syntax.specs.declared.fault.SyntaxFault.{SyntaxFault}
 use Rattle.flt_tree.specs.Names.{Text}
 use Rattle.flt_tree.specs.declared.tree.Tree.{Tree}
 use Rattle.flt_graph.specs.declared.graph.Graph.{Graph}
 use Rattle.flt_explain.specs.declared.finding.Finding.{Finding}
-use Rattle.flt_reports.specs.Reports.{IsKnown, IsReport, IsStatus}
+use Rattle.flt_reasons.specs.declared.notice.Notice.{Notice}
+use Rattle.flt_reports.specs.Reports.{IsKnown}
 use Rattle.flt_reports.specs.declared.judged.Judged.TheVariants.{Unread, Known as Found}
 use Rattle.flt_notes.specs.Lines.{BeginsWith, said}
 use Rattle.flt_notes.specs.Noted.{IsNoted}
-use Rattle.flt_notes.specs.Printing.{ClosesFault, ClosesFindings, IsKnownIn, IsNoteOf, IsOutput}
+use Rattle.flt_notes.specs.Printing.{ClosesFault, ClosesFindings, ClosesNotice, IsKnownIn, IsNoteOf, IsOutput}
 use Rattle.flt_notes.specs.Told.{AreNoted, IsNotedOf, StandIn}
 use Rattle.flt_notes.specs.declared.noted.Noted.{Noted}
 use Rattle.flt_notes.specs.declared.printing.Known.{Known}
@@ -61,19 +62,26 @@ output_noted trees old new n lines is note (rest, begins) added pushed = record 
 }
 
 -- how a text's reports end
-pub reports_fault : (text : Text) (f : SyntaxFault) (printed : List ℕ) (r : Result ℕ AllocError) → filter_of text ≡ Err f →
+pub reports_fault : (text : Text) (f : SyntaxFault) (printed : List ℕ) (r : Result ℕ AllocError) → IsUnread text f →
     IfOk r (ClosesFault f printed) → IfOk r (IsReport text printed)
-reports_fault text f printed (Ok status) fault (two, ends) = (Unread f, fault, two, ends)
-reports_fault text f printed (Err e) fault closes = tt
+reports_fault text f printed (Ok status) is (two, ends) = inl (Unread f, is, two, ends)
+reports_fault text f printed (Err e) is closes = tt
 
 pub reports_findings : (text : Text) (tree : Tree) (graph : Graph) (found : List Finding) (printed : List ℕ) (r : Result ℕ AllocError) →
     IsKnown text tree graph found → IfOk r (ClosesFindings found printed) → IfOk r (IsReport text printed)
-reports_findings text tree graph found printed (Ok status) known (same, ends) = (Found tree graph found, known, same, ends)
+reports_findings text tree graph found printed (Ok status) known (same, ends) = inl (Found tree graph found, known, same, ends)
 reports_findings text tree graph found printed (Err e) known closes = tt
+
+-- how what is said of a certificate or a journal ends
+pub reports_notice : (text : Text) (n : Notice) (printed : List ℕ) (r : Result ℕ AllocError) → IsOther text n →
+    IfOk r (ClosesNotice n printed) → IfOk r (IsReport text printed)
+reports_notice text n printed (Ok status) is (same, ends) = inr (n, is, same, ends)
+reports_notice text n printed (Err e) is closes = tt
 
 -- whatever is printed behind a report, its status stays
 pub status_of_report : (text : Text) (printed : List ℕ) (status : ℕ) → IsReport text printed status → IsStatus text status
-status_of_report text printed status (j, judged, same, ends) = (j, judged, same)
+status_of_report text printed status (inl (j, is, same, ends)) = inl (j, is, same)
+status_of_report text printed status (inr (n, is, same, ends)) = inr (n, is, same)
 
 -- nothing is noted before anything is printed
 pub output_none : (trees : List Tree) (o : Output) → o.noted ≡ [] → IsOutput trees o

@@ -8,7 +8,7 @@ use Rattle.flt_tree.specs.declared.filter.Filter.{Filter}
 use Rattle.flt_tree.specs.declared.tree.Tree.{Tree}
 use Rattle.flt_notes.specs.Readings.{AreStudied, IsReading, IsStudied, filters_in, texts_read, with_filter}
 use Rattle.flt_notes.specs.declared.readings.Reading.{Reading}
-use Rattle.flt_notes.specs.declared.readings.Reading.TheVariants.{Unread, Known}
+use Rattle.flt_notes.specs.declared.readings.Reading.TheVariants.{Unread, Other, Known}
 use Rattle.flt_notes.specs.declared.readings.Studied.{Studied}
 
 with_filter-append : (r : Result Filter SyntaxFault) (fs gs : List Filter) → with_filter r (fs ++ gs) ≡ with_filter r fs ++ gs
@@ -53,6 +53,7 @@ filters-push (t ∷ trees) tree = ap (λ fs. t.filter ∷ fs) (filters-push tree
 module _ (trees : List Tree) (tree : Tree) where
   reading_of_more : (text : Text) (r : Reading) → IsReading trees text r → IsReading (trees ++ tree ∷ []) text r
   reading_of_more text (Unread f) is = is
+  reading_of_more text (Other notice) is = is
   reading_of_more text (Known place graph found) is =
       record { tree = is.tree; own = get_of_more trees tree is.tree place is.own; known = is.known }
 

@@ -2,4 +2,5 @@ pub mod Lines
 pub mod Noted
 pub mod Printing
 pub mod Readings
+pub mod Reported
 pub mod Told

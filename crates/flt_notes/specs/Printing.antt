@@ -5,6 +5,8 @@ use Rattle.flt_tree.specs.declared.tree.Tree.{Tree}
 use Rattle.flt_graph.specs.Lowering.{IsLowered}
 use Rattle.flt_explain.specs.Findings.{AreFindings}
 use Rattle.flt_explain.specs.declared.finding.Finding.{Finding}
+use Rattle.flt_reasons.specs.Notice as notices
+use Rattle.flt_reasons.specs.declared.notice.Notice.{Notice}
 use Rattle.flt_reports.specs.Closing.{findings_closing, syntax_line}
 use Rattle.flt_reports.specs.Reports.{EndsWith, findings_status}
 use Rattle.flt_schedules.specs.Schedules.{IsScheduled}
@@ -40,6 +42,10 @@ pub record IsNoteOf (trees : List Tree) (k : Known) (number : ℕ) (finding : Fi
 -- the status of what is found, and what ends what is printed
 abbrev pub ClosesFindings : List Finding → List ℕ → ℕ → Type 0
 ClosesFindings found printed status = (status ≡ findings_status found) × EndsWith printed (findings_closing found)
+
+-- the same of a certificate or a journal
+abbrev pub ClosesNotice : Notice → List ℕ → ℕ → Type 0
+ClosesNotice n printed status = (status ≡ notices.status_of n) × EndsWith printed (notices.closing n)
 
 -- the same of a text that doesn't parse
 abbrev pub ClosesFault : SyntaxFault → List ℕ → ℕ → Type 0

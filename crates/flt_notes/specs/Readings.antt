@@ -1,5 +1,5 @@
 -- What texts are found to be. This project's own definitions.
-use Rattle.std.specs.Prelude.{◌≡◌, ℕ, List, [], ◌∷◌, Some, Result, Ok, Err, map, slice_get}
+use Rattle.std.specs.Prelude.{◌≡◌, ℕ, List, [], ◌∷◌, Some, None, Result, Ok, Err, map, slice_get}
 use Rattle.flt_syntax.specs.File.{filter_of}
 use Rattle.flt_syntax.specs.declared.fault.SyntaxFault.{SyntaxFault}
 use Rattle.flt_tree.specs.Names.{Text}
@@ -8,9 +8,12 @@ use Rattle.flt_tree.specs.declared.tree.Tree.{Tree}
 use Rattle.flt_graph.specs.declared.graph.Graph.{Graph}
 use Rattle.flt_explain.specs.declared.finding.Finding.{Finding}
 use Rattle.flt_model.specs.Program.{filters_of}
+use Rattle.flt_reasons.specs.Notice.{IsNotice, kind_of}
+use Rattle.flt_reasons.specs.declared.notice.Kind.{Kind}
+use Rattle.flt_reasons.specs.declared.notice.Notice.{Notice}
 use Rattle.flt_reports.specs.Reports.{IsKnown}
 use Rattle.flt_notes.specs.declared.readings.Reading.{Reading}
-use Rattle.flt_notes.specs.declared.readings.Reading.TheVariants.{Unread, Known}
+use Rattle.flt_notes.specs.declared.readings.Reading.TheVariants.{Unread, Other, Known}
 use Rattle.flt_notes.specs.declared.readings.Readings.{Readings}
 use Rattle.flt_notes.specs.declared.readings.Studied.{Studied}
 
@@ -30,9 +33,23 @@ pub record IsKnownBy (trees : List Tree) (text : Text) (place : ℕ) (graph : Gr
   pub own : slice_get trees place ≡ Some tree
   pub known : IsKnown text tree graph found
 
+-- a text doesn't parse and is taken for a certificate or a journal, and this is said of it
+pub record IsOther (text : Text) (notice : Notice) : Type 0 where
+  pub fault : SyntaxFault
+  pub unread : filter_of text ≡ Err fault
+  pub kind : Kind
+  pub taken : kind_of text ≡ Some kind
+  pub is : IsNotice kind text notice
+
+-- a text doesn't parse, and isn't taken for anything else
+pub record IsUnread (text : Text) (f : SyntaxFault) : Type 0 where
+  pub fault : filter_of text ≡ Err f
+  pub plain : kind_of text ≡ None
+
 -- what a text is
 abbrev pub IsReading : List Tree → Text → Reading → Type 0
-IsReading trees text (Unread f) = filter_of text ≡ Err f
+IsReading trees text (Unread f) = IsUnread text f
+IsReading trees text (Other notice) = IsOther text notice
 IsReading trees text (Known place graph found) = IsKnownBy trees text place graph found
 
 abbrev pub IsStudied : List Tree → Studied → Type 0

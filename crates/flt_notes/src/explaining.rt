@@ -1,8 +1,9 @@
 //! What is wrong with some texts, and what comes of it in runs.
 
 ghost use Rattle.std.specs.Prelude.{◌≡◌, IfOk};
+ghost use Rattle.flt_notes.specs.Reported.{AreReports};
 ghost use Rattle.flt_notes.specs.Told as spec;
-ghost use Rattle.flt_reports.specs.Reports.{AreReports, texts_of};
+ghost use Rattle.flt_reports.specs.Reports.{texts_of};
 
 use crate::noted::Noted;
 use crate::printing::{Output, Stage};
@@ -21,8 +22,9 @@ pub struct Told {
 /// What is wrong with some texts, for people to read: each finding with the lines that show it, a way that leads there, how to mend it,
 /// and a journal that breaks what its rule prevents, if one is found. A journal is looked for in rounds of growing bounds, each up to so
 /// many states: where several texts parse and the finding's filter meets another one on an operation, on all that parse, else, or where
-/// none is found, on the filter alone. The last line of each text is what `analyse` says of it, or `nothing found`. With `coloured`,
-/// marks of a terminal colour it.
+/// none is found, on the filter alone. The last line of each text is what `analyse` says of it, or `nothing found`. A text that doesn't
+/// parse and begins as a certificate or a journal is taken for one: what is said of it is why a line of it is malformed, and its last
+/// line is what `check` or `replay` say of it, or `nothing found`. With `coloured`, marks of a terminal colour it.
 ///
 /// # Errors
 ///

@@ -3,13 +3,15 @@
 ghost use Rattle.std.specs.Prelude.{◌≡◌, ◌++◌, IfOk, OnOk, max, slice_get};
 ghost use Rattle.flt_notes.specs.Printing as spec;
 ghost use Rattle.flt_notes.specs.Readings.{AreStudied, IsStudied, texts_read};
-ghost use Rattle.flt_reports.specs.Reports.{AreReports, IsReport, IsStatus};
+ghost use Rattle.flt_notes.specs.Reported.{AreReports, IsReport, IsStatus};
 
 use crate::lines::{Bounds, note_lines};
 use crate::noted::Noted;
+use crate::notices::notice_lines;
 use crate::readings::{Reading, Studied};
 use flt_explain::Finding;
 use flt_graph::Graph;
+use flt_reasons::Notice;
 use flt_reports::{
     Report, Source, fault_line, findings_line, report_findings, report_nothing, report_unread,
 };
@@ -204,6 +206,23 @@ impl Stage<'_> {
         Ok(2)
     }
 
+    /// Writes what is said of a certificate or a journal.
+    fn put_other(
+        &self,
+        output: &mut Output,
+        source: Source<'_>,
+        notice: &Notice<'_>,
+    ) -> Result<u8, AllocError>
+        requires old { spec.IsOutput self.now.trees.now output.old }
+        ensures output { OnOk result (spec.IsOutput self.now.trees.now output.new) }
+        ensures report { IfOk result (spec.ClosesNotice notice.now output.new.bytes.items) }
+    {
+        let lines = notice_lines(self.alloc, self.coloured, source.name, notice)?;
+        output.lines(lines.as_slice())?;
+        output.lines(notice.closing(self.alloc)?.as_bytes())?;
+        Ok(notice.status())
+    }
+
     /// Writes what is found of a text, and gives its status.
     fn put_text(&self, output: &mut Output, studied: &Studied<'_>) -> Result<u8, AllocError>
         requires text { IsStudied self.now.trees.now studied.now }
@@ -213,6 +232,7 @@ impl Stage<'_> {
     {
         match &studied.reading {
             Reading::Unread(fault) => self.put_unread(output, studied.source, *fault),
+            Reading::Other(notice) => self.put_other(output, studied.source, notice),
             Reading::Known(place, graph, found) => {
                 let known = Known {
                     place: *place,

@@ -7,6 +7,7 @@ ghost use Rattle.flt_notes.specs.Readings as spec;
 
 use flt_explain::Finding;
 use flt_graph::Graph;
+use flt_reasons::{Notice, describe, kind_of};
 use flt_reports::{Judged, Source, judge};
 use flt_syntax::{SyntaxFault, Tree, spelled_is_read};
 use sqlite_items::Items;
@@ -14,8 +15,10 @@ use std::alloc::{AllocError, Global};
 
 /// What a text is found to be, but for its tree.
 #[derive(Drop)]
-pub(crate) enum Reading {
+pub(crate) enum Reading<'a> {
     Unread(SyntaxFault),
+    /// It is taken for a certificate or a journal.
+    Other(Notice<'a>),
     /// The number of its tree, from 0, its points and its findings.
     Known(usize, Graph, Items<Finding>),
 }
@@ -24,7 +27,7 @@ pub(crate) enum Reading {
 #[derive(Drop)]
 pub(crate) struct Studied<'a> {
     pub(crate) source: Source<'a>,
-    pub(crate) reading: Reading,
+    pub(crate) reading: Reading<'a>,
 }
 
 /// Some texts, and the trees of those that parse.
@@ -35,9 +38,22 @@ pub(crate) struct Readings<'a> {
 }
 
 impl<'a> Readings<'a> {
-    /// One more text, which doesn't parse.
+    /// One more text, which doesn't parse and is taken for a certificate or a journal.
+    fn add_other(&mut self, source: Source<'a>, notice: Notice<'a>) -> Result<(), AllocError>
+        requires other { spec.IsOther source.text.now notice }
+        requires old { spec.AreReadings self.old }
+        ensures new { OnOk result (spec.AreReadings self.new) }
+        ensures text { OnOk result (spec.texts_read self.new.each.items
+            ≡ spec.texts_read self.old.each.items ++ source.entry.text.now ∷ []) }
+    {
+        let reading = Reading::Other(notice);
+        self.each.push(Studied { source, reading })?;
+        Ok(())
+    }
+
+    /// One more text, which doesn't parse and isn't taken for anything else.
     fn add_unread(&mut self, source: Source<'a>, fault: SyntaxFault) -> Result<(), AllocError>
-        requires fault { filter_of source.text.now ≡ Err fault }
+        requires fault { spec.IsUnread source.text.now fault }
         requires old { spec.AreReadings self.old }
         ensures new { OnOk result (spec.AreReadings self.new) }
         ensures text { OnOk result (spec.texts_read self.new.each.items
@@ -69,8 +85,30 @@ impl<'a> Readings<'a> {
         Ok(())
     }
 
+    /// One more text, which doesn't parse.
+    fn add_unparsed(
+        &mut self,
+        alloc: Global,
+        source: Source<'a>,
+        fault: SyntaxFault,
+    ) -> Result<(), AllocError>
+        requires fault { filter_of source.text.now ≡ Err fault }
+        requires old { spec.AreReadings self.old }
+        ensures new { OnOk result (spec.AreReadings self.new) }
+        ensures text { OnOk result (spec.texts_read self.new.each.items
+            ≡ spec.texts_read self.old.each.items ++ source.entry.text.now ∷ []) }
+    {
+        match kind_of(source.text) {
+            Some(kind) => {
+                let notice = describe(alloc, kind, 0, source.text)?;
+                self.add_other(source, notice)
+            }
+            None => self.add_unread(source, fault),
+        }
+    }
+
     /// One more text.
-    fn add(&mut self, source: Source<'a>, judged: Judged) -> Result<(), AllocError>
+    fn add(&mut self, alloc: Global, source: Source<'a>, judged: Judged) -> Result<(), AllocError>
         requires judged { IsJudged source.text.now judged }
         requires old { spec.AreReadings self.old }
         ensures new { OnOk result (spec.AreReadings self.new) }
@@ -78,7 +116,7 @@ impl<'a> Readings<'a> {
             ≡ spec.texts_read self.old.each.items ++ source.entry.text.now ∷ []) }
     {
         match judged {
-            Judged::Unread(fault) => self.add_unread(source, fault),
+            Judged::Unread(fault) => self.add_unparsed(alloc, source, fault),
             Judged::Known(tree, graph, found) => self.add_known(source, tree, graph, found),
         }
     }
@@ -98,7 +136,7 @@ pub(crate) fn read_all<'a>(
     };
     for source in sources {
         let judged = judge(alloc, source.text)?;
-        readings.add(*source, judged)?;
+        readings.add(alloc, *source, judged)?;
     }
     Ok(readings)
 }

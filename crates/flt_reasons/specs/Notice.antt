@@ -1,12 +1,13 @@
 -- What is said of inputs that aren't texts of filters. This project's own program.
-use Rattle.std.specs.Prelude.{◌≡◌, ℕ, List, ◌∷◌, ◌++◌, codes, length, IsTrue}
+use Rattle.std.specs.Prelude.{◌≡◌, ℕ, List, [], ◌∷◌, ◌++◌, Option, Some, None, codes, eqb, if◌then◌else◌, length, IsTrue}
+use Rattle.std.specs.List.{starts_with}
 use Rattle.std.specs.Fmt.{decimal}
 use Rattle.flt_cert.specs.Format as certificates
 use Rattle.flt_model.specs.JournalText as journals
 use Rattle.flt_reasons.specs.declared.notice.Kind.{Kind}
 use Rattle.flt_reasons.specs.declared.notice.Kind.TheVariants.{Certificate, Journal}
 use Rattle.flt_reasons.specs.declared.notice.Notice.{Notice}
-use Rattle.flt_reasons.specs.declared.notice.Notice.TheVariants.{Whole, Malformed, Unread}
+use Rattle.flt_reasons.specs.declared.notice.Notice.TheVariants.{Whole, Malformed}
 
 abbrev pub Text : Type 0
 Text = List ℕ
@@ -39,14 +40,23 @@ IsFirstFault Journal text line = (left : Text) × journals.IsFirstFault text lin
 abbrev pub IsNotice : Kind → Text → Notice → Type 0
 IsNotice kind text (Whole own count) = (own ≡ kind) × IsWhole kind text count
 IsNotice kind text (Malformed own reason) = (own ≡ kind) × IsFirstFault kind text reason.line
-IsNotice kind text (Unread why) = ⊥
 
 -- 0 where nothing is wrong, else 2
 abbrev pub status_of : Notice → ℕ
 status_of (Whole kind count) = 0
 status_of (Malformed kind reason) = 2
-status_of (Unread why) = 2
 
 abbrev pub kind_name : Kind → List ℕ
 kind_name Certificate = codes "certificate"
 kind_name Journal = codes "journal"
+
+-- what is said last: the first malformed line, or that nothing is found
+abbrev pub closing : Notice → List ℕ
+closing (Whole kind count) = codes "nothing found" ++ 10 ∷ []
+closing (Malformed kind reason) = kind_name kind ++ codes " line " ++ decimal reason.line ++ 10 ∷ []
+
+-- what a text is taken for that begins with the word that begins a certificate or a journal
+abbrev pub kind_of : Text → Option Kind
+kind_of text = if starts_with eqb text (codes "fltcert") then Some Certificate
+    else if starts_with eqb text (codes "fltjournal") then Some Journal
+    else None

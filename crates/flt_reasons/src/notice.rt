@@ -1,7 +1,9 @@
 //! What is said of an input that isn't the text of a filter.
 
-ghost use Rattle.std.specs.Prelude.{◌≡◌};
+ghost use Rattle.std.specs.Prelude.{◌≡◌, IfOk, string_bytes};
 ghost use Rattle.flt_reasons.specs.Notice as spec;
+
+use std::alloc::{AllocError, Global};
 
 /// What an input is, where it isn't the text of a filter.
 #[derive(Clone, Copy, PartialEq, Eq)]
@@ -56,7 +58,6 @@ pub enum Notice<'a> {
     /// It is well-formed: how many callbacks or entries it has.
     Whole(Kind, usize),
     Malformed(Kind, Reason<'a>),
-    Unread(Unread),
 }
 
 impl Notice<'_> {
@@ -66,7 +67,25 @@ impl Notice<'_> {
     {
         match self {
             Notice::Whole(_, _) => 0,
-            Notice::Malformed(_, _) | Notice::Unread(_) => 2,
+            Notice::Malformed(_, _) => 2,
+        }
+    }
+
+    /// The last line of what is said: its first malformed line, as `check` and `replay` say it, or that nothing is found.
+    ///
+    /// # Errors
+    ///
+    /// Where a growth was refused.
+    pub fn closing(&self, alloc: Global) -> Result<String, AllocError>
+        ensures { IfOk result (λ line. string_bytes line ≡ spec.closing self.now) }
+    {
+        match self {
+            Notice::Whole(_, _) => String::from_str(alloc, "nothing found\n"),
+            Notice::Malformed(kind, reason) => {
+                let name = kind.name();
+                let line = reason.line;
+                format!(in alloc; "{name} line {line}\n")
+            }
         }
     }
 }

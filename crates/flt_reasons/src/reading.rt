@@ -1,6 +1,6 @@
 //! What is said of a certificate or of a journal.
 
-ghost use Rattle.std.specs.Prelude.{IfOk};
+ghost use Rattle.std.specs.Prelude.{◌≡◌, IfOk};
 ghost use Rattle.flt_reasons.specs.Notice as spec;
 
 use crate::notice::{Kind, Notice};
@@ -32,6 +32,19 @@ impl Source for Bytes<'_> {
             [] => Ok(None),
         }
     }
+}
+
+/// What an input is taken for, where it isn't the text of a filter: it begins with the word that begins a certificate or a journal.
+pub fn kind_of(input: &[u8]) -> Option<Kind>
+    ensures { result ≡ spec.kind_of input.now }
+{
+    if input.starts_with(b"fltcert") {
+        return Some(Kind::Certificate);
+    }
+    if input.starts_with(b"fltjournal") {
+        return Some(Kind::Journal);
+    }
+    None
 }
 
 fn of_certificate<'a>(

@@ -1,5 +1,5 @@
 -- What is reported of texts. This project's own program.
-use Rattle.std.specs.Prelude.{◌≡◌, ℕ, List, [], ◌∷◌, ◌++◌, Err, map, max}
+use Rattle.std.specs.Prelude.{◌≡◌, ℕ, List, [], ◌∷◌, ◌++◌, Err, map}
 use Rattle.flt_syntax.specs.File.{filter_of}
 use Rattle.flt_syntax.specs.Spelling.{Spells}
 use Rattle.flt_tree.specs.Names.{Text}
@@ -8,7 +8,6 @@ use Rattle.flt_graph.specs.Lowering.{IsLowered}
 use Rattle.flt_graph.specs.declared.graph.Graph.{Graph}
 use Rattle.flt_explain.specs.Findings.{AreFindings}
 use Rattle.flt_explain.specs.declared.finding.Finding.{Finding}
-use Rattle.flt_reports.specs.Closing.{closing}
 use Rattle.flt_reports.specs.declared.judged.Judged.{Judged}
 use Rattle.flt_reports.specs.declared.judged.Judged.TheVariants.{Unread, Known}
 use Rattle.flt_reports.specs.declared.reports.Source.{Source}
@@ -39,21 +38,6 @@ status_of (Known tree graph found) = findings_status found
 abbrev pub EndsWith : List ℕ → List ℕ → Type 0
 EndsWith whole last = (front : List ℕ) × (whole ≡ front ++ last)
 
--- the status of a text
-abbrev pub IsStatus : Text → ℕ → Type 0
-IsStatus text status = (j : Judged) × IsJudged text j × (status ≡ status_of j)
-
--- a text has this status, and its last line ends what is printed
-abbrev pub IsReport : Text → List ℕ → ℕ → Type 0
-IsReport text printed status = (j : Judged) × IsJudged text j × (status ≡ status_of j) × EndsWith printed (closing j)
-
 -- the texts of sources
 abbrev pub texts_of : List Source → List Text
 texts_of sources = map (λ (s : Source). s.text.now) sources
-
--- the status of several texts is the greatest of theirs, and the last text's line ends what is printed
-abbrev pub AreReports : List Text → List ℕ → ℕ → Type 0
-AreReports [] printed status = status ≡ 0
-AreReports (t ∷ []) printed status = IsReport t printed status
-AreReports (t ∷ u ∷ ts) printed status =
-    (first : ℕ) × (others : ℕ) × IsStatus t first × AreReports (u ∷ ts) printed others × (status ≡ max first others)

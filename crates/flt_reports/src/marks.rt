@@ -52,7 +52,7 @@ impl Drawing {
         Ok(())
     }
 
-    /// Draws a site with signs under it. What it says follows on the page.
+    /// Draws a site of a text with signs under it. What it says follows on the page.
     pub(crate) fn draw(
         &mut self,
         page: &mut Page,
@@ -60,7 +60,17 @@ impl Drawing {
         site: &Site,
         sign: u8,
     ) -> Result<(), AllocError> {
-        let line = line_at(text, site.line);
+        self.draw_in(page, line_at(text, site.line), site, sign)
+    }
+
+    /// The same of a site in a line.
+    pub(crate) fn draw_in(
+        &mut self,
+        page: &mut Page,
+        line: &[u8],
+        site: &Site,
+        sign: u8,
+    ) -> Result<(), AllocError> {
         self.draw_line(page, line, site.line)?;
         self.frame(page)?;
         page.repeated(b' ', site.column.saturating_sub(1))?;

@@ -1,7 +1,5 @@
-use Rattle.std.proofs.Common.{◌≡◌, Err}
-use Rattle.flt_syntax.specs.File.{filter_of}
-use Rattle.flt_notes.specs.Readings.{IsKnownBy}
-use Rattle.flt_notes.proofs.Outputs.{reports_fault, reports_findings}
+use Rattle.flt_notes.specs.Readings.{IsKnownBy, IsOther, IsUnread}
+use Rattle.flt_notes.proofs.Outputs.{reports_fault, reports_findings, reports_notice}
 use Rattle.flt_notes.proofs.printing.Stage.put_text.Goals as goal
 
 pub put_known-requires-clause-known : goal.put_known-requires-clause-known
@@ -12,8 +10,13 @@ put_known-requires-clause-known c =
 
 pub returns-in-Unread-clause-report : goal.returns-in-Unread-clause-report
 returns-in-Unread-clause-report c =
-    let is : filter_of c.args.studied.now.source.text.now ≡ Err c.in-Unread.fault = rw c.in-Unread.is at c.requires.text in
+    let is : IsUnread c.args.studied.now.source.text.now c.in-Unread.fault = rw c.in-Unread.is at c.requires.text in
     reports_fault _ _ _ _ is c.put_unread.ensures.report
+
+pub returns-in-Other-clause-report : goal.returns-in-Other-clause-report
+returns-in-Other-clause-report c =
+    let is : IsOther c.args.studied.now.source.text.now c.in-Other.notice = rw c.in-Other.is at c.requires.text in
+    reports_notice _ _ _ _ is c.put_other.ensures.report
 
 pub returns-in-Known-clause-report : goal.returns-in-Known-clause-report
 returns-in-Known-clause-report c =
