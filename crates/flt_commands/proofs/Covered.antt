@@ -6,8 +6,8 @@ use Rattle.flt_graph.specs.declared.graph.Graph.{Graph}
 use Rattle.flt_cert.specs.Format.{Certificate}
 use Rattle.flt_check.specs.Covering.{Covers}
 use Rattle.flt_sound.specs.Soundness.{IsAccepted, AreAccepted, AcceptedRunsBreakNothing}
-use Rattle.flt_driven.specs.Running.{IsRun}
-use Rattle.flt_driven.specs.declared.running.Ran.{Ran}
+use Rattle.flt_crew.specs.Running.{IsRun}
+use Rattle.flt_crew.specs.declared.running.Ran.{Ran}
 use Rattle.flt_explain.specs.declared.finding.Finding.{Finding}
 use Rattle.flt_forms.specs.Lines.{AreLines}
 use Rattle.flt_forms.specs.Sarif.{AreResults}

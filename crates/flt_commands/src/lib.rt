@@ -18,7 +18,7 @@ mod single;
 mod split;
 
 pub use commands::{CommandFault, command};
-pub use flt_driven::{Unwatched, Watch};
+pub use flt_crew::{Unwatched, Watch};
 pub use host::run;
 pub use inputs::{Inputs, MAX_INPUT, Pictures, read_within};
 pub use single::one_answer_at_most;

@@ -1,7 +1,7 @@
-//! A script on the texts of some filters.
+//! A script on the texts of some filters, before anything is run.
 
-ghost use Rattle.std.specs.Prelude.{◌≡◌, map, length, ◌≤◌, IfOk};
-ghost use Rattle.flt_driven.specs.Running as spec;
+ghost use Rattle.std.specs.Prelude.{◌≡◌, map, length, ◌≤◌, IfErr, IfOk};
+ghost use Rattle.flt_driven.specs.Preparing as spec;
 ghost use Rattle.flt_driven.specs.Texts as texts_spec;
 ghost use Rattle.flt_model.specs.Program.{HasDistinctAltitudes, by_altitude, filters_of};
 ghost use Rattle.flt_stack.specs.Loading.{IsCount};
@@ -10,25 +10,24 @@ use crate::certified::certify_all;
 use crate::fault::RunFault;
 use crate::files::pairs;
 use crate::texts::parse_all;
-use crate::written::journal_bytes;
 use flt_model::first_repeated;
-use flt_run::{Watch, drive};
 use flt_script::{Script, ScriptFault, read};
 use flt_stack::{LoadFault, Loaded, load};
 use flt_syntax::spelled_is_well_formed;
 use flt_tree::Tree;
 use std::alloc::{AllocError, Global};
+use std::thread::Threads;
 
 /// How many filters a stack has at most.
 const MAX_FILTERS: usize = 16;
 
-/// What a script came to.
+/// What can be run: a script, and the filters for which it is one.
 #[derive(Drop)]
-pub struct Ran {
-    /// The journal, as it is written.
-    pub journal: Vec<u8>,
-    /// Whether the journal, or the number of operations, was full before the script had ended.
-    pub is_full: bool,
+pub struct Prepared {
+    /// The filters, loaded.
+    pub loaded: Loaded,
+    /// The commands of the script.
+    pub script: Script,
 }
 
 /// The commands that a script's bytes spell.
@@ -70,50 +69,38 @@ fn load_all(
     }
 }
 
-/// Drives a board on what is loaded.
-fn drive_script<W: Watch>(
-    alloc: Global,
-    loaded: &Loaded,
-    script: &Script,
-    watch: &mut W,
-) -> Result<Ran, AllocError>
-    ensures { IfOk result (λ ran. spec.IsDriven loaded.now ran.journal.items ran.is_full) }
-{
-    let driven = drive(alloc, loaded.machine(), script, watch)?;
-    loaded.filters();
-    loaded.breaks_nothing();
-    loaded.boards_break_nothing(&driven.board);
-    Ok(Ran {
-        journal: journal_bytes(alloc, driven.board.journal())?,
-        is_full: driven.is_full,
-    })
-}
-
-/// Drives a script on the filters that some texts spell, by one worker, and answers the journal. The texts need no certificates: each gets
-/// the least one that there is. The board is shown to `watch` after each line of the script.
+/// What a script and some texts come to before anything is run: the texts are read, each gets its least certificate, as many at a time as
+/// there are workers, and all are loaded.
 ///
 /// # Errors
 ///
 /// The first of these that there is, and of one kind the first file's: the number of files; a text's fault; a line of the script; a text
 /// that no certificate covers; an altitude that an earlier file has. Or a growth was refused.
-pub fn run<W: Watch>(
+pub fn prepare<R: Threads + Sync>(
+    rt: &R,
     alloc: Global,
+    workers: usize,
     script: &[u8],
     texts: &[Vec<u8>],
-    watch: &mut W,
-) -> Result<Ran, RunFault>
-    ensures { spec.Answers script.now (map (λ text. text.items) texts.now) result }
+) -> Result<Prepared, RunFault>
+    requires workers { (1 ≤ workers) × (workers ≤ 16) }
+    ensures ok { IfOk result
+        (λ prepared. spec.IsPrepared script.now (map (λ text. text.items) texts.now) prepared.loaded prepared.script) }
+    ensures err { IfErr result (spec.Fails script.now (map (λ text. text.items) texts.now)) }
 {
     if texts.is_empty() || MAX_FILTERS < texts.len() {
         return Err(RunFault::Count);
     }
     let trees = parse_all(alloc, texts)?;
     let commands = read_script(alloc, trees.as_slice(), script)?;
-    let certificates = certify_all(alloc, trees.as_slice())?;
+    let certificates = certify_all(rt, alloc, workers, trees.as_slice())?;
     if let Some(file) = first_repeated(trees.as_slice()) {
         return Err(RunFault::Altitude { file });
     }
     spelled_is_well_formed();
     let loaded = load_all(alloc, texts, certificates.as_slice())?;
-    Ok(drive_script(alloc, &loaded, &commands, watch)?)
+    Ok(Prepared {
+        loaded,
+        script: commands,
+    })
 }
