@@ -1,10 +1,8 @@
 //! A script by one worker, which works in the caller's thread.
 
-ghost use Rattle.std.specs.Prelude.{◌≡◌, [], OnErr, OnOk};
+ghost use Rattle.std.specs.Prelude.{◌≡◌, []};
 ghost use Rattle.flt_crew.specs.Giving as spec;
-ghost use Rattle.flt_script.specs.ScriptText.{is_command};
 ghost use Rattle.flt_workers.specs.Places.{IsCallerOf, IsWorkerOf};
-ghost use Rattle.std.specs.Prelude.{IsTrue};
 
 use crate::giving::give;
 use crate::watch::Watch;
@@ -29,8 +27,9 @@ pub(crate) fn follow<N: StackName, R: Wait, W: Watch>(
     requires fresh { caller.old.receipts.list.items ≡ [] }
     ensures given { spec.AreGiven script.now caller.new.receipts.list.items }
 {
+    let commands = script.commands();
     let mut entries: u64 = 0;
-    for command in script.commands() {
+    for command in commands {
         let given = give(rt, alloc, stack, caller, *command)?;
         let made = stack.work(rt, alloc, worker, &mut Ungated)?;
         entries = entries.saturating_add(given).saturating_add(made);

@@ -40,7 +40,8 @@ fn give_each<N: StackName, R: Wait, W: Watch>(
     ensures seat { IsCallerOf stack.now.exchange seat.new.place }
     ensures given { spec.AreGiven script.now seat.new.receipts.list.items }
 {
-    for command in script.commands() {
+    let commands = script.commands();
+    for command in commands {
         let made = give(rt, alloc, stack, seat, *command)?;
         progress.add(made);
         watch.after(progress.entries());

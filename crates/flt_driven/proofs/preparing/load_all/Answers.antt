@@ -3,7 +3,7 @@ use Rattle.std.proofs.lemmas.List.{length-map}
 use Rattle.flt_driven.proofs.Loadable.{all_accepted, as_many}
 use Rattle.flt_driven.specs.Texts.{files_of}
 use Rattle.flt_stack.specs.Loading.{AreAcceptedFiles, File, IsCount, file}
-use Rattle.flt_driven.proofs.running.load_all.Goals as goal
+use Rattle.flt_driven.proofs.preparing.load_all.Goals as goal
 
 pub refused_memory-requires : goal.refused_memory-requires
 refused_memory-requires c =

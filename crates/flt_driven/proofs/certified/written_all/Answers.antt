@@ -1,5 +1,5 @@
 use Rattle.flt_driven.proofs.Firsts.{covered_more, fails_at}
-use Rattle.flt_driven.proofs.certified.certify_all.Goals as goal
+use Rattle.flt_driven.proofs.certified.written_all.Goals as goal
 
 pub returns-in-Err-clause-err : goal.returns-in-Err-clause-err
 returns-in-Err-clause-err c =
