@@ -2,13 +2,14 @@
 # Refuses each request for memory in turn, one a run, and looks for an answer that takes the place of want of memory.
 #
 #   tools/refuse-allocations.sh program [WORD..] < INPUT
-#       runs the program on these words. Where a request was refused it must end with status 2, with the line
+#       runs the program on these words, or another one that $PROGRAM names. Where a request was refused it must end with status 2, with the line
 #       `out of memory` and nothing else; where none was, as it ends with all memory that it asks for.
 #   tools/refuse-allocations.sh tests CRATE [WORD]
 #       runs each test of a crate that has WORD in its name. Where a request was refused it must end with the error that
 #       says so, which it carries out by `?`; where none was, it must pass. A failed assertion is a wrong answer.
 #   tools/refuse-allocations.sh all
-#       does so to the program on its stored run, and to all tests that have `memory` in their names, side by side.
+#       does so to the program on its stored run and on runs of each command on files of examples/, and to all tests that have
+#       `memory` in their names, side by side. Tests are there for what no command reaches.
 #
 # A refused request may also change nothing: `collect` of the standard library first asks for as much as its iterator may need, and
 # where that is refused, for less. Then the program must end as with all memory, and the test must pass; these are counted.
@@ -53,7 +54,7 @@ said_of() {
 }
 
 try_program() {
-    local program=$top/crates/fltstack/out/fltstack
+    local program=${PROGRAM:-$top/crates/fltstack/out/fltstack}
     [ -x "$program" ] || fail "there is no $program: \`rt run\` in crates/fltstack makes it"
     run 0 "$program" "$@"
     local wanted=$status spared=0
@@ -64,7 +65,7 @@ try_program() {
         if [ ! -e "$work/mark" ]; then
             ended_as_wanted "$wanted" ||
                 fail "no request refused: status $status in place of $wanted, or another output"
-            echo "$((number - 1)) requests refused in turn: out of memory each time$(said_of "$spared"), else status $wanted"
+            echo "fltstack $*: $((number - 1)) requests refused in turn: out of memory each time$(said_of "$spared"), else status $wanted"
             return
         elif ended_as_wanted "$wanted"; then
             spared=$((spared + 1))
@@ -104,14 +105,42 @@ try_tests() {
     done
 }
 
+# Runs of the program in examples/, of each command. A search for runs asks for memory thousands of times: two short ones are enough.
+runs=(
+    "check deferred_writes.flt deferred_writes.cert"
+    "check two_locks.flt two_locks.cert"
+    "analyse reads_wait_for_a_write.flt"
+    "analyse stream_context_broken.flt"
+    "run pending_reads_detached.script pending_reads.flt"
+    "run stream_context.script stream_context.flt"
+    "replay reads_wait_for_a_write.journal reads_wait_for_a_write.flt"
+    "replay post_create_policy.journal post_create_policy.flt"
+    "replay deferred_writes.journal deferred_writes.flt"
+    "replay two_filters.journal no_fast_io.flt deferred_writes.flt"
+    "replay --timeline --svg /dev/null background_scan.journal background_scan.flt"
+    "explain leaked_context.flt"
+    "explain no_fast_io_broken.flt pass_through.flt"
+    "explain --states 1 two_locks_broken.flt"
+    "explain --states 1 completion_context_broken.flt"
+    "explain --form lines readers_and_a_writer_broken.flt"
+    "explain --form sarif stream_context_broken.flt"
+    "explain pending_reads.script"
+    "explain R02"
+)
+
 # The crates with tests that are there for memory.
-crates_of_tests=(flt_tests flt_machine_tests flt_run_tests flt_report_tests flt_seek_tests flt_timeline_tests flt_picture_tests flt_form_tests flt_schedule_tests flt_command_tests flt_thread_tests)
+crates_of_tests=(flt_tests flt_machine_tests flt_note_tests flt_thread_tests)
 
 try_all() {
-    local -a started=()
+    local -a started=() words=()
     local each status=0
     "$0" program <"$top/crates/fltstack/stdin" &
     started+=($!)
+    for each in "${runs[@]}"; do
+        read -ra words <<<"$each"
+        (cd "$top/examples" && "$top/tools/refuse-allocations.sh" program "${words[@]}" </dev/null) &
+        started+=($!)
+    done
     for each in "${crates_of_tests[@]}"; do
         "$0" tests "$each" memory &
         started+=($!)

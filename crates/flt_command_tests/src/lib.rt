@@ -1,6 +1,8 @@
-//! Tests of the commands: what they print of texts, certificates and journals, and what they ask of memory. They stand apart from
-//! `flt_commands`, so that it is not proved twice.
+//! Tests of the commands that no run of the program can show: readers and writers that fail. What they print stands in
+//! `examples/cases/`, and what they ask of memory is refused to the program.
 #![tactic(auto)]
 
 #[cfg(test)]
-mod commands;
+mod reading;
+#[cfg(test)]
+mod writing;

@@ -64,7 +64,7 @@ impl Model for Scene {
 // ---- texts
 
 /// The trees of texts.
-fn trees_of(alloc: Global, texts: &[&str]) -> Result<Vec<Tree>, Fail>
+pub(crate) fn trees_of(alloc: Global, texts: &[&str]) -> Result<Vec<Tree>, Fail>
     ensures { IfOk result (λ trees. All IsWellFormed (filters_of trees.items)) }
 {
     spelled_is_well_formed();

@@ -1,7 +1,9 @@
-//! Tests of the search: the broken filters of `examples/` have a journal no longer than the one that stands beside them, and the others
-//! have none. They stand apart from `flt_seek`, so that it is not proved twice.
+//! Tests of the search and of what it is asked for. What comes of findings in runs stands in `examples/cases/schedules.cases`, and the
+//! broken filters of `examples/` have a journal no longer than the one that stands beside them (`tools/run-examples.sh`).
 #![tactic(auto)]
 
+#[cfg(test)]
+mod preventing;
 #[cfg(test)]
 mod sought;
 #[cfg(test)]

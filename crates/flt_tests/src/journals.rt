@@ -1,4 +1,5 @@
-//! Journals from their text and back, texts that are no journals, and streams that fail at each of their calls.
+//! Journals from their text and back, and streams that fail at each of their calls. Texts that are no journals stand in
+//! `examples/cases/journals.cases`.
 
 use flt_model::{
     Journal, JournalEntry, JournalFault, Key, Move, ReadFault, Sink, Source, WriteFault, read,
@@ -203,63 +204,8 @@ const WORKED: [&str; 6] = [
     "fltjournal 1\narrive read irp 0\npre 0\ngo 0 1 yes\ngo 0 1 yes\ngo 0 1 yes\narrive write irp 0\npre 1\ngo 1 1 yes\ngo 1 1 yes\ngo 1 1 yes\ndetach 100\ndrain 100 1\ngo 2 2 yes\ngo 2 1 yes\ncanceled 100 0\ngo 3 2 yes\ngo 3 1 yes\nunlink 100 stream 0\ndetached 100\nlower 1\nend\n",
 ];
 
-/// Texts that are no journal, and the first malformed line.
-const REFUSED: [(&str, usize); 44] = [
-    ("", 1),
-    ("fltjournal 1", 1),
-    ("fltjournal 2\nend\n", 1),
-    ("fltjournal  1\nend\n", 1),
-    ("fltjournal 1\r\nend\n", 1),
-    ("\nfltjournal 1\nend\n", 1),
-    ("fltcert 1\nend\n", 1),
-    ("fltjournal 1\n", 2),
-    ("fltjournal 1\nend", 2),
-    ("fltjournal 1\n\nend\n", 2),
-    ("fltjournal 1\nend \n", 2),
-    ("fltjournal 1\nEND\n", 2),
-    ("fltjournal 1\nstart\nend\n", 2),
-    ("fltjournal 1\n pre 0\nend\n", 2),
-    ("fltjournal 1\npre 0 \nend\n", 2),
-    ("fltjournal 1\npre  0\nend\n", 2),
-    ("fltjournal 1\npre\t0\nend\n", 2),
-    ("fltjournal 1\npre 00\nend\n", 2),
-    ("fltjournal 1\npre 01\nend\n", 2),
-    ("fltjournal 1\npre +1\nend\n", 2),
-    ("fltjournal 1\npre -1\nend\n", 2),
-    ("fltjournal 1\npre 0x1\nend\n", 2),
-    ("fltjournal 1\npre \nend\n", 2),
-    ("fltjournal 1\npre\nend\n", 2),
-    ("fltjournal 1\npre 4294967296\nend\n", 2),
-    ("fltjournal 1\npre 10000000000\nend\n", 2),
-    ("fltjournal 1\npre 0 1\nend\n", 2),
-    ("fltjournal 1\ncanceled 100\nend\n", 2),
-    ("fltjournal 1\narrive open irp 0\nend\n", 2),
-    ("fltjournal 1\narrive read slow 0\nend\n", 2),
-    ("fltjournal 1\narrive read 0\nend\n", 2),
-    ("fltjournal 1\nunlink 100 volume\nend\n", 2),
-    ("fltjournal 1\nunlink 100 instance 0\nend\n", 2),
-    ("fltjournal 1\nunlink 100 stream\nend\n", 2),
-    ("fltjournal 1\ngo 0 1\nend\n", 2),
-    ("fltjournal 1\ngo 0 1 maybe\nend\n", 2),
-    ("fltjournal 1\ngo 0 1 yesterday\nend\n", 2),
-    ("fltjournal 1\ndetaches 1\nend\n", 2),
-    ("fltjournal 1\npre 0\npre 0", 3),
-    ("fltjournal 1\npre 0\nend\n\n", 4),
-    ("fltjournal 1\nend\nx", 3),
-    ("fltjournal 1\nend\nend\n", 3),
-    ("fltjournal 1\narrive read irp 0\npre 0\npost x\nend\n", 4),
-    ("fltjournal 1\narrive read irp 0\npre 0\n", 4),
-];
-
 fn read_text(alloc: Global, text: &[u8]) -> Result<Journal, JournalFault> {
     read(alloc, &mut Given::new(text, None))
-}
-
-fn line_of(alloc: Global, text: &[u8]) -> usize {
-    match read_text(alloc, text) {
-        Err(JournalFault::Line(line)) => line,
-        _ => 0,
-    }
 }
 
 /// Whether the journal is written as this text.
@@ -330,31 +276,6 @@ fn journals_both_ways(rt: HostRuntime) -> Result<(), Fail> {
     Ok(())
 }
 
-/// The first text of which another line is told.
-fn wrong_row(alloc: Global) -> Option<usize> {
-    for (row, (text, line)) in REFUSED.iter().enumerate() {
-        if line_of(alloc, text.as_bytes()) != *line {
-            return Some(row);
-        }
-    }
-    None
-}
-
-/// The length of the first text that lacks a journal's last bytes and of which another line than its last is told.
-fn wrong_length(alloc: Global) -> Option<usize> {
-    let whole = EACH_KIND.as_bytes();
-    let mut line = 1usize;
-    for (len, byte) in whole.iter().enumerate() {
-        if line_of(alloc, &whole[..len]) != line {
-            return Some(len);
-        }
-        if *byte == b'\n' {
-            line = line.saturating_add(1);
-        }
-    }
-    None
-}
-
 /// Whether reading stops at the first malformed byte: a failure behind it doesn't come.
 fn stops_at_a_wrong_byte(alloc: Global) -> bool {
     let mut reader = Given::new(b"fltjournal 1\npre 0x", Some(19));
@@ -397,9 +318,7 @@ fn wrong_write(alloc: Global) -> Result<Option<u64>, JournalFault> {
 }
 
 #[test]
-fn faults_of_journals_are_told(rt: HostRuntime) -> Result<(), Fail> {
-    assert_eq!(rt; wrong_row(rt.alloc()), None);
-    assert_eq!(rt; wrong_length(rt.alloc()), None);
+fn failing_streams_are_told(rt: HostRuntime) -> Result<(), Fail> {
     assert!(rt; stops_at_a_wrong_byte(rt.alloc()));
     assert_eq!(rt; wrong_read(rt.alloc()), None);
     assert_eq!(rt; wrong_write(rt.alloc())?, None);

@@ -11,8 +11,6 @@ mod dice;
 #[cfg(test)]
 mod filters;
 #[cfg(test)]
-mod findings;
-#[cfg(test)]
 mod frames;
 #[cfg(test)]
 mod journals;
@@ -32,9 +30,5 @@ mod scripts;
 mod states;
 #[cfg(test)]
 mod stores;
-#[cfg(test)]
-mod texts;
-#[cfg(test)]
-mod ways;
 #[cfg(test)]
 mod words;
