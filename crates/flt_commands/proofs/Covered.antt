@@ -71,7 +71,7 @@ covered_is_clean one fine theorem text graph cert points covers f transitions sp
 pub driven_is_clean : SpellsAtMostOne → LawOfRuns
 driven_is_clean one script texts ran is filters transitions spelled =
     let same : is.filters ≡ filters = zipped_once Spells one texts is.filters filters is.spelled spelled in
-    subst (λ (fs : List Filter). breaks (by_altitude fs) transitions ≡ None) same (is.clean transitions)
+    subst (λ (fs : List Filter). breaks (by_altitude fs) transitions ≡ None) same (is.unbroken transitions)
 
 module _ (law : Law) (runs : LawOfRuns) where
   -- what is said of a text and its certificate with the status 0 is that it is accepted

@@ -3,6 +3,8 @@
 ghost use Rattle.std.specs.Prelude.{◌≡◌, ◌≤◌, ◌<◌, [], All, IfOk, length, map};
 ghost use Rattle.flt_crew.specs.Giving.{AreGiven};
 ghost use Rattle.flt_crew.specs.Running as spec;
+ghost use Rattle.flt_model.specs.Expansion.{IsCleanRun};
+ghost use Rattle.flt_script.specs.ScriptText.{Commands};
 ghost use Rattle.flt_workers.specs.Places.{IsCallerOf, IsWorkerOf};
 
 use crate::bounds::is_full;
@@ -102,7 +104,11 @@ fn finish<N: StackName>(
     alloc: Global,
     stack: Stack<N>,
     followed: Followed<N>,
-) -> Result<Driven, AllocError> {
+) -> Result<Driven, AllocError>
+    ensures clean { IfOk result (λ driven. IsCleanRun N.trees driven.journal) }
+    ensures ended { IfOk result (λ driven. (commands : Commands) → AreGiven commands followed.caller.receipts.list.items
+        → spec.IsEnded commands driven.journal driven.ending) }
+{
     let Followed {
         caller,
         workers,
@@ -112,8 +118,11 @@ fn finish<N: StackName>(
     callers.push(caller)?;
     match stack.finish(callers, workers) {
         Ok(journal) => {
-            let is_full = was_full && is_full(&journal);
-            let ending = if is_full { Ending::Full } else { Ending::Whole };
+            let ending = if was_full && is_full(&journal) {
+                Ending::Full
+            } else {
+                Ending::Whole
+            };
             Ok(Driven { journal, ending })
         }
         Err(Differ(journal)) => Ok(Driven {
