@@ -4,7 +4,7 @@
 #   tools/run-examples.sh [PROGRAM]
 #       runs PROGRAM, else what `rt ci`, or `rt run` in crates/fltstack, made, and pipes each journal that `run` prints into `replay`,
 #       which must call it legal. Each accepted filter is also driven by scripts in which operations of each kind arrive, with a
-#       cancel, a detach or a refused choice at each place. Each journal of examples/verdicts/ must have the verdict that stands above
+#       cancel, a detach or a refused choice at each place, and by several workers with some of these in the midst. Each journal of examples/verdicts/ must have the verdict that stands above
 #       it. `tools/run-cases` runs those of examples/cases/. Each report of a broken filter has a run, and `replay` says the same of the
 #       journal that `explain --journal` writes of it; of an accepted filter there is none. Ends with status 1 at any difference: another
 #       exit status, another output, a byte on the standard error, a journal that
@@ -108,11 +108,12 @@ script_with() {
     [ "$number" != "$place" ] || printf '%s\n' "$@"
 }
 
-# drives WHAT FILE..: `run` takes the script in $work/script on these files, prints a journal, and `replay` calls it legal.
+# drives WHAT WORKERS FILE..: `run` takes the script in $work/script on these files, by so many workers, prints a journal, and `replay`
+# calls it legal.
 drives() {
-    local what=$1 status=0
-    shift
-    "$program" run "$work/script" "$@" </dev/null >"$work/out" 2>"$work/err" || status=$?
+    local what="$1 by $2 workers" workers=$2 status=0
+    shift 2
+    "$program" run --workers "$workers" "$work/script" "$@" </dev/null >"$work/out" 2>"$work/err" || status=$?
     runs=$((runs + 1))
     if [ "$status" != 0 ] || [ -s "$work/err" ]; then
         differs "run of $*, with $what: status $status"
@@ -121,21 +122,40 @@ drives() {
     [ "$("$program" replay "$work/out" "$@" 2>&1)" = legal ] || differs "run of $*, with $what: replay doesn't call its journal legal"
 }
 
-# sweep FILE..: scripts with a cancel, a detach or a refusal at each place, on these files together.
+# sweep FILE..: scripts with a cancel, a detach or a refusal at each place, on these files together; by one worker, and in the midst by
+# several.
 sweep() {
-    local place file altitude serial
+    local place file altitude serial workers
     for ((place = 0; place <= ${#arrivals[@]}; place++)); do
         for ((serial = 0; serial < place; serial++)); do
             script_with "$place" "cancel $serial" >"$work/script"
-            drives "cancel $serial at place $place" "$@"
+            drives "cancel $serial at place $place" 1 "$@"
         done
         for file in "$@"; do
             altitude=$(sed -n 's/^filter .* altitude \([0-9]*\).*/\1/p' "$file")
             script_with "$place" "detach $altitude" >"$work/script"
-            drives "detach $altitude at place $place" "$@"
+            drives "detach $altitude at place $place" 1 "$@"
         done
         script_with 0 "refuse $place" >"$work/script"
-        drives "refuse $place" "$@"
+        drives "refuse $place" 1 "$@"
+    done
+    for file in "$@"; do
+        altitude=$(sed -n 's/^filter .* altitude \([0-9]*\).*/\1/p' "$file")
+        for workers in 2 4 16; do
+            script_with 5 'cancel 2' 'refuse 3' "detach $altitude" 'cancel 6' >"$work/script"
+            drives "cancels and detach $altitude in the midst" "$workers" "$@"
+        done
+    done
+}
+
+# all_lowered WORKERS COUNT FILE..: so many reads arrive, by so many workers; the journal is legal, and each read arrives and is lowered.
+all_lowered() {
+    local workers=$1 count=$2 entry
+    shift 2
+    yes 'arrive read irp 0' | head -n "$count" >"$work/script" || true
+    drives "$count reads" "$workers" "$@"
+    for entry in arrive lower; do
+        [ "$(grep -c "^$entry " "$work/out")" = "$count" ] || differs "$count reads on $* by $workers workers: another number of $entry"
     done
 }
 
@@ -223,6 +243,10 @@ done <expected
 # Each accepted filter above the next one.
 for ((number = 0; number + 1 < ${#accepted[@]}; number += 2)); do
     sweep "${accepted[number]}" "${accepted[number + 1]}"
+done
+
+for workers in 1 2 4 16; do
+    all_lowered "$workers" 200 stream_context.flt
 done
 
 for file in verdicts/*; do

@@ -3,7 +3,9 @@
 use flt_commands::{CommandFault, Inputs, Pictures, Unwatched, command};
 use flt_model::{Sink, WriteFault};
 use std::alloc::{AllocError, Global};
+use std::sync::Wait;
 use std::test::Fail;
+use std::thread::Threads;
 
 /// Inputs by their names.
 const INPUTS: [(&str, &[u8]); 4] = [
@@ -116,10 +118,17 @@ fn owned(alloc: Global, words: &[&str]) -> Result<Vec<String>, AllocError> {
 }
 
 /// What the command answers if both writers fail at this call.
-fn answer(alloc: Global, words: &[String], slow: bool, fails_at: u64) -> Result<u8, CommandFault> {
+fn answer<R: Threads + Wait + Sync>(
+    rt: &R,
+    alloc: Global,
+    words: &[String],
+    slow: bool,
+    fails_at: u64,
+) -> Result<u8, CommandFault> {
     let mut out = Kept::new(alloc, slow, fails_at);
     let mut err = Kept::new(alloc, slow, fails_at);
     command(
+        rt,
         alloc,
         words,
         &Given,
@@ -132,14 +141,21 @@ fn answer(alloc: Global, words: &[String], slow: bool, fails_at: u64) -> Result<
 }
 
 /// The first call at which a case's writer fails in vain, or is said to fail where it isn't called any more.
-fn wrong_call(alloc: Global, words: &[String], slow: bool, calls: u64, status: u8) -> Option<u64> {
+fn wrong_call<R: Threads + Wait + Sync>(
+    rt: &R,
+    alloc: Global,
+    words: &[String],
+    slow: bool,
+    calls: u64,
+    status: u8,
+) -> Option<u64> {
     for fails_at in 0..calls + 3 {
         let wanted = if fails_at < calls {
             Err(CommandFault::Write)
         } else {
             Ok(status)
         };
-        if answer(alloc, words, slow, fails_at) != wanted {
+        if answer(rt, alloc, words, slow, fails_at) != wanted {
             return Some(fails_at);
         }
     }
@@ -147,11 +163,15 @@ fn wrong_call(alloc: Global, words: &[String], slow: bool, calls: u64, status: u
 }
 
 /// The first case that goes wrong.
-fn wrong_case(alloc: Global, cases: &[Case]) -> Result<Option<usize>, AllocError> {
+fn wrong_case<R: Threads + Wait + Sync>(
+    rt: &R,
+    alloc: Global,
+    cases: &[Case],
+) -> Result<Option<usize>, AllocError> {
     for (row, (words, bytes, status)) in cases.iter().enumerate() {
         let words = owned(alloc, words)?;
-        if wrong_call(alloc, words.as_slice(), false, 1, *status).is_some()
-            || wrong_call(alloc, words.as_slice(), true, *bytes, *status).is_some()
+        if wrong_call(rt, alloc, words.as_slice(), false, 1, *status).is_some()
+            || wrong_call(rt, alloc, words.as_slice(), true, *bytes, *status).is_some()
         {
             return Ok(Some(row));
         }
@@ -161,7 +181,7 @@ fn wrong_case(alloc: Global, cases: &[Case]) -> Result<Option<usize>, AllocError
 
 #[test]
 fn a_writer_that_fails_is_told(rt: HostRuntime) -> Result<(), Fail> {
-    let wrong = wrong_case(rt.alloc(), &CASES)?;
+    let wrong = wrong_case(&rt, rt.alloc(), &CASES)?;
     assert_eq!(rt; wrong, None);
     Ok(())
 }

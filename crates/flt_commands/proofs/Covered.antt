@@ -8,8 +8,8 @@ use Rattle.flt_graph.specs.declared.graph.Graph.{Graph}
 use Rattle.flt_cert.specs.Format.{Certificate}
 use Rattle.flt_check.specs.Covering.{Covers}
 use Rattle.flt_sound.specs.Soundness.{IsAccepted, AreAccepted, AcceptedRunsBreakNothing}
-use Rattle.flt_driven.specs.Running.{IsRun}
-use Rattle.flt_driven.specs.declared.running.Ran.{Ran}
+use Rattle.flt_crew.specs.Running.{IsRun}
+use Rattle.flt_crew.specs.declared.running.Ran.{Ran}
 use Rattle.flt_explain.specs.declared.finding.Finding.{Finding}
 use Rattle.flt_forms.specs.Lines.{AreLines}
 use Rattle.flt_forms.specs.Sarif.{AreResults}
@@ -79,7 +79,7 @@ covered_is_clean one fine theorem text graph cert points covers f transitions sp
 pub driven_is_clean : SpellsAtMostOne → LawOfRuns
 driven_is_clean one script texts ran is filters transitions spelled =
     let same : is.filters ≡ filters = zipped_once Spells one texts is.filters filters is.spelled spelled in
-    subst (λ (fs : List Filter). breaks (by_altitude fs) transitions ≡ None) same (is.clean transitions)
+    subst (λ (fs : List Filter). breaks (by_altitude fs) transitions ≡ None) same (is.unbroken transitions)
 
 module _ (law : Law) (runs : LawOfRuns) (read : LawOfReading) where
   -- what is said of a text and its certificate with the status 0 is that it is accepted

@@ -1,8 +1,10 @@
 -- How the answers of commands are written. This project's own program.
-use Rattle.std.specs.Prelude.{ℕ, Bool, false, List, [], ◌∷◌, ◌++◌, codes, nat_lt, if◌then◌else◌}
+use Rattle.std.specs.Prelude.{ℕ, List, [], ◌∷◌, ◌++◌, codes, nat_lt, if◌then◌else◌}
 use Rattle.std.specs.Fmt.{decimal}
 use Rattle.flt_rules.specs.Rule.{number, text}
 use Rattle.flt_rules.specs.declared.rule.Rule.{Rule}
+use Rattle.flt_crew.specs.declared.ending.Ending.{Ending}
+use Rattle.flt_crew.specs.declared.ending.Ending.TheVariants.{Whole, Full, Differ}
 use Rattle.flt_check.specs.declared.checker.Refusal.{Refusal}
 use Rattle.flt_model.specs.declared.verdict.Verdict.{Verdict}
 use Rattle.flt_model.specs.declared.verdict.Verdict.TheVariants.{Legal, NotARun, Breaks}
@@ -61,8 +63,13 @@ output (Ran ran) = ran.journal.items
 output (Shown rows v) = rows.items ++ (verdict_line v ++ 10 ∷ [])
 output (FileRefused file f) = file_refusal_line file f ++ 10 ∷ []
 
--- the exit status: 0 where the certificate covers or is found, nothing is broken, or the script has ended, and of a page; 2 where the
--- journal is full before that; of reports, their own; 1 for any other answer
+-- the exit status of a journal: 2 where it is full before its script has ended, or where the receipts contradict it
+abbrev pub ended_status : Ending → ℕ
+ended_status Whole = 0
+ended_status _ = 2
+
+-- the exit status: 0 where the certificate covers or is found, or nothing is broken, and of a page; of a journal, by how its run ended; of
+-- reports, their own; 1 for any other answer
 abbrev pub status_of : Answer → ℕ
 status_of Accepted = 0
 status_of (Refused f) = 1
@@ -71,12 +78,18 @@ status_of (Judged Legal) = 0
 status_of (Judged _) = 1
 status_of (Explained e) = e.explained.status
 status_of (Page text) = 0
-status_of (Ran ran) = if ran.is_full then 2 else 0
+status_of (Ran ran) = ended_status ran.ending
 status_of (FileRefused file f) = 1
 status_of (Shown rows Legal) = 0
 status_of (Shown rows _) = 1
 
--- a journal that is full before its script has ended
-abbrev pub is_cut_off : Answer → Bool
-is_cut_off (Ran ran) = ran.is_full
-is_cut_off _ = false
+-- how the run ended of which an answer is the journal; all other answers are whole
+abbrev pub ending_of : Answer → Ending
+ending_of (Ran ran) = ran.ending
+ending_of _ = Whole
+
+-- what stands on the standard error beside a journal
+abbrev pub remark : Ending → List ℕ
+remark Whole = []
+remark Full = codes "full" ++ 10 ∷ []
+remark Differ = codes "receipts differ" ++ 10 ∷ []

@@ -1,7 +1,8 @@
 -- What the commands put on the standard output, and their exit status. This project's own program.
-use Rattle.std.specs.Prelude.{◌≡◌, ◌≢◌, ℕ, false, List, [], ◌∷◌, Option, Some, None, Result, Ok, Err}
+use Rattle.std.specs.Prelude.{◌≡◌, ◌≢◌, ℕ, List, [], ◌∷◌, Option, Some, None, Result, Ok, Err}
+use Rattle.flt_crew.specs.declared.ending.Ending.TheVariants.{Whole}
 use Rattle.flt_commands.specs.Analyse.{IsAnalysed}
-use Rattle.flt_commands.specs.Answer.{is_cut_off, output, status_of}
+use Rattle.flt_commands.specs.Answer.{ending_of, output, status_of}
 use Rattle.flt_commands.specs.Check.{IsChecked}
 use Rattle.flt_commands.specs.Explain.{IsExplained, IsKept, IsPaged}
 use Rattle.flt_commands.specs.Inputs.{AreGiven, Giving, Says, Text}
@@ -53,9 +54,9 @@ abbrev pub IsReported : Result Answer Failure → List ℕ → ℕ → Type 0
 IsReported (Ok answer) bytes status = (bytes ≡ output answer) × (status ≡ status_of answer)
 IsReported (Err f) bytes status = (f ≢ OutOfMemory) × IsNothing bytes status
 
--- an answer that isn't a journal that was full too early: nothing stands beside it on the standard error
+-- an answer beside which nothing stands on the standard error: all but a journal that is full too early or that the receipts contradict
 abbrev pub IsWhole : Result Answer Failure → Type 0
-IsWhole (Ok answer) = is_cut_off answer ≡ false
+IsWhole (Ok answer) = ending_of answer ≡ Whole
 IsWhole (Err f) = ⊥
 
 -- what is said of what is asked for, and how it is printed; words that ask for nothing print nothing

@@ -1,6 +1,7 @@
 -- What `run` says. This project's own program.
 use Rattle.std.specs.Prelude.{◌≡◌, ◌<◌, List, [], ◌∷◌, length, Result, Ok, Err}
-use Rattle.flt_driven.specs.Running.{Fails, IsRun}
+use Rattle.flt_crew.specs.Running.{IsRun}
+use Rattle.flt_driven.specs.Preparing.{Fails}
 use Rattle.flt_driven.specs.declared.fault.RunFault.TheVariants as fault
 use Rattle.flt_commands.specs.Inputs.{Text}
 use Rattle.flt_commands.specs.Replay.{max_filters}
@@ -9,7 +10,7 @@ use Rattle.flt_commands.specs.declared.answer.Answer.TheVariants.{Ran, FileRefus
 use Rattle.flt_commands.specs.declared.failure.Failure.{Failure}
 use Rattle.flt_commands.specs.declared.failure.Failure.TheVariants.{NoFile, TooManyFiles, FileSyntax, ScriptLine, Altitude, OutOfMemory}
 
--- the journal is that of a board on the filters that the texts spell; or this file is the first that no certificate covers, where the
+-- the journal is that of a stack of the filters that the texts spell; or this file is the first that no certificate covers, where the
 -- script is one for them
 abbrev pub IsAnswer : Text → List Text → Answer → Type 0
 IsAnswer script texts (Ran ran) = IsRun script texts ran

@@ -1,10 +1,10 @@
 //! What a command answers, and how that is written.
 
-ghost use Rattle.std.specs.Prelude.{◌≡◌, [], ◌∷◌, ◌++◌, true, Some, IfOk};
+ghost use Rattle.std.specs.Prelude.{◌≡◌, ◌≢◌, [], ◌∷◌, ◌++◌, Some, IfOk};
 ghost use Rattle.flt_commands.specs.Answer as spec;
 
 use flt_check::Refusal;
-use flt_driven::Ran;
+use flt_crew::{Ending, Ran};
 use flt_model::{Verdict, Violation};
 use flt_notes::Told;
 use flt_rules::{Rule, number, text};
@@ -35,7 +35,7 @@ pub enum Answer {
 }
 
 impl Answer {
-    /// The exit status: 0 for yes, 1 for no, and 2 for a journal that is full before its script has ended.
+    /// The exit status: 0 for yes, 1 for no, and 2 for a journal that is full before its script has ended, or that the receipts contradict.
     pub fn status(&self) -> u8
         ensures { result ≡ spec.status_of self.now }
     {
@@ -45,20 +45,20 @@ impl Answer {
             Answer::Explained(told) => told.explained.status,
             Answer::Refused(_) | Answer::FileRefused(_, _) | Answer::Judged(_) => 1,
             Answer::Shown(_, _) => 1,
-            Answer::Ran(ran) => { if ran.is_full { 2 } else { 0 } }
+            Answer::Ran(ran) => ended_status(ran.ending),
         }
     }
 
-    /// It is a journal that was full before its script had ended.
-    pub fn is_cut_off(&self) -> bool
-        ensures value { result ≡ spec.is_cut_off self.now }
-        ensures status { result ≡ true → spec.status_of self.now ≡ 2 }
+    /// How the run ended of which this is the journal. All other answers are whole.
+    pub fn ending(&self) -> Ending
+        ensures value { result ≡ spec.ending_of self.now }
+        ensures status { result ≢ Ending.Whole → spec.status_of self.now ≡ 2 }
     {
         match self {
-            Answer::Ran(ran) => ran.is_full,
-            Answer::Accepted | Answer::Refused(_) | Answer::Certificate(_) => false,
-            Answer::Judged(_) | Answer::Explained(_) | Answer::Page(_) => false,
-            Answer::FileRefused(_, _) | Answer::Shown(_, _) => false,
+            Answer::Ran(ran) => ran.ending,
+            Answer::Accepted | Answer::Refused(_) | Answer::Certificate(_) => Ending::Whole,
+            Answer::Judged(_) | Answer::Explained(_) | Answer::Page(_) => Ending::Whole,
+            Answer::FileRefused(_, _) | Answer::Shown(_, _) => Ending::Whole,
         }
     }
 
@@ -87,6 +87,16 @@ impl Answer {
             }
         };
         Ok(line.into_bytes())
+    }
+}
+
+/// The exit status of a journal that ends so.
+fn ended_status(ending: Ending) -> u8
+    ensures { result ≡ spec.ended_status ending }
+{
+    match ending {
+        Ending::Whole => 0,
+        Ending::Full | Ending::Differ => 2,
     }
 }
 

@@ -1,8 +1,8 @@
 //! The commands, over inputs and writers.
 
 ghost use Rattle.std.specs.Io.KnownBytes.{Appends};
-ghost use Rattle.std.specs.Prelude.{◌≡◌, ◌≢◌, ◌⊎◌, ℕ, false, List, OnOk, IfOk, IfErr, map, string_bytes};
-ghost use Rattle.flt_commands.specs.Answer.{is_cut_off, output, status_of};
+ghost use Rattle.std.specs.Prelude.{◌≡◌, ◌≢◌, ◌⊎◌, ℕ, List, OnOk, IfOk, IfErr, map, string_bytes};
+ghost use Rattle.flt_commands.specs.Answer.{ending_of, output, remark, status_of};
 ghost use Rattle.flt_commands.specs.Clean.{YesIsClean};
 ghost use Rattle.flt_commands.specs.Commands as spec;
 ghost use Rattle.flt_words.specs.Words.{asked};
@@ -18,11 +18,13 @@ use crate::replay::replay_files;
 use crate::running::run_files;
 use crate::showing::show_files;
 use crate::unread::why_unread;
-use flt_driven::{Unwatched, Watch};
+use flt_crew::{Ending, Unwatched, Watch};
 use flt_model::{Sink, WriteFault, put_all};
 use flt_syntax::spelled_is_read;
 use flt_words::{Request, read_words};
 use std::alloc::{AllocError, AllocFailed, Global};
+use std::sync::Wait;
+use std::thread::Threads;
 use thiserror::Error;
 
 /// Why a command ended without its answer.
@@ -67,7 +69,21 @@ impl From<WriteFault> for CommandFault {
     }
 }
 
-/// Writes an answer, and gives its status. Of a journal that is full before its script has ended it says so to `err`, of nothing else.
+/// Writes what stands on the standard error beside a journal that ends so.
+fn tell_ending<E: Sink>(ending: Ending, err: &mut E) -> Result<(), WriteFault>
+    ensures writes { OnOk result (Appends (E.taken err.old) (E.taken err.new) (remark ending)) }
+    ensures whole { ending ≡ Ending.Whole → OnOk result (err.new ≡ err.old) }
+    ensures fine { OnOk result (E.failures err.new ≡ E.failures err.old) }
+    ensures failed { OnErr result (E.failures err.new ≢ E.failures err.old) }
+{
+    match ending {
+        Ending::Whole => Ok(()),
+        Ending::Full => put_all(err, b"full\n"),
+        Ending::Differ => put_all(err, b"receipts differ\n"),
+    }
+}
+
+/// Writes an answer, and gives its status. What it says of a journal's end goes to `err`.
 fn tell<O: Sink, E: Sink>(
     alloc: Global,
     answer: Answer,
@@ -75,20 +91,19 @@ fn tell<O: Sink, E: Sink>(
     err: &mut E,
 ) -> Result<u8, CommandFault>
     ensures prints { IfOk result (λ status. (status ≡ status_of answer) × Appends (O.taken out.old) (O.taken out.new) (output answer)) }
+    ensures remarks { OnOk result (Appends (E.taken err.old) (E.taken err.new) (remark (ending_of answer))) }
     ensures write { IfErr result (λ e. e ≡ CommandFault.Write → (O.failures out.new ≢ O.failures out.old)
         ⊎ (E.failures err.new ≢ E.failures err.old)) }
     ensures fine { OnOk result ((O.failures out.new ≡ O.failures out.old) × (E.failures err.new ≡ E.failures err.old)) }
     ensures memory { IfErr result (λ e. e ≡ CommandFault.OutOfMemory → (out.new ≡ out.old) × (err.new ≡ err.old)) }
     ensures quiet { IfOk result (λ status. status ≢ 2 → err.new ≡ err.old) }
-    ensures whole { is_cut_off answer ≡ false → IfOk result (λ _. err.new ≡ err.old) }
+    ensures whole { ending_of answer ≡ Ending.Whole → IfOk result (λ _. err.new ≡ err.old) }
 {
     let status = answer.status();
-    let is_cut_off = answer.is_cut_off();
+    let ending = answer.ending();
     let bytes = answer.output(alloc)?;
     put_all(out, bytes.as_slice())?;
-    if is_cut_off {
-        put_all(err, b"full\n")?;
-    }
+    tell_ending(ending, err)?;
     Ok(status)
 }
 
@@ -155,9 +170,12 @@ fn report<O: Sink, E: Sink>(
 }
 
 /// Runs the command of a program's words, its own name left out, and answers the exit status: 0 for yes, 1 for no, and 2
-/// where there is no answer, or a journal was full before its script had ended. What it says goes to `out`, why there is no answer, or
-/// `full`, to `err`; a picture or a journal to `pictures`. Reports have the colours of a terminal where it is `coloured`. Where it drives filters, it shows the board to `watch` after each line of the script, unless it is asked to be quiet.
-pub fn command<I: Inputs, P: Pictures, O: Sink, E: Sink, W: Watch>(
+/// where there is no answer, a journal was full before its script had ended, or the receipts contradict it. What it says goes to `out`, why
+/// there is no answer, `full` or `receipts differ` to `err`; a picture or a journal to `pictures`. Reports have the colours of a terminal
+/// where it is `coloured`. Where it drives filters, it tells `watch` of each line of the script, unless it is asked to be quiet. Threads are
+/// started by `run` alone, where it has more than one worker.
+pub fn command<R: Threads + Wait + Sync, I: Inputs, P: Pictures, O: Sink, E: Sink, W: Watch>(
+    rt: &R,
     alloc: Global,
     words: &[String],
     inputs: &I,
@@ -195,16 +213,29 @@ pub fn command<I: Inputs, P: Pictures, O: Sink, E: Sink, W: Watch>(
             report(alloc, said, out, err)
         }
         Request::Run {
+            workers,
             quiet: true,
+            script,
+            files,
+        } => {
+            let said = run_files(
+                rt,
+                alloc,
+                workers,
+                inputs,
+                script,
+                files.as_slice(),
+                &mut Unwatched,
+            );
+            report(alloc, said, out, err)
+        }
+        Request::Run {
+            workers,
             script,
             files,
             ..
         } => {
-            let said = run_files(alloc, inputs, script, files.as_slice(), &mut Unwatched);
-            report(alloc, said, out, err)
-        }
-        Request::Run { script, files, .. } => {
-            let said = run_files(alloc, inputs, script, files.as_slice(), watch);
+            let said = run_files(rt, alloc, workers, inputs, script, files.as_slice(), watch);
             report(alloc, said, out, err)
         }
         Request::Replay { journal, files } => {

@@ -2,12 +2,13 @@
 
 use crate::commands::{CommandFault, command};
 use crate::inputs::{Inputs, MAX_INPUT, Pictures, read_within};
-use flt_driven::Watch;
-use flt_machine::Board;
+use flt_crew::Watch;
 use flt_model::{Sink, WriteFault};
 use flt_reasons::Unread;
 use std::alloc::{AllocError, Global};
 use std::io::{IsTerminal, Write};
+use std::sync::Wait;
+use std::thread::Threads;
 use std::{env, fs, io};
 
 /// Files by their paths, and the standard input as `-`.
@@ -111,35 +112,22 @@ impl<W: Write + Drop> Sink for Stream<W> {
 }
 
 /// After how many lines of a script a terminal is told how far the run has come.
-const LINES_A_LOOK: u32 = 1_000;
+const LINES_A_LOOK: u64 = 1_000;
 
 /// Tells a terminal how far a run has come, on the standard error.
 #[derive(Drop)]
 struct Progress<'a> {
     rt: &'a HostRuntime,
     is_shown: bool,
-    lines: u32,
-}
-
-/// How many operations have an outcome.
-fn operations_done(board: &Board) -> u32 {
-    let mut done = 0u32;
-    for serial in 0..board.operations() as u32 {
-        if board.outcome(serial).is_some() {
-            done = done.saturating_add(1);
-        }
-    }
-    done
+    lines: u64,
 }
 
 impl Watch for Progress<'_> {
-    fn after(&mut self, board: &Board) {
+    fn after(&mut self, entries: u64) {
         self.lines = self.lines.saturating_add(1);
         if self.is_shown && self.lines % LINES_A_LOOK == 0 {
             let lines = self.lines;
-            let entries = board.journal().len();
-            let done = operations_done(board);
-            let _ = eprintln!(self.rt; "{lines} lines: {entries} entries, {done} operations done");
+            let _ = eprintln!(self.rt; "{lines} lines: {entries} entries");
         }
     }
 }
@@ -159,8 +147,9 @@ fn arguments(rt: &HostRuntime) -> Result<Option<Vec<String>>, AllocError> {
     Ok(Some(words))
 }
 
-/// Runs the command of the program's own words, and gives the exit status. What it reads and where it writes are the system's.
-pub fn run(rt: &HostRuntime) -> u8 {
+/// Runs the command of the program's own words, and gives the exit status. What it reads and where it writes are the system's. `threads` is
+/// the same runtime once more: `main` alone can hand out that it starts threads.
+pub fn run<R: Threads + Wait + Sync>(rt: &HostRuntime, threads: &R) -> u8 {
     let alloc = rt.alloc();
     let inputs = Files { rt };
     let mut out = Stream::new(rt.stdout());
@@ -172,6 +161,7 @@ pub fn run(rt: &HostRuntime) -> u8 {
     };
     let status = match arguments(rt) {
         Ok(Some(words)) => command(
+            threads,
             alloc,
             words.as_slice(),
             &inputs,

@@ -19,7 +19,7 @@ mod split;
 mod unread;
 
 pub use commands::{CommandFault, command};
-pub use flt_driven::{Unwatched, Watch};
+pub use flt_crew::{Unwatched, Watch};
 pub use flt_reasons::Unread;
 pub use host::run;
 pub use inputs::{Inputs, MAX_INPUT, Pictures, read_within};

@@ -7,12 +7,17 @@ ghost use Rattle.flt_commands.specs.Running as spec;
 use crate::answer::Answer;
 use crate::failure::Failure;
 use crate::inputs::{Inputs, read_all};
-use flt_driven::{RunFault, Watch, run};
+use flt_crew::{RunFault, Watch, run};
+use flt_words::Workers;
 use std::alloc::Global;
+use std::sync::Wait;
+use std::thread::Threads;
 
 /// What a script comes to on some texts.
-fn run_texts<'a, W: Watch>(
+fn run_texts<'a, R: Threads + Wait + Sync, W: Watch>(
+    rt: &R,
     alloc: Global,
+    workers: Workers,
     script: &[u8],
     texts: &[Vec<u8>],
     watch: &mut W,
@@ -22,7 +27,7 @@ fn run_texts<'a, W: Watch>(
     if texts.is_empty() {
         return Err(Failure::NoFile);
     }
-    match run(alloc, script, texts, watch) {
+    match run(rt, alloc, workers.count(), script, texts, watch) {
         Ok(ran) => Ok(Answer::Ran(ran)),
         Err(RunFault::Refused { file, refusal }) => Ok(Answer::FileRefused(file, refusal)),
         Err(RunFault::Count) => Err(Failure::TooManyFiles),
@@ -33,9 +38,11 @@ fn run_texts<'a, W: Watch>(
     }
 }
 
-/// What `run` says of the names that it is given. The board is shown to `watch` after each line of the script.
-pub fn run_files<'a, I: Inputs, W: Watch>(
+/// What `run` says of the names that it is given, by so many workers. `watch` is told of each line of the script that was given.
+pub fn run_files<'a, R: Threads + Wait + Sync, I: Inputs, W: Watch>(
+    rt: &R,
     alloc: Global,
+    workers: Workers,
     inputs: &I,
     script: &'a str,
     files: &[&'a str],
@@ -47,5 +54,5 @@ pub fn run_files<'a, I: Inputs, W: Watch>(
     names.push(script)?;
     names.extend_from_slice(files)?;
     let texts = read_all(alloc, inputs, names.as_slice())?;
-    run_texts(alloc, texts[0].as_slice(), &texts[1..], watch)
+    run_texts(rt, alloc, workers, texts[0].as_slice(), &texts[1..], watch)
 }

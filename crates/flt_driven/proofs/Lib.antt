@@ -1,3 +1,3 @@
-pub mod Ending
+pub mod Answered
 pub mod Firsts
 pub mod Loadable

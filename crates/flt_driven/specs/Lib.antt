@@ -1,2 +1,2 @@
+pub mod Preparing
 pub mod Texts
-pub mod Running

@@ -1,6 +1,7 @@
 -- Texts, the filters that they spell, and the certificates of these. This project's own program.
-use Rattle.std.specs.Prelude.{◌≡◌, ℕ, List, [], ◌∷◌, ◌++◌, length, Err, IsTrue}
+use Rattle.std.specs.Prelude.{◌≡◌, ℕ, List, [], ◌∷◌, ◌++◌, length, Result, Err, IsTrue}
 use Rattle.std.specs.List.{AllZip}
+use Rattle.flt_analyse.specs.All.{IsAnswer}
 use Rattle.flt_analyse.specs.Least.{NoneCovers, IsNamed}
 use Rattle.flt_cert.specs.Format.{Certificate, is_certificate, spelling}
 use Rattle.flt_check.specs.Covering.{Covers}
@@ -51,6 +52,12 @@ pub record HasCertificate (filter : Filter) (bytes : Text) : Type 0 where
 
 abbrev pub HaveCertificates : List Filter → List Text → Type 0
 HaveCertificates = AllZip HasCertificate
+
+-- the analyser's answer for the filter's points: the least certificate that covers them, or the fault that is met first
+pub record IsAnswered (filter : Filter) (answer : Result Certificate Refusal) : Type 0 where
+  pub graph : Graph
+  pub lowered : IsLowered filter graph
+  pub answered : IsAnswer graph answer
 
 -- no certificate covers the filter's points, and this is the fault that is met first
 pub record IsRefused (filter : Filter) (f : Refusal) : Type 0 where

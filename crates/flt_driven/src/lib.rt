@@ -1,15 +1,14 @@
-//! `run`: what a script comes to on the texts of some filters. The texts are read, each gets its least certificate, all are loaded, and a
-//! board on them is driven by the script.
+//! What comes before a run: the texts of some filters are read, and a script for them; each text gets its least certificate, and all are
+//! loaded.
 #![tactic(auto)]
 
 mod certified;
 mod fault;
 mod files;
-mod running;
+mod preparing;
 mod texts;
 mod written;
 
 pub use fault::RunFault;
-pub use flt_run::{Unwatched, Watch};
-pub use running::{Ran, run};
+pub use preparing::{Prepared, prepare};
 pub use written::journal_bytes;

@@ -1,3 +1,4 @@
 pub mod Program
 pub mod Request
 pub mod Words
+pub mod Workers

@@ -19,7 +19,7 @@ pub data Asked : Type 0 where
 abbrev pub asked_of : Request → Option Asked
 asked_of (request.Check file cert) = Some (Check file.now (option_map (λ name. name.now) cert))
 asked_of (request.Analyse file) = Some (Analyse file.now)
-asked_of (request.Run workers quiet script files) = Some (Run workers quiet script.now (map (λ name. name.now) files.items))
+asked_of (request.Run workers quiet script files) = Some (Run workers.count quiet script.now (map (λ name. name.now) files.items))
 asked_of (request.Replay journal files) = Some (Replay journal.now (map (λ name. name.now) files.items))
 asked_of (request.Show timeline picture journal files) =
     Some (Show timeline (option_map (λ name. name.now) picture) journal.now (map (λ name. name.now) files.items))

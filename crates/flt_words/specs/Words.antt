@@ -1,7 +1,7 @@
 -- What the words of a command line ask for. This project's own program.
 use Rattle.std.specs.Char.{digit_value}
 use Rattle.std.specs.List.{list_all}
-use Rattle.std.specs.Prelude.{ℕ, ◌==◌, ◌&&◌, List, [], ◌∷◌, Bool, true, false, Option, Some, None, codes, if◌then◌else◌, length, nat_lt, unwrap_or, option_and_then, option_map}
+use Rattle.std.specs.Prelude.{ℕ, ◌&&◌, List, [], ◌∷◌, Bool, true, false, Option, Some, None, codes, if◌then◌else◌, length, nat_lt, unwrap_or, option_and_then, option_map}
 use Rattle.std.specs.Option.{option_map_or}
 use Rattle.std.specs.Str.{bytes_eq}
 use Rattle.std.specs.Str.Parse.{digits_value, without_leading_plus}
@@ -15,6 +15,7 @@ use Rattle.flt_words.specs.Program.{program_app}
 use Rattle.flt_pages.specs.Pages.{has_page}
 use Rattle.flt_words.specs.declared.request.Form.{Form}
 use Rattle.flt_words.specs.declared.request.Form.TheVariants.{Human, Lines, Sarif}
+use Rattle.flt_words.specs.Workers.{within}
 use Rattle.flt_words.specs.Request.{Asked, Check, Analyse, Run, Replay, Show, Explain, Page}
 
 -- ---- values
@@ -65,11 +66,10 @@ check_of rows = Check (text_of (codes "FILE") rows) (first_of (codes "CERT") row
 abbrev pub analyse_of : List Row → Asked
 analyse_of rows = Analyse (text_of (codes "FILE") rows)
 
--- one worker alone can be asked for so far
+-- another number of workers than 1 to 16 asks for nothing
 abbrev pub run_of : List Row → Option Asked
-run_of rows = if workers_of rows == 1
-    then Some (Run (workers_of rows) (is_set (codes "quiet") rows) (text_of (codes "SCRIPT") rows) (files_of rows))
-    else None
+run_of rows =
+    option_map (λ workers. Run workers (is_set (codes "quiet") rows) (text_of (codes "SCRIPT") rows) (files_of rows)) (within (workers_of rows))
 
 -- a journal that isn't shown is judged alone
 abbrev pub replay_by : Bool → Option Text → Text → List Text → Asked

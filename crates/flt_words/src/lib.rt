@@ -4,6 +4,8 @@
 mod program;
 mod request;
 mod words;
+mod workers;
 
 pub use request::{Form, Request};
 pub use words::read_words;
+pub use workers::Workers;

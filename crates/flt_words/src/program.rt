@@ -65,7 +65,7 @@ fn workers_argument<'a>(alloc: Global) -> Arg<'a>
         .long("workers")
         .value_name("N")
         .value_parser(value_parser!(u8).range(1..=16))
-        .help("How many workers drive them; 1 alone can be asked for so far")
+        .help("How many workers drive them, each in a thread of its own; 1 where nothing is said")
 }
 
 /// The flag `--quiet`.

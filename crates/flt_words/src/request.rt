@@ -1,5 +1,7 @@
 //! What the words of a command line ask for.
 
+use crate::workers::Workers;
+
 /// How what is found is told.
 #[derive(Clone, Copy, Debug)]
 pub enum Form {
@@ -25,8 +27,8 @@ pub enum Request<'a> {
     },
     /// Drive the filters of some files by a script.
     Run {
-        /// How many workers drive them. It is 1.
-        workers: u8,
+        /// How many workers drive them.
+        workers: Workers,
         /// Whether a terminal is told nothing of how far the run has come.
         quiet: bool,
         script: &'a str,

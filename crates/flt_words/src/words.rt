@@ -9,14 +9,15 @@ ghost use Rattle.flt_words.specs.Words as spec;
 
 use crate::program::program;
 use crate::request::{Form, Request};
+use crate::workers::Workers;
 use clap::ArgMatches;
 use clap::error::ErrorKind;
 use flt_pages::page;
 use std::alloc::{AllocError, Global};
 
 /// What is said where another number of workers is asked for.
-const ONE_WORKER: &str =
-    "error: one worker alone can drive filters so far: `--workers` takes 1\n\nUsage: fltstack run [--workers <N>] [--quiet] <SCRIPT> <FILE>...\n\nFor more information, try '--help'.\n";
+const FEW_WORKERS: &str =
+    "error: `--workers` takes 1 to 16\n\nUsage: fltstack run [--workers <N>] [--quiet] <SCRIPT> <FILE>...\n\nFor more information, try '--help'.\n";
 
 /// How many states a round of a search has where nothing is said.
 const STATES: u32 = 20_000;
@@ -44,7 +45,7 @@ fn files_of<'a>(alloc: Global, matches: &ArgMatches<'a>) -> Result<Vec<&'a str>,
     }
 }
 
-/// How many workers are asked for; 1 where nothing is said.
+/// The number behind `--workers`; 1 where nothing is said.
 fn workers_of(matches: &ArgMatches) -> u8
     ensures { result ≡ spec.workers_of (rows_of (found_of matches.now)) }
 {
@@ -153,10 +154,9 @@ fn asked_explain<'a>(alloc: Global, explain: &ArgMatches<'a>) -> Result<Request<
 fn asked_run<'a>(alloc: Global, run: &ArgMatches<'a>) -> Result<Request<'a>, AllocError>
     ensures { IfOk result (λ r. asked_of r ≡ spec.run_of (rows_of (found_of run.now))) }
 {
-    let workers = workers_of(run);
-    if workers != 1 {
-        return Ok(Request::Usage(String::from_str(alloc, ONE_WORKER)?));
-    }
+    let Some(workers) = Workers::new(workers_of(run)) else {
+        return Ok(Request::Usage(String::from_str(alloc, FEW_WORKERS)?));
+    };
     Ok(Request::Run {
         workers,
         quiet: is_set(run, "quiet"),

@@ -1,0 +1,70 @@
+-- What a script comes to on some texts. This project's own program.
+use Rattle.std.specs.Prelude.{◌≡◌, ◌≢◌, List, length, None, Result, Ok, Err, IsPermutation}
+use Rattle.flt_core.specs.declared.receipts.Receipt.{Receipt}
+use Rattle.flt_crew.specs.Bounds.{IsFull}
+use Rattle.flt_crew.specs.Giving.{AreGiven}
+use Rattle.flt_crew.specs.declared.ending.Ending.{Ending}
+use Rattle.flt_crew.specs.declared.ending.Ending.TheVariants.{Full, Differ}
+use Rattle.flt_crew.specs.declared.running.Ran.{Ran}
+use Rattle.flt_driven.specs.Preparing.{Fails, IsScript}
+use Rattle.flt_driven.specs.Texts.{AreSpelled, HaveCertificates}
+use Rattle.flt_driven.specs.declared.fault.RunFault.{RunFault}
+use Rattle.flt_model.specs.Expansion.{IsCleanRun, verdict}
+use Rattle.flt_model.specs.JournalText as journal
+use Rattle.flt_model.specs.Program.{HasDistinctAltitudes, by_altitude}
+use Rattle.flt_model.specs.Runs.{breaks}
+use Rattle.flt_model.specs.Steps.{Transition}
+use Rattle.flt_model.specs.Streams.{Text}
+use Rattle.flt_model.specs.declared.moves.JournalEntry.{JournalEntry}
+use Rattle.flt_model.specs.declared.verdict.Verdict.TheVariants.{Legal}
+use Rattle.flt_receipts.specs.Receipts.{receipts_in}
+use Rattle.flt_script.specs.ScriptText.{Commands}
+use Rattle.flt_stack.specs.Loading.{IsCount}
+use Rattle.flt_tree.specs.declared.filter.Filter.{Filter}
+
+-- ---- the stack
+
+-- how the entries that callers made stand to what was asked for, and to the end of the run
+pub record IsEnded (commands : Commands) (entries : List JournalEntry) (ending : Ending) : Type 0 where
+  -- what the caller kept of the commands that it gave
+  pub receipts : List Receipt
+  pub given : AreGiven commands receipts
+  -- these are the journal's, each once, unless it is said that they differ
+  pub agree : ending ≢ Differ → IsPermutation (receipts_in entries) receipts
+  pub differ : ending ≡ Differ → IsPermutation (receipts_in entries) receipts → ⊥
+  -- the script was broken off only where the journal or the number of operations is full
+  pub full : ending ≡ Full → IsFull entries
+
+-- the journal is a run of the machine on what is loaded that breaks nothing, and ends so
+pub record IsDriven (loaded : List Filter) (commands : Commands) (entries : List JournalEntry) (ending : Ending) : Type 0 where
+  pub ordered : by_altitude loaded ≡ loaded
+  pub unbroken : (transitions : List Transition) → breaks loaded transitions ≡ None
+  pub clean : IsCleanRun loaded entries
+  pub legal : verdict loaded entries ≡ Legal
+  pub ended : IsEnded commands entries ending
+
+-- ---- all of it
+
+-- the texts spell filters of different altitudes, each covered by a certificate; the script's bytes spell commands for them; and the
+-- journal is that of a stack of these filters. It is a run of the machine on them that breaks nothing: no run on them breaks anything
+pub record IsRun (script : Text) (texts : List Text) (ran : Ran) : Type 0 where
+  pub counted : IsCount (length texts)
+  pub filters : List Filter
+  pub spelled : AreSpelled texts filters
+  pub commands : Commands
+  pub read : IsScript filters script commands
+  pub certificates : List Text
+  pub covered : HaveCertificates filters certificates
+  pub distinct : HasDistinctAltitudes filters
+  pub unbroken : (transitions : List Transition) → breaks (by_altitude filters) transitions ≡ None
+  pub entries : List JournalEntry
+  pub written : ran.journal.items ≡ journal.spelling entries
+  pub clean : IsCleanRun filters entries
+  -- so `replay` calls it legal on these texts
+  pub legal : verdict filters entries ≡ Legal
+  pub ended : IsEnded commands entries ran.ending
+
+-- what is answered of a script and some texts
+abbrev pub Answers : Text → List Text → Result Ran RunFault → Type 0
+Answers script texts (Ok ran) = IsRun script texts ran
+Answers script texts (Err f) = Fails script texts f

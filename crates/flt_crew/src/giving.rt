@@ -1,0 +1,88 @@
+//! What a stack's caller does with a command.
+
+ghost use Rattle.std.specs.Prelude.{◌≡◌, ◌++◌, ◌∷◌, [], IsTrue, Some, MatchResult, OnOk, OnErr};
+ghost use Rattle.flt_crew.specs.Giving as spec;
+ghost use Rattle.flt_script.specs.ScriptText.{is_command};
+ghost use Rattle.flt_workers.specs.Places.{IsCallerOf};
+
+use flt_rules::{Mode, Operation};
+use flt_running::{ArriveFault, CallerSeat, DetachFault, Stack, StackName, TurnFault};
+use flt_script::Command;
+use std::alloc::Global;
+use std::sync::Wait;
+
+/// An operation arrives.
+fn arrive<N: StackName, R: Wait>(
+    rt: &R,
+    alloc: Global,
+    stack: &Stack<N>,
+    seat: &mut CallerSeat<N>,
+    operation: Operation,
+    mode: Mode,
+    file: u32,
+) -> Result<u64, TurnFault>
+    requires seat { IsCallerOf stack.now.exchange seat.old.place }
+    requires command { IsTrue (is_command (Command.Arrive operation mode file)) }
+    ensures seat { IsCallerOf stack.now.exchange seat.new.place }
+    ensures made { OnOk result (spec.Makes (Command.Arrive operation mode file) seat.old.receipts.list.items seat.new.receipts.list.items) }
+    ensures refused { OnErr result (seat.new.receipts.list.items ≡ seat.old.receipts.list.items) }
+{
+    match stack.arrive(rt, alloc, seat, operation, mode, file) {
+        Ok(_) => Ok(1),
+        Err(ArriveFault::Full) => Err(TurnFault::Full),
+        Err(ArriveFault::OutOfMemory) => Err(TurnFault::OutOfMemory),
+    }
+}
+
+/// The teardown of the filter at an altitude begins. Nothing comes of it where it can't begin.
+fn detach<N: StackName, R: Wait>(
+    rt: &R,
+    alloc: Global,
+    stack: &Stack<N>,
+    seat: &mut CallerSeat<N>,
+    altitude: u32,
+) -> Result<u64, TurnFault>
+    requires seat { IsCallerOf stack.now.exchange seat.old.place }
+    ensures seat { IsCallerOf stack.now.exchange seat.new.place }
+    ensures made { OnOk result (spec.Makes (Command.Detach altitude) seat.old.receipts.list.items seat.new.receipts.list.items) }
+    ensures refused { OnErr result (seat.new.receipts.list.items ≡ seat.old.receipts.list.items) }
+{
+    match stack.detach(rt, alloc, seat, altitude) {
+        Ok(()) => Ok(1),
+        Err(DetachFault::NoSuch | DetachFault::Already) => Ok(0),
+        Err(DetachFault::Full) => Err(TurnFault::Full),
+        Err(DetachFault::OutOfMemory) => Err(TurnFault::OutOfMemory),
+    }
+}
+
+/// A command is given. It answers how many entries were made.
+pub(crate) fn give<N: StackName, R: Wait>(
+    rt: &R,
+    alloc: Global,
+    stack: &Stack<N>,
+    seat: &mut CallerSeat<N>,
+    command: Command,
+) -> Result<u64, TurnFault>
+    requires seat { IsCallerOf stack.now.exchange seat.old.place }
+    requires command { IsTrue (is_command command) }
+    ensures seat { IsCallerOf stack.now.exchange seat.new.place }
+    ensures made { OnOk result (spec.Makes command seat.old.receipts.list.items seat.new.receipts.list.items) }
+    ensures refused { OnErr result (seat.new.receipts.list.items ≡ seat.old.receipts.list.items) }
+{
+    match command {
+        Command::Arrive {
+            operation,
+            mode,
+            file,
+        } => arrive(rt, alloc, stack, seat, operation, mode, file),
+        Command::Detach { altitude } => detach(rt, alloc, stack, seat, altitude),
+        Command::Cancel { serial } => {
+            stack.cancel(seat, serial);
+            Ok(0)
+        }
+        Command::Refuse { choice } => {
+            stack.refuse(rt, choice as u64)?;
+            Ok(0)
+        }
+    }
+}
