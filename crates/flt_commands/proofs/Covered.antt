@@ -1,5 +1,5 @@
 -- What is covered breaks nothing, and an exit status 0 says that something is covered.
-use Rattle.std.proofs.Common.{◌≡◌, ℕ, zero, suc, List, [], ◌∷◌, ◌++◌, Bool, None, Option, Some, Result, Ok, Err, take, drop, max, refl, sym, ◌∙◌, arith}
+use Rattle.std.proofs.Common.{◌⊎◌, inl, inr, ◌≡◌, ℕ, zero, suc, List, [], ◌∷◌, ◌++◌, Bool, None, Option, Some, Result, Ok, Err, take, drop, max, refl, sym, ◌∙◌, arith}
 use Rattle.std.proofs.Math.Path.{subst}
 use Rattle.flt_syntax.specs.File.{filter_of}
 use Rattle.flt_syntax.specs.declared.fault.SyntaxFault.{SyntaxFault}
@@ -14,7 +14,7 @@ use Rattle.flt_explain.specs.declared.finding.Finding.{Finding}
 use Rattle.flt_forms.specs.Lines.{AreLines}
 use Rattle.flt_forms.specs.Sarif.{AreResults}
 use Rattle.flt_notes.specs.Readings.{IsOther}
-use Rattle.flt_notes.specs.Reported.{AreReports, IsReport, IsStatus, IsText}
+use Rattle.flt_notes.specs.Reported.{AreReports, HasNotice, HasNoticeStatus, HasReport, HasStatus, IsText}
 use Rattle.flt_reasons.specs.declared.notice.Notice.{Notice}
 use Rattle.flt_reports.specs.Reports.{IsJudged, IsKnown, findings_status, status_of as status_of_judged, texts_of}
 use Rattle.flt_reports.specs.declared.reports.Explained.{Explained as Told}
@@ -149,11 +149,12 @@ module _ (law : Law) (runs : LawOfRuns) (read : LawOfReading) where
   text_well text (Unread f) is good = absurd (omega (arith, good))
   text_well text (Known tree graph found) is good = unfound text tree graph found is good
 
-  report_well : (text : Text) (printed : List ℕ) (status : ℕ) → IsReport text printed status → status ≡ 0 → BreaksNothing text
+  report_well : (text : Text) (printed : List ℕ) (status : ℕ) → HasReport text printed status ⊎ HasNotice text printed status →
+      status ≡ 0 → BreaksNothing text
   report_well text printed status (inl (j, is, same, ends)) good = text_well text j is (sym same ∙ good)
   report_well text printed status (inr (n, is, same, ends)) good = unspelled text is.fault is.unread
 
-  status_well : (text : Text) (status : ℕ) → IsStatus text status → status ≡ 0 → BreaksNothing text
+  status_well : (text : Text) (status : ℕ) → HasStatus text status ⊎ HasNoticeStatus text status → status ≡ 0 → BreaksNothing text
   status_well text status (inl (j, is, same)) good = text_well text j is (sym same ∙ good)
   status_well text status (inr (n, is, same)) good = unspelled text is.fault is.unread
 
@@ -166,10 +167,10 @@ module _ (law : Law) (runs : LawOfRuns) (read : LawOfReading) where
 
   reported : (texts : List Text) (printed : List ℕ) (status : ℕ) → AreReports texts printed status → status ≡ 0 → EachBreaksNothing texts
   reported [] printed status said good = tt
-  reported (t ∷ []) printed status is good = (report_well t printed status is good, tt)
+  reported (t ∷ []) printed status is good = (report_well t printed status is.is good, tt)
   reported (t ∷ u ∷ ts) printed status (first, others, is, rest, greatest) good =
       let zeros = both_zero first others (sym greatest ∙ good) in
-      (status_well t first is zeros.0, reported (u ∷ ts) printed others rest zeros.1)
+      (status_well t first is.is zeros.0, reported (u ∷ ts) printed others rest zeros.1)
 
   in_lines : (sources : List Source) (before printed : List ℕ) (status : ℕ) → AreLines sources before printed status → status ≡ 0 →
       EachBreaksNothing (texts_of sources)

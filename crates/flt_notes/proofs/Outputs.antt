@@ -1,10 +1,10 @@
 -- What is printed with a part more.
-use Rattle.std.proofs.Common.{◌≡◌, ℕ, List, [], ◌∷◌, ◌++◌, Some, Result, Ok, Err, All, IfOk, map, refl, sym, ap, ◌∙◌, append_assoc, slice_get}
+use Rattle.std.proofs.Common.{◌⊎◌, inl, inr, ◌≡◌, ℕ, List, [], ◌∷◌, ◌++◌, Some, Result, Ok, Err, All, IfOk, map, refl, sym, ap, ◌∙◌, append_assoc, slice_get}
 use Rattle.std.proofs.Math.Path.{subst}
 use Rattle.std.proofs.lemmas.List.Elements.{All-nil, All-push, All-weaker}
 use Rattle.flt_model.specs.Program.{filters_of}
 use Rattle.flt_notes.specs.Readings.{IsOther, IsUnread, filters_in}
-use Rattle.flt_notes.specs.Reported.{IsReport, IsStatus}
+use Rattle.flt_notes.specs.Reported.{HasNotice, HasNoticeStatus, HasReport, HasStatus, IsReport, IsStatus}
 use Rattle.std.specs.declared.alloc.AllocError.{AllocError}
 use Rattle.flt_syntax.specs.declared.fault.SyntaxFault.{SyntaxFault}
 use Rattle.flt_tree.specs.Names.{Text}
@@ -64,24 +64,28 @@ output_noted trees old new n lines is note (rest, begins) added pushed = record 
 -- how a text's reports end
 pub reports_fault : (text : Text) (f : SyntaxFault) (printed : List ℕ) (r : Result ℕ AllocError) → IsUnread text f →
     IfOk r (ClosesFault f printed) → IfOk r (IsReport text printed)
-reports_fault text f printed (Ok status) is (two, ends) = inl (Unread f, is, two, ends)
+reports_fault text f printed (Ok status) is (two, ends) = record { is = inl (Unread f, is, two, ends) }
 reports_fault text f printed (Err e) is closes = tt
 
 pub reports_findings : (text : Text) (tree : Tree) (graph : Graph) (found : List Finding) (printed : List ℕ) (r : Result ℕ AllocError) →
     IsKnown text tree graph found → IfOk r (ClosesFindings found printed) → IfOk r (IsReport text printed)
-reports_findings text tree graph found printed (Ok status) known (same, ends) = inl (Found tree graph found, known, same, ends)
+reports_findings text tree graph found printed (Ok status) known (same, ends) = record { is = inl (Found tree graph found, known, same, ends) }
 reports_findings text tree graph found printed (Err e) known closes = tt
 
 -- how what is said of a certificate or a journal ends
 pub reports_notice : (text : Text) (n : Notice) (printed : List ℕ) (r : Result ℕ AllocError) → IsOther text n →
     IfOk r (ClosesNotice n printed) → IfOk r (IsReport text printed)
-reports_notice text n printed (Ok status) is (same, ends) = inr (n, is, same, ends)
+reports_notice text n printed (Ok status) is (same, ends) = record { is = inr (n, is, same, ends) }
 reports_notice text n printed (Err e) is closes = tt
+
+status_of_either : (text : Text) (printed : List ℕ) (status : ℕ) → HasReport text printed status ⊎ HasNotice text printed status →
+    HasStatus text status ⊎ HasNoticeStatus text status
+status_of_either text printed status (inl (j, is, same, ends)) = inl (j, is, same)
+status_of_either text printed status (inr (n, is, same, ends)) = inr (n, is, same)
 
 -- whatever is printed behind a report, its status stays
 pub status_of_report : (text : Text) (printed : List ℕ) (status : ℕ) → IsReport text printed status → IsStatus text status
-status_of_report text printed status (inl (j, is, same, ends)) = inl (j, is, same)
-status_of_report text printed status (inr (n, is, same, ends)) = inr (n, is, same)
+status_of_report text printed status report = record { is = status_of_either text printed status report.is }
 
 -- nothing is noted before anything is printed
 pub output_none : (trees : List Tree) (o : Output) → o.noted ≡ [] → IsOutput trees o

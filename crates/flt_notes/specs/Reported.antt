@@ -24,8 +24,8 @@ abbrev pub HasNoticeStatus : Text → ℕ → Type 0
 HasNoticeStatus text status = (n : Notice) × IsOther text n × (status ≡ notices.status_of n)
 
 -- the status of a file
-abbrev pub IsStatus : Text → ℕ → Type 0
-IsStatus text status = HasStatus text status ⊎ HasNoticeStatus text status
+pub record IsStatus (text : Text) (status : ℕ) : Type 0 where
+  pub is : HasStatus text status ⊎ HasNoticeStatus text status
 
 -- a text has this status, and its last line ends what is printed
 abbrev pub HasReport : Text → List ℕ → ℕ → Type 0
@@ -37,8 +37,8 @@ HasNotice text printed status =
     (n : Notice) × IsOther text n × (status ≡ notices.status_of n) × EndsWith printed (notices.closing n)
 
 -- the same of a file
-abbrev pub IsReport : Text → List ℕ → ℕ → Type 0
-IsReport text printed status = HasReport text printed status ⊎ HasNotice text printed status
+pub record IsReport (text : Text) (printed : List ℕ) (status : ℕ) : Type 0 where
+  pub is : HasReport text printed status ⊎ HasNotice text printed status
 
 -- the status of several files is the greatest of theirs, and the last one's line ends what is printed
 abbrev pub AreReports : List Text → List ℕ → ℕ → Type 0

@@ -217,8 +217,7 @@ impl Stage<'_> {
         ensures output { OnOk result (spec.IsOutput self.now.trees.now output.new) }
         ensures report { IfOk result (spec.ClosesNotice notice.now output.new.bytes.items) }
     {
-        let lines = notice_lines(self.alloc, self.coloured, source.name, notice)?;
-        output.lines(lines.as_slice())?;
+        output.lines(notice_lines(self.alloc, self.coloured, source.name, notice)?.as_slice())?;
         output.lines(notice.closing(self.alloc)?.as_bytes())?;
         Ok(notice.status())
     }

@@ -7,7 +7,7 @@ add_other-requires-clause-other c = record {
   unread = c.requires.fault;
   kind = c.in-Some.kind;
   taken = sym c.kind_of.ensures ∙ c.in-Some.is;
-  is = c.in_ok-notice.ensures;
+  is = c.in_ok-notice-in-Some.ensures;
 }
 
 pub add_unread-requires-clause-fault : goal.add_unread-requires-clause-fault
