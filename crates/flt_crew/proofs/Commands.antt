@@ -4,7 +4,7 @@ use Rattle.std.proofs.lemmas.List.{take-append-drop, take_more}
 use Rattle.std.proofs.lemmas.List.Sums.{AllPass-from_list_all}
 use Rattle.std.specs.List.{list_all}
 use Rattle.flt_core.specs.declared.receipts.Receipt.{Receipt}
-use Rattle.flt_crew.specs.Giving.{AreGiven, AreMade, Makes, none, more}
+use Rattle.flt_crew.specs.Giving.{AreGiven, AreMade, Makes, begun, one_more}
 use Rattle.flt_script.specs.ScriptText.{Commands, is_command}
 use Rattle.flt_script.specs.declared.command.Command.{Command}
 
@@ -23,11 +23,11 @@ pub made_more : (commands : Commands) (k : ℕ) (receipts later : List Receipt) 
     AreMade (take (k + 1) commands) later
 made_more commands k receipts later command d h at made one =
     subst (λ c. AreMade c later) (sym (subst (λ x. take (k + 1) commands ≡ take k commands ++ x ∷ []) (sym at) (take_more commands k d h)))
-    (more (take k commands) receipts later command made one)
+    (one_more (take k commands) receipts later command made one)
 
 -- nothing is given
 pub made_none : (commands : Commands) (receipts : List Receipt) → receipts ≡ [] → AreMade (take 0 commands) receipts
-made_none commands receipts fresh = subst (λ r. AreMade [] r) (sym fresh) none
+made_none commands receipts fresh = subst (λ r. AreMade [] r) (sym fresh) begun
 
 -- each command of a script is within bounds
 pub within : (commands : Commands) (k : ℕ) (command d : Command) → IsTrue (list_all is_command commands) → k < length commands →

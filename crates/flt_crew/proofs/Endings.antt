@@ -1,5 +1,5 @@
 -- How a run of one caller ends.
-use Rattle.std.proofs.Common.{◌≡◌, ◌≢◌, List, [], ◌∷◌, IsPermutation, sym, subst}
+use Rattle.std.proofs.Common.{◌≡◌, ◌≢◌, List, [], ◌∷◌, IsPermutation, refl, sym, subst}
 use Rattle.std.proofs.lemmas.List.{append-nil}
 use Rattle.flt_core.specs.declared.receipts.Receipt.{Receipt}
 use Rattle.flt_crew.specs.Bounds.{IsFull}

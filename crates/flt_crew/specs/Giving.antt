@@ -19,8 +19,8 @@ Makes _ before later = later ≡ before
 
 -- these are the receipts once these commands were given, one after another
 pub data AreMade : Commands → List Receipt → Type 0 where
-  none : AreMade [] []
-  more : (commands : Commands) (receipts later : List Receipt) (command : Command) → AreMade commands receipts →
+  begun : AreMade [] []
+  one_more : (commands : Commands) (receipts later : List Receipt) (command : Command) → AreMade commands receipts →
       Makes command receipts later → AreMade (commands ++ command ∷ []) later
 
 -- the first commands of a script were given, up to the last or to one that was refused, and these are the receipts

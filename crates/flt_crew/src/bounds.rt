@@ -1,8 +1,8 @@
 //! Whether a journal has room.
 
-ghost use Rattle.std.specs.Prelude.{◌↔◌, ◌≤◌, IsTrue, count_by, take, length};
+ghost use Rattle.std.specs.Prelude.{◌≡◌, ◌↔◌, IsTrue, count_by};
 ghost use Rattle.flt_crew.specs.Bounds as spec;
-ghost use Rattle.flt_receipts.specs.Receipts.{is_arrival};
+ghost use Rattle.flt_receipts.specs.Receipts as receipts;
 
 use flt_model::{Journal, JournalEntry, Move};
 
@@ -14,14 +14,14 @@ const MAX_OPERATIONS: usize = 65_536;
 
 /// An operation arrived by the entry.
 fn is_arrival(entry: JournalEntry) -> bool
-    ensures { result ≡ is_arrival entry }
+    ensures { result ≡ receipts.is_arrival entry }
 {
     matches!(entry, JournalEntry::Move(Move::Arrive { .. }))
 }
 
 /// How many operations arrived.
 fn arrivals(entries: &[JournalEntry]) -> usize
-    ensures { result ≡ count_by is_arrival entries.now }
+    ensures { result ≡ count_by receipts.is_arrival entries.now }
 {
     let mut count = 0;
     for entry in entries {

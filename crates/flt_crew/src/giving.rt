@@ -1,7 +1,8 @@
 //! What a stack's caller does with a command.
 
-ghost use Rattle.std.specs.Prelude.{◌≡◌, ◌++◌, ◌∷◌, [], IsTrue, Some, MatchResult, OnOk, OnErr};
+ghost use Rattle.std.specs.Prelude.{◌≡◌, ◌<◌, true, IsTrue, OnErr, OnOk};
 ghost use Rattle.flt_crew.specs.Giving as spec;
+ghost use Rattle.flt_model.specs.Moves.{fits_mode};
 ghost use Rattle.flt_script.specs.ScriptText.{is_command};
 ghost use Rattle.flt_workers.specs.Places.{IsCallerOf};
 
@@ -22,7 +23,8 @@ fn arrive<N: StackName, R: Wait>(
     file: u32,
 ) -> Result<u64, TurnFault>
     requires seat { IsCallerOf stack.now.exchange seat.old.place }
-    requires command { IsTrue (is_command (Command.Arrive operation mode file)) }
+    requires mode { fits_mode operation mode ≡ true }
+    requires file { file < 1024 }
     ensures seat { IsCallerOf stack.now.exchange seat.new.place }
     ensures made { OnOk result (spec.Makes (Command.Arrive operation mode file) seat.old.receipts.list.items seat.new.receipts.list.items) }
     ensures refused { OnErr result (seat.new.receipts.list.items ≡ seat.old.receipts.list.items) }

@@ -2,6 +2,7 @@
 use Rattle.std.proofs.Common.{◌≡◌, ℕ, ◌+◌, ◌<◌, List, [], ◌∷◌, ◌++◌, Err, Vec, Global, length, get_or, take, drop, map, sym, subst, ap, ◌∙◌, arith}
 use Rattle.std.proofs.lemmas.List.{take-append-drop, drop_more, map-append, map_more, map_push, length-take-le, length-map}
 use Rattle.std.proofs.lemmas.Slice.Zip.{all_zipped_more}
+use Rattle.std.specs.List.{AllZip}
 use Rattle.flt_check.specs.declared.checker.Refusal.{Refusal}
 use Rattle.flt_driven.specs.Texts.{AreSpelled, IsSyntaxFault, HasCertificate, HaveCertificates, IsRefused, IsRefusalOf, IsFirstRefused, FiltersFail}
 use Rattle.flt_driven.specs.declared.fault.RunFault.{RunFault}
@@ -61,6 +62,14 @@ module _ (texts : List (Vec ℕ Global)) (i : ℕ) (text d : Vec ℕ Global) (h 
 -- ---- the certificates
 
 module _ (trees : List Tree) (i : ℕ) (tree d : Tree) (h : i < length trees) (at : tree ≡ get_or trees i d) where
+  -- what holds of each tree so far and of one more
+  pub zipped_more : {Y : Type 0} (R : Filter → Y → Type 0) (ys more : List Y) (y : Y) → AllZip R (filters_of (take i trees)) ys →
+      R tree.filter y → more ≡ ys ++ y ∷ [] → AllZip R (filters_of (take (i + 1) trees)) more
+  zipped_more R ys more y all one pushed =
+      let read : filters_of (take (i + 1) trees) ≡ filters_of (take i trees) ++ tree.filter ∷ [] =
+      one_more (λ t. t.filter) trees i tree d h at in
+      rw (read, pushed) (all_zipped_more _ _ _ tree.filter y all one)
+
   pub covered_more : (certs more : List (Vec ℕ Global)) (cert : Vec ℕ Global) →
       HaveCertificates (filters_of (take i trees)) (map (λ c. c.items) certs) → HasCertificate tree.filter cert.items →
       more ≡ certs ++ cert ∷ [] → HaveCertificates (filters_of (take (i + 1) trees)) (map (λ c. c.items) more)

@@ -27,7 +27,7 @@ fn lower_all(alloc: Global, trees: &[Tree]) -> Result<Vec<Graph>, AllocError>
     ensures { IfOk result (λ graphs. AllZip IsLowered (filters_of trees.now) graphs.items) }
 {
     let mut graphs = Vec::new(alloc);
-    'trees: for tree in trees {
+    for tree in trees {
         graphs.push(lower(alloc, tree)?)?;
     }
     Ok(graphs)

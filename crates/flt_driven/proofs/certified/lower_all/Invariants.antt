@@ -4,5 +4,5 @@ use Rattle.flt_graph.specs.Lowering.{IsLowered}
 use Rattle.flt_model.specs.Program.{filters_of}
 use Rattle.flt_driven.proofs.certified.lower_all.Given as goal
 
-abbrev pub invariant-trees : goal.invariant-trees
-invariant-trees l = AllZip IsLowered (filters_of (take l.tree-index l.trees)) l.graphs.items
+abbrev pub invariant-loop-tree : goal.invariant-loop-tree
+invariant-loop-tree l = AllZip IsLowered (filters_of (take l.tree-index l.trees)) l.graphs.items
