@@ -105,7 +105,7 @@ try_tests() {
 }
 
 # The crates with tests that are there for memory.
-crates_of_tests=(flt_tests flt_machine_tests flt_run_tests flt_report_tests flt_seek_tests flt_timeline_tests flt_picture_tests flt_form_tests flt_schedule_tests flt_command_tests flt_thread_tests)
+crates_of_tests=(flt_tests flt_machine_tests flt_run_tests flt_report_tests flt_seek_tests flt_timeline_tests flt_picture_tests flt_form_tests flt_schedule_tests flt_command_tests flt_thread_tests flt_stack_tests)
 
 try_all() {
     local -a started=()
