@@ -2,8 +2,8 @@
 ghost use Rattle.std.specs.Prelude.{◌≡◌, ◌<◌, ◌≤◌, All};
 ghost use Rattle.flt_workers.specs.Places.{IsCallerOf, IsFreshCaller, IsFreshWorker, IsWorkerOf};
 
-use crate::bench::{Ended, finished};
 use crate::filters::{Filter, PASSES, PENDS, STREAMS, loaded};
+use crate::fixture::{Ended, finished};
 use crate::journals::{is_legal, tally_of};
 use flt_rules::{Mode, Operation};
 use flt_running::{CallerSeat, Gate, Stack, StackName, WorkerSeat};

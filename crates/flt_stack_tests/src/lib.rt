@@ -2,11 +2,11 @@
 #![tactic(auto)]
 
 #[cfg(test)]
-mod bench;
-#[cfg(test)]
 mod crowds;
 #[cfg(test)]
 mod filters;
+#[cfg(test)]
+mod fixture;
 #[cfg(test)]
 mod journals;
 #[cfg(test)]

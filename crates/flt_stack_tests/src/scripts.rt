@@ -1,7 +1,7 @@
 //! Scripts by one caller and one worker. What is expected follows by hand from what the machine does and from which ticket comes next.
 
-use crate::bench::{Answer, Step, Told, take_steps};
 use crate::filters::{ALLOCATES_TWICE, DENIES, Filter, HIGH, LOW, PASSES, PENDS, STREAMS, loaded};
+use crate::fixture::{Answer, Step, Told, take_steps};
 use crate::journals::{has_entries, is_legal};
 use std::alloc::Global;
 use std::sync::Wait;

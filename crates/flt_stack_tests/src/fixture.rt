@@ -62,7 +62,7 @@ impl Gate for Open {
 
 /// A stack with one caller and one worker.
 #[derive(Drop)]
-struct Bench<N: StackName> {
+struct Fixture<N: StackName> {
     stack: Stack<N>,
     caller: CallerSeat<N>,
     worker: WorkerSeat<N>,
@@ -99,17 +99,17 @@ fn worked(answer: Result<u64, TurnFault>) -> Result<Answer, AllocError> {
     }
 }
 
-impl<N: StackName> Bench<N> {
-    fn open(alloc: Global, loaded: Loaded, blanks: (Blank, Blank)) -> Result<Bench<N>, AllocError>
+impl<N: StackName> Fixture<N> {
+    fn open(alloc: Global, loaded: Loaded, blanks: (Blank, Blank)) -> Result<Fixture<N>, AllocError>
         requires filters { loaded ≡ N.trees }
         requires callers { (blanks.0.name ≡ N.callers_name) × (blanks.0.parts ≡ N.callers_parts) × (N.callers_parts ≡ 1) }
         requires others { (blanks.1.name ≡ N.others_name) × (blanks.1.parts ≡ N.others_parts) × (N.others_parts ≡ 1) }
     {
         let (stack, mut callers, mut workers) = Stack::<N>::open(alloc, loaded, blanks, 1, 1)?;
         let (Some(caller), Some(worker)) = (callers.pop(), workers.pop()) else {
-            return Err(AllocError);
+            unreachable!()
         };
-        Ok(Bench {
+        Ok(Fixture {
             stack,
             caller,
             worker,
@@ -120,15 +120,9 @@ impl<N: StackName> Bench<N> {
     fn step<R: Wait>(&mut self, rt: &R, alloc: Global, step: Step) -> Result<Answer, AllocError> {
         match step {
             Step::Arrive => self.arrive(rt, alloc),
-            Step::Cancel(serial) => {
-                self.stack.cancel(&mut self.caller, serial as u32);
-                Ok(Answer::Done)
-            }
+            Step::Cancel(serial) => Ok(self.cancel(serial)),
             Step::Detach(altitude) => self.detach(rt, alloc, altitude),
-            Step::Refuse(choice) => {
-                self.stack.refuse(rt, choice)?;
-                Ok(Answer::Done)
-            }
+            Step::Refuse(choice) => self.refuse(rt, choice),
             Step::Work => self.work(rt, alloc),
         }
     }
@@ -150,6 +144,16 @@ impl<N: StackName> Bench<N> {
         detached(self.stack.detach(rt, alloc, &mut self.caller, altitude))
     }
 
+    fn cancel(&mut self, serial: u16) -> Answer {
+        self.stack.cancel(&mut self.caller, serial as u32);
+        Answer::Done
+    }
+
+    fn refuse<R: Wait>(&self, rt: &R, choice: u64) -> Result<Answer, AllocError> {
+        self.stack.refuse(rt, choice)?;
+        Ok(Answer::Done)
+    }
+
     fn work<R: Wait>(&mut self, rt: &R, alloc: Global) -> Result<Answer, AllocError> {
         worked(self.stack.work(rt, alloc, &mut self.worker, &mut Open))
     }
@@ -166,7 +170,7 @@ impl<N: StackName> Bench<N> {
     }
 
     fn end(self, alloc: Global) -> Result<Ended, AllocError> {
-        let Bench {
+        let Fixture {
             stack,
             caller,
             worker,
@@ -210,13 +214,13 @@ fn taken<N: StackName, R: Wait>(
     requires others { (blanks.1.name ≡ N.others_name) × (blanks.1.parts ≡ N.others_parts) × (N.others_parts ≡ 1) }
 {
     let mut answers = Vec::with_capacity(alloc, steps.len())?;
-    let mut bench = Bench::<N>::open(alloc, loaded, blanks)?;
+    let mut fixture = Fixture::<N>::open(alloc, loaded, blanks)?;
     for step in steps {
-        answers.push(bench.step_or_again(rt, alloc, *step))?;
+        answers.push(fixture.step_or_again(rt, alloc, *step))?;
     }
     Ok(Told {
         answers,
-        ended: bench.end(alloc)?,
+        ended: fixture.end(alloc)?,
     })
 }
 
