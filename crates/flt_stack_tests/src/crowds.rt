@@ -42,7 +42,9 @@ struct Course {
 }
 
 impl Course {
-    fn new(plan: Plan) -> Course {
+    fn new(plan: Plan) -> Course
+        ensures { result.plan ≡ plan }
+    {
         Course {
             plan,
             came: AtomicU64::new(0),
@@ -55,6 +57,21 @@ impl Course {
 
     fn have_callers_gone(&self) -> bool {
         self.gone.load(Ordering::SeqCst) == self.plan.callers as u64
+    }
+
+    /// Whether a worker's next call is its last one.
+    fn is_over(&self, passed: bool) -> bool {
+        self.have_callers_gone() && (passed || !self.plan.meets)
+    }
+
+    /// Waits until all callers have gone, where workers are to meet.
+    fn wait_for_callers(&self) {
+        for _ in 0..1_000_000 {
+            if self.have_callers_gone() || !self.plan.meets {
+                return;
+            }
+            thread::yield_now();
+        }
     }
 
     /// Waits until a worker has come there, 1,000,000 turns at most.
@@ -157,12 +174,11 @@ fn work_on<N: StackName, R: Wait>(
         course,
         passed: false,
     };
+    course.wait_for_callers();
     for _ in 0..1_000_000 {
-        let is_over = course.have_callers_gone() && (side.passed || !course.plan.meets);
-        if course.have_callers_gone() || !course.plan.meets {
-            if stack.work(rt, alloc, &mut seat, &mut side).is_err() || is_over {
-                return seat;
-            }
+        let is_over = course.is_over(side.passed);
+        if stack.work(rt, alloc, &mut seat, &mut side).is_err() || is_over {
+            return seat;
         }
         thread::yield_now();
     }
@@ -199,6 +215,14 @@ fn work_all<N: StackName + Send + Sync, R: Threads + Wait + Sync>(
     thread::map_vec(rt, workers, &|seat| work_on(rt, alloc, stack, course, seat))
 }
 
+/// The seats that came back.
+fn seats_of<S>(alloc: Global, seats: Result<Vec<S>, AllocError>) -> Vec<S> {
+    match seats {
+        Ok(seats) => seats,
+        Err(_) => Vec::new(alloc),
+    }
+}
+
 /// What becomes of a plan on a stack of these filters.
 fn crowd<N: StackName + Send + Sync, R: Threads + Wait + Sync>(
     rt: &R,
@@ -231,7 +255,9 @@ fn crowd<N: StackName + Send + Sync, R: Threads + Wait + Sync>(
             requires { All (λ seat. IsWorkerOf shared.now.exchange seat.place × IsFreshWorker seat.place) workers.items }
         { work_all(rt, alloc, shared, course, workers) },
     );
-    Ok(finished(stack, callers?, workers?))
+    let all_back = callers.is_ok() && workers.is_ok();
+    let ended = finished(stack, seats_of(alloc, callers), seats_of(alloc, workers));
+    if all_back { Ok(ended) } else { Err(AllocError) }
 }
 
 /// What becomes of a plan on a stack of these filters.

@@ -60,14 +60,15 @@ impl Gate for Open {
     fn before(&mut self, _worker: usize, _n: u64) {}
 }
 
-/// A stack with one caller and one worker.
-#[derive(Drop)]
+/// A stack with one caller and one worker, and room for their seats.
 struct Fixture<N: StackName> {
     stack: Stack<N>,
     caller: CallerSeat<N>,
     worker: WorkerSeat<N>,
-    ghost callers: { IsCallerOf stack.exchange caller.place },
-    ghost workers: { IsWorkerOf stack.exchange worker.place },
+    callers: Vec<CallerSeat<N>>,
+    workers: Vec<WorkerSeat<N>>,
+    ghost of_caller: { IsCallerOf stack.exchange caller.place },
+    ghost of_worker: { IsWorkerOf stack.exchange worker.place },
 }
 
 /// What an arrival answers, where memory isn't refused.
@@ -113,6 +114,8 @@ impl<N: StackName> Fixture<N> {
             stack,
             caller,
             worker,
+            callers,
+            workers,
         })
     }
 
@@ -169,17 +172,18 @@ impl<N: StackName> Fixture<N> {
         }
     }
 
-    fn end(self, alloc: Global) -> Result<Ended, AllocError> {
+    /// The seats go back where they came from, for which no memory is needed.
+    fn end(self) -> Ended {
         let Fixture {
             stack,
             caller,
             worker,
+            mut callers,
+            mut workers,
         } = self;
-        let mut callers = Vec::with_capacity(alloc, 1)?;
-        callers.push(caller)?;
-        let mut workers = Vec::with_capacity(alloc, 1)?;
-        workers.push(worker)?;
-        Ok(finished(stack, callers, workers))
+        let _ = callers.push(caller);
+        let _ = workers.push(worker);
+        finished(stack, callers, workers)
     }
 }
 
@@ -216,11 +220,11 @@ fn taken<N: StackName, R: Wait>(
     let mut answers = Vec::with_capacity(alloc, steps.len())?;
     let mut fixture = Fixture::<N>::open(alloc, loaded, blanks)?;
     for step in steps {
-        answers.push(fixture.step_or_again(rt, alloc, *step))?;
+        let _ = answers.push(fixture.step_or_again(rt, alloc, *step));
     }
     Ok(Told {
         answers,
-        ended: fixture.end(alloc)?,
+        ended: fixture.end(),
     })
 }
 
