@@ -1,7 +1,5 @@
 //! The analyses of several texts on several threads, against what is worked out by hand.
 
-ghost use Rattle.std.specs.Prelude.{◌≤◌};
-
 use flt_analyse::{Start, analyse_all};
 use flt_cert::{Cert, write};
 use flt_check::Refusal;
@@ -12,7 +10,6 @@ use std::alloc::Global;
 use std::sync::atomic::{AtomicBool, AtomicUsize, Ordering};
 use std::test::*;
 use std::thread;
-use std::thread::Threads;
 
 const SMALLEST: &str = "filter a altitude 100\npre read {\nreturn NO_CALLBACK\n}\n";
 
@@ -79,53 +76,7 @@ fn graphs_of(alloc: Global, texts: &[&str]) -> Result<Vec<Graph>, Fail> {
     Ok(graphs)
 }
 
-/// The answers of so many workers, and how many analyses were announced.
-fn answers_by<R: Threads + Sync>(
-    rt: &R,
-    alloc: Global,
-    graphs: &[Graph],
-    workers: usize,
-) -> Result<(Vec<Result<Cert, Refusal>>, usize), Fail>
-    requires some { 1 ≤ workers }
-    requires few { workers ≤ 16 }
-{
-    let begun = Begun {
-        count: AtomicUsize::new(0),
-    };
-    let answers = analyse_all(rt, alloc, graphs, workers, &begun)?;
-    Ok((answers, begun.count.load(Ordering::SeqCst)))
-}
-
-/// Whether these answers are the expected ones, each in its place.
-fn are_expected(
-    alloc: Global,
-    answers: &[Result<Cert, Refusal>],
-    expected: &[Expected],
-) -> Result<bool, Fail> {
-    for (answer, wanted) in answers.iter().zip(expected) {
-        if !is_expected(alloc, answer, wanted)? {
-            return Ok(false);
-        }
-    }
-    Ok(answers.len() == expected.len())
-}
-
-/// Whether so many workers give the expected answers, and announce each analysis.
-fn answer_so<R: Threads + Sync>(
-    rt: &R,
-    alloc: Global,
-    graphs: &[Graph],
-    workers: usize,
-    expected: &[Expected],
-) -> Result<bool, Fail>
-    requires some { 1 ≤ workers }
-    requires few { workers ≤ 16 }
-{
-    let (answers, begun) = answers_by(rt, alloc, graphs, workers)?;
-    Ok(are_expected(alloc, answers.as_slice(), expected)? && begun == graphs.len())
-}
-
-/// Three graphs and none, by 1, 2, 3 and 16 workers: each answer stands at its graph's place, and each analysis was announced.
+/// Three graphs by 1, 2, 3 and 16 workers: each answer stands at its graph's place, and each analysis was announced.
 #[test]
 fn answers_stand_at_the_places_of_their_graphs(rt: HostRuntime) -> Result<(), Fail> {
     let expected = [
@@ -135,8 +86,18 @@ fn answers_stand_at_the_places_of_their_graphs(rt: HostRuntime) -> Result<(), Fa
     ];
     let graphs = graphs_of(rt.alloc(), &[SMALLEST, LEAKING, STREAM_CONTEXT])?;
     for workers in [1, 2, 3, 16] {
-        assert!(rt; answer_so(&rt, rt.alloc(), graphs.as_slice(), workers, &expected)?);
-        assert!(rt; answer_so(&rt, rt.alloc(), &[], workers, &[])?);
+        let begun = Begun {
+            count: AtomicUsize::new(0),
+        };
+        let answers = analyse_all(&rt, rt.alloc(), graphs.as_slice(), workers, &begun)?;
+        assert_eq!(rt; answers.len(), 3);
+        for place in 0..3 {
+            assert!(rt; is_expected(rt.alloc(), &answers[place], &expected[place])?);
+        }
+        assert_eq!(rt; begun.count.load(Ordering::SeqCst), 3);
+        let none = analyse_all(&rt, rt.alloc(), &[], workers, &begun)?;
+        assert_eq!(rt; none.len(), 0);
+        assert_eq!(rt; begun.count.load(Ordering::SeqCst), 3);
     }
     Ok(())
 }
@@ -164,25 +125,16 @@ impl Start for Meeting {
     }
 }
 
-/// Whether two workers have met, and how many answers there are.
-fn met_at_once<R: Threads + Sync>(
-    rt: &R,
-    alloc: Global,
-    graphs: &[Graph],
-) -> Result<(bool, usize), Fail> {
+#[test]
+fn two_analyses_at_once(rt: HostRuntime) -> Result<(), Fail> {
+    let graphs = graphs_of(rt.alloc(), &[SMALLEST, LEAKING])?;
     let meeting = Meeting {
         second_began: AtomicBool::new(false),
         met: AtomicBool::new(false),
     };
-    let answers = analyse_all(rt, alloc, graphs, 2, &meeting)?;
-    Ok((meeting.met.load(Ordering::SeqCst), answers.len()))
-}
-
-#[test]
-fn two_analyses_at_once(rt: HostRuntime) -> Result<(), Fail> {
-    let graphs = graphs_of(rt.alloc(), &[SMALLEST, LEAKING])?;
-    let (met, answers) = met_at_once(&rt, rt.alloc(), graphs.as_slice())?;
-    assert!(rt; met && answers == 2);
+    let answers = analyse_all(&rt, rt.alloc(), graphs.as_slice(), 2, &meeting)?;
+    assert_eq!(rt; answers.len(), 2);
+    assert!(rt; meeting.met.load(Ordering::SeqCst));
     Ok(())
 }
 
@@ -190,7 +142,10 @@ fn two_analyses_at_once(rt: HostRuntime) -> Result<(), Fail> {
 #[test]
 fn analyses_in_ample_memory(rt: HostRuntime) -> Result<(), Fail> {
     let graphs = graphs_of(rt.alloc(), &[SMALLEST, LEAKING, STREAM_CONTEXT])?;
-    let (answers, _) = answers_by(&rt, rt.alloc(), graphs.as_slice(), 1)?;
-    assert!(rt; answers.len() == 3);
+    let begun = Begun {
+        count: AtomicUsize::new(0),
+    };
+    let answers = analyse_all(&rt, rt.alloc(), graphs.as_slice(), 1, &begun)?;
+    assert_eq!(rt; answers.len(), 3);
     Ok(())
 }

@@ -3,114 +3,47 @@ ghost use Rattle.std.specs.Prelude.{◌≡◌, All};
 ghost use Rattle.flt_pool.specs.Seats.{IsPutSeatOf, IsTakeSeatOf};
 
 use flt_pool::{Pool, PutSeat, TakeSeat, Ticket};
-use std::alloc::{AllocError, Global};
+use std::alloc::AllocError;
 use std::sync::Wait;
 use std::test::*;
 use std::thread;
 use std::thread::Threads;
 
-/// Puts a ticket by a caller's seat, and says whether it went.
-fn put<R: Wait>(rt: &R, pool: &Pool, seat: &mut PutSeat, ticket: Ticket) -> bool
-    requires { IsPutSeatOf pool.now seat.old }
-    ensures { IsPutSeatOf pool.now seat.new }
-{
-    pool.put(rt, seat, ticket).is_ok()
-}
-
-/// The same by a worker's seat, on its own deque.
-fn push(pool: &Pool, seat: &mut TakeSeat, ticket: Ticket) -> bool
-    requires { IsTakeSeatOf pool.now seat.old }
-    ensures { IsTakeSeatOf pool.now seat.new }
-{
-    seat.push(ticket).is_ok()
-}
-
-fn take<R: Wait>(rt: &R, pool: &Pool, seat: &mut TakeSeat) -> Option<Ticket>
-    requires { IsTakeSeatOf pool.now seat.old }
-    ensures { IsTakeSeatOf pool.now seat.new }
-{
-    pool.take(rt, seat)
-}
-
-const ENTRY: Ticket = Ticket::Entry {
-    altitude: 100,
-    serial: 7,
-};
-
-/// Puts two tickets into the injector and two onto each worker's deque, and says whether all went.
-fn all_go<R: Wait>(
-    rt: &R,
-    pool: &Pool,
-    caller: &mut PutSeat,
-    worker: &mut TakeSeat,
-    other: &mut TakeSeat,
-) -> bool
-    requires caller { IsPutSeatOf pool.now caller.old }
-    requires worker { IsTakeSeatOf pool.now worker.old }
-    requires other { IsTakeSeatOf pool.now other.old }
-    ensures caller { IsPutSeatOf pool.now caller.new }
-    ensures worker { IsTakeSeatOf pool.now worker.new }
-    ensures other { IsTakeSeatOf pool.now other.new }
-{
-    push(pool, other, Ticket::Item(3))
-        && push(pool, other, Ticket::Detach(100))
-        && put(rt, pool, caller, Ticket::Operation(1))
-        && put(rt, pool, caller, ENTRY)
-        && push(pool, worker, Ticket::Activation(2))
-        && push(pool, worker, Ticket::Operation(2))
-}
-
-/// What a worker takes in six times.
-fn six_taken<R: Wait>(rt: &R, pool: &Pool, seat: &mut TakeSeat) -> [Option<Ticket>; 6]
-    requires { IsTakeSeatOf pool.now seat.old }
-    ensures { IsTakeSeatOf pool.now seat.new }
-{
-    [
-        take(rt, pool, seat),
-        take(rt, pool, seat),
-        take(rt, pool, seat),
-        take(rt, pool, seat),
-        take(rt, pool, seat),
-        take(rt, pool, seat),
-    ]
-}
-
-/// What a worker takes of six tickets, and what it and another worker take then.
-fn taken_in_order<R: Wait>(
-    rt: &R,
-    alloc: Global,
-) -> Result<Option<([Option<Ticket>; 6], [Option<Ticket>; 2])>, Fail> {
-    let (pool, mut callers, mut workers) = Pool::open(alloc, 1, 2)?;
+/// Each kind of ticket goes in and comes out: of the own deque first, then of the injector, then of the other worker's deque, and of
+/// each in the order in which it went in.
+#[test]
+fn takes_the_own_deque_then_the_injector_then_steals(rt: HostRuntime) -> Result<(), Fail> {
+    let (pool, mut callers, mut workers) = Pool::open(rt.alloc(), 1, 2)?;
     let (Some(mut caller), Some(mut other), Some(mut worker)) = (
         callers.pop(),
         workers.pop(),
         workers.pop(),
     ) else {
-        return Ok(None);
+        panic!(rt; "the seats")
     };
-    if !all_go(rt, &pool, &mut caller, &mut worker, &mut other) {
-        return Ok(None);
+    let entry = Ticket::Entry {
+        altitude: 100,
+        serial: 7,
+    };
+    assert!(rt; other.push(Ticket::Item(3)).is_ok());
+    assert!(rt; other.push(Ticket::Detach(100)).is_ok());
+    assert!(rt; pool.put(&rt, &mut caller, Ticket::Operation(1)).is_ok());
+    assert!(rt; pool.put(&rt, &mut caller, entry).is_ok());
+    assert!(rt; worker.push(Ticket::Activation(2)).is_ok());
+    assert!(rt; worker.push(Ticket::Operation(2)).is_ok());
+    let expected = [
+        Ticket::Activation(2),
+        Ticket::Operation(2),
+        Ticket::Operation(1),
+        entry,
+        Ticket::Item(3),
+        Ticket::Detach(100),
+    ];
+    for ticket in expected {
+        assert!(rt; pool.take(&rt, &mut worker) == Some(ticket));
     }
-    let six = six_taken(rt, &pool, &mut worker);
-    let then = [take(rt, &pool, &mut worker), take(rt, &pool, &mut other)];
-    Ok(Some((six, then)))
-}
-
-/// The own deque, the injector, and the other worker's deque, each in the order in which tickets went in.
-const IN_ORDER: [Option<Ticket>; 6] = [
-    Some(Ticket::Activation(2)),
-    Some(Ticket::Operation(2)),
-    Some(Ticket::Operation(1)),
-    Some(ENTRY),
-    Some(Ticket::Item(3)),
-    Some(Ticket::Detach(100)),
-];
-
-/// Each kind of ticket goes in and comes out.
-#[test]
-fn takes_the_own_deque_then_the_injector_then_steals(rt: HostRuntime) -> Result<(), Fail> {
-    let taken = taken_in_order(&rt, rt.alloc())?;
-    assert!(rt; taken == Some((IN_ORDER, [None, None])));
+    assert!(rt; pool.take(&rt, &mut worker).is_none());
+    assert!(rt; pool.take(&rt, &mut other).is_none());
     Ok(())
 }
 
@@ -131,7 +64,7 @@ fn put_most<R: Wait>(rt: &R, pool: &Pool, seat: &mut PutSeat) -> u32
 {
     let mut refused: u32 = 0;
     for n in 0..1400u32 {
-        if !put(rt, pool, seat, Ticket::Operation(n)) {
+        if pool.put(rt, seat, Ticket::Operation(n)).is_err() {
             refused = refused.wrapping_add(1);
         }
     }
@@ -145,7 +78,7 @@ fn push_rest(pool: &Pool, seat: &mut TakeSeat) -> u32
 {
     let mut refused: u32 = 0;
     for n in 1400..2000u32 {
-        if !push(pool, seat, Ticket::Operation(n)) {
+        if seat.push(Ticket::Operation(n)).is_err() {
             refused = refused.wrapping_add(1);
         }
     }
@@ -162,7 +95,7 @@ fn take_often<R: Wait>(rt: &R, pool: &Pool, seat: &mut TakeSeat, rounds: u32) ->
         count: 0,
     };
     for _ in 0..rounds {
-        if let Some(Ticket::Operation(n)) = take(rt, pool, seat) {
+        if let Some(Ticket::Operation(n)) = pool.take(rt, seat) {
             taken.words[(n / 64 % 32) as usize] |= 1u64 << (n % 64);
             taken.count = taken.count.wrapping_add(1);
         }
@@ -186,43 +119,34 @@ fn share<R: Threads + Wait + Sync>(
     thread::map_vec(rt, seats, &|seat| take_part(rt, pool, seat))
 }
 
-fn add_up(shares: Vec<Taken>, mut all: Taken) -> Taken {
+fn add_up(shares: Vec<Taken>, all: &mut Taken) {
     for taken in shares {
         for word in 0..WORDS {
             all.words[word] |= taken.words[word];
         }
         all.count = all.count.wrapping_add(taken.count);
     }
-    all
 }
 
-/// What two workers take from the injector and from a third one's deque, and the third takes of what they leave.
-fn taken_by_three<R: Threads + Wait + Sync>(rt: &R, alloc: Global) -> Result<Option<Taken>, Fail> {
-    let (pool, mut callers, mut workers) = Pool::open(alloc, 1, 3)?;
-    let (Some(mut caller), Some(mut last)) = (callers.pop(), workers.pop()) else {
-        return Ok(None);
-    };
-    if put_most(rt, &pool, &mut caller) != 0 || push_rest(&pool, &mut last) != 0 {
-        return Ok(None);
-    }
-    let shares = share(rt, &pool, workers)?;
-    let left = take_often(rt, &pool, &mut last, 2001);
-    Ok(Some(add_up(shares, left)))
-}
-
-/// Whether these are 2,000 tickets, each once.
-fn are_all(taken: &Taken) -> bool {
-    for word in 0..31 {
-        if taken.words[word] != u64::MAX {
-            return false;
-        }
-    }
-    taken.words[31] == 65535 && taken.count == 2000
-}
-
+/// Two workers take from the injector and from a third one's deque, and the third takes what they leave: 2,000 tickets, each once.
 #[test]
 fn workers_take_each_ticket_once(rt: HostRuntime) -> Result<(), Fail> {
-    let taken = taken_by_three(&rt, rt.alloc())?;
-    assert!(rt; matches!(&taken, Some(taken) if are_all(taken)));
+    let (pool, mut callers, mut workers) = Pool::open(rt.alloc(), 1, 3)?;
+    let Some(mut caller) = callers.pop() else {
+        panic!(rt; "a caller's seat")
+    };
+    let Some(mut last) = workers.pop() else {
+        panic!(rt; "a worker's seat")
+    };
+    assert_eq!(rt; put_most(&rt, &pool, &mut caller), 0);
+    assert_eq!(rt; push_rest(&pool, &mut last), 0);
+    let shares = share(&rt, &pool, workers)?;
+    let mut all = take_often(&rt, &pool, &mut last, 2001);
+    add_up(shares, &mut all);
+    assert_eq!(rt; all.count, 2000);
+    for word in 0..31 {
+        assert_eq!(rt; all.words[word], u64::MAX);
+    }
+    assert_eq!(rt; all.words[31], 65535);
     Ok(())
 }
