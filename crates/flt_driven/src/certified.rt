@@ -45,7 +45,10 @@ fn written(
     ensures err { IfErr result (spec.IsRefusalOf file tree.now.filter) }
 {
     match answer {
-        Ok(cert) => Ok(write(alloc, cert)?),
+        Ok(cert) => {
+            let _callbacks = cert.callbacks();
+            Ok(write(alloc, cert)?)
+        }
         Err(refusal) => Err(RunFault::Refused {
             file,
             refusal: *refusal,
