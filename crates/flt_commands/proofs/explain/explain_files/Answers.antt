@@ -1,4 +1,4 @@
-use Rattle.std.proofs.Common.{◌≡◌, ℕ, Err, Vec, Global, map, ap, ◌∙◌, rules}
+use Rattle.std.proofs.Common.{◌≡◌, ℕ, Err, Vec, Global, map, ap, ◌∙◌, refl, rules}
 use Rattle.std.proofs.Math.Path.{subst}
 use Rattle.flt_notes.specs.Told.{AreNoted}
 use Rattle.flt_reports.specs.Reports.{texts_of}
@@ -20,6 +20,14 @@ pub returns-in_err-told-clause-said : goal.returns-in_err-told-clause-said
 returns-in_err-told-clause-said g c =
     let fails : c.from_residual-in_err-told.result ≡ Err OutOfMemory = search rules in
     rw fails (unread OutOfMemory tt)
+
+pub returns-in_err-write_journal-clause-said : goal.returns-in_err-write_journal-clause-said
+returns-in_err-write_journal-clause-said g c =
+    let fails : c.from_residual-in_err-write_journal.result ≡ Err OutOfMemory = search rules in
+    rw fails (unread OutOfMemory tt)
+
+pub returns-then-not-branch-clause-said : goal.returns-then-not-branch-clause-said
+returns-then-not-branch-clause-said g c = given _ _ c.in_ok-texts.ensures.ok (rw c.in-Some.is refl)
 
 pub returns-clause-said : goal.returns-clause-said
 returns-clause-said g c =
