@@ -16,7 +16,7 @@ module _ (gives : Giving) (written : Text → Text → Type 0) where
   -- what holds of what is asked for holds of the words
   pub kept_by : (words : List Text) (request : Option Asked) (result : Result ℕ CommandFault) → request ≡ asked words →
       KeepsFor gives written request → IfOk result (λ status. status ≢ 2 → KeepsFor gives written (asked words))
-  kept_by words request (Ok status) asks keeps fine = subst (KeepsFor gives written) asks keeps
+  kept_by words request (Ok status) asks keeps = λ fine. subst (KeepsFor gives written) asks keeps
   kept_by words request (Err f) asks keeps = tt
 
   module _ (form : Form) (states : ℕ) (files : List Text) where
@@ -46,6 +46,6 @@ module _ (gives : Giving) (written : Text → Text → Type 0) where
         Says gives files (IsExplained form journal files) said → IfOk said (IsWritten written journal) →
         IfOk result (λ status. (bytes : List ℕ) × IsReported said bytes status × P status bytes) →
         IfOk result (λ status. status ≢ 2 → KeepsFor gives written (asked words))
-    kept_of words journal said (Ok status) P asks says wrote (bytes, reported, rest) fine =
-        subst (KeepsFor gives written) asks (kept_of_said journal said bytes status says wrote reported fine)
+    kept_of words journal said (Ok status) P asks says wrote (bytes, reported, rest) =
+        λ fine. subst (KeepsFor gives written) asks (kept_of_said journal said bytes status says wrote reported fine)
     kept_of words journal said (Err f) P asks says wrote reported = tt

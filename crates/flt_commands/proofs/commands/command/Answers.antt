@@ -20,8 +20,8 @@ returns-in-Replay-clause-clean g c =
     clean_of c.covered_texts_break_nothing.ensures c.driven_texts_break_nothing.ensures c.spelled_is_read.ensures.read _ _ _ _ _ _ (rw c.in-Replay.is at c.in_ok-text.ensures)
     (rw c.as_slice-in-Replay.ensures.value at c.replay_files-said.ensures) c.report-in-Replay.ensures.prints
 
-pub returns-in-Explain-clause-clean : goal.returns-in-Explain-clause-clean
-returns-in-Explain-clause-clean g c =
+pub returns-in_ok-before-in-Explain-clause-clean : goal.returns-in_ok-before-in-Explain-clause-clean
+returns-in_ok-before-in-Explain-clause-clean g c =
     clean_of c.covered_texts_break_nothing.ensures c.driven_texts_break_nothing.ensures c.spelled_is_read.ensures.read _ _ _ _ _ _ (rw c.in-Explain.is at c.in_ok-text.ensures)
     (rw c.as_slice-in-Explain.ensures.value at c.explain_files-said.ensures.said) c.report_behind.ensures.prints
 
@@ -79,8 +79,8 @@ returns-in-Run-clause-journal g c = kept_by _ _ _ (Some (Run _ _ _ _)) _ (rw c.i
 pub returns-in-Page-clause-journal : goal.returns-in-Page-clause-journal
 returns-in-Page-clause-journal g c = kept_by _ _ _ (Some (Page _)) _ (rw c.in-Page.is at c.in_ok-text.ensures) tt
 
-pub returns-in-Explain-clause-journal : goal.returns-in-Explain-clause-journal
-returns-in-Explain-clause-journal g c =
+pub returns-in_ok-before-in-Explain-clause-journal : goal.returns-in_ok-before-in-Explain-clause-journal
+returns-in_ok-before-in-Explain-clause-journal g c =
     kept_of _ _ _ _ _ _ _ _ _ _ (rw c.in-Explain.is at c.in_ok-text.ensures)
     (rw c.as_slice-in-Explain.ensures.value at c.explain_files-said.ensures.said) c.explain_files-said.ensures.written
     c.report_behind.ensures.prints
