@@ -320,7 +320,7 @@ fn is_told(alloc: Global, kind: Kind, example: &Example) -> Result<bool, AllocEr
                 && reason.message.as_slice() == example.4.as_bytes()
                 && reason.meant.as_slice() == example.5.as_bytes(),
         ),
-        Notice::Whole(_, _) | Notice::Unread(_) => Ok(false),
+        Notice::Whole(_, _) => Ok(false),
     }
 }
 
