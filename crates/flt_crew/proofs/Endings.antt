@@ -1,36 +1,27 @@
 -- How a run of one caller ends.
-use Rattle.std.proofs.Common.{◌≡◌, ◌≢◌, List, [], ◌∷◌, IsPermutation, refl, sym, subst}
+use Rattle.std.proofs.Common.{◌≡◌, List, [], ◌∷◌, ◌++◌, IsPermutation, map, refl, sym, subst}
 use Rattle.std.proofs.lemmas.List.{append-nil}
 use Rattle.flt_core.specs.declared.receipts.Receipt.{Receipt}
-use Rattle.flt_crew.specs.Bounds.{IsFull}
 use Rattle.flt_crew.specs.Giving.{AreGiven}
 use Rattle.flt_crew.specs.Running.{IsEnded}
-use Rattle.flt_crew.specs.declared.ending.Ending.{Ending}
-use Rattle.flt_crew.specs.declared.ending.Ending.TheVariants.{Whole, Full, Differ}
+use Rattle.flt_crew.specs.declared.ending.Ending.TheVariants.{Differ}
 use Rattle.flt_model.specs.declared.moves.JournalEntry.{JournalEntry}
 use Rattle.flt_receipts.specs.Receipts.{receipts_in, together}
 use Rattle.flt_script.specs.ScriptText.{Commands}
 
-module _ (entries : List JournalEntry) (receipts : List Receipt) (held : List (List Receipt)) (one : held ≡ receipts ∷ []) where
-  alone : together held ≡ receipts
-  alone = subst (λ h. together h ≡ receipts) (sym one) (append-nil receipts)
+module _ {S : Type 0} (seats before : List S) (seat : S) (none : before ≡ []) (one : seats ≡ before ++ seat ∷ []) (held : S → List Receipt) where
+  -- one seat holds what all hold
+  alone : together (map held seats) ≡ held seat
+  alone = rw (one, none) (append-nil (held seat))
 
-  pub agreed : (commands : Commands) (ending : Ending) → ending ≢ Differ → (ending ≡ Full → IsFull entries) →
-      IsPermutation (receipts_in entries) (together held) → AreGiven commands receipts → IsEnded commands entries ending
-  agreed commands ending other full same given = record {
-    receipts = receipts;
-    given = given;
-    agree = λ _. subst (IsPermutation (receipts_in entries)) alone same;
-    differ = λ is. absurd (other is);
-    full = full;
-  }
-
-  pub differed : (commands : Commands) → (IsPermutation (receipts_in entries) (together held) → ⊥) → AreGiven commands receipts →
+  -- its receipts aren't the journal's
+  pub differed : (commands : Commands) (entries : List JournalEntry) →
+      (IsPermutation (receipts_in entries) (together (map held seats)) → ⊥) → AreGiven commands (held seat) →
       IsEnded commands entries Differ
-  differed commands apart given = record {
-    receipts = receipts;
+  differed commands entries apart given = record {
+    receipts = held seat;
     given = given;
     agree = λ other. absurd (other refl);
     differ = λ _ same. apart (subst (IsPermutation (receipts_in entries)) (sym alone) same);
-    full = λ is. cc;
+    full = λ e. cc;
   }

@@ -1,2 +1,4 @@
 pub mod Commands
+pub mod Driving
+pub mod Elements
 pub mod Endings

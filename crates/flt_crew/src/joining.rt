@@ -108,9 +108,7 @@ fn seats_of<N: StackName>(
     for worked in all {
         let Worked { seat, outcome } = worked;
         seats.push(seat)?;
-        if is_full_by(outcome)? {
-            is_full = true;
-        }
+        is_full |= is_full_by(outcome)?;
     }
     Ok((seats, is_full))
 }
@@ -139,7 +137,8 @@ pub(crate) fn follow<N: StackName + Send + Sync, R: Threads + Wait + Sync, W: Wa
         rt,
         || -> Result<Vec<Worked<N>>, AllocError>
             requires { All (λ seat. IsWorkerOf stack.now.exchange seat.place) workers.items }
-            ensures { IfOk result (λ all. All (λ worked. IsWorkerOf stack.entry.now.exchange worked.seat.place) all.items) }
+            ensures seats { IfOk result (λ all. All (λ worked. IsWorkerOf stack.entry.now.exchange worked.seat.place) all.items) }
+            ensures count { IfOk result (λ all. length all.items ≡ length workers.items) }
         { work_all(rt, alloc, stack, workers, &progress) },
         || -> Given<N>
             requires { IsCallerOf stack.now.exchange caller.place × (caller.receipts.list.items ≡ []) }

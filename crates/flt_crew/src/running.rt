@@ -99,6 +99,29 @@ fn follow_together<N: StackName + Send + Sync, R: Threads + Wait + Sync, W: Watc
     Ok(followed)
 }
 
+/// So many workers follow the script, alone or together.
+fn follow<N: StackName + Send + Sync, R: Threads + Wait + Sync, W: Watch>(
+    rt: &R,
+    alloc: Global,
+    stack: &Stack<N>,
+    caller: CallerSeat<N>,
+    workers: Vec<WorkerSeat<N>>,
+    script: &Script,
+    watch: &mut W,
+) -> Result<Followed<N>, AllocError>
+    requires caller { IsCallerOf stack.now.exchange caller.place }
+    requires fresh { caller.receipts.list.items ≡ [] }
+    requires workers { All (λ seat. IsWorkerOf stack.now.exchange seat.place) workers.items }
+    requires some { 0 < length workers.items }
+    ensures given { IfOk result (λ followed. AreGiven script.now followed.caller.receipts.list.items) }
+{
+    if workers.len() == 1 {
+        follow_alone(rt, alloc, stack, caller, workers, script, watch)
+    } else {
+        follow_together(rt, alloc, stack, caller, workers, script, watch)
+    }
+}
+
 /// Ends the stack.
 fn finish<N: StackName>(
     alloc: Global,
@@ -155,11 +178,7 @@ fn drive<N: StackName + Send + Sync, R: Threads + Wait + Sync, W: Watch>(
     legal_journals_are_clean_runs();
     let (stack, mut callers, seats) = Stack::<N>::open(alloc, loaded, blanks, 1, workers)?;
     let caller = callers.pop().unwrap();
-    let followed = if workers == 1 {
-        follow_alone(rt, alloc, &stack, caller, seats, script, watch)?
-    } else {
-        follow_together(rt, alloc, &stack, caller, seats, script, watch)?
-    };
+    let followed = follow(rt, alloc, &stack, caller, seats, script, watch)?;
     finish(alloc, stack, followed)
 }
 
