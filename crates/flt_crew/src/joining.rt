@@ -1,16 +1,20 @@
 //! A script by several workers, each in a thread of its own where one can be made, while the caller gives the commands in this one.
 
-ghost use Rattle.std.specs.Prelude.{◌≡◌, ◌<◌, [], All, IfOk, length};
+ghost use Rattle.std.specs.Prelude.{◌≡◌, ◌<◌, [], All, IfOk, length, map};
 ghost use Rattle.flt_crew.specs.Giving as spec;
 ghost use Rattle.flt_workers.specs.Places.{IsCallerOf, IsWorkerOf};
 
 use crate::followed::{Followed, is_full_by};
 use crate::giving::give;
 use crate::progress::Progress;
+use crate::sharing::is_shared;
 use crate::watch::Watch;
 use crate::working::{Worked, work_in};
 use flt_running::{CallerSeat, Stack, StackName, TurnFault, WorkerSeat};
 use flt_script::Script;
+use flt_stack::Loaded;
+use flt_tree::Tree;
+use sqlite_items::Items;
 use std::alloc::{AllocError, Global};
 use std::sync::Wait;
 use std::thread;
@@ -83,6 +87,10 @@ fn work_all<N: StackName + Send + Sync, R: Threads + Wait + Sync>(
     ensures seats { IfOk result (λ all. All (λ worked. IsWorkerOf stack.now.exchange worked.seat.place) all.items) }
     ensures count { IfOk result (λ all. length all.items ≡ length seats.items) }
 {
+    is_shared::<Items<Tree>>();
+    is_shared::<flt_machine::Loaded>();
+    is_shared::<Loaded>();
+    is_shared::<Stack<N>>();
     thread::map_vec(
         rt,
         seats,
@@ -93,7 +101,24 @@ fn work_all<N: StackName + Send + Sync, R: Threads + Wait + Sync>(
     )
 }
 
-/// The workers' seats, and whether all of them found nothing in the end; not so where one found the journal full.
+/// The workers' seats, in order, and whether one of them found the journal full.
+fn parts_of<N: StackName>(
+    alloc: Global,
+    all: Vec<Worked<N>>,
+) -> Result<(Vec<WorkerSeat<N>>, bool), AllocError>
+    ensures { IfOk result (λ r. map (λ worked. worked.seat) all.items ≡ r.0.items) }
+{
+    let mut seats = Vec::new(alloc);
+    let mut is_full = false;
+    for worked in all {
+        let Worked { seat, outcome } = worked;
+        seats.push(seat)?;
+        is_full |= is_full_by(outcome)?;
+    }
+    Ok((seats, is_full))
+}
+
+/// The workers' seats, and whether one of them found the journal full. Each is still one of the stack.
 fn seats_of<N: StackName>(
     alloc: Global,
     stack: &Stack<N>,
@@ -103,13 +128,7 @@ fn seats_of<N: StackName>(
     ensures seats { IfOk result (λ r. All (λ seat. IsWorkerOf stack.now.exchange seat.place) r.0.items) }
     ensures count { IfOk result (λ r. length r.0.items ≡ length all.items) }
 {
-    let mut seats = Vec::new(alloc);
-    let mut is_full = false;
-    for worked in all {
-        let Worked { seat, outcome } = worked;
-        seats.push(seat)?;
-        is_full |= is_full_by(outcome)?;
-    }
+    let (seats, is_full) = parts_of(alloc, all)?;
     Ok((seats, is_full))
 }
 
@@ -132,6 +151,10 @@ pub(crate) fn follow<N: StackName + Send + Sync, R: Threads + Wait + Sync, W: Wa
     ensures workers { IfOk result (λ followed. All (λ seat. IsWorkerOf stack.now.exchange seat.place) followed.workers.items) }
     ensures count { IfOk result (λ followed. length followed.workers.items ≡ length workers.items) }
 {
+    is_shared::<Items<Tree>>();
+    is_shared::<flt_machine::Loaded>();
+    is_shared::<Loaded>();
+    is_shared::<Stack<N>>();
     let progress = Progress::new();
     let (worked, given) = join(
         rt,
