@@ -7,14 +7,10 @@ ghost use Rattle.flt_workers.specs.Places.{IsCallerOf, IsWorkerOf};
 use crate::followed::{Followed, is_full_by};
 use crate::giving::give;
 use crate::progress::Progress;
-use crate::sharing::is_shared;
 use crate::watch::Watch;
 use crate::working::{Worked, work_in};
 use flt_running::{CallerSeat, Stack, StackName, TurnFault, WorkerSeat};
 use flt_script::Script;
-use flt_stack::Loaded;
-use flt_tree::Tree;
-use sqlite_items::Items;
 use std::alloc::{AllocError, Global};
 use std::sync::Wait;
 use std::thread;
@@ -87,10 +83,6 @@ fn work_all<N: StackName + Send + Sync, R: Threads + Wait + Sync>(
     ensures seats { IfOk result (λ all. All (λ worked. IsWorkerOf stack.now.exchange worked.seat.place) all.items) }
     ensures count { IfOk result (λ all. length all.items ≡ length seats.items) }
 {
-    is_shared::<Items<Tree>>();
-    is_shared::<flt_machine::Loaded>();
-    is_shared::<Loaded>();
-    is_shared::<Stack<N>>();
     thread::map_vec(
         rt,
         seats,
@@ -151,10 +143,6 @@ pub(crate) fn follow<N: StackName + Send + Sync, R: Threads + Wait + Sync, W: Wa
     ensures workers { IfOk result (λ followed. All (λ seat. IsWorkerOf stack.now.exchange seat.place) followed.workers.items) }
     ensures count { IfOk result (λ followed. length followed.workers.items ≡ length workers.items) }
 {
-    is_shared::<Items<Tree>>();
-    is_shared::<flt_machine::Loaded>();
-    is_shared::<Loaded>();
-    is_shared::<Stack<N>>();
     let progress = Progress::new();
     let (worked, given) = join(
         rt,
