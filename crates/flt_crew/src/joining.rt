@@ -1,6 +1,6 @@
 //! A script by several workers, each in a thread of its own where one can be made, while the caller gives the commands in this one.
 
-ghost use Rattle.std.specs.Prelude.{◌≡◌, ◌<◌, [], All, IfOk, length};
+ghost use Rattle.std.specs.Prelude.{◌≡◌, ◌<◌, [], All, IfOk, length, map};
 ghost use Rattle.flt_crew.specs.Giving as spec;
 ghost use Rattle.flt_workers.specs.Places.{IsCallerOf, IsWorkerOf};
 
@@ -93,7 +93,24 @@ fn work_all<N: StackName + Send + Sync, R: Threads + Wait + Sync>(
     )
 }
 
-/// The workers' seats, and whether all of them found nothing in the end; not so where one found the journal full.
+/// The workers' seats, in order, and whether one of them found the journal full.
+fn parts_of<N: StackName>(
+    alloc: Global,
+    all: Vec<Worked<N>>,
+) -> Result<(Vec<WorkerSeat<N>>, bool), AllocError>
+    ensures { IfOk result (λ r. map (λ worked. worked.seat) all.items ≡ r.0.items) }
+{
+    let mut seats = Vec::new(alloc);
+    let mut is_full = false;
+    for worked in all {
+        let Worked { seat, outcome } = worked;
+        seats.push(seat)?;
+        is_full |= is_full_by(outcome)?;
+    }
+    Ok((seats, is_full))
+}
+
+/// The workers' seats, and whether one of them found the journal full. Each is still one of the stack.
 fn seats_of<N: StackName>(
     alloc: Global,
     stack: &Stack<N>,
@@ -103,13 +120,7 @@ fn seats_of<N: StackName>(
     ensures seats { IfOk result (λ r. All (λ seat. IsWorkerOf stack.now.exchange seat.place) r.0.items) }
     ensures count { IfOk result (λ r. length r.0.items ≡ length all.items) }
 {
-    let mut seats = Vec::new(alloc);
-    let mut is_full = false;
-    for worked in all {
-        let Worked { seat, outcome } = worked;
-        seats.push(seat)?;
-        is_full |= is_full_by(outcome)?;
-    }
+    let (seats, is_full) = parts_of(alloc, all)?;
     Ok((seats, is_full))
 }
 

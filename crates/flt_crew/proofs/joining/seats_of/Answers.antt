@@ -1,10 +1,12 @@
-use Rattle.std.proofs.Common.{◌≡◌, rules}
 use Rattle.flt_workers.specs.Places.{IsWorkerOf}
-use Rattle.flt_crew.proofs.Elements.{each_value}
+use Rattle.flt_crew.proofs.Elements.{as_many, each_value}
 use Rattle.flt_crew.proofs.joining.seats_of.Goals as goal
 
 pub returns-clause-seats : goal.returns-clause-seats
 returns-clause-seats g c =
-    let whole : c.loop-worked.yielded ≡ c.args.all.items = search rules in
-    each_value c.loop-worked.yielded c.args.all.items c.loop-worked.seats.items whole (λ worked. worked.seat) c.loop-worked.invariant
+    each_value c.args.all.items c.in_ok-seats.seats.items (λ worked. worked.seat) c.in_ok-seats.ensures
     (λ seat. IsWorkerOf c.args.stack.now.exchange seat.place) c.requires
+
+pub returns-clause-count : goal.returns-clause-count
+returns-clause-count g c =
+    as_many c.args.all.items c.in_ok-seats.seats.items (λ worked. worked.seat) c.in_ok-seats.ensures
