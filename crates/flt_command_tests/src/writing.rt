@@ -149,7 +149,7 @@ fn wrong_call<R: Threads + Wait + Sync>(
     calls: u64,
     status: u8,
 ) -> Option<u64> {
-    for fails_at in 0..calls + 3 {
+    for fails_at in 0..calls.saturating_add(3) {
         let wanted = if fails_at < calls {
             Err(CommandFault::Write)
         } else {

@@ -7,12 +7,16 @@ ghost use Rattle.flt_workers.specs.Places.{IsCallerOf, IsWorkerOf};
 use crate::followed::{Followed, is_full_by};
 use crate::giving::give;
 use crate::progress::Progress;
+use crate::sharing::{loaded_is_shared, sent, shared};
 use crate::watch::Watch;
 use crate::working::{Worked, work_in};
+use flt_core::{CallerEntries, Locked, OtherEntries};
 use flt_running::{CallerSeat, Stack, StackName, TurnFault, WorkerSeat};
 use flt_script::Script;
+use flt_workers::Exchange;
 use std::alloc::{AllocError, Global};
-use std::sync::Wait;
+use std::sync::ledger::Share;
+use std::sync::{Mutex, Wait};
 use std::thread;
 use std::thread::{Threads, join};
 
@@ -83,6 +87,12 @@ fn work_all<N: StackName + Send + Sync, R: Threads + Wait + Sync>(
     ensures seats { IfOk result (λ all. All (λ worked. IsWorkerOf stack.now.exchange worked.seat.place) all.items) }
     ensures count { IfOk result (λ all. length all.items ≡ length seats.items) }
 {
+    loaded_is_shared();
+    shared::<Exchange>();
+    shared::<Mutex<Locked<N>>>();
+    sent::<Share<CallerEntries<N>>>();
+    sent::<Share<OtherEntries<N>>>();
+    shared::<Stack<N>>();
     thread::map_vec(
         rt,
         seats,
@@ -143,6 +153,12 @@ pub(crate) fn follow<N: StackName + Send + Sync, R: Threads + Wait + Sync, W: Wa
     ensures workers { IfOk result (λ followed. All (λ seat. IsWorkerOf stack.now.exchange seat.place) followed.workers.items) }
     ensures count { IfOk result (λ followed. length followed.workers.items ≡ length workers.items) }
 {
+    loaded_is_shared();
+    shared::<Exchange>();
+    shared::<Mutex<Locked<N>>>();
+    sent::<Share<CallerEntries<N>>>();
+    sent::<Share<OtherEntries<N>>>();
+    shared::<Stack<N>>();
     let progress = Progress::new();
     let (worked, given) = join(
         rt,

@@ -12,6 +12,7 @@ mod giving;
 mod joining;
 mod progress;
 mod running;
+mod sharing;
 mod watch;
 mod working;
 
