@@ -1,0 +1,81 @@
+//! Filters with their certificates.
+
+use flt_stack::{LoadFault, Loaded, load};
+use flt_syntax::{Tree, parse};
+use std::alloc::Global;
+use std::test::Fail;
+
+/// A filter's text, and its least certificate.
+#[derive(Clone, Copy)]
+pub(crate) struct Filter {
+    text: &'static str,
+    certificate: &'static str,
+}
+
+/// Of one callback, which returns a status.
+const ONE_STATUS: &str = "fltcert 1\ncallback 0 2\n0 111111111 11112 3 1 -\n1 !\nend\n";
+
+/// Of a callback that returns a status, and one on the way back, which releases what it is handed.
+const WITH_POST: &str =
+    "fltcert 1\ncallback 0 2\n0 111111111 11112 3 1 -\n1 !\ncallback 1 4\n0 111111113 11112 3 3 -\n1 111111112 11112 3 3 -\n2 111111115 11112 3 3 -\n3 !\nend\n";
+
+/// Passes reads on, and looks at them on their way back.
+pub(crate) const HIGH: Filter = Filter {
+    text: "filter high altitude 200\npre read {\nreturn WITH_CALLBACK\n}\npost read {\nif arg != NULL {\nFltReleaseContext arg\n}\nreturn FINISHED_PROCESSING\n}\n",
+    certificate: WITH_POST,
+};
+
+/// The same below it.
+pub(crate) const LOW: Filter = Filter {
+    text: "filter low altitude 100\npre read {\nreturn WITH_CALLBACK\n}\npost read {\nif arg != NULL {\nFltReleaseContext arg\n}\nreturn FINISHED_PROCESSING\n}\n",
+    certificate: WITH_POST,
+};
+
+/// Denies reads.
+pub(crate) const DENIES: Filter = Filter {
+    text: "filter low altitude 100\npre read {\nreturn COMPLETE STATUS_ACCESS_DENIED\n}\n",
+    certificate: ONE_STATUS,
+};
+
+/// Passes reads on.
+pub(crate) const PASSES: Filter = Filter {
+    text: "filter a altitude 100\npre read {\nreturn NO_CALLBACK\n}\n",
+    certificate: ONE_STATUS,
+};
+
+/// Keeps reads in its queue until they are cancelled.
+pub(crate) const PENDS: Filter = Filter {
+    text: "filter q altitude 100\nqueue\npre read {\nif irp data {\nif FltCbdqInsertIo data {\nreturn PENDING\n}\n}\nreturn NO_CALLBACK\n}\ncanceled {\nif arg != NULL {\nFltReleaseContext arg\n}\nFltCompletePendedPreOperation data COMPLETE STATUS_CANCELLED\n}\n",
+    certificate: "fltcert 1\ncallback 0 5\n0 111111111 11112 3 1 -\n1 111111111 11112 1 1 -\n2 111111111 11114 1 1 -\n3 111111111 11112 3 1 -\n4 !\ncallback 1 4\n0 111111113 11112 1 1 -\n1 111111112 11112 1 1 -\n2 111111115 11112 1 1 -\n3 111111115 11114 1 1 -\nend\n",
+};
+
+/// Keeps a context for each stream.
+pub(crate) const STREAMS: Filter = Filter {
+    text: "filter a altitude 100\npre read {\nif FltGetStreamContext c0 {\n} else {\nif FltAllocateContext c0 {\nif FltSetStreamContext KEEP_IF_EXISTS c0 old c1 {\n}\nif c1 != NULL {\nFltReleaseContext c1\n}\n}\n}\nif c0 != NULL {\nFltReleaseContext c0\n}\nreturn NO_CALLBACK\n}\n",
+    certificate: "fltcert 1\ncallback 0 9\n0 111111111 11112 3 1 -\n1 111111111 11112 3 1 -\n2 211111111 11112 3 1 -\n3 231111111 11112 3 1 -\n4 221111111 11112 3 1 -\n5 351111111 11112 3 1 -\n6 251111111 11112 3 1 -\n7 551111111 11112 3 1 -\n8 !\nend\n",
+};
+
+/// Allocates twice.
+pub(crate) const ALLOCATES_TWICE: Filter = Filter {
+    text: "filter a altitude 100\npre read {\nif FltAllocateContext c0 {\nFltReleaseContext c0\n}\nif FltAllocateContext c0 {\n}\nif c0 != NULL {\nFltReleaseContext c0\n}\nreturn NO_CALLBACK\n}\n",
+    certificate: "fltcert 1\ncallback 0 7\n0 111111111 11112 3 1 -\n1 211111111 11112 3 1 -\n2 511111111 11112 3 1 -\n3 311111111 11112 3 1 -\n4 211111111 11112 3 1 -\n5 511111111 11112 3 1 -\n6 !\nend\n",
+};
+
+/// Loads filters, each by its certificate.
+pub(crate) fn loaded(alloc: Global, filters: &[Filter]) -> Result<Loaded, LoadFault> {
+    let mut files = Vec::with_capacity(alloc, filters.len())?;
+    for filter in filters {
+        files.push((filter.text.as_bytes(), filter.certificate.as_bytes()))?;
+    }
+    load(alloc, files.as_slice())
+}
+
+/// The trees of filters.
+pub(crate) fn trees(alloc: Global, filters: &[Filter]) -> Result<Vec<Tree>, Fail> {
+    let mut trees = Vec::with_capacity(alloc, filters.len())?;
+    for filter in filters {
+        let tree = parse(alloc, filter.text.as_bytes())?;
+        trees.push(tree)?;
+    }
+    Ok(trees)
+}

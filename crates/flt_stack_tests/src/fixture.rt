@@ -1,0 +1,253 @@
+//! A stack with one caller and one worker, which takes steps.
+ghost use Rattle.std.specs.Prelude.{◌≡◌};
+ghost use Rattle.flt_workers.specs.Places.{IsCallerOf, IsWorkerOf};
+
+use flt_model::Journal;
+use flt_rules::{Mode, Operation};
+use flt_running::{
+    ArriveFault, CallerSeat, DetachFault, Differ, Gate, Stack, StackName, TurnFault, WorkerSeat,
+};
+use flt_stack::Loaded;
+use std::alloc::{AllocError, Global};
+use std::marker::Brand;
+use std::sync::Wait;
+use std::sync::ledger::Blank;
+
+/// What the caller asks for, or that the worker works.
+#[derive(Clone, Copy)]
+pub(crate) enum Step {
+    /// A read of file 0 arrives.
+    Arrive,
+    Cancel(u16),
+    Detach(u32),
+    Refuse(u64),
+    Work,
+}
+
+/// What a step answers.
+#[derive(Clone, Copy, PartialEq)]
+pub(crate) enum Answer {
+    Serial(u32),
+    Done,
+    /// So many entries were added.
+    Added(u64),
+    NoSuch,
+    Already,
+    Full,
+    /// Memory was refused twice.
+    Refused,
+}
+
+/// A journal, and whether the callers' receipts are those that it has.
+#[derive(Drop)]
+pub(crate) struct Ended {
+    pub(crate) journal: Journal,
+    pub(crate) agrees: bool,
+}
+
+/// What steps come to.
+#[derive(Drop)]
+pub(crate) struct Told {
+    pub(crate) answers: Vec<Answer>,
+    pub(crate) ended: Ended,
+}
+
+/// Lets every worker pass.
+#[derive(Drop)]
+struct Open;
+
+impl Gate for Open {
+    fn before(&mut self, _worker: usize, _n: u64) {}
+}
+
+/// A stack with one caller and one worker, and room for their seats.
+struct Fixture<N: StackName> {
+    stack: Stack<N>,
+    caller: CallerSeat<N>,
+    worker: WorkerSeat<N>,
+    callers: Vec<CallerSeat<N>>,
+    workers: Vec<WorkerSeat<N>>,
+    ghost of_caller: { IsCallerOf stack.exchange caller.place },
+    ghost of_worker: { IsWorkerOf stack.exchange worker.place },
+}
+
+/// What an arrival answers, where memory isn't refused.
+fn arrived(answer: Result<u32, ArriveFault>) -> Result<Answer, AllocError> {
+    match answer {
+        Ok(serial) => Ok(Answer::Serial(serial)),
+        Err(ArriveFault::Full) => Ok(Answer::Full),
+        Err(ArriveFault::OutOfMemory) => Err(AllocError),
+    }
+}
+
+/// What a detach answers, where memory isn't refused.
+fn detached(answer: Result<(), DetachFault>) -> Result<Answer, AllocError> {
+    match answer {
+        Ok(()) => Ok(Answer::Done),
+        Err(DetachFault::NoSuch) => Ok(Answer::NoSuch),
+        Err(DetachFault::Already) => Ok(Answer::Already),
+        Err(DetachFault::Full) => Ok(Answer::Full),
+        Err(DetachFault::OutOfMemory) => Err(AllocError),
+    }
+}
+
+/// What work answers, where memory isn't refused.
+fn worked(answer: Result<u64, TurnFault>) -> Result<Answer, AllocError> {
+    match answer {
+        Ok(made) => Ok(Answer::Added(made)),
+        Err(TurnFault::Full) => Ok(Answer::Full),
+        Err(TurnFault::OutOfMemory) => Err(AllocError),
+    }
+}
+
+impl<N: StackName> Fixture<N> {
+    fn open(alloc: Global, loaded: Loaded, blanks: (Blank, Blank)) -> Result<Fixture<N>, AllocError>
+        requires filters { loaded ≡ N.trees }
+        requires callers { (blanks.0.name ≡ N.callers_name) × (blanks.0.parts ≡ N.callers_parts) × (N.callers_parts ≡ 1) }
+        requires others { (blanks.1.name ≡ N.others_name) × (blanks.1.parts ≡ N.others_parts) × (N.others_parts ≡ 1) }
+    {
+        let (stack, mut callers, mut workers) = Stack::<N>::open(alloc, loaded, blanks, 1, 1)?;
+        let (Some(caller), Some(worker)) = (callers.pop(), workers.pop()) else {
+            unreachable!()
+        };
+        Ok(Fixture::of(stack, caller, worker, callers, workers))
+    }
+
+    /// A stack with these seats.
+    fn of(
+        stack: Stack<N>,
+        caller: CallerSeat<N>,
+        worker: WorkerSeat<N>,
+        callers: Vec<CallerSeat<N>>,
+        workers: Vec<WorkerSeat<N>>,
+    ) -> Fixture<N>
+        requires caller { IsCallerOf stack.exchange caller.place }
+        requires worker { IsWorkerOf stack.exchange worker.place }
+    {
+        Fixture {
+            stack,
+            caller,
+            worker,
+            callers,
+            workers,
+        }
+    }
+
+    /// Takes a step.
+    fn step<R: Wait>(&mut self, rt: &R, alloc: Global, step: Step) -> Result<Answer, AllocError> {
+        match step {
+            Step::Arrive => self.arrive(rt, alloc),
+            Step::Cancel(serial) => Ok(self.cancel(serial)),
+            Step::Detach(altitude) => self.detach(rt, alloc, altitude),
+            Step::Refuse(choice) => self.refuse(rt, choice),
+            Step::Work => self.work(rt, alloc),
+        }
+    }
+
+    fn arrive<R: Wait>(&mut self, rt: &R, alloc: Global) -> Result<Answer, AllocError> {
+        let seat = &mut self.caller;
+        arrived(
+            self.stack
+                .arrive(rt, alloc, seat, Operation::Read, Mode::Irp, 0),
+        )
+    }
+
+    fn detach<R: Wait>(
+        &mut self,
+        rt: &R,
+        alloc: Global,
+        altitude: u32,
+    ) -> Result<Answer, AllocError> {
+        detached(self.stack.detach(rt, alloc, &mut self.caller, altitude))
+    }
+
+    fn cancel(&mut self, serial: u16) -> Answer {
+        self.stack.cancel(&mut self.caller, serial as u32);
+        Answer::Done
+    }
+
+    fn refuse<R: Wait>(&self, rt: &R, choice: u64) -> Result<Answer, AllocError> {
+        self.stack.refuse(rt, choice)?;
+        Ok(Answer::Done)
+    }
+
+    fn work<R: Wait>(&mut self, rt: &R, alloc: Global) -> Result<Answer, AllocError> {
+        worked(self.stack.work(rt, alloc, &mut self.worker, &mut Open))
+    }
+
+    /// Takes a step, and once more where memory was refused.
+    fn step_or_again<R: Wait>(&mut self, rt: &R, alloc: Global, step: Step) -> Answer {
+        if let Ok(answer) = self.step(rt, alloc, step) {
+            return answer;
+        }
+        match self.step(rt, alloc, step) {
+            Ok(answer) => answer,
+            Err(_) => Answer::Refused,
+        }
+    }
+
+    /// The seats go back where they came from, for which no memory is needed.
+    fn end(self) -> Ended {
+        let Fixture {
+            stack,
+            caller,
+            worker,
+            mut callers,
+            mut workers,
+        } = self;
+        let _ = callers.push(caller);
+        let _ = workers.push(worker);
+        finished(stack, callers, workers)
+    }
+}
+
+/// Ends a stack.
+pub(crate) fn finished<N: StackName>(
+    stack: Stack<N>,
+    callers: Vec<CallerSeat<N>>,
+    workers: Vec<WorkerSeat<N>>,
+) -> Ended {
+    match stack.finish(callers, workers) {
+        Ok(journal) => Ended {
+            journal,
+            agrees: true,
+        },
+        Err(Differ(journal)) => Ended {
+            journal,
+            agrees: false,
+        },
+    }
+}
+
+/// What steps come to on a stack of these filters.
+fn taken<N: StackName, R: Wait>(
+    rt: &R,
+    alloc: Global,
+    loaded: Loaded,
+    blanks: (Blank, Blank),
+    steps: &[Step],
+) -> Result<Told, AllocError>
+    requires filters { loaded ≡ N.trees }
+    requires callers { (blanks.0.name ≡ N.callers_name) × (blanks.0.parts ≡ N.callers_parts) × (N.callers_parts ≡ 1) }
+    requires others { (blanks.1.name ≡ N.others_name) × (blanks.1.parts ≡ N.others_parts) × (N.others_parts ≡ 1) }
+{
+    let mut answers = Vec::with_capacity(alloc, steps.len())?;
+    let mut fixture = Fixture::<N>::open(alloc, loaded, blanks)?;
+    for step in steps {
+        let _ = answers.push(fixture.step_or_again(rt, alloc, *step));
+    }
+    Ok(Told {
+        answers,
+        ended: fixture.end(),
+    })
+}
+
+/// What steps come to on a stack of these filters, by one caller and one worker. A step that is refused memory is taken once more.
+pub(crate) fn take_steps<R: Wait>(
+    rt: &R,
+    alloc: Global,
+    loaded: Loaded,
+    steps: &[Step],
+) -> Result<Told, AllocError> {
+    taken::<Brand, R>(rt, alloc, loaded, (Blank::new(1), Blank::new(1)), steps)
+}
