@@ -1,7 +1,7 @@
 //! The commands, over inputs and writers.
 
 ghost use Rattle.std.specs.Io.KnownBytes.{Appends};
-ghost use Rattle.std.specs.Prelude.{◌≡◌, ◌≢◌, ◌⊎◌, ℕ, List, OnOk, IfOk, IfErr, map, string_bytes};
+ghost use Rattle.std.specs.Prelude.{◌≡◌, ◌≢◌, ◌⊎◌, ℕ, List, OnErr, OnOk, IfOk, IfErr, map, string_bytes};
 ghost use Rattle.flt_commands.specs.Answer.{ending_of, output, remark, status_of};
 ghost use Rattle.flt_commands.specs.Clean.{YesIsClean};
 ghost use Rattle.flt_commands.specs.Commands as spec;
