@@ -151,7 +151,7 @@ fn take_part<N: StackName, R: Wait>(
     course: &Course,
     mut seat: CallerSeat<N>,
 ) -> CallerSeat<N>
-    requires { IsCallerOf stack.now.exchange seat.place }
+    requires { IsCallerOf stack.now.exchange seat.place × IsFreshCaller seat.place }
 {
     let place = course.came.fetch_add(1, Ordering::SeqCst);
     call(rt, alloc, stack, &mut seat, course.plan, (place % 8) as u32);
@@ -168,7 +168,7 @@ fn work_on<N: StackName, R: Wait>(
     course: &Course,
     mut seat: WorkerSeat<N>,
 ) -> WorkerSeat<N>
-    requires { IsWorkerOf stack.now.exchange seat.place }
+    requires { IsWorkerOf stack.now.exchange seat.place × IsFreshWorker seat.place }
 {
     let mut side = Side {
         course,

@@ -110,13 +110,27 @@ impl<N: StackName> Fixture<N> {
         let (Some(caller), Some(worker)) = (callers.pop(), workers.pop()) else {
             unreachable!()
         };
-        Ok(Fixture {
+        Ok(Fixture::of(stack, caller, worker, callers, workers))
+    }
+
+    /// A stack with these seats.
+    fn of(
+        stack: Stack<N>,
+        caller: CallerSeat<N>,
+        worker: WorkerSeat<N>,
+        callers: Vec<CallerSeat<N>>,
+        workers: Vec<WorkerSeat<N>>,
+    ) -> Fixture<N>
+        requires caller { IsCallerOf stack.exchange caller.place }
+        requires worker { IsWorkerOf stack.exchange worker.place }
+    {
+        Fixture {
             stack,
             caller,
             worker,
             callers,
             workers,
-        })
+        }
     }
 
     /// Takes a step.
