@@ -8,6 +8,7 @@
 mod asking;
 mod ending;
 mod opening;
+mod pace;
 mod requests;
 mod seats;
 mod stack;
