@@ -78,10 +78,10 @@ impl<N: StackName> Stack<N> {
     {
         let (callers_book, mut callers_share) = blanks.0.open::<CallerEntries<N>>();
         let (others_book, mut others_share) = blanks.1.open::<OtherEntries<N>>();
-        let core = Core::<N>::new(alloc, loaded.machine(), callers_book, others_book)?;
         let (exchange, caller_places, worker_places) = Exchange::open(alloc, callers, workers)?;
         let caller_seats = caller_seats(alloc, caller_places, &mut callers_share)?;
         let worker_seats = worker_seats(alloc, worker_places, &mut others_share)?;
+        let core = Core::<N>::new(alloc, loaded.machine(), callers_book, others_book)?;
         let spare = Spare {
             callers: callers_share,
             others: others_share,
