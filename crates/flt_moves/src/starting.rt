@@ -37,10 +37,9 @@ pub(crate) fn start_activation<'a>(
         visit,
         context,
     } = start;
+    let activation = Activation::starting(alloc, body, visit, context)?;
     world.actors.push(actor)?;
-    world
-        .activations
-        .push(Activation::starting(alloc, body, visit, context))?;
+    world.activations.push(activation)?;
     if let Some(visit) = visit {
         events.push(Event::Gain(number, Object::Visit(visit)))?;
     }
