@@ -12,7 +12,7 @@ use crate::board::Core;
 use crate::names::{OtherEntries, StackName};
 use flt_machine::{Advanced, ApplyFault, Commit, Loaded, OutOfMemory};
 use flt_model::{Move, Subject};
-use flt_run::one::{asked_by, stays_after};
+use flt_run::one::{asked_by, is_teardown, stays_after};
 use flt_run::{Choices, TurnFault};
 use std::alloc::Global;
 use std::sync::ledger::Share;
@@ -88,16 +88,17 @@ impl<N: StackName> Locked<N> {
         ensures full { result ≡ Err fault.Full → length self.old.core.entries ≡ 1000000 }
         ensures refused { OnErr result ((self.new.core ≡ self.old.core) × (mine.new.amount ≡ mine.old.amount)) }
     {
+        let teardown = is_teardown(self.core.board(), loaded, ticket);
         let Some(step) = asked_by(self.core.board(), loaded, ticket) else {
-            return Ok(unmade(alloc, stays_after(ticket, None)));
+            return Ok(unmade(alloc, teardown));
         };
         match self.core.apply(alloc, loaded, mine, step) {
             Ok(events) => Ok(Turned {
                 next: events.next,
-                stays: stays_after(ticket, Some(step)),
+                stays: stays_after(teardown, step),
                 made: true,
             }),
-            Err(ApplyFault::NotEnabled) => Ok(unmade(alloc, stays_after(ticket, None))),
+            Err(ApplyFault::NotEnabled) => Ok(unmade(alloc, teardown)),
             Err(ApplyFault::Full) => Err(TurnFault::Full),
             Err(ApplyFault::OutOfMemory) => Err(TurnFault::OutOfMemory),
         }

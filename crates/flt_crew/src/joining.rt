@@ -7,14 +7,15 @@ ghost use Rattle.flt_workers.specs.Places.{IsCallerOf, IsWorkerOf};
 use crate::followed::{Followed, is_full_by};
 use crate::giving::give;
 use crate::progress::Progress;
-use crate::sharing::{loaded_is_shared, sent, shared};
 use crate::watch::Watch;
 use crate::working::{Worked, work_in};
 use flt_core::{CallerEntries, Locked, OtherEntries};
+use flt_running::sharing::{loaded_is_shared, sent, shared};
 use flt_running::{CallerSeat, Stack, StackName, TurnFault, WorkerSeat};
 use flt_script::Script;
 use flt_workers::Exchange;
 use std::alloc::{AllocError, Global};
+use std::sync::atomic::AtomicBool;
 use std::sync::ledger::Share;
 use std::sync::{Mutex, Wait};
 use std::thread;
@@ -89,6 +90,7 @@ fn work_all<N: StackName + Send + Sync, R: Threads + Wait + Sync>(
 {
     loaded_is_shared();
     shared::<Exchange>();
+    shared::<AtomicBool>();
     shared::<Mutex<Locked<N>>>();
     sent::<Share<CallerEntries<N>>>();
     sent::<Share<OtherEntries<N>>>();
@@ -155,6 +157,7 @@ pub(crate) fn follow<N: StackName + Send + Sync, R: Threads + Wait + Sync, W: Wa
 {
     loaded_is_shared();
     shared::<Exchange>();
+    shared::<AtomicBool>();
     shared::<Mutex<Locked<N>>>();
     sent::<Share<CallerEntries<N>>>();
     sent::<Share<OtherEntries<N>>>();

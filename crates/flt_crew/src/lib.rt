@@ -12,7 +12,6 @@ mod giving;
 mod joining;
 mod progress;
 mod running;
-mod sharing;
 mod watch;
 mod working;
 

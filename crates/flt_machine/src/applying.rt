@@ -11,7 +11,9 @@ ghost use Rattle.flt_machine.specs.Situations.{IsBoard, IsOwn, Now};
 ghost use Rattle.flt_machine.specs.Tickets as tickets;
 ghost use Rattle.flt_machine.specs.declared.fault.ApplyFault.TheVariants as fault;
 ghost use Rattle.flt_model.specs.Moves.{make};
+ghost use Rattle.flt_model.specs.Program.{filter_of};
 ghost use Rattle.flt_model.specs.Steps.{Make};
+ghost use Rattle.flt_model.specs.World.{is_detaching, presence_at};
 ghost use Rattle.flt_model.specs.declared.moves.JournalEntry.TheVariants as journal_entry;
 ghost use Rattle.flt_model.specs.declared.subject.Subject.TheVariants as subject;
 ghost use Rattle.flt_store.specs.Changes.{after_change, IsPossible};
@@ -124,6 +126,14 @@ impl Board {
     {
         let active = self.has_active(loaded.number(altitude));
         flt_dispatch::next_of_teardown(loaded, &self.store, altitude, active)
+    }
+
+    /// Whether the filter at an altitude is being detached: its teardown has begun and not ended. It isn't where there is none.
+    pub fn is_detaching(&self, loaded: &Loaded, altitude: u32) -> bool
+        requires own { IsOwn loaded.now self.now }
+        ensures { Now loaded.now self.now (λ p m. result ≡ is_detaching (presence_at m.world.store (filter_of p altitude))) }
+    {
+        self.store.is_detaching(loaded.number(altitude))
     }
 
     /// Whether an activation of the filter goes on whose teardown a move ends.

@@ -9,8 +9,9 @@ use Rattle.flt_frame.specs.declared.loaded.Loaded.{Loaded}
 use Rattle.flt_machine.specs.Calls.{Commits, IsAdvanced, IsBlocked, IsDisabled, Makes, instruction_for, leaves_choice_at}
 use Rattle.flt_machine.specs.Situations.{Situation, IsBoard, Now, frame_of, standing_of}
 use Rattle.flt_machine.specs.Tickets.{after_go, after_move}
+use Rattle.flt_model.specs.Program.{filter_of}
 use Rattle.flt_model.specs.Steps.{Make}
-use Rattle.flt_model.specs.World.{World}
+use Rattle.flt_model.specs.World.{World, is_detaching, presence_at}
 use Rattle.flt_model.specs.declared.event.Event.{Event}
 use Rattle.flt_model.specs.declared.moves.JournalEntry.{JournalEntry}
 use Rattle.flt_model.specs.declared.moves.JournalEntry.TheVariants as journal_entry
@@ -74,20 +75,26 @@ abbrev pub named_by : Loaded → Situation → Situation → Option Move → Lis
 named_by l b later None = []
 named_by l b later (Some move) = after_move l.altitudes b.store later.store (length b.standings) (length later.standings)
 
--- a teardown's subject stays until the move that ends it; any other goes
-abbrev pub stays_after : Subject → Option Move → Bool
-stays_after (subject.Detach altitude) (Some (Detached other)) = false
-stays_after (subject.Detach altitude) made = true
-stays_after _ made = false
+-- whether a subject is a teardown that goes on: its filter is being detached
+abbrev pub is_teardown : List Filter → World → Subject → Bool
+is_teardown p w (subject.Detach altitude) = is_detaching (presence_at w.store (filter_of p altitude))
+is_teardown p w _ = false
+
+-- a teardown that goes on stays until the move that ends it; any other subject goes
+abbrev pub stays_after : Bool → Option Move → Bool
+stays_after teardown (Some (Detached altitude)) = false
+stays_after teardown made = teardown
 
 -- a subject's move was made, where it has one that is enabled
 pub record HasMoved (l : Loaded) (b later : Situation) (s : Subject) (stays : Bool) (named : List Subject) : Type 0 where
   pub asked : Option Move
   pub made : Option Move
+  pub teardown : Bool
   pub asks : Now l b (λ p m. AsksFor p m.world s asked)
   pub is : IsMadeOf l b asked made
   pub makes : HasMade l b later made
-  pub kept : stays ≡ stays_after s made
+  pub goes_on : Now l b (λ p m. teardown ≡ is_teardown p m.world s)
+  pub kept : stays ≡ stays_after teardown made
   pub names : named ≡ named_by l b later made
 
 -- ---- steps of activations

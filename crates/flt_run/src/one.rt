@@ -1,7 +1,7 @@
 //! One turn at a time, on a board of one thread.
 
 ghost use Rattle.std.specs.VecDeque.{deque_len, deque_capacity};
-ghost use Rattle.std.specs.Prelude.{◌≡◌, ◌↔◌, ◌≤◌, ◌+◌, ◌++◌, ◌∷◌, [], false, true, List, length, take, drop, Ok, Err, IfSome, IfOk, OnErr, if◌then◌else◌};
+ghost use Rattle.std.specs.Prelude.{◌≡◌, ◌↔◌, ◌≤◌, ◌+◌, ◌++◌, ◌∷◌, [], false, true, List, length, take, drop, Ok, Err, Some, IfSome, IfOk, OnErr, if◌then◌else◌};
 ghost use Rattle.flt_machine.specs.Situations.{IsOwn, Now};
 ghost use Rattle.flt_run.specs.Turns as spec;
 ghost use Rattle.flt_run.specs.declared.fault.TurnFault.TheVariants as fault;
@@ -53,15 +53,22 @@ pub fn asked_by(board: &Board, loaded: &Loaded, subject: Subject) -> Option<Move
     }
 }
 
-/// Whether a subject goes to the end of the list after its turn, in which this move was made, or none.
-pub fn stays_after(subject: Subject, made: Option<Move>) -> bool
-    ensures { result ≡ spec.stays_after subject made }
+/// Whether a subject is a teardown that goes on: its filter is being detached.
+pub fn is_teardown(board: &Board, loaded: &Loaded, subject: Subject) -> bool
+    requires own { IsOwn loaded.now board.now }
+    ensures { Now loaded.now board.now (λ p m. result ≡ spec.is_teardown p m.world subject) }
 {
-    match (subject, made) {
-        (Subject::Detach(_), Some(Move::Detached { .. })) => false,
-        (Subject::Detach(_), _) => true,
+    match subject {
+        Subject::Detach(altitude) => board.is_detaching(loaded, altitude),
         _ => false,
     }
+}
+
+/// Whether a subject goes to the end of the list after this move. `teardown` says whether it is a teardown that goes on.
+pub fn stays_after(teardown: bool, made: Move) -> bool
+    ensures { result ≡ spec.stays_after teardown (Some made) }
+{
+    teardown && !matches!(made, Move::Detached { .. })
 }
 
 /// Makes a subject's move, where it has one that is enabled.
@@ -78,15 +85,16 @@ fn move_on(
     ensures full { result ≡ Err fault.Full → length board.old.entries ≡ 1000000 }
     ensures refused { OnErr result (board.new ≡ board.old) }
 {
+    let teardown = is_teardown(board, loaded, subject);
     let Some(step) = asked_by(board, loaded, subject) else {
-        return Ok(Turned::alone(alloc, stays_after(subject, None)));
+        return Ok(Turned::alone(alloc, teardown));
     };
     match board.apply(alloc, loaded, step) {
         Ok(events) => Ok(Turned {
             next: events.next,
-            stays: stays_after(subject, Some(step)),
+            stays: stays_after(teardown, step),
         }),
-        Err(ApplyFault::NotEnabled) => Ok(Turned::alone(alloc, stays_after(subject, None))),
+        Err(ApplyFault::NotEnabled) => Ok(Turned::alone(alloc, teardown)),
         Err(ApplyFault::Full) => Err(TurnFault::Full),
         Err(ApplyFault::OutOfMemory) => Err(TurnFault::OutOfMemory),
     }
@@ -183,7 +191,7 @@ fn put_behind(subjects: &mut VecDeque<Subject>, first: Subject, turned: Turned)
 
 /// The first subject of a list has its turn. An operation, a work item or an entry makes its move, where it has one that is enabled; an
 /// activation makes its local steps and the step after them. Then the subject goes. It comes to the end of the list instead where it is
-/// an activation that is blocked, or a teardown; a teardown goes once it has ended its filter. What the move or the step gives a ticket
+/// an activation that is blocked, or a teardown that has begun; a teardown goes once it has ended its filter. What the move or the step gives a ticket
 /// comes to the end first, the first four of it: an operation, an activation, a work item and an entry; no contract says that there are
 /// no more. It answers false where there is no subject. What is loaded must be the board's own.
 pub fn turn(

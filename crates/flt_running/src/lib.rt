@@ -8,8 +8,10 @@
 mod asking;
 mod ending;
 mod opening;
+mod pace;
 mod requests;
 mod seats;
+pub mod sharing;
 mod stack;
 mod waiting;
 mod working;

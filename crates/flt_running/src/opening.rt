@@ -2,6 +2,7 @@
 ghost use Rattle.std.specs.Prelude.{◌≡◌, [], All, IfOk, OnOk, length, map};
 
 use crate::OutOfMemory;
+use crate::pace::Pace;
 use crate::requests::Requests;
 use crate::seats::{CallerSeat, WorkerSeat};
 use crate::waiting::Waiting;
@@ -44,13 +45,12 @@ pub(crate) fn worker_seats<N: StackName>(
 {
     let mut seats = Vec::with_capacity(alloc, places.len())?;
     'seats: for place in places {
-        let number = seats.len();
+        let pace = Pace::new(seats.len());
         let share = all.split_off(1, 0);
         seats.push(WorkerSeat {
-            number,
             place,
             share,
-            changes: 0,
+            pace,
             waiting: Waiting::new(alloc),
             requests: Requests::none(),
         })?;

@@ -1,6 +1,7 @@
 //! The seats of callers and of workers.
 ghost use Rattle.std.specs.Prelude.{◌<◌};
 
+use crate::pace::Pace;
 use crate::requests::Requests;
 use crate::waiting::Waiting;
 use flt_core::{OtherEntries, Receipt, Receipts, StackName};
@@ -29,12 +30,9 @@ impl<N: StackName> HoldsReceipts for CallerSeat<N> {
 /// may go to another thread.
 #[derive(Drop)]
 pub struct WorkerSeat<N: StackName> {
-    /// Workers are numbered from 0.
-    pub(crate) number: usize,
     pub(crate) place: WorkerPlace,
     pub(crate) share: Share<OtherEntries<N>>,
-    /// How many changes were announced to a gate.
-    pub(crate) changes: u64,
+    pub(crate) pace: Pace,
     pub(crate) waiting: Waiting,
     pub(crate) requests: Requests,
     pub(crate) ghost backed: { 0 < share.parts },

@@ -24,6 +24,7 @@ use flt_rules::{Mode, Operation};
 use flt_stack::Loaded;
 use flt_workers::Exchange;
 use std::alloc::Global;
+use std::sync::atomic::{AtomicBool, Ordering};
 use std::sync::ledger::{Blank, Share};
 use std::sync::{Mutex, Wait};
 
@@ -43,6 +44,8 @@ pub(crate) struct Spare<N: StackName> {
 pub struct Stack<N: StackName> {
     pub(crate) loaded: Loaded,
     pub(crate) exchange: Exchange,
+    /// Whether something was asked to be cancelled since a worker last began to collect. Each request sets it once it is made.
+    pub(crate) asked: AtomicBool,
     pub(crate) locked: Mutex<Locked<N>>,
     /// Nobody takes this lock. It stands here so that threads may share the stack.
     pub(crate) spare: Mutex<Spare<N>>,
@@ -78,10 +81,10 @@ impl<N: StackName> Stack<N> {
     {
         let (callers_book, mut callers_share) = blanks.0.open::<CallerEntries<N>>();
         let (others_book, mut others_share) = blanks.1.open::<OtherEntries<N>>();
-        let core = Core::<N>::new(alloc, loaded.machine(), callers_book, others_book)?;
         let (exchange, caller_places, worker_places) = Exchange::open(alloc, callers, workers)?;
         let caller_seats = caller_seats(alloc, caller_places, &mut callers_share)?;
         let worker_seats = worker_seats(alloc, worker_places, &mut others_share)?;
+        let core = Core::<N>::new(alloc, loaded.machine(), callers_book, others_book)?;
         let spare = Spare {
             callers: callers_share,
             others: others_share,
@@ -89,6 +92,7 @@ impl<N: StackName> Stack<N> {
         let stack = Stack {
             loaded,
             exchange,
+            asked: AtomicBool::new(false),
             locked: Mutex::new(Locked::new(alloc, core)),
             spare: Mutex::new(spare),
         };
@@ -152,8 +156,7 @@ impl<N: StackName> Stack<N> {
     /// # Errors
     ///
     /// The first of these: no filter has the altitude; its teardown has begun before; there are 1,000,000 entries; a growth was refused.
-    /// Where one was refused after tickets had been put, these stay, and no move comes of them. A worker drops those of entries. That of
-    /// the teardown goes to the back each time, so that `work` ends after 1,000,000 tickets from then on.
+    /// Where one was refused after tickets had been put, these stay until a worker takes them, and no move comes of them.
     pub fn detach<R: Wait>(
         &self,
         rt: &R,
@@ -197,7 +200,8 @@ impl<N: StackName> Stack<N> {
         ensures tickets { put_by seat.new.place ≡ put_by seat.old.place }
         ensures receipts { seat.new.receipts ≡ seat.old.receipts }
     {
-        self.exchange.ask(&mut seat.place, serial)
+        self.exchange.ask(&mut seat.place, serial);
+        self.asked.store(true, Ordering::SeqCst);
     }
 
     /// From now on the system's choice of this number, counted from 0, is answered no, if it is still to come.
@@ -250,6 +254,7 @@ impl<N: StackName> Stack<N> {
         let Stack {
             loaded,
             exchange: _,
+            asked: _,
             locked,
             spare,
         } = self;

@@ -1,10 +1,11 @@
 //! What a worker still has to push.
-ghost use Rattle.std.specs.Prelude.{◌≡◌, ◌++◌, ◌∷◌, [], OnOk};
+ghost use Rattle.std.specs.Prelude.{◌≡◌, ◌++◌, ◌∷◌, [], IfOk, OnOk};
 ghost use Rattle.flt_running.specs.Waiting as spec;
 ghost use Rattle.flt_running.specs.Waiting.{put_own};
 ghost use Rattle.flt_workers.specs.Places.{other_deques, own_deque};
 
 use crate::OutOfMemory;
+use flt_core::Turned;
 use flt_workers::{Ticket, WorkerPlace};
 use std::alloc::{AllocError, Global};
 
@@ -49,6 +50,30 @@ impl Waiting {
         ensures { spec.tickets self.new ≡ ticket ∷ [] }
     {
         self.own = Some(ticket);
+    }
+
+    /// Pushes what a turn gave a ticket, and the turn's own ticket, where it stays. It answers whether the turn made an entry.
+    pub(crate) fn settle(
+        &mut self,
+        place: &mut WorkerPlace,
+        turned: Turned,
+        own: Option<Ticket>,
+    ) -> Result<bool, OutOfMemory>
+        requires { spec.tickets self.old ≡ [] }
+        ensures made { IfOk result (λ made. made ≡ turned.made) }
+        ensures pushed { put_own place.new ++ spec.tickets self.new ≡ put_own place.old ++ (turned.next.items ++ spec.listed own) }
+        ensures all { OnOk result (spec.tickets self.new ≡ []) }
+        ensures pass { place.new.tickets.pass ≡ place.old.tickets.pass }
+        ensures requests { place.new.requests ≡ place.old.requests }
+    {
+        let Turned {
+            next,
+            stays: _,
+            made,
+        } = turned;
+        *self = Waiting::of(next, own);
+        self.push_all(place)?;
+        Ok(made)
     }
 
     /// Pushes what waits, in its order, until one is refused.

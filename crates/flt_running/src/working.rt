@@ -1,22 +1,22 @@
 //! What a worker does: it takes a ticket and makes its move, over and over.
-ghost use Rattle.std.specs.Prelude.{◌≡◌, ◌+◌, ◌<◌, ◌≤◌, ◌++◌, [], IfOk, IfSome, None, OnErr, OnOk};
+ghost use Rattle.std.specs.Prelude.{◌≡◌, ◌+◌, ◌<◌, ◌≤◌, [], IfOk, IfSome, None, OnErr, OnOk};
 ghost use Rattle.flt_core.specs.Turning.{grows};
 ghost use Rattle.flt_running.specs.Waiting as waiting;
-ghost use Rattle.flt_running.specs.Waiting.{put_own};
 ghost use Rattle.flt_workers.specs.Places.{IsWorkerOf};
 
-use crate::OutOfMemory;
+use crate::pace::Pace;
 use crate::requests::Requests;
 use crate::seats::WorkerSeat;
 use crate::stack::Stack;
-use crate::waiting::Waiting;
-use flt_core::{StackName, Turned};
+use flt_core::{OtherEntries, StackName, Turned};
 use flt_machine::{Frame, advance};
 use flt_pool::Gate;
 use flt_run::TurnFault;
 use flt_workers::Ticket;
 use std::alloc::Global;
 use std::sync::Wait;
+use std::sync::atomic::Ordering;
+use std::sync::ledger::Share;
 
 /// How many words of requests there are.
 const WORDS: usize = 1024;
@@ -35,40 +35,6 @@ struct Looked {
     made: u64,
     /// How many tickets were taken, one at most.
     taken: u32,
-}
-
-impl<N: StackName> WorkerSeat<N> {
-    /// A change is about to be made: the gate is called before it.
-    fn pass<G: Gate>(&mut self, gate: &mut G)
-        ensures place { self.new.place ≡ self.old.place }
-        ensures share { self.new.share ≡ self.old.share }
-        ensures waiting { self.new.waiting ≡ self.old.waiting }
-        ensures requests { self.new.requests ≡ self.old.requests }
-    {
-        gate.before(self.number, self.changes);
-        self.changes = self.changes.saturating_add(1);
-    }
-
-    /// Pushes what a turn gave a ticket, and the turn's own ticket, where it stays.
-    fn settle(&mut self, turned: Turned, own: Option<Ticket>) -> Result<bool, OutOfMemory>
-        requires { waiting.tickets self.old.waiting ≡ [] }
-        ensures made { IfOk result (λ made. made ≡ turned.made) }
-        ensures pushed { put_own self.new.place ++ waiting.tickets self.new.waiting
-            ≡ put_own self.old.place ++ (turned.next.items ++ waiting.listed own) }
-        ensures all { OnOk result (waiting.tickets self.new.waiting ≡ []) }
-        ensures share { self.new.share ≡ self.old.share }
-        ensures pass { self.new.place.tickets.pass ≡ self.old.place.tickets.pass }
-        ensures requests { self.new.place.requests ≡ self.old.place.requests }
-    {
-        let Turned {
-            next,
-            stays: _,
-            made,
-        } = turned;
-        self.waiting = Waiting::of(next, own);
-        self.waiting.push_all(&mut self.place)?;
-        Ok(made)
-    }
 }
 
 impl<N: StackName> Stack<N> {
@@ -160,10 +126,10 @@ impl<N: StackName> Stack<N> {
         ensures grown { seat.old.share.amount ≤ seat.new.share.amount }
         ensures parts { seat.new.share.parts ≡ seat.old.share.parts }
     {
-        match self.turn(rt, alloc, seat, gate, ticket) {
+        match self.turn(rt, alloc, &mut seat.pace, &mut seat.share, gate, ticket) {
             Ok(turned) => {
                 let own = if turned.stays { Some(ticket) } else { None };
-                Ok(seat.settle(turned, own)?)
+                Ok(seat.waiting.settle(&mut seat.place, turned, own)?)
             }
             Err(fault) => {
                 seat.waiting.keep(ticket);
@@ -177,19 +143,19 @@ impl<N: StackName> Stack<N> {
         &self,
         rt: &R,
         alloc: Global,
-        seat: &mut WorkerSeat<N>,
+        pace: &mut Pace,
+        mine: &mut Share<OtherEntries<N>>,
         gate: &mut G,
         ticket: Ticket,
     ) -> Result<Turned, TurnFault>
-        ensures share { IfOk result (λ t. seat.new.share.amount ≡ seat.old.share.amount + grows t.made) }
-        ensures refused { OnErr result (seat.new.share.amount ≡ seat.old.share.amount) }
-        ensures parts { seat.new.share.parts ≡ seat.old.share.parts }
-        ensures place { seat.new.place ≡ seat.old.place }
-        ensures waiting { seat.new.waiting ≡ seat.old.waiting }
+        requires part { 0 < mine.old.parts }
+        ensures share { IfOk result (λ t. mine.new.amount ≡ mine.old.amount + grows t.made) }
+        ensures refused { OnErr result (mine.new.amount ≡ mine.old.amount) }
+        ensures parts { mine.new.parts ≡ mine.old.parts }
     {
         match ticket {
-            Ticket::Activation(activation) => self.go_on(rt, alloc, seat, gate, activation),
-            _ => self.move_on(rt, alloc, seat, gate, ticket),
+            Ticket::Activation(activation) => self.go_on(rt, alloc, pace, mine, gate, activation),
+            _ => self.move_on(rt, alloc, pace, mine, gate, ticket),
         }
     }
 
@@ -198,21 +164,19 @@ impl<N: StackName> Stack<N> {
         &self,
         rt: &R,
         alloc: Global,
-        seat: &mut WorkerSeat<N>,
+        pace: &mut Pace,
+        mine: &mut Share<OtherEntries<N>>,
         gate: &mut G,
         ticket: Ticket,
     ) -> Result<Turned, TurnFault>
-        ensures share { IfOk result (λ t. seat.new.share.amount ≡ seat.old.share.amount + grows t.made) }
-        ensures refused { OnErr result (seat.new.share.amount ≡ seat.old.share.amount) }
-        ensures parts { seat.new.share.parts ≡ seat.old.share.parts }
-        ensures place { seat.new.place ≡ seat.old.place }
-        ensures waiting { seat.new.waiting ≡ seat.old.waiting }
+        requires part { 0 < mine.old.parts }
+        ensures share { IfOk result (λ t. mine.new.amount ≡ mine.old.amount + grows t.made) }
+        ensures refused { OnErr result (mine.new.amount ≡ mine.old.amount) }
+        ensures parts { mine.new.parts ≡ mine.old.parts }
     {
         let machine = self.machine();
-        seat.pass(gate);
-        self.locked
-            .lock(rt)
-            .move_on(alloc, machine, &mut seat.share, ticket)
+        pace.pass(gate);
+        self.locked.lock(rt).move_on(alloc, machine, mine, ticket)
     }
 
     /// Makes an activation's steps. It is taken from the board in one hold of the lock, and comes back in another; between them it makes
@@ -221,15 +185,15 @@ impl<N: StackName> Stack<N> {
         &self,
         rt: &R,
         alloc: Global,
-        seat: &mut WorkerSeat<N>,
+        pace: &mut Pace,
+        mine: &mut Share<OtherEntries<N>>,
         gate: &mut G,
         activation: u32,
     ) -> Result<Turned, TurnFault>
-        ensures share { IfOk result (λ t. seat.new.share.amount ≡ seat.old.share.amount + grows t.made) }
-        ensures refused { OnErr result (seat.new.share.amount ≡ seat.old.share.amount) }
-        ensures parts { seat.new.share.parts ≡ seat.old.share.parts }
-        ensures place { seat.new.place ≡ seat.old.place }
-        ensures waiting { seat.new.waiting ≡ seat.old.waiting }
+        requires part { 0 < mine.old.parts }
+        ensures share { IfOk result (λ t. mine.new.amount ≡ mine.old.amount + grows t.made) }
+        ensures refused { OnErr result (mine.new.amount ≡ mine.old.amount) }
+        ensures parts { mine.new.parts ≡ mine.old.parts }
     {
         let machine = self.machine();
         let Some(frame) = self.checkout(rt, activation) else {
@@ -240,10 +204,8 @@ impl<N: StackName> Stack<N> {
             });
         };
         let advanced = advance(machine, frame);
-        seat.pass(gate);
-        self.locked
-            .lock(rt)
-            .go_on(alloc, machine, &mut seat.share, &advanced)
+        pace.pass(gate);
+        self.locked.lock(rt).go_on(alloc, machine, mine, &advanced)
     }
 
     /// An activation as it stands on the board; none where it has ended.
@@ -254,7 +216,7 @@ impl<N: StackName> Stack<N> {
     // ---- requests
 
     /// Cancels what was asked to be cancelled, in the order of the serial numbers, where it can be. It answers how many entries were made.
-    /// Only the worker of number 0 does so.
+    /// Only the worker of number 0 does so, and it looks at the words only where something was asked for since it last began to.
     fn collect<R: Wait, G: Gate>(
         &self,
         rt: &R,
@@ -271,10 +233,41 @@ impl<N: StackName> Stack<N> {
         ensures grown { seat.old.share.amount ≤ seat.new.share.amount }
         ensures parts { seat.new.share.parts ≡ seat.old.share.parts }
     {
-        if seat.number != 0 {
+        if !seat.pace.collects() {
             return Ok(0);
         }
-        let mut made = self.cancel_all(rt, alloc, seat, gate)?;
+        let made = self.cancel_all(rt, alloc, seat, gate)?;
+        if !self.asked.swap(false, Ordering::SeqCst) {
+            return Ok(made);
+        }
+        match self.sweep(rt, alloc, seat, gate) {
+            Ok(more) => Ok(made + more),
+            Err(fault) => {
+                // Words are left that weren't looked at.
+                self.asked.store(true, Ordering::SeqCst);
+                Err(fault)
+            }
+        }
+    }
+
+    /// Collects all words in their order, and cancels what each asks for, where it can be. It answers how many entries were made.
+    fn sweep<R: Wait, G: Gate>(
+        &self,
+        rt: &R,
+        alloc: Global,
+        seat: &mut WorkerSeat<N>,
+        gate: &mut G,
+    ) -> Result<u64, TurnFault>
+        requires seat { IsWorkerOf self.now.exchange seat.old.place }
+        requires waiting { waiting.tickets seat.old.waiting ≡ [] }
+        ensures seat { IsWorkerOf self.now.exchange seat.new.place }
+        ensures waiting { OnOk result (waiting.tickets seat.new.waiting ≡ []) }
+        ensures share { IfOk result (λ made. seat.new.share.amount ≡ seat.old.share.amount + made) }
+        ensures few { IfOk result (λ made. made ≤ 65536) }
+        ensures grown { seat.old.share.amount ≤ seat.new.share.amount }
+        ensures parts { seat.new.share.parts ≡ seat.old.share.parts }
+    {
+        let mut made: u64 = 0;
         for word in 0..WORDS {
             let bits = self.exchange.collect(&mut seat.place, word);
             seat.requests = Requests { word, bits };
@@ -330,14 +323,29 @@ impl<N: StackName> Stack<N> {
         ensures grown { seat.old.share.amount ≤ seat.new.share.amount }
         ensures parts { seat.new.share.parts ≡ seat.old.share.parts }
     {
-        let machine = self.machine();
         let serial = seat.requests.serial(bit);
-        seat.pass(gate);
-        let turned = self
-            .locked
-            .lock(rt)
-            .cancel(alloc, machine, &mut seat.share, serial)?;
+        let turned = self.try_cancel(rt, alloc, &mut seat.pace, &mut seat.share, gate, serial)?;
         seat.requests.remove(bit);
-        Ok(seat.settle(turned, None)?)
+        Ok(seat.waiting.settle(&mut seat.place, turned, None)?)
+    }
+
+    /// Cancels an operation, where it can be.
+    fn try_cancel<R: Wait, G: Gate>(
+        &self,
+        rt: &R,
+        alloc: Global,
+        pace: &mut Pace,
+        mine: &mut Share<OtherEntries<N>>,
+        gate: &mut G,
+        serial: u32,
+    ) -> Result<Turned, TurnFault>
+        requires part { 0 < mine.old.parts }
+        ensures share { IfOk result (λ t. mine.new.amount ≡ mine.old.amount + grows t.made) }
+        ensures refused { OnErr result (mine.new.amount ≡ mine.old.amount) }
+        ensures parts { mine.new.parts ≡ mine.old.parts }
+    {
+        let machine = self.machine();
+        pace.pass(gate);
+        self.locked.lock(rt).cancel(alloc, machine, mine, serial)
     }
 }

@@ -1,7 +1,7 @@
 //! What is looked at of journals.
 
 use crate::filters::{Filter, trees};
-use flt_model::{Journal, Verdict, read};
+use flt_model::{Journal, JournalEntry, Move, Verdict, read};
 use flt_replay::replay;
 use std::alloc::Global;
 use std::test::Fail;
@@ -19,4 +19,39 @@ pub(crate) fn is_legal(alloc: Global, filters: &[Filter], journal: &Journal) -> 
     let trees = trees(alloc, filters)?;
     let verdict = replay(alloc, trees.as_slice(), journal)?;
     Ok(matches!(verdict, Verdict::Legal))
+}
+
+/// How many entries of some kinds a journal has.
+#[derive(Clone, Copy)]
+pub(crate) struct Tally {
+    pub(crate) arrived: u32,
+    pub(crate) lowered: u32,
+    pub(crate) cancelled: u32,
+    /// Whether each serial number that was cancelled is odd.
+    pub(crate) all_odd: bool,
+}
+
+pub(crate) fn tally_of(journal: &Journal) -> Tally {
+    let mut tally = Tally {
+        arrived: 0,
+        lowered: 0,
+        cancelled: 0,
+        all_odd: true,
+    };
+    for entry in journal.entries() {
+        count(&mut tally, *entry);
+    }
+    tally
+}
+
+fn count(tally: &mut Tally, entry: JournalEntry) {
+    match entry {
+        JournalEntry::Move(Move::Arrive { .. }) => tally.arrived = tally.arrived.wrapping_add(1),
+        JournalEntry::Move(Move::Lower { .. }) => tally.lowered = tally.lowered.wrapping_add(1),
+        JournalEntry::Move(Move::Cancel { serial }) => {
+            tally.cancelled = tally.cancelled.wrapping_add(1);
+            tally.all_odd = tally.all_odd && serial % 2 == 1;
+        }
+        _ => {}
+    }
 }

@@ -1,6 +1,8 @@
-//! Tests of the running stack: what scripts come to by one worker.
+//! Tests of the running stack: what scripts come to by one worker, and stacks that several threads share.
 #![tactic(auto)]
 
+#[cfg(test)]
+mod crowds;
 #[cfg(test)]
 mod filters;
 #[cfg(test)]

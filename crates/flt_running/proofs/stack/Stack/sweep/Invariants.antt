@@ -1,13 +1,13 @@
 use Rattle.std.proofs.Common.{◌≡◌, ◌+◌, ◌*◌, ◌≤◌, []}
 use Rattle.flt_running.specs.Waiting.{tickets}
 use Rattle.flt_workers.specs.Places.{IsWorkerOf}
-use Rattle.flt_running.proofs.stack.Stack.collect.Given as goal
+use Rattle.flt_running.proofs.stack.Stack.sweep.Given as goal
 
 abbrev pub invariant-loop-word : goal.invariant-loop-word
 invariant-loop-word g l = record {
   seat : IsWorkerOf l.self.exchange l.seat.place;
   waiting : tickets l.seat.waiting ≡ [];
   share : l.seat.share.amount ≡ l.fn.seat.share.amount + l.made;
-  few : l.made ≤ 64 * l.word + 64;
+  few : l.made ≤ 64 * l.word;
   parts : l.seat.share.parts ≡ l.fn.seat.share.parts;
 }

@@ -1,4 +1,4 @@
-//! That threads may share a stack. These functions do nothing: their clauses are what the bounds say.
+//! That threads may share what a stack has. These functions do nothing: their clauses are what the bounds say.
 
 ghost use denote.Param.Send.{IsSend, IsSync};
 ghost use Rattle.flt_stack.specs.contracts.loaded.Loaded as loaded;
@@ -8,17 +8,17 @@ use flt_tree::Tree;
 use sqlite_items::Items;
 
 /// Threads may share values of the type.
-pub(crate) fn shared<T: Sync>()
+pub fn shared<T: Sync>()
     ensures { IsSync T.row }
 {}
 
 /// A value of the type may go to another thread.
-pub(crate) fn sent<T: Send>()
+pub fn sent<T: Send>()
     ensures { IsSend T.row }
 {}
 
 /// Threads may share what is loaded.
-pub(crate) fn loaded_is_shared()
+pub fn loaded_is_shared()
     ensures { IsSync loaded.the_row }
 {
     shared::<Items<Tree>>();
