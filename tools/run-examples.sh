@@ -141,7 +141,7 @@ sweep() {
     done
     for file in "$@"; do
         altitude=$(sed -n 's/^filter .* altitude \([0-9]*\).*/\1/p' "$file")
-        for workers in 2 4 16; do
+        for workers in 2 4 8 16; do
             script_with 5 'cancel 2' 'refuse 3' "detach $altitude" 'cancel 6' >"$work/script"
             drives "cancels and detach $altitude in the midst" "$workers" "$@"
         done
@@ -245,7 +245,7 @@ for ((number = 0; number + 1 < ${#accepted[@]}; number += 2)); do
     sweep "${accepted[number]}" "${accepted[number + 1]}"
 done
 
-for workers in 1 2 4 16; do
+for workers in 1 2 4 8 16; do
     all_lowered "$workers" 200 stream_context.flt
 done
 
