@@ -9,7 +9,7 @@ use flt_model::{Event, Object};
 use flt_records::{Activation, Actor, Frame, Position, Visit};
 use flt_rules::{Operation, Place, Stage};
 use flt_tree::Statement;
-use flt_world::{Stack, World};
+use flt_world::{Stack, World, push_event};
 use std::alloc::{AllocError, Global};
 
 /// Whose callback starts, what it runs, and what it is given.
@@ -37,15 +37,14 @@ pub(crate) fn start_activation<'a>(
         visit,
         context,
     } = start;
+    let activation = Activation::starting(alloc, body, visit, context)?;
     world.actors.push(actor)?;
-    world
-        .activations
-        .push(Activation::starting(alloc, body, visit, context))?;
+    world.activations.push(activation)?;
     if let Some(visit) = visit {
-        events.push(Event::Gain(number, Object::Visit(visit)))?;
+        push_event(events, Event::Gain(number, Object::Visit(visit)))?;
     }
     if let Some(context) = context {
-        events.push(Event::Gain(number, Object::Context(context)))?;
+        push_event(events, Event::Gain(number, Object::Context(context)))?;
     }
     Ok(())
 }

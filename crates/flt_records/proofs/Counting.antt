@@ -1,5 +1,5 @@
 -- What counts by number say where one is counted once more or once less.
-use Rattle.std.proofs.Common.{◌≡◌, ◌≢◌, ⊎_elim, subst, ℕ, ◌+◌, ◌-◌, ◌<◌, ◌≤◌, List, ◌++◌, replicate, take, length, get_or, set, sym, arith}
+use Rattle.std.proofs.Common.{◌≡◌, ◌≢◌, ⊎_elim, subst, ap, ◌∙◌, ℕ, zero, suc, ◌+◌, ◌-◌, ◌<◌, ◌≤◌, List, [], ◌∷◌, ◌++◌, replicate, take, length, get_or, set, refl, sym, arith}
 use Rattle.std.proofs.lemmas.Bool.{cases_eq}
 use Rattle.std.proofs.lemmas.Bool.Decides.{nat_tests}
 use Rattle.std.proofs.lemmas.List.{get_or-set_other, get_or-set_same, get_or_past}
@@ -21,6 +21,10 @@ one_elsewhere : (k n : ℕ) → n ≢ k → one_if k n ≡ 0
 unfolding one_if
 one_elsewhere k n ne = grind (arith, nat_tests)
 
+one_after : (k m n : ℕ) → m ≡ k + 1 → one_if k n ≡ one_if m (suc n)
+unfolding one_if
+one_after k m n e = grind (arith, nat_tests, e)
+
 -- a number is counted once more
 pub once_more : (old grown : List ℕ) (k t : ℕ) → k < length grown → ((n : ℕ) → count grown n ≡ count old n) → t ≡ count old k + 1 →
     (n : ℕ) → count (set grown k t) n ≡ count old n + one_if k n
@@ -36,6 +40,25 @@ once_more old grown k t l same is n =
     let was = same n in
     omega arith)
     (cases_eq n k)
+
+-- the same where room was there
+pub raised : (old : List ℕ) (k t : ℕ) → k < length old → t ≡ get_or old k 0 + 1 → (n : ℕ) → count (set old k t) n ≡ count old n + one_if k n
+unfolding count
+raised old k t l is n = once_more old old k t l (λ m. refl) is n
+
+counted_next : (old : List ℕ) (n : ℕ) → count (old ++ 1 ∷ []) n ≡ count old n + one_if (length old) n
+unfolding count
+counted_next [] zero = let here : 1 ≡ 0 + one_if 0 0 = omega (arith, one_here 0) in here
+counted_next [] (suc n) = let none : 0 ≡ 0 + one_if 0 (suc n) = omega (arith, one_elsewhere 0 (suc n) (λ e. omega (arith, e))) in none
+counted_next (x ∷ xs) zero =
+    let none = one_elsewhere (length (x ∷ xs)) 0 (λ e. omega (arith, e)) in
+    let same : x ≡ x + one_if (length (x ∷ xs)) 0 = omega (arith, none) in same
+counted_next (x ∷ xs) (suc n) =
+    counted_next xs n ∙ ap (λ k. get_or xs n 0 + k) (one_after (length xs) (length (x ∷ xs)) n (omega arith))
+
+-- the next number is counted the first time
+pub first_time : (old new : List ℕ) (k : ℕ) → k ≡ length old → new ≡ old ++ 1 ∷ [] → (n : ℕ) → count new n ≡ count old n + one_if k n
+first_time old new k here is n = rw (here, is) (counted_next old n)
 
 -- a number that counts is counted once less
 pub once_less : (old : List ℕ) (k t : ℕ) → k < length old → t ≡ get_or old k 0 - 1 → 0 < count old k →
@@ -56,6 +79,11 @@ once_less old k t l is some n =
 pub past_the_end : (times : List ℕ) (k : ℕ) → length times ≤ k → count times k ≡ 0
 unfolding count
 past_the_end times k l = get_or_past times k 0 l
+
+-- so it counts 1 where it is counted and there is room
+pub first_past : (old grown : List ℕ) (k : ℕ) → length old ≤ k → k < length grown → ((n : ℕ) → count grown n ≡ count old n) →
+    (n : ℕ) → count (set grown k 1) n ≡ count old n + one_if k n
+first_past old grown k past l same n = once_more old grown k 1 l same (omega (arith, past_the_end old k past)) n
 
 -- as often as before, where one was counted and taken back
 pub back : (cs ds es : List ℕ) (u : ℕ) → ((v : ℕ) → count ds v ≡ count cs v + one_if u v) →

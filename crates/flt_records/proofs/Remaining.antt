@@ -27,23 +27,30 @@ no_part : (l : List Part) → length l < 1 → l ≡ []
 no_part [] h = refl
 no_part (x ∷ l) h = absurd (omega arith)
 
--- ---- the last part is taken out, where nothing is left of the block
+-- ---- the last part is taken out, where nothing is left of the blocks
 
-module _ (here now : List Statement) (old new : List Part) (small : length here < 1) (is : remaining here old ≡ now) where
+module _ (here outer now : List Statement) (old new : List Part) (small : length here < 1) (none : length outer < 1)
+    (is : remaining here outer old ≡ now) where
+  behind : before [] old ≡ now
+  behind = ap (λ (l : List Statement). l ++ before [] old) (sym (nothing outer none))
+      ∙ ap (λ (l : List Statement). l ++ (outer ++ before [] old)) (sym (nothing here small)) ∙ is
+
   pub taken_out : (p : Part) → old ≡ new ++ p ∷ [] → now ≡ statements_of p ++ before [] new
-  taken_out p e =
-      sym is ∙ rw (e, before_push [] new p) (ap (λ (l : List Statement). l ++ (statements_of p ++ before [] new)) (nothing here small))
+  taken_out p e = sym behind ∙ ap (before []) e ∙ before_push [] new p
 
-  pub goes_on_with : (p : Part) → old ≡ new ++ p ∷ [] → statements_of p ++ before [] new ≡ now
-  goes_on_with p e = sym (taken_out p e)
+  pub goes_on_with : (p : Part) → old ≡ new ++ p ∷ [] → remaining (statements_of p) outer new ≡ now
+  goes_on_with p e =
+      ap (λ (l : List Statement). statements_of p ++ (l ++ before [] new)) (nothing outer none) ∙ sym (taken_out p e)
 
-  pub turn_out : (p : Part) → old ≡ new ++ p ∷ [] → now ≡ statements_of p ++ (here ++ before [] new)
-  turn_out p e = taken_out p e ∙ ap (λ (l : List Statement). statements_of p ++ (l ++ before [] new)) (sym (nothing here small))
+  pub turn_out : (p : Part) → old ≡ new ++ p ∷ [] → now ≡ statements_of p ++ remaining here outer new
+  turn_out p e =
+      taken_out p e ∙ ap (λ (l : List Statement). statements_of p ++ (l ++ before [] new)) (sym (nothing outer none))
+      ∙ ap (λ (l : List Statement). statements_of p ++ (l ++ (outer ++ before [] new))) (sym (nothing here small))
 
-  pub none_left : length old < 1 → length new < 1 → (now ≡ []) × (here ++ before [] new ≡ [])
+  pub none_left : length old < 1 → length new < 1 → (now ≡ []) × (remaining here outer new ≡ [])
   unfolding before
   none_left o n =
-      (sym is ∙ rw (nothing here small, no_part old o) refl, rw (nothing here small, no_part new n) refl)
+      (sym behind ∙ ap (before []) (no_part old o), rw (nothing here small, nothing outer none, no_part new n) refl)
 
 -- ---- the first statement, which stays
 

@@ -6,5 +6,6 @@ pub mod Places
 pub mod Rest
 pub mod Tickets
 pub mod Unsettled
+pub mod Variables
 pub mod Waiting
 pub mod Writes

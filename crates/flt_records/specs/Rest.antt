@@ -20,9 +20,9 @@ unfoldable pub before : List Statement → List Part → List Statement
 before others [] = others
 before others (p ∷ parts) = before (statements_of p ++ others) parts
 
--- what is left of a block, and then what the parts say
-abbrev pub remaining : List Statement → List Part → List Statement
-remaining block parts = block ++ before [] parts
+-- what is left of a block and of the block round it, and then what the parts say
+abbrev pub remaining : List Statement → List Statement → List Part → List Statement
+remaining block outer parts = block ++ (outer ++ before [] parts)
 
 -- the statements after the first one
 abbrev pub others : List Statement → List Statement

@@ -5,7 +5,9 @@ ghost use Rattle.flt_model.specs.Variables as spec;
 ghost use Rattle.flt_records.specs.Rest.{others};
 ghost use Rattle.flt_records.specs.Writes.{written};
 
+use crate::numbers::Numbers;
 use crate::rest::Rest;
+use crate::slot::Slot;
 use flt_rules::{HeldLock, LockNumber};
 use flt_tree::{
     Atom, ContextVariable, Expression, NumberVariable, OperationVariable, RemovedVariable,
@@ -19,9 +21,9 @@ use std::marker::Model;
 #[derive(Drop)]
 pub struct Activation<'a> {
     pub rest: Rest<'a>,
-    numbers: [u64; 8],
-    contexts: [Option<usize>; 9],
-    operations: [Option<usize>; 5],
+    numbers: Numbers,
+    contexts: [Slot; 9],
+    operations: [Slot; 5],
     pub locks: Items<HeldLock>,
     pub ended: bool,
 }
@@ -61,73 +63,106 @@ pub enum Write {
 }
 
 impl<'a> Activation<'a> {
-    /// At entry all is 0 or NULL but the given operation and the given context.
+    /// At entry all is 0 or NULL but the given operation and the given context. It fails where a number is 2^32 - 1 or greater.
     pub fn starting(
         alloc: Global,
         body: &'a [Statement],
         given: Option<usize>,
         arg: Option<usize>,
-    ) -> Activation<'a>
-        ensures { result ≡ spec.starting body.now given arg }
+    ) -> Result<Activation<'a>, AllocError>
+        ensures { IfOk result (λ act. act ≡ spec.starting body.now given arg) }
     {
-        Activation {
+        Ok(Activation {
             rest: Rest::new(alloc, body),
-            numbers: [0; 8],
-            contexts: [None, None, None, None, None, None, None, None, arg],
-            operations: [None, None, None, None, given],
+            numbers: Numbers::new(alloc),
+            contexts: [
+                Slot::null(),
+                Slot::null(),
+                Slot::null(),
+                Slot::null(),
+                Slot::null(),
+                Slot::null(),
+                Slot::null(),
+                Slot::null(),
+                Slot::naming(arg)?,
+            ],
+            operations: [
+                Slot::null(),
+                Slot::null(),
+                Slot::null(),
+                Slot::null(),
+                Slot::naming(given)?,
+            ],
             locks: Items::new(alloc),
             ended: false,
-        }
+        })
     }
 
     /// The value of a number variable.
     pub fn number(&self, variable: NumberVariable) -> u64
         ensures { result ≡ spec.number_in self.now variable }
     {
-        self.numbers[variable.place()]
+        self.numbers.get(variable.place())
     }
 
     /// The number of the context that a variable names; none where it is NULL.
     pub fn context(&self, variable: ContextVariable) -> Option<usize>
         ensures { result ≡ spec.context_in self.now variable }
     {
-        self.contexts[variable.place()]
+        let contexts = &self.contexts;
+        contexts[variable.place()].get()
     }
 
     /// The number of the visit that a variable names; none where it is NULL.
     pub fn operation(&self, variable: OperationVariable) -> Option<usize>
         ensures { result ≡ spec.operation_in self.now variable }
     {
-        self.operations[variable.place()]
+        let operations = &self.operations;
+        operations[variable.place()].get()
     }
 
     /// Sets a number variable.
-    pub fn set_number(&mut self, variable: NumberVariable, value: u64)
-        ensures { self.new ≡ spec.with_number self.old variable value }
+    pub fn set_number(&mut self, variable: NumberVariable, value: u64) -> Result<(), AllocError>
+        ensures { OnOk result (self.new ≡ spec.with_number self.old variable value) }
     {
-        self.numbers[variable.place()] = value;
+        self.numbers.set(variable.place(), value)
     }
 
-    /// Sets a context variable, or makes it NULL.
-    pub fn set_context(&mut self, variable: ContextVariable, context: Option<usize>)
-        ensures { self.new ≡ spec.with_context_in self.old variable context }
+    /// Sets a context variable, or makes it NULL. It fails where the number is 2^32 - 1 or greater.
+    pub fn set_context(
+        &mut self,
+        variable: ContextVariable,
+        context: Option<usize>,
+    ) -> Result<(), AllocError>
+        ensures { OnOk result (self.new ≡ spec.with_context_in self.old variable context) }
     {
-        self.contexts[variable.place()] = context;
+        let contexts = &mut self.contexts;
+        contexts[variable.place()].set(context)
     }
 
-    /// Sets an operation variable, or makes it NULL.
-    pub fn set_operation(&mut self, variable: OperationVariable, visit: Option<usize>)
-        ensures { self.new ≡ spec.with_operation_in self.old variable visit }
+    /// Sets an operation variable, or makes it NULL. It fails where the number is 2^32 - 1 or greater.
+    pub fn set_operation(
+        &mut self,
+        variable: OperationVariable,
+        visit: Option<usize>,
+    ) -> Result<(), AllocError>
+        ensures { OnOk result (self.new ≡ spec.with_operation_in self.old variable visit) }
     {
-        self.operations[variable.place()] = visit;
+        let operations = &mut self.operations;
+        operations[variable.place()].set(visit)
     }
 
-    /// Sets a variable that a call need not have.
-    pub fn set_old(&mut self, variable: Option<ContextVariable>, context: Option<usize>)
-        ensures { self.new ≡ spec.with_old self.old variable context }
+    /// Sets a variable that a call need not have. It fails where the number is 2^32 - 1 or greater.
+    pub fn set_old(
+        &mut self,
+        variable: Option<ContextVariable>,
+        context: Option<usize>,
+    ) -> Result<(), AllocError>
+        ensures { OnOk result (self.new ≡ spec.with_old self.old variable context) }
     {
-        if let Some(variable) = variable {
-            self.set_context(variable, context);
+        match variable {
+            Some(variable) => self.set_context(variable, context),
+            None => Ok(()),
         }
     }
 
@@ -157,11 +192,11 @@ impl<'a> Activation<'a> {
     {
         match write {
             Write::Nothing => {}
-            Write::Number(variable, value) => self.set_number(variable, value),
-            Write::Output(variable, context) => self.set_old(variable, context),
+            Write::Number(variable, value) => self.set_number(variable, value)?,
+            Write::Output(variable, context) => self.set_old(variable, context)?,
             Write::Entry(removed, variable, visit, context) => {
-                self.set_operation(OperationVariable::Removed(removed), visit);
-                self.set_context(variable, context);
+                self.set_operation(OperationVariable::Removed(removed), visit)?;
+                self.set_context(variable, context)?;
             }
             Write::Lock(held) => self.locks.push(held)?,
             Write::Unlock(lock) => self.remove_lock(lock),

@@ -11,7 +11,7 @@ use std::marker::Model;
 #[derive(Drop)]
 pub struct Counts {
     /// What is past the end counts 0.
-    times: Vec<u64>,
+    times: Vec<u32>,
 }
 
 impl Model for Counts {
@@ -40,7 +40,7 @@ impl Counts {
         ensures { result ≡ spec.count self.now number }
     {
         match self.times.get(number) {
-            Some(times) => *times,
+            Some(times) => u64::from(*times),
             None => 0,
         }
     }
@@ -61,19 +61,36 @@ impl Counts {
         Ok(())
     }
 
-    /// Once more. The count is a number that no journal in memory reaches the end of.
-    #[tactic(auto, using(crate::proofs::Counting::once_more))]
+    /// Counts a number that hasn't been counted.
+    #[tactic(auto, using(crate::proofs::Counting::first_time, crate::proofs::Counting::first_past))]
+    fn begin(&mut self, number: usize) -> Result<(), AllocError>
+        ensures ok { length self.old ≤ number → OnOk result ((n : ℕ) → spec.count self.new n ≡ spec.count self.old n + one_if number n) }
+        ensures err { OnErr result (self.new ≡ self.old) }
+    {
+        if number == self.times.len() {
+            self.times.push(1)?;
+            return Ok(());
+        }
+        self.grow(number)?;
+        if let Some(place) = self.times.get_mut(number) {
+            *place = 1;
+        }
+        Ok(())
+    }
+
+    /// Once more. It fails where a count would pass 2^32.
+    #[tactic(auto, using(crate::proofs::Counting::raised, crate::proofs::Counting::past_the_end))]
     pub fn add(&mut self, number: usize) -> Result<(), AllocError>
         ensures ok { OnOk result ((n : ℕ) → spec.count self.new n ≡ spec.count self.old n + one_if number n) }
         ensures err { OnErr result (self.new ≡ self.old) }
     {
-        let Some(times) = self.count(number).checked_add(1) else {
+        let Some(place) = self.times.get_mut(number) else {
+            return self.begin(number);
+        };
+        let Some(times) = place.checked_add(1) else {
             return Err(AllocError);
         };
-        self.grow(number)?;
-        if let Some(place) = self.times.get_mut(number) {
-            *place = times;
-        }
+        *place = times;
         Ok(())
     }
 

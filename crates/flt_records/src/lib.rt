@@ -1,8 +1,8 @@
 //! What the monitor's world is kept in: a struct for each record of the machine, and the lists of them, with indices beside them
 //! that save searches.
 //!
-//! `parts` and `route` are the records, `activation`, `rest` and `lock_list` one run of a callback, and `local` its steps that nobody
-//! else sees. `linked` keeps contexts with their links, `visit_list` visits by operation, `holders` who holds a lock, and
+//! `parts` and `route` are the records, `activation`, `rest` and `lock_list` one run of a callback, `slot` and `numbers` its variables,
+//! and `local` its steps that nobody else sees. `linked` keeps contexts with their links, `visit_list` visits by operation, `holders` who holds a lock, and
 //! `waiting_list` queues and work items;
 //! `place_set` and `counts` are their indices, and `sparse_counts` counts what few count of. Contracts see each list as the machine's
 //! own, and mention no index.
@@ -16,11 +16,13 @@ mod linked;
 mod local;
 mod lock_list;
 mod number_map;
+mod numbers;
 mod parts;
 mod place_set;
 mod queue;
 mod rest;
 mod route;
+mod slot;
 mod sparse_counts;
 mod visit_list;
 mod waiting_list;

@@ -1,6 +1,6 @@
 //! The steps of an activation that nobody else can see.
 
-ghost use Rattle.std.specs.Prelude.{◌≡◌, Some, None, if◌then◌else◌, IfOk};
+ghost use Rattle.std.specs.Prelude.{◌≡◌, Some, None, if◌then◌else◌, IfOk, OnOk};
 ghost use Rattle.flt_model.specs.LocalSteps as spec;
 ghost use Rattle.flt_records.specs.Rest.{statement_of};
 ghost use Rattle.flt_tree.specs.declared.filter.Statement.{out-Statement};
@@ -12,25 +12,27 @@ use std::alloc::AllocError;
 
 impl<'a> Activation<'a> {
     /// Computes a number, or sets a variable to NULL. False where others see the action.
-    fn act(&mut self, action: Action) -> bool
-        ensures after { spec.after_action self.old action ≡ (if result then Some self.new else None) }
-        ensures rest { self.new.rest ≡ self.old.rest }
+    fn act(&mut self, action: Action) -> Result<bool, AllocError>
+        ensures after { IfOk result (λ local. spec.after_action self.old action ≡ (if local then Some self.new else None)) }
+        ensures rest { OnOk result (self.new.rest ≡ self.old.rest) }
     {
         match action {
             Action::SetNumber(variable, expression) => {
                 let value = self.expression(expression);
-                self.set_number(variable, value);
-                true
+                self.set_number(variable, value)?;
+                Ok(true)
             }
             Action::ClearContext(variable) => {
-                self.set_context(variable, None);
-                true
+                self.set_context(variable, None)?;
+                Ok(true)
             }
             Action::ClearOperation(variable) => {
-                self.set_operation(OperationVariable::Removed(variable), None);
-                true
+                self.set_operation(OperationVariable::Removed(variable), None)?;
+                Ok(true)
             }
-            Action::ReadValue(_, _) | Action::ReadFile(_, _) | Action::WriteValue(_, _) => false,
+            Action::ReadValue(_, _) | Action::ReadFile(_, _) | Action::WriteValue(_, _) => {
+                Ok(false)
+            }
         }
     }
 
@@ -68,7 +70,7 @@ impl<'a> Activation<'a> {
             (if local then Some self.new else None)) }
     {
         match statement {
-            Statement::Act(_, action) => Ok(self.act(*action)),
+            Statement::Act(_, action) => self.act(*action),
             Statement::Call(_, _) | Statement::Return(_, _) => Ok(false),
             Statement::If(_, condition, granted, refused) => {
                 match self.condition(draining, condition) {

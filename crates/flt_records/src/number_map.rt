@@ -9,7 +9,7 @@ use std::marker::Model;
 #[derive(Drop)]
 pub(crate) struct NumberMap {
     /// What is past the end has none.
-    targets: Vec<Option<usize>>,
+    targets: Vec<Option<u32>>,
 }
 
 impl Model for NumberMap {
@@ -34,7 +34,8 @@ impl NumberMap {
         ensures { result ≡ get_or self.now number None }
     {
         match self.targets.get(number) {
-            Some(target) => *target,
+            Some(Some(target)) => Some(*target as usize),
+            Some(None) => None,
             None => None,
         }
     }
@@ -55,12 +56,15 @@ impl NumberMap {
         Ok(())
     }
 
-    /// A number has this from now on.
+    /// A number has this from now on. It fails where that is 2^32 or greater.
     #[tactic(auto, using(crate::proofs::NumberMaps::written))]
     pub(crate) fn set(&mut self, number: usize, target: usize) -> Result<(), AllocError>
         ensures ok { OnOk result ((n : ℕ) → get_or self.new n None ≡ (if number == n then Some target else get_or self.old n None)) }
         ensures err { OnErr result (self.new ≡ self.old) }
     {
+        let Ok(target) = u32::try_from(target) else {
+            return Err(AllocError);
+        };
         self.grow(number)?;
         if let Some(place) = self.targets.get_mut(number) {
             *place = Some(target);

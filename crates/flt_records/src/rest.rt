@@ -25,11 +25,13 @@ pub enum Upcoming<'a> {
     Repeat(usize, u64, &'a [Statement]),
 }
 
-/// The statements that remain.
+/// The statements that remain. Most callbacks stand in two blocks at most, and ask for no memory.
 #[derive(Drop)]
 pub struct Rest<'a> {
     block: &'a [Statement],
-    /// The innermost is the last.
+    /// What is left of the block round it. It is empty where there is none, or a `repeat` goes on there.
+    outer: &'a [Statement],
+    /// What is round that one. The innermost is the last.
     after: Vec<Part<'a>>,
 }
 
@@ -46,7 +48,7 @@ impl<'a> Model for Rest<'a> {
 
     ghost use Rattle.flt_records.specs.Rest.{remaining};
 
-    ghost view = { λ r. remaining r.block.now r.after.items };
+    ghost view = { λ r. remaining r.block.now r.outer.now r.after.items };
 }
 
 impl<'a> Rest<'a> {
@@ -56,6 +58,7 @@ impl<'a> Rest<'a> {
     {
         Rest {
             block,
+            outer: &[],
             after: Vec::new(alloc),
         }
     }
@@ -68,6 +71,11 @@ impl<'a> Rest<'a> {
         loop {
             if let [first, others @ ..] = self.block {
                 self.block = others;
+                return Some(Upcoming::Statement(first));
+            }
+            if let [first, left @ ..] = self.outer {
+                self.block = left;
+                self.outer = &[];
                 return Some(Upcoming::Statement(first));
             }
             match self.after.pop() {
@@ -87,6 +95,9 @@ impl<'a> Rest<'a> {
     {
         loop {
             if let [first, ..] = self.block {
+                return Ok(Some(Upcoming::Statement(first)));
+            }
+            if let [first, ..] = self.outer {
                 return Ok(Some(Upcoming::Statement(first)));
             }
             match self.after.pop() {
@@ -116,8 +127,13 @@ impl<'a> Rest<'a> {
             return Ok(());
         }
         let here = self.block;
-        suspend(&mut self.after, here)?;
         self.block = block;
+        if here.is_empty() {
+            return Ok(());
+        }
+        let outer = self.outer;
+        suspend(&mut self.after, outer)?;
+        self.outer = here;
         Ok(())
     }
 
@@ -130,6 +146,9 @@ impl<'a> Rest<'a> {
             return Ok(());
         }
         let here = self.block;
+        let outer = self.outer;
+        suspend(&mut self.after, outer)?;
+        self.outer = &[];
         suspend(&mut self.after, here)?;
         self.after.push(Part::Repeat(line, turns - 1, body))?;
         self.block = body;

@@ -1,6 +1,7 @@
 -- What the running counts of the ledger say of a trace.
 pub mod Blank
 pub mod Concluding
+pub mod Events
 pub mod Following
 pub mod Holders
 pub mod InPlace

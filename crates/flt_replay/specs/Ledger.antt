@@ -7,7 +7,7 @@ use Rattle.flt_model.specs.declared.verdict.Violation.{Violation}
 use Rattle.flt_model.specs.declared.verdict.Violation.TheVariants.{V1, V2, V3}
 use Rattle.flt_model.specs.Runs.{Moment}
 use Rattle.flt_model.specs.Trace.{gains, loses, frees, settles, is_held}
-use Rattle.flt_model.specs.Violations.{in_queue, in_item, no_stale_use, no_leak, settled_once, one_owner}
+use Rattle.flt_model.specs.Violations.{in_queue, in_item, is_fresh, leaks_nothing, is_first_settling, no_stale_use, no_leak, settled_once, one_owner}
 use Rattle.flt_model.specs.World.{World, Store, Activation, is_settled}
 use Rattle.flt_replay.specs.Apart.{is_apart, are_apart, ends_in}
 use Rattle.flt_records.specs.Counts.{count, occurs}
@@ -83,6 +83,14 @@ pub record Noted (t : List Event) (e : Event) (old new : Tally) (was now : List 
   pub same_running : new.running ≡ old.running
   pub listed : Keeps was now
   pub apart : (v : ℕ) → occurs v now ≡ 0 → is_apart v e ≡ true
+
+-- the counts have taken in an event that touches nothing stale, and what was kept before it is kept with it
+pub record Taken (w : World) (t : List Event) (e : Event) (old new : Tally) (was now : List ℕ) (tight once tight_too once_too : Bool) :
+    Type 0 where
+  pub fresh : is_fresh w t e ≡ true
+  pub noted : Noted t e old new was now
+  pub tight_is : tight_too ≡ (tight && leaks_nothing t e)
+  pub once_is : once_too ≡ (once && is_first_settling t e)
 
 -- an activation goes on no more, and the visits that it holds are listed
 pub record Stopped (a : ℕ) (old new : Tally) (was now : List ℕ) : Type 0 where

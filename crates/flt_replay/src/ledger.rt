@@ -1,7 +1,7 @@
 //! What the events so far say, in running counts: who holds what, what is freed and what is settled. So it is told of an event
 //! whether it breaks something without a look at the events before it.
 
-ghost use Rattle.std.specs.Prelude.{◌≡◌, ◌+◌, ℕ, ◌<◌, true, false, List, [], ◌∷◌, ◌++◌, length, nat_lt, ◌&&◌, if◌then◌else◌, Some, None, get_or, set, OnOk, IfOk, ◌↔◌, IsTrue};
+ghost use Rattle.std.specs.Prelude.{◌≡◌, ◌+◌, ℕ, ◌<◌, true, false, List, [], ◌∷◌, ◌++◌, length, nat_lt, ◌&&◌, if◌then◌else◌, Some, None, get_or, set, OnOk, IfOk, IfSome, ◌↔◌, IsTrue};
 ghost use Rattle.std.specs.List.{list_all};
 ghost use Rattle.flt_tree.specs.declared.filter.Filter.{Filter};
 ghost use Rattle.flt_model.specs.Effects.{Step};
@@ -10,7 +10,7 @@ ghost use Rattle.flt_model.specs.Steps.{Transition};
 ghost use Rattle.flt_replay.specs.Judging.{Follows, first_of, of_holding};
 ghost use Rattle.flt_model.specs.Trace.{is_held, one_if, of_actor};
 ghost use Rattle.flt_model.specs.declared.event.Event.{Event};
-ghost use Rattle.flt_model.specs.declared.event.Event.TheVariants.{Gain, Lose, Free, Settle};
+ghost use Rattle.flt_model.specs.declared.event.Event.TheVariants.{Use, Gain, Lose, Free, Settle, End};
 ghost use Rattle.flt_model.specs.declared.verdict.Violation.TheVariants.{V1, V2, V3, V4};
 ghost use Rattle.flt_model.specs.World as machine;
 ghost use Rattle.flt_model.specs.Violations as rules;
@@ -123,39 +123,34 @@ impl Ledger {
         }
     }
 
-    /// Whether an event touches nothing stale.
-    fn is_fresh(&self, world: &World<'_>, event: Event) -> bool
-        ensures { (t : List Event) → spec.Tells t self.now → result ≡ rules.is_fresh world.now t event }
+    /// Whether an activation may use or lose an object: it holds it, and nothing stale is touched.
+    fn may_use(&self, world: &World<'_>, a: usize, object: Object) -> bool
+        ensures used { (t : List Event) → spec.Tells t self.now → result ≡ rules.is_fresh world.now t (Use a object) }
+        ensures lost { (t : List Event) → spec.Tells t self.now → result ≡ rules.is_fresh world.now t (Lose a object) }
     {
-        match event {
-            Event::Use(a, object) | Event::Lose(a, object) => {
-                self.holds(a, object) && self.is_live(object) && is_own(world, a, object)
-            }
-            Event::Gain(a, object) => self.is_live(object) && is_own(world, a, object),
-            Event::Empty(_) => false,
-            _ => true,
-        }
+        self.holds(a, object) && self.is_live(object) && is_own(world, a, object)
     }
 
-    /// Whether no activation ends here that still holds a context.
+    /// Whether an activation may gain an object: nothing stale is touched.
+    fn may_gain(&self, world: &World<'_>, a: usize, object: Object) -> bool
+        ensures { (t : List Event) → spec.Tells t self.now → result ≡ rules.is_fresh world.now t (Gain a object) }
+    {
+        self.is_live(object) && is_own(world, a, object)
+    }
+
+    /// Whether an activation that ends holds no context.
     #[tactic(auto, using(crate::proofs::Counting::Tallies::leaks_nothing_is))]
-    fn leaks_nothing(&self, event: Event) -> bool
-        ensures { (t : List Event) → spec.Tells t self.now → result ≡ rules.leaks_nothing t event }
+    fn leaks_nothing(&self, a: usize) -> bool
+        ensures { (t : List Event) → spec.Tells t self.now → result ≡ rules.leaks_nothing t (End a) }
     {
-        match event {
-            Event::End(a) => self.contexts.is_empty(a),
-            _ => true,
-        }
+        self.contexts.is_empty(a)
     }
 
-    /// Whether no visit is settled again.
-    fn is_first_settling(&self, event: Event) -> bool
-        ensures { (t : List Event) → spec.Tells t self.now → result ≡ rules.is_first_settling t event }
+    /// Whether a visit isn't settled again.
+    fn is_first_settling(&self, visit: usize) -> bool
+        ensures { (t : List Event) → spec.Tells t self.now → result ≡ rules.is_first_settling t (Settle visit) }
     {
-        match event {
-            Event::Settle(visit) => self.settled.count(visit) == 0,
-            _ => true,
-        }
+        self.settled.count(visit) == 0
     }
 
     fn is_running(&self, activation: usize) -> bool
@@ -265,45 +260,75 @@ impl Ledger {
         Ok(())
     }
 
-    /// Takes in an event that touches nothing stale, and lists the visit that it may name.
-    fn note(
-        &mut self,
-        alloc: Global,
-        event: Event,
-        touched: &mut Vec<usize>,
-    ) -> Result<(), AllocError>
-        ensures { OnOk result ((t : List Event) (w : machine.World) → spec.Tells t self.old → spec.IsCounted self.old →
-            rules.is_fresh w t event ≡ true → spec.Noted t event self.old self.new touched.old.items touched.new.items) }
+    /// What is kept where an activation ends.
+    fn kept_by_end(&self, a: usize, before: Kept) -> Kept
+        ensures tight { (t : List Event) → spec.Tells t self.now → result.tight ≡ (before.tight && rules.leaks_nothing t (End a)) }
+        ensures once { result.once ≡ before.once }
     {
-        match event {
-            Event::Gain(a, object) => {
-                self.gain(alloc, a, object, touched)?;
-                Ok(())
-            }
-            Event::Lose(a, object) => {
-                self.lose(a, object, touched)?;
-                Ok(())
-            }
-            Event::Free(context) => {
-                self.free(context)?;
-                Ok(())
-            }
-            Event::Settle(visit) => {
-                self.settle(visit, touched)?;
-                Ok(())
-            }
-            _ => Ok(()),
+        Kept {
+            tight: before.tight && self.leaks_nothing(a),
+            once: before.once,
         }
     }
 
-    /// What an event keeps beside those before it.
-    fn also(&self, event: Event, before: Kept) -> Kept
-        ensures { (t : List Event) → spec.Tells t self.now → (result.tight ≡ (before.tight && rules.leaks_nothing t event))
-            × (result.once ≡ (before.once && rules.is_first_settling t event)) }
+    /// What is kept where a visit is settled.
+    fn kept_by_settling(&self, visit: usize, before: Kept) -> Kept
+        ensures tight { result.tight ≡ before.tight }
+        ensures once { (t : List Event) → spec.Tells t self.now →
+            result.once ≡ (before.once && rules.is_first_settling t (Settle visit)) }
     {
         Kept {
-            tight: before.tight && self.leaks_nothing(event),
-            once: before.once && self.is_first_settling(event),
+            tight: before.tight,
+            once: before.once && self.is_first_settling(visit),
+        }
+    }
+
+    /// Takes in an event, lists the visit that it may name, and says what is kept with it; none where it touches something stale.
+    fn take_event(
+        &mut self,
+        alloc: Global,
+        world: &World<'_>,
+        event: Event,
+        touched: &mut Vec<usize>,
+        before: Kept,
+    ) -> Result<Option<Kept>, AllocError>
+        ensures stale { IfOk result (λ found. found ≡ None → (t : List Event) → spec.Tells t self.old → rules.is_fresh world.now t event ≡ false) }
+        ensures taken { IfOk result (λ found. IfSome found (λ kept. (t : List Event) → spec.Tells t self.old → spec.IsCounted self.old →
+            spec.Taken world.now t event self.old self.new touched.old.items touched.new.items before.tight before.once kept.tight kept.once)) }
+    {
+        match event {
+            Event::Use(a, object) => {
+                if !self.may_use(world, a, object) {
+                    return Ok(None);
+                }
+                Ok(Some(before))
+            }
+            Event::Lose(a, object) => {
+                if !self.may_use(world, a, object) {
+                    return Ok(None);
+                }
+                self.lose(a, object, touched)?;
+                Ok(Some(before))
+            }
+            Event::Gain(a, object) => {
+                if !self.may_gain(world, a, object) {
+                    return Ok(None);
+                }
+                self.gain(alloc, a, object, touched)?;
+                Ok(Some(before))
+            }
+            Event::Empty(_) => Ok(None),
+            Event::Free(context) => {
+                self.free(context)?;
+                Ok(Some(before))
+            }
+            Event::Settle(visit) => {
+                let kept = self.kept_by_settling(visit, before);
+                self.settle(visit, touched)?;
+                Ok(Some(kept))
+            }
+            Event::End(a) => Ok(Some(self.kept_by_end(a, before))),
+            _ => Ok(Some(before)),
         }
     }
 
@@ -327,12 +352,10 @@ impl Ledger {
             once: true,
         };
         for event in events {
-            if !self.is_fresh(world, *event) {
-                return Ok(Some(Violation::V1));
+            match self.take_event(alloc, world, *event, touched, kept)? {
+                Some(next) => kept = next,
+                None => return Ok(Some(Violation::V1)),
             }
-            let next = self.also(*event, kept);
-            self.note(alloc, *event, touched)?;
-            kept = next;
         }
         Ok(kept.broken())
     }

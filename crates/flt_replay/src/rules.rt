@@ -322,8 +322,8 @@ impl Kept {
 }
 
 impl<'b, 'a> Scene<'b, 'a> {
-    /// Which rules an event keeps beside those before it.
-    fn also(&self, event: Event, kept: Kept) -> Kept
+    /// Which rules an event of which one speaks keeps beside those before it.
+    fn also_said(&self, event: Event, kept: Kept) -> Kept
         ensures statuses { (t : List Event) → self.now.held ≡ holds_given t (before self.now) self.now.activation →
             is_by self.now.activation event ≡ true →
             result.statuses ≡ (kept.statuses && spec.is_legal self.now.stack.now (before self.now) t event) }
@@ -339,6 +339,30 @@ impl<'b, 'a> Scene<'b, 'a> {
             levels: kept.levels && self.is_low_enough(event),
             locks: kept.locks && self.is_disciplined(event),
             places: kept.places && self.is_in_place(event),
+        }
+    }
+
+    /// Which rules an event keeps beside those before it. Of most events no rule speaks.
+    #[tactic(auto, using(crate::proofs::Judging::Rules::kept_still))]
+    fn also(&self, event: Event, kept: Kept) -> Kept
+        ensures statuses { (t : List Event) → self.now.held ≡ holds_given t (before self.now) self.now.activation →
+            is_by self.now.activation event ≡ true →
+            result.statuses ≡ (kept.statuses && spec.is_legal self.now.stack.now (before self.now) t event) }
+        ensures levels { (t : List Event) → is_by self.now.activation event ≡ true →
+            result.levels ≡ (kept.levels && spec.is_low_enough self.now.stack.now (before self.now) t event) }
+        ensures locks { (t : List Event) → is_by self.now.activation event ≡ true →
+            result.locks ≡ (kept.locks && spec.is_disciplined self.now.stack.now (before self.now) t event) }
+        ensures places { (t : List Event) → is_by self.now.activation event ≡ true →
+            result.places ≡ (kept.places && spec.is_in_place self.now.stack.now (before self.now) t event) }
+    {
+        match event {
+            Event::Use(_, _)
+            | Event::Empty(_)
+            | Event::Gain(_, _)
+            | Event::Lose(_, _)
+            | Event::Free(_)
+            | Event::Settle(_) => kept,
+            _ => self.also_said(event, kept),
         }
     }
 

@@ -14,7 +14,7 @@ use flt_model::{Event, Key, Object};
 use flt_records::{Link, Write};
 use flt_rules::{Anchor, Call, Existing};
 use flt_tree::{ContextVariable, OperationVariable, Statement};
-use flt_world::World;
+use flt_world::{World, push_event};
 use std::alloc::AllocError;
 
 /// The two blocks of a call that can fail, or of a test.
@@ -98,7 +98,7 @@ fn drop_link(
 {
     match old {
         Some(_) => {
-            events.push(Event::Gain(a, Object::Context(x)))?;
+            push_event(events, Event::Gain(a, Object::Context(x)))?;
             world.clear_link(x);
             Ok(())
         }
@@ -119,11 +119,11 @@ pub(crate) fn allocate<'a>(
     ensures { OnOk result (Happened world.new events.old.items events.new.items
         (calls.allocate world.old a d grant (to.entry.granted.now ++ later world.old a) (to.entry.refused.now ++ later world.old a))) }
 {
-    events.push(Event::Call(a, Call::AllocateContext))?;
+    push_event(events, Event::Call(a, Call::AllocateContext))?;
     if grant {
         let number = world.add_context(world.filter(a))?;
         world.go_on(a, to.granted, Write::Output(Some(d), Some(number)))?;
-        events.push(Event::Gain(a, Object::Context(number)))?;
+        push_event(events, Event::Gain(a, Object::Context(number)))?;
         Ok(())
     } else {
         world.go_on(a, to.refused, Write::Output(Some(d), None))
@@ -147,7 +147,7 @@ fn got<'a>(
         Some(x) => {
             world.go_on(a, to.granted, Write::Output(Some(d), Some(x)))?;
             world.add_reference(x)?;
-            events.push(Event::Gain(a, Object::Context(x)))?;
+            push_event(events, Event::Gain(a, Object::Context(x)))?;
             Ok(())
         }
     }
@@ -185,7 +185,7 @@ pub(crate) fn get<'a>(
     ensures { OnOk result (Happened world.new events.old.items events.new.items
         (calls.get world.old a on d (to.entry.granted.now ++ later world.old a) (to.entry.refused.now ++ later world.old a))) }
 {
-    events.push(Event::Call(a, Call::GetContext(on)))?;
+    push_event(events, Event::Call(a, Call::GetContext(on)))?;
     need_anchor(world, a, on, events)?;
     let link = link_of(world, a, on);
     get_by(world, a, d, to, link, events)
@@ -311,7 +311,10 @@ pub(crate) fn set_context<'a>(
         (to.entry.refused.now ++ later world.old a))) }
 {
     let x = world.context_in(a, set.context);
-    events.push(Event::Call(a, Call::SetContext(set.on, set.existing)))?;
+    push_event(
+        events,
+        Event::Call(a, Call::SetContext(set.on, set.existing)),
+    )?;
     need_to_set(world, a, set.on, x, events)?;
     let link = link_of(world, a, set.on);
     set_by(world, a, set, to, x, link, events)
@@ -370,7 +373,7 @@ pub(crate) fn delete_at<'a>(
     ensures { OnOk result (Happened world.new events.old.items events.new.items
         (calls.delete_at world.old a on old (to.entry.granted.now ++ later world.old a) (to.entry.refused.now ++ later world.old a))) }
 {
-    events.push(Event::Call(a, Call::DeleteContextOf(on)))?;
+    push_event(events, Event::Call(a, Call::DeleteContextOf(on)))?;
     need_anchor(world, a, on, events)?;
     let link = link_of(world, a, on);
     delete_by(world, a, old, to, link, events)
@@ -403,7 +406,7 @@ pub(crate) fn delete(
     ensures { OnOk result (Happened world.new events.old.items events.new.items (calls.delete world.old a c (later world.old a))) }
 {
     let x = world.context_in(a, c);
-    events.push(Event::Call(a, Call::DeleteContext))?;
+    push_event(events, Event::Call(a, Call::DeleteContext))?;
     need(a, &[context(x)], events)?;
     deleted(world, a, x, events)
 }
@@ -440,7 +443,7 @@ pub(crate) fn reference(
     ensures { OnOk result (Happened world.new events.old.items events.new.items (calls.reference world.old a c d (later world.old a))) }
 {
     let x = world.context_in(a, c);
-    events.push(Event::Call(a, Call::ReferenceContext))?;
+    push_event(events, Event::Call(a, Call::ReferenceContext))?;
     need(a, &[context(x)], events)?;
     referenced(world, a, d, x, events)
 }
@@ -455,7 +458,7 @@ fn released(
     ensures { OnOk result (Happened world.new events.old.items events.new.items (calls.released world.old a (later world.old a) x)) }
 {
     if let Some(x) = x {
-        events.push(Event::Lose(a, Object::Context(x)))?;
+        push_event(events, Event::Lose(a, Object::Context(x)))?;
         world.tell_drop(x, events)?;
         world.drop_reference(x);
     }
@@ -471,7 +474,7 @@ pub(crate) fn release(
     ensures { OnOk result (Happened world.new events.old.items events.new.items (calls.release world.old a c (later world.old a))) }
 {
     let x = world.context_in(a, c);
-    events.push(Event::Call(a, Call::ReleaseContext))?;
+    push_event(events, Event::Call(a, Call::ReleaseContext))?;
     need(a, &[context(x)], events)?;
     released(world, a, x, events)
 }

@@ -4,6 +4,7 @@ ghost use Rattle.std.specs.Prelude.{◌≡◌, ◌∷◌, ◌++◌, OnOk};
 ghost use Rattle.flt_model.specs.Effects as spec;
 
 use flt_model::{Event, Object};
+use flt_world::push_event;
 use std::alloc::AllocError;
 
 /// What a context variable names, as an object.
@@ -33,7 +34,7 @@ fn push_uses(a: usize, needs: &[Option<Object>], events: &mut Vec<Event>) -> Res
         [] => Ok(()),
         [None, others @ ..] => push_uses(a, others, events),
         [Some(object), others @ ..] => {
-            events.push(Event::Use(a, *object))?;
+            push_event(events, Event::Use(a, *object))?;
             push_uses(a, others, events)
         }
     }
@@ -49,7 +50,7 @@ fn push_empties(
     match needs {
         [] => Ok(()),
         [None, others @ ..] => {
-            events.push(Event::Empty(a))?;
+            push_event(events, Event::Empty(a))?;
             push_empties(a, others, events)
         }
         [Some(_), others @ ..] => push_empties(a, others, events),
@@ -97,7 +98,7 @@ pub(crate) fn gain_context(
     ensures { OnOk result (events.new.items ≡ events.old.items ++ spec.gains_context a context) }
 {
     if let Some(context) = context {
-        events.push(Event::Gain(a, Object::Context(context)))?;
+        push_event(events, Event::Gain(a, Object::Context(context)))?;
     }
     Ok(())
 }
@@ -111,7 +112,7 @@ pub(crate) fn lose_context(
     ensures { OnOk result (events.new.items ≡ events.old.items ++ spec.loses_context a context) }
 {
     if let Some(context) = context {
-        events.push(Event::Lose(a, Object::Context(context)))?;
+        push_event(events, Event::Lose(a, Object::Context(context)))?;
     }
     Ok(())
 }

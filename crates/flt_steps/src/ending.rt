@@ -16,7 +16,7 @@ use crate::settling::{Way, makes_frame, settled_by, settles_visit, way_of};
 use flt_model::{Answer, Event, Object};
 use flt_records::Rest;
 use flt_tree::{OperationVariable, Status, named_context};
-use flt_world::{Stack, World};
+use flt_world::{Stack, World, push_event};
 use std::alloc::{AllocError, Global};
 
 /// The visit that an activation was given, and whether it holds it.
@@ -60,7 +60,7 @@ fn give_status(
     ensures { OnOk result (events.new.items ≡ events.old.items ++ spec.status_given [] [] world.now a status) }
 {
     if world.place(a).answers() || status.is_some() {
-        events.push(Event::Status(a, Answer::Returned(status)))?;
+        push_event(events, Event::Status(a, Answer::Returned(status)))?;
     }
     Ok(())
 }
@@ -107,13 +107,13 @@ fn give_visit_back(
         events.new.items ≡ events.old.items ++ spec.visit_given_back [] t world.now a given.visit context (way_meant way)) }
 {
     if given.held {
-        events.push(Event::Lose(a, Object::Visit(given.visit)))?;
+        push_event(events, Event::Lose(a, Object::Visit(given.visit)))?;
     }
     if makes_frame(world, given.visit, way) {
         lose_context(a, context, events)?;
     }
     if settles_visit(way) {
-        events.push(Event::Settle(given.visit))?;
+        push_event(events, Event::Settle(given.visit))?;
     }
     Ok(())
 }
@@ -128,7 +128,7 @@ fn ends(
     ensures { OnOk result (Happened world.new events.old.items events.new.items (spec.ends [] [] world.old a world.old.store [])) }
 {
     end_activation(world, alloc, a);
-    events.push(Event::End(a))?;
+    push_event(events, Event::End(a))?;
     Ok(())
 }
 

@@ -10,7 +10,7 @@ ghost use Rattle.flt_world.specs.Happening.{later, Happened};
 use flt_model::Event;
 use flt_records::{Holder, Write, is_free_for};
 use flt_rules::{Access, Call, HeldLock, LockKind, LockNumber};
-use flt_world::World;
+use flt_world::{World, push_event};
 use std::alloc::AllocError;
 
 /// Whether an activation may take a lock so, beside the others that hold it.
@@ -59,8 +59,8 @@ pub(crate) fn acquire(
 ) -> Result<(), AllocError>
     ensures { OnOk result (Happened world.new events.old.items events.new.items (calls.acquire world.old a kind lock (later world.old a))) }
 {
-    events.push(Event::Call(a, Call::AcquireLock(kind)))?;
-    events.push(Event::Lock(a, lock))?;
+    push_event(events, Event::Call(a, Call::AcquireLock(kind)))?;
+    push_event(events, Event::Lock(a, lock))?;
     taken(world, a, lock, Access::Exclusive)
 }
 
@@ -73,8 +73,8 @@ pub(crate) fn acquire_shared(
     ensures { OnOk result (Happened world.new events.old.items events.new.items
         (calls.acquire_shared world.old a lock (later world.old a))) }
 {
-    events.push(Event::Call(a, Call::AcquirePushLockShared))?;
-    events.push(Event::Lock(a, lock))?;
+    push_event(events, Event::Call(a, Call::AcquirePushLockShared))?;
+    push_event(events, Event::Lock(a, lock))?;
     taken(world, a, lock, Access::Shared)
 }
 
@@ -101,7 +101,7 @@ pub(crate) fn release_lock(
     ensures { OnOk result (Happened world.new events.old.items events.new.items
         (calls.release_lock world.old a kind lock (later world.old a))) }
 {
-    events.push(Event::Call(a, Call::ReleaseLock(kind)))?;
-    events.push(Event::Unlock(a, lock))?;
+    push_event(events, Event::Call(a, Call::ReleaseLock(kind)))?;
+    push_event(events, Event::Unlock(a, lock))?;
     given_up(world, a, lock)
 }

@@ -15,7 +15,7 @@ use flt_model::{Event, Object};
 use flt_records::{Entry, Item, Write};
 use flt_rules::Call;
 use flt_tree::{ContextVariable, OperationVariable, RemovedVariable, Statement};
-use flt_world::World;
+use flt_world::{World, push_event};
 use std::alloc::AllocError;
 
 /// A context that a call need not have.
@@ -63,7 +63,7 @@ fn enqueued<'a>(
     if world.is_attached(filter) {
         world.go_on(a, to.granted, Write::Nothing)?;
         world.add_entry(filter, Entry { visit, context })?;
-        events.push(Event::Lose(a, Object::Visit(visit)))?;
+        push_event(events, Event::Lose(a, Object::Visit(visit)))?;
         lose_context(a, context, events)
     } else {
         world.go_on(a, to.refused, Write::Nothing)
@@ -102,7 +102,7 @@ pub(crate) fn insert<'a>(
         (calls.insert world.old a c (to.entry.granted.now ++ later world.old a) (to.entry.refused.now ++ later world.old a))) }
 {
     let handed = handed(world, a, c);
-    events.push(Event::Call(a, Call::InsertIo))?;
+    push_event(events, Event::Call(a, Call::InsertIo))?;
     need_named(a, handed, events)?;
     insert_by(world, a, handed, to, events)
 }
@@ -126,7 +126,7 @@ fn give_entry<'a>(
     let visit = entry.visit;
     let context = entry.context;
     world.go_on(a, block, Write::Entry(o, d, Some(visit), context))?;
-    events.push(Event::Gain(a, Object::Visit(visit)))?;
+    push_event(events, Event::Gain(a, Object::Visit(visit)))?;
     gain_context(a, context, events)
 }
 
@@ -141,7 +141,7 @@ pub(crate) fn remove_next<'a>(
     ensures { OnOk result (Happened world.new events.old.items events.new.items
         (calls.remove_next world.old a o d (to.entry.granted.now ++ later world.old a) (to.entry.refused.now ++ later world.old a))) }
 {
-    events.push(Event::Call(a, Call::RemoveNextIo))?;
+    push_event(events, Event::Call(a, Call::RemoveNextIo))?;
     match world.take_first(world.filter(a)) {
         None => give_entry(world, a, o, d, None, to.refused, events),
         Some(entry) => give_entry(world, a, o, d, Some(entry), to.granted, events),
@@ -171,7 +171,7 @@ fn deferred<'a>(
         visit: Some(visit),
         context,
     })?;
-    events.push(Event::Lose(a, Object::Visit(visit)))?;
+    push_event(events, Event::Lose(a, Object::Visit(visit)))?;
     lose_context(a, context, events)
 }
 
@@ -214,7 +214,7 @@ pub(crate) fn queue_deferred<'a>(
         (to.entry.refused.now ++ later world.old a))) }
 {
     let handed = handed(world, a, c);
-    events.push(Event::Call(a, Call::QueueDeferredIoWorkItem))?;
+    push_event(events, Event::Call(a, Call::QueueDeferredIoWorkItem))?;
     need_named(a, handed, events)?;
     defer_by(world, a, routine, grant, handed, to, events)
 }
@@ -279,7 +279,7 @@ pub(crate) fn queue_generic<'a>(
         (to.entry.refused.now ++ later world.old a))) }
 {
     let named = world.named_in(a, c);
-    events.push(Event::Call(a, Call::QueueGenericWorkItem))?;
+    push_event(events, Event::Call(a, Call::QueueGenericWorkItem))?;
     need_optional(a, named, events)?;
     queue_by(world, a, routine, grant, named, to, events)
 }

@@ -16,7 +16,7 @@ use flt_model::{Answer, Event, Object};
 use flt_records::{Frame, Outcome, Position, Route, Write};
 use flt_rules::{Call, Stage};
 use flt_tree::{ContextVariable, OperationVariable, Status};
-use flt_world::{Stack, World};
+use flt_world::{Stack, World, push_event};
 use std::alloc::AllocError;
 
 /// Where a status leads the operation.
@@ -215,11 +215,11 @@ fn completed<'a>(
         (calls.completed world.old a stack.now (later world.old a) visit context answer)) }
 {
     let way = way_of(world, stack, visit, answer);
-    events.push(Event::Lose(a, Object::Visit(visit)))?;
+    push_event(events, Event::Lose(a, Object::Visit(visit)))?;
     if makes_frame(world, visit, way) {
         lose_context(a, context, events)?;
     }
-    events.push(Event::Settle(visit))?;
+    push_event(events, Event::Settle(visit))?;
     world.go_on(a, &[], Write::Nothing)?;
     settled_by(world, visit, context, way)
 }
@@ -266,9 +266,12 @@ pub(crate) fn complete_pre<'a>(
         visit: world.operation_in(a, d),
         context: world.named_in(a, status.context()),
     };
-    events.push(Event::Call(a, Call::CompletePendedPreOperation(d.whose())))?;
+    push_event(
+        events,
+        Event::Call(a, Call::CompletePendedPreOperation(d.whose())),
+    )?;
     if let Some(visit) = named.visit {
-        events.push(Event::Status(a, completes_pre(d, visit, status)))?;
+        push_event(events, Event::Status(a, completes_pre(d, visit, status)))?;
     }
     need_named(a, named, events)?;
     complete_by(world, stack, a, d, status, named, events)
@@ -304,9 +307,9 @@ pub(crate) fn complete_post<'a>(
         (calls.complete_post world.old a stack.now (later world.old a))) }
 {
     let given = world.operation_in(a, OperationVariable::Data);
-    events.push(Event::Call(a, Call::CompletePendedPostOperation))?;
+    push_event(events, Event::Call(a, Call::CompletePendedPostOperation))?;
     if let Some(visit) = given {
-        events.push(Event::Status(a, Answer::CompletesPost { visit }))?;
+        push_event(events, Event::Status(a, Answer::CompletesPost { visit }))?;
     }
     need(a, &[operation(given)], events)?;
     complete_post_by(world, stack, a, given, events)

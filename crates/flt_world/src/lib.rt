@@ -5,10 +5,12 @@
 #![tactic(auto)]
 
 mod callbacks;
+mod events;
 mod opening;
 mod stack;
 mod unlinking;
 mod world;
 
+pub use events::push_event;
 pub use stack::Stack;
 pub use world::World;

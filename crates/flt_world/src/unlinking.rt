@@ -3,6 +3,7 @@
 ghost use Rattle.std.specs.Prelude.{◌≡◌, ◌++◌, None, OnOk};
 ghost use Rattle.flt_model.specs.Effects as effects;
 
+use crate::events::push_event;
 use crate::world::World;
 use flt_model::Event;
 use std::alloc::AllocError;
@@ -13,7 +14,7 @@ impl<'a> World<'a> {
         ensures { OnOk result (events.new.items ≡ events.old.items ++ effects.freed_by_drop self.now.store x) }
     {
         if self.references(x) == 1 {
-            events.push(Event::Free(x))?;
+            push_event(events, Event::Free(x))?;
         }
         Ok(())
     }

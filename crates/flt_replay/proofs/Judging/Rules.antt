@@ -29,6 +29,10 @@ and_then kept now all e f = f ∙ ap (λ b. b && now) (sym e)
 pub and_else : (kept now all : Bool) → kept ≡ false → all ≡ false → all ≡ (kept && now)
 and_else kept now all e f = f ∙ ap (λ b. b && now) (sym e)
 
+pub kept_still : (kept : Bool) → kept ≡ (kept && true)
+kept_still true = refl
+kept_still false = refl
+
 searched : (a b c d : Bool) →
     cond (not a) (Some V5) (cond (not b) (Some V6) (cond (not c) (Some V7) (cond (not d) (Some V8) None))) ≡ least_of a b c d
 searched true true true true = refl

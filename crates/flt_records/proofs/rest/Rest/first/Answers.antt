@@ -5,20 +5,20 @@ use Rattle.flt_records.proofs.rest.Rest.first.Goals as goal
 
 pub loop-self-preserved : goal.loop-self-preserved
 loop-self-preserved c =
-    goes_on_with c.loop-self.self-inside.block.now c.args.self.now c.loop-self.self-inside.after.items c.pop.new.self.items
-    c.in_default.len_below c.loop-self.invariant
+    goes_on_with c.loop-self.self-inside.block.now c.loop-self.self-inside.outer.now c.args.self.now c.loop-self.self-inside.after.items c.pop.new.self.items
+    c.in_default.len_below c.in_default-outer.len_below c.loop-self.invariant
     (Block c.in-Some-Block.block) (cc (c.in-Some-Block.ensures.items, c.in-Some-Block.field-0-is))
 
 pub returns-in-Some-Repeat-clause-first : goal.returns-in-Some-Repeat-clause-first
 returns-in-Some-Repeat-clause-first c =
     first_of _ _ _
-    (taken_out c.loop-self.self-inside.block.now c.args.self.now c.loop-self.self-inside.after.items c.pop.new.self.items
-    c.in_default.len_below c.loop-self.invariant
+    (taken_out c.loop-self.self-inside.block.now c.loop-self.self-inside.outer.now c.args.self.now c.loop-self.self-inside.after.items c.pop.new.self.items
+    c.in_default.len_below c.in_default-outer.len_below c.loop-self.invariant
     (Repeat c.in-Some-Repeat.line c.in-Some-Repeat.turns c.in-Some-Repeat.body)
     (cc (c.in-Some-Repeat.ensures.items, c.in-Some-Repeat.field-0-is)))
 
 pub returns-in-None-clause-first : goal.returns-in-None-clause-first
 returns-in-None-clause-first c =
-    (none_left c.loop-self.self-inside.block.now c.args.self.now c.loop-self.self-inside.after.items c.pop.new.self.items
-    c.in_default.len_below c.loop-self.invariant
+    (none_left c.loop-self.self-inside.block.now c.loop-self.self-inside.outer.now c.args.self.now c.loop-self.self-inside.after.items c.pop.new.self.items
+    c.in_default.len_below c.in_default-outer.len_below c.loop-self.invariant
     (omega (arith, c.in-None.ensures.cases)) (omega (arith, c.in-None.ensures.cases))).0

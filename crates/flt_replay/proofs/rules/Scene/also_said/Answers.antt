@@ -2,8 +2,8 @@
 use Rattle.flt_model.specs.Violations.{is_low_enough, is_disciplined}
 use Rattle.flt_replay.proofs.Judging.Rules.{and_then, and_else}
 use Rattle.flt_replay.specs.Scenes.{before}
-use Rattle.flt_replay.proofs.rules.Scene.also.Goals as goal
-use Rattle.flt_replay.proofs.rules.Scene.also.Goals.{then-kept-2, else-kept-2, then-kept-3, else-kept-3}
+use Rattle.flt_replay.proofs.rules.Scene.also_said.Goals as goal
+use Rattle.flt_replay.proofs.rules.Scene.also_said.Goals.{then-kept-2, else-kept-2, then-kept-3, else-kept-3}
 
 pub returns-then-kept-4-clause-levels : goal.returns-then-kept-4-clause-levels
 returns-then-kept-4-clause-levels c = λ t by.

@@ -1,0 +1,15 @@
+//! The events of a step, one after another.
+
+ghost use Rattle.std.specs.Prelude.{◌≡◌, [], ◌∷◌, ◌++◌, OnOk};
+
+use flt_model::Event;
+use std::alloc::AllocError;
+
+/// One more event. Room is made first: `push` would hand the event back where memory is refused, and takes longer for that.
+pub fn push_event(events: &mut Vec<Event>, event: Event) -> Result<(), AllocError>
+    ensures { OnOk result (events.new.items ≡ events.old.items ++ event ∷ []) }
+{
+    events.reserve(1)?;
+    events.push_reserved(event);
+    Ok(())
+}
