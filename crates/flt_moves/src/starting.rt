@@ -1,6 +1,7 @@
 //! Callbacks that start: each is a new activation, which gains what it is given.
 
-ghost use Rattle.std.specs.Prelude.{Some, length, OnOk};
+ghost use Rattle.std.specs.Prelude.{◌≡◌, ◌++◌, Some, length, OnOk};
+ghost use Rattle.flt_model.specs.Effects.{gains_context};
 ghost use Rattle.flt_model.specs.Moves as moves;
 ghost use Rattle.flt_moves.specs.Starting.{starts_post};
 ghost use Rattle.flt_world.specs.Happening.{Happened};
@@ -21,6 +22,24 @@ pub(crate) struct Start<'a> {
     pub(crate) context: Option<usize>,
 }
 
+/// A new activation gains what it is given.
+fn gain_given(
+    number: usize,
+    visit: Option<usize>,
+    context: Option<usize>,
+    events: &mut Vec<Event>,
+) -> Result<(), AllocError>
+    ensures { OnOk result (events.new.items ≡ events.old.items ++ (moves.gains_visit number visit ++ gains_context number context)) }
+{
+    if let Some(visit) = visit {
+        push_event(events, Event::Gain(number, Object::Visit(visit)))?;
+    }
+    if let Some(context) = context {
+        push_event(events, Event::Gain(number, Object::Context(context)))?;
+    }
+    Ok(())
+}
+
 pub(crate) fn start_activation<'a>(
     world: &mut World<'a>,
     alloc: Global,
@@ -37,16 +56,11 @@ pub(crate) fn start_activation<'a>(
         visit,
         context,
     } = start;
-    let activation = Activation::starting(alloc, body, visit, context)?;
     world.actors.push(actor)?;
-    world.activations.push(activation)?;
-    if let Some(visit) = visit {
-        push_event(events, Event::Gain(number, Object::Visit(visit)))?;
-    }
-    if let Some(context) = context {
-        push_event(events, Event::Gain(number, Object::Context(context)))?;
-    }
-    Ok(())
+    world
+        .activations
+        .push(Activation::starting(alloc, body, visit, context)?)?;
+    gain_given(number, visit, context, events)
 }
 
 /// A visit begins, and its callback starts with it.

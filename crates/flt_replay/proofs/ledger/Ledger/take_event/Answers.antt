@@ -13,8 +13,8 @@ returns-then-not-may_use-clause-stale c = λ none t k.
     subst (λ (e : Event). is_fresh c.args.world.now t e ≡ false) (sym c.in-Use.is)
     (sym (c.may_use.ensures.used t k) ∙ c.if-not-may_use.true)
 
-pub returns-in-Use-clause-taken : goal.returns-in-Use-clause-taken
-returns-in-Use-clause-taken c = λ t k counted.
+pub returns-else-not-may_use-clause-taken : goal.returns-else-not-may_use-clause-taken
+returns-else-not-may_use-clause-taken c = λ t k counted.
     let w = c.args.world.now in
     let before = c.args.before in
     let old = c.args.self.now in
@@ -24,10 +24,10 @@ returns-in-Use-clause-taken c = λ t k counted.
     (taken_used w t before.tight before.once old listed k counted c.in-Use.a c.in-Use.object
     (sym (c.may_use.ensures.used t k) ∙ c.if-not-may_use.false))
 
-pub returns-then-not-may_use-in-Lose-clause-stale : goal.returns-then-not-may_use-in-Lose-clause-stale
-returns-then-not-may_use-in-Lose-clause-stale c = λ none t k.
+pub returns-then-not-may_use-2-clause-stale : goal.returns-then-not-may_use-2-clause-stale
+returns-then-not-may_use-2-clause-stale c = λ none t k.
     subst (λ (e : Event). is_fresh c.args.world.now t e ≡ false) (sym c.in-Lose.is)
-    (sym (c.may_use-in-Lose.ensures.lost t k) ∙ c.if-not-may_use-in-Lose.true)
+    (sym (c.may_use-in-Lose.ensures.lost t k) ∙ c.if-not-may_use-2.true)
 
 pub returns-in_ok-lose-in-Lose-clause-taken : goal.returns-in_ok-lose-in-Lose-clause-taken
 returns-in_ok-lose-in-Lose-clause-taken c = λ t k counted.
@@ -38,15 +38,15 @@ returns-in_ok-lose-in-Lose-clause-taken c = λ t k counted.
     let was = c.args.touched.now.items in
     let now = c.lose.new.touched.items in
     let of : Event → Type 0 = λ e. Taken w t e old new was now before.tight before.once before.tight before.once in
-    let fresh = sym (c.may_use-in-Lose.ensures.lost t k) ∙ c.if-not-may_use-in-Lose.false in
+    let fresh = sym (c.may_use-in-Lose.ensures.lost t k) ∙ c.if-not-may_use-2.false in
     subst of (sym c.in-Lose.is)
     (taken_as w t before.tight before.once (event.Lose c.in-Lose.a c.in-Lose.object) old new was now fresh
     (c.in_ok-lose-in-Lose.ensures t k counted (held_if_fresh old c.in-Lose.a t w c.in-Lose.object k fresh)) refl refl)
 
-pub returns-then-not-may_gain-in-Gain-clause-stale : goal.returns-then-not-may_gain-in-Gain-clause-stale
-returns-then-not-may_gain-in-Gain-clause-stale c = λ none t k.
+pub returns-then-not-may_gain-clause-stale : goal.returns-then-not-may_gain-clause-stale
+returns-then-not-may_gain-clause-stale c = λ none t k.
     subst (λ (e : Event). is_fresh c.args.world.now t e ≡ false) (sym c.in-Gain.is)
-    (sym (c.may_gain-in-Gain.ensures t k) ∙ c.if-not-may_gain-in-Gain.true)
+    (sym (c.may_gain.ensures t k) ∙ c.if-not-may_gain.true)
 
 pub returns-in_ok-gain-in-Gain-clause-taken : goal.returns-in_ok-gain-in-Gain-clause-taken
 returns-in_ok-gain-in-Gain-clause-taken c = λ t k counted.
@@ -59,7 +59,7 @@ returns-in_ok-gain-in-Gain-clause-taken c = λ t k counted.
     let of : Event → Type 0 = λ e. Taken w t e old new was now before.tight before.once before.tight before.once in
     subst of (sym c.in-Gain.is)
     (taken_as w t before.tight before.once (event.Gain c.in-Gain.a c.in-Gain.object) old new was now
-    (sym (c.may_gain-in-Gain.ensures t k) ∙ c.if-not-may_gain-in-Gain.false) (c.in_ok-gain-in-Gain.ensures t k counted) refl refl)
+    (sym (c.may_gain.ensures t k) ∙ c.if-not-may_gain.false) (c.in_ok-gain-in-Gain.ensures t k counted) refl refl)
 
 pub returns-in-Empty-clause-stale : goal.returns-in-Empty-clause-stale
 returns-in-Empty-clause-stale c = λ none t k.

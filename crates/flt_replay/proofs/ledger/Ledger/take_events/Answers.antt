@@ -9,13 +9,14 @@ returns-in-None-clause-first c = λ t k counted.
     let j = c.loop-event.invariant t k counted in
     stale_at c.args.world.now t c.args.self.now c.args.touched.now.items c.args.events.now c.loop-event.event-index
     (Call 0 AllocateContext) c.loop-event-test.true
-    (c.in-None.ensures.stale c.in-None.is (t ++ take c.loop-event.event-index c.args.events.now) j.tells)
+    (c.in_ok-next.ensures.stale c.in-None.is (t ++ take c.loop-event.event-index c.args.events.now) j.tells)
 
 pub loop-event-preserved : goal.loop-event-preserved
 loop-event-preserved c = λ t k counted.
     let j = c.loop-event.invariant t k counted in
     let so_far = t ++ take c.loop-event.event-index c.args.events.now in
-    let taken = c.in-Some.ensures.taken so_far j.tells j.counted in
+    let told = rw c.in-Some.is at c.in_ok-next.ensures.taken in
+    let taken = told so_far j.tells j.counted in
     judged_at c.args.world.now t c.args.self.now c.args.touched.now.items c.args.events.now c.loop-event.event-index
     (Call 0 AllocateContext) c.loop-event-test.true
     c.loop-event.self c.take_event.new.self c.loop-event.touched.items c.take_event.new.touched.items c.loop-event.kept.tight
