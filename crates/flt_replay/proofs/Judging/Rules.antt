@@ -29,6 +29,7 @@ and_then kept now all e f = f ∙ ap (λ b. b && now) (sym e)
 pub and_else : (kept now all : Bool) → kept ≡ false → all ≡ false → all ≡ (kept && now)
 and_else kept now all e f = f ∙ ap (λ b. b && now) (sym e)
 
+-- one of which the rule doesn't speak
 pub kept_still : (kept : Bool) → kept ≡ (kept && true)
 kept_still true = refl
 kept_still false = refl
