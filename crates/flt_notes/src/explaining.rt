@@ -28,7 +28,7 @@ pub struct Told {
 ///
 /// # Errors
 ///
-/// Where a growth was refused, or a number or a count would pass 2^32.
+/// Where a growth was refused, or a number or a count would reach 2^32.
 pub fn explain(
     alloc: Global,
     coloured: bool,

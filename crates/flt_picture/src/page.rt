@@ -393,7 +393,7 @@ fn contexts_of<'b, 'a>(
 ///
 /// # Errors
 ///
-/// Where a growth was refused, or a number or a count would pass 2^32.
+/// Where a growth was refused, or a number or a count would reach 2^32.
 pub fn picture(
     alloc: Global,
     trees: &[Tree],

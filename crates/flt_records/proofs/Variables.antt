@@ -13,6 +13,7 @@ pub now_eight : (xs : List ℕ) → length xs ≡ 8 → AreNumbers xs
 now_eight [] e = absurd (omega (arith, e))
 now_eight (x ∷ xs) e = omega (arith, e)
 
+-- eight values are read as they are
 pub all_same : (xs : List ℕ) → length xs ≡ 8 → all_of xs ≡ xs
 all_same [] e = absurd (omega (arith, e))
 all_same (x ∷ xs) e = refl

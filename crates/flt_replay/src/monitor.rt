@@ -216,7 +216,7 @@ fn verdict_of(alloc: Global, trees: &[Tree], journal: &Journal) -> Result<Verdic
 }
 
 /// What a journal is on some filters, in any order. Entries are numbered from 0. It fails where memory is refused, or where a number or
-/// a count would pass 2^32.
+/// a count would reach 2^32.
 pub fn replay(alloc: Global, trees: &[Tree], journal: &Journal) -> Result<Verdict, AllocError>
     // It is the machine's verdict.
     ensures verdict { IfOk result (λ v. v ≡ spec.verdict (filters_of trees.now) journal.now) }

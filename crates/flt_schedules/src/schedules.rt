@@ -90,7 +90,7 @@ fn sought(
 ///
 /// # Errors
 ///
-/// Where a growth was refused, or a number or a count would pass 2^32.
+/// Where a growth was refused, or a number or a count would reach 2^32.
 pub fn schedule_for(
     alloc: Global,
     trees: &[Tree],
@@ -136,7 +136,7 @@ fn is_missing(schedule: &Schedule) -> bool {
 ///
 /// # Errors
 ///
-/// Where a growth was refused, or a number or a count would pass 2^32.
+/// Where a growth was refused, or a number or a count would reach 2^32.
 pub fn schedule_among(
     alloc: Global,
     trees: &[Tree],

@@ -415,7 +415,7 @@ fn seek_in<'a>(
 ///
 /// # Errors
 ///
-/// Where a growth was refused, or a number or a count would pass 2^32.
+/// Where a growth was refused, or a number or a count would reach 2^32.
 pub fn seek(
     alloc: Global,
     trees: &[Tree],

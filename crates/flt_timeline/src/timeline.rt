@@ -93,7 +93,7 @@ impl<'a> Timeline<'a> {
     ///
     /// # Errors
     ///
-    /// Where a growth was refused, or a number or a count would pass 2^32.
+    /// Where a growth was refused, or a number or a count would reach 2^32.
     pub fn of(
         alloc: Global,
         trees: &'a [Tree],
