@@ -279,7 +279,11 @@ fn push_nodes(
 ) -> Result<(), AllocError> {
     if let Some(step) = choices.passing {
         let entry = Some(JournalEntry::Move(step));
-        return Ok(nodes.push(Node { from: number, entry, ..on })?);
+        return Ok(nodes.push(Node {
+            from: number,
+            entry,
+            ..on
+        })?);
     }
     for entry in choices.entries.as_slice() {
         nodes.push(node_behind(on, number, *entry))?;
