@@ -46,6 +46,12 @@ const OPERATIONS: [OperationVariable; 5] = [
 /// How many statements that remain are looked at, at most.
 const MAX_STATEMENTS: u32 = 4096;
 
+/// Spreads a part over all bits of a number.
+fn mixed(number: u64, part: u64) -> u64 {
+    let product = (number ^ part).wrapping_mul(0x9E37_79B9_7F4A_7C15);
+    product ^ (product >> 29)
+}
+
 /// The number so far.
 #[derive(Clone, Copy)]
 pub struct Mix {
@@ -55,8 +61,7 @@ pub struct Mix {
 impl Mix {
     /// Takes in one more part of what is told apart.
     pub fn put(&mut self, part: u64) {
-        let mixed = (self.number ^ part).wrapping_mul(0x9E37_79B9_7F4A_7C15);
-        self.number = mixed ^ (mixed >> 29);
+        self.number = mixed(self.number, part);
     }
 
     fn put_size(&mut self, part: usize) {

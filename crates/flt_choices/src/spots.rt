@@ -26,10 +26,10 @@ struct Step {
 
 /// The number of a filter from the highest altitude; that of no filter where the altitude is too great.
 fn filter_number(stack: &Stack<'_>, filter: &Filter) -> usize {
-    match u32::try_from(filter.altitude) {
-        Ok(altitude) => stack.number_of(altitude),
-        Err(_) => stack.len(),
+    if let Ok(altitude) = u32::try_from(filter.altitude) {
+        return stack.number_of(altitude);
     }
+    stack.len()
 }
 
 // ---- the callback
