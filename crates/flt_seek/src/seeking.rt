@@ -4,16 +4,12 @@ ghost use Rattle.std.specs.Prelude.{IfOk, IfSome};
 ghost use Rattle.flt_world.specs.Filters.{filters_of};
 ghost use Rattle.flt_seek.specs.Found as spec;
 
-use crate::bounds::{ROUNDS, Round};
-use crate::choices::{Field, entry_of, number_of};
 use crate::judging::{Broken, Judged, judge};
-use crate::key::key_of;
-use crate::making::{Going, world_after};
 use crate::shortening::shorten;
-use crate::spots::Spot;
+use flt_choices::{Choices, Field, Mix, ROUNDS, Round, Spot};
 use flt_model::{JournalEntry, Move, Violation};
 use flt_tree::Tree;
-use flt_world::{Stack, World};
+use flt_world::Stack;
 use std::alloc::{AllocError, Global};
 use std::collections::BTreeSet;
 
@@ -76,18 +72,14 @@ fn starts(step: Move) -> bool {
     )
 }
 
-/// Who is on behind an entry that led to a world.
-fn runner_after(world: &World<'_>, entry: JournalEntry, on: Option<u32>) -> Option<u32> {
-    let runner = match entry {
+/// Who is on behind an entry that led to a world with so many activations.
+fn runner_after(activations: usize, entry: JournalEntry, on: Option<u32>) -> Option<u32> {
+    match entry {
         JournalEntry::Go { activation, .. } => Some(activation),
         JournalEntry::Move(step) if starts(step) => {
-            Some(number_of(world.activations.len().saturating_sub(1)))
+            u32::try_from(activations.saturating_sub(1)).ok()
         }
         JournalEntry::Move(_) => on,
-    };
-    match runner {
-        Some(activation) if !world.has_ended(activation as usize) => Some(activation),
-        _ => None,
     }
 }
 
@@ -134,17 +126,11 @@ impl Search {
         Ok(entries)
     }
 
-    /// Whether the state that a world is wasn't seen before. The world's activations are spent, and so is what remains of them.
-    fn is_new<'a>(
-        &mut self,
-        field: &Field<'_, 'a>,
-        world: &mut World<'a>,
-        goings: &[Going],
-        node: Node,
-    ) -> Result<bool, AllocError> {
-        let mut mix = key_of(field.alloc, field.stack, world, goings)?;
-        mix.put(u64::from(node.switches));
-        mix.put(match node.runner {
+    /// Whether a state wasn't seen before, in a world with this key.
+    fn is_new(&mut self, key: Mix, state: Node) -> Result<bool, AllocError> {
+        let mut mix = key;
+        mix.put(u64::from(state.switches));
+        mix.put(match state.runner {
             Some(runner) => u64::from(runner),
             None => u64::MAX,
         });
@@ -212,33 +198,19 @@ impl Search {
         Ok(found)
     }
 
-    /// The states that may be behind that of a number; none where it was seen before. A move that nobody sees comes at once, and is no
-    /// switch. The world is spent.
-    fn nodes_behind<'a>(
+    /// The states that may be behind that of a number, to which some entries lead; none where it was seen before.
+    fn nodes_behind(
         &mut self,
-        field: &Field<'_, 'a>,
-        world: &mut World<'a>,
-        on: Node,
-        from: usize,
+        field: &Field<'_, '_>,
+        entries: &[JournalEntry],
+        number: usize,
     ) -> Result<Vec<Node>, AllocError> {
         let mut nodes = Vec::new(field.alloc);
-        let passing = field.first_passing(world);
-        let moves = field.moves(world)?;
-        let goings = field.goings(world)?;
-        if !self.is_new(field, world, goings.as_slice(), on)? {
-            return Ok(nodes);
-        }
-        if let Some(step) = passing {
-            nodes.push(Node {
-                from,
-                entry: Some(JournalEntry::Move(step)),
-                ..on
-            })?;
-            return Ok(nodes);
-        }
-        push_goings(&mut nodes, on, from, goings.as_slice())?;
-        for step in moves.as_slice() {
-            nodes.push(node_behind(on, from, JournalEntry::Move(*step)))?;
+        if let Some(choices) = field.choices(entries)? {
+            let on = self.node(number).after(&choices);
+            if self.is_new(choices.key, on)? {
+                push_nodes(&mut nodes, on, number, &choices)?;
+            }
         }
         Ok(nodes)
     }
@@ -253,11 +225,7 @@ impl Search {
         ensures { IfOk result (λ found. IfSome found (spec.IsFound (filters_of field.now.trees.now) wanted.now)) }
     {
         let mut entries = self.entries(field.alloc, number)?;
-        let Some(mut world) = world_after(field.alloc, field.stack, entries.as_slice())? else {
-            return Ok(None);
-        };
-        let on = self.node(number).after(&world);
-        let next = self.nodes_behind(field, &mut world, on, number)?;
+        let next = self.nodes_behind(field, entries.as_slice(), number)?;
         for node in next.as_slice() {
             let found = self.attempt(field, wanted, &mut entries, *node)?;
             if found.is_some() {
@@ -269,14 +237,20 @@ impl Search {
 }
 
 impl Node {
+    /// Who is on in the world to which the state's entry led, where it can go on.
+    fn runner_in(self, choices: &Choices) -> Option<u32> {
+        let on = match self.entry {
+            Some(entry) => runner_after(choices.activations, entry, self.runner),
+            None => self.runner,
+        };
+        on.filter(|runner| choices.goes_on(*runner))
+    }
+
     /// The same where the entry that leads there has led to a world.
-    fn after(self, world: &World<'_>) -> Node {
-        match self.entry {
-            Some(entry) => Node {
-                runner: runner_after(world, entry, self.runner),
-                ..self
-            },
-            None => self,
+    fn after(self, choices: &Choices) -> Node {
+        Node {
+            runner: self.runner_in(choices),
+            ..self
         }
     }
 }
@@ -296,18 +270,23 @@ fn node_behind(on: Node, from: usize, entry: JournalEntry) -> Node {
     }
 }
 
-/// Adds the states behind the next steps. A step has two where the system may refuse what it asks for.
-fn push_goings(
+/// Adds the states behind that of a number. A move that nobody sees comes at once, and is no switch.
+fn push_nodes(
     nodes: &mut Vec<Node>,
     on: Node,
-    from: usize,
-    goings: &[Going],
+    number: usize,
+    choices: &Choices,
 ) -> Result<(), AllocError> {
-    for going in goings {
-        nodes.push(node_behind(on, from, entry_of(*going, true)))?;
-        if going.is_choice {
-            nodes.push(node_behind(on, from, entry_of(*going, false)))?;
-        }
+    if let Some(step) = choices.passing {
+        let entry = Some(JournalEntry::Move(step));
+        return Ok(nodes.push(Node {
+            from: number,
+            entry,
+            ..on
+        })?);
+    }
+    for entry in choices.entries.as_slice() {
+        nodes.push(node_behind(on, number, *entry))?;
     }
     Ok(())
 }

@@ -4,8 +4,8 @@ ghost use Rattle.std.specs.Prelude.{IfOk};
 ghost use Rattle.flt_world.specs.Filters.{filters_of};
 ghost use Rattle.flt_seek.specs.Found as spec;
 
-use crate::choices::Field;
 use crate::judging::{Broken, Judged, is_same, judge};
+use flt_choices::Field;
 use flt_model::{JournalEntry, Violation};
 use std::alloc::{AllocError, Global};
 

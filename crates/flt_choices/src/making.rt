@@ -8,6 +8,14 @@ use flt_tree::{Condition, FallibleCall, Statement};
 use flt_world::{Stack, World};
 use std::alloc::{AllocError, Global};
 
+/// The number as it stands in a journal. No world of a search has as many.
+pub(crate) fn number_of(number: usize) -> u32 {
+    match u32::try_from(number) {
+        Ok(number) => number,
+        Err(_) => u32::MAX,
+    }
+}
+
 /// How many local steps an activation makes one after another, at most.
 const MAX_STEPS: u32 = 1_000_000;
 
@@ -100,6 +108,17 @@ pub(crate) struct Going {
     pub(crate) line: usize,
     /// Whether the system may refuse it.
     pub(crate) is_choice: bool,
+}
+
+impl Going {
+    /// The same as an entry.
+    pub(crate) fn entry(self, grant: bool) -> JournalEntry {
+        JournalEntry::Go {
+            activation: number_of(self.activation),
+            steps: self.steps,
+            grant,
+        }
+    }
 }
 
 /// The statement at which an activation stands.

@@ -25,11 +25,11 @@ struct Step {
 }
 
 /// The number of a filter from the highest altitude; that of no filter where the altitude is too great.
-fn number_of(stack: &Stack<'_>, filter: &Filter) -> usize {
-    match u32::try_from(filter.altitude) {
-        Ok(altitude) => stack.number_of(altitude),
-        Err(_) => stack.len(),
+fn filter_number(stack: &Stack<'_>, filter: &Filter) -> usize {
+    if let Ok(altitude) = u32::try_from(filter.altitude) {
+        return stack.number_of(altitude);
     }
+    stack.len()
 }
 
 // ---- the callback
@@ -127,7 +127,7 @@ fn is_step_in<'a>(
     let Some(mut world) = world_after(alloc, stack, before)? else {
         return Ok(false);
     };
-    if world.filter(step.activation) != number_of(stack, filter) {
+    if world.filter(step.activation) != filter_number(stack, filter) {
         return Ok(false);
     }
     let number = match routine_run(alloc, stack, before, step.activation)? {

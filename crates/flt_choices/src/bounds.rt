@@ -2,21 +2,21 @@
 
 /// The bounds of a round.
 #[derive(Clone, Copy)]
-pub(crate) struct Round {
+pub struct Round {
     /// How many operations may be there that aren't done.
-    pub(crate) alive: usize,
+    pub alive: usize,
     /// How many operations may come in all.
-    pub(crate) total: usize,
+    pub total: usize,
     /// How often an activation may be left that could go on.
-    pub(crate) switches: u32,
+    pub switches: u32,
     /// Whether filters may be detached.
-    pub(crate) detaches: bool,
+    pub detaches: bool,
     /// How many files there are.
-    pub(crate) files: u32,
+    pub files: u32,
 }
 
 /// The rounds, from the narrowest.
-pub(crate) const ROUNDS: [Round; 6] = [
+pub const ROUNDS: [Round; 6] = [
     Round {
         alive: 1,
         total: 1,

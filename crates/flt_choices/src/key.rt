@@ -2,8 +2,8 @@
 //! journals at most: the order of a queue isn't in it, nor is what is behind a context that an entry has, nor what is over: freed contexts,
 //! settled visits, operations that are done and activations that have ended.
 
-use crate::choices::is_done;
 use crate::making::Going;
+use crate::operations::is_done;
 use crate::spots::line_of;
 use flt_model::Key;
 use flt_records::{Context, Item, Position, Presence, Upcoming};
@@ -46,16 +46,22 @@ const OPERATIONS: [OperationVariable; 5] = [
 /// How many statements that remain are looked at, at most.
 const MAX_STATEMENTS: u32 = 4096;
 
+/// Spreads a part over all bits of a number.
+fn mixed(number: u64, part: u64) -> u64 {
+    let product = (number ^ part).wrapping_mul(0x9E37_79B9_7F4A_7C15);
+    product ^ (product >> 29)
+}
+
 /// The number so far.
 #[derive(Clone, Copy)]
-pub(crate) struct Mix {
-    pub(crate) number: u64,
+pub struct Mix {
+    pub number: u64,
 }
 
 impl Mix {
-    pub(crate) fn put(&mut self, part: u64) {
-        let mixed = (self.number ^ part).wrapping_mul(0x9E37_79B9_7F4A_7C15);
-        self.number = mixed ^ (mixed >> 29);
+    /// Takes in one more part of what is told apart.
+    pub fn put(&mut self, part: u64) {
+        self.number = mixed(self.number, part);
     }
 
     fn put_size(&mut self, part: usize) {
@@ -247,8 +253,8 @@ fn put_rest(mix: &mut Mix, world: &mut World<'_>, activation: usize) {
     }
 }
 
-/// An activation that goes on, by the step at which it stands.
-fn put_going(
+/// An activation that goes on, by the step at which it stands. It is spent, and so is what remains of it.
+pub(crate) fn put_going(
     mix: &mut Mix,
     alloc: Global,
     world: &mut World<'_>,
@@ -265,13 +271,8 @@ fn put_going(
 
 // ---- all
 
-/// The number of a world whose activations are spent, by how they go on. It is spent.
-pub(crate) fn key_of<'a>(
-    alloc: Global,
-    stack: &Stack<'a>,
-    world: &mut World<'a>,
-    goings: &[Going],
-) -> Result<Mix, AllocError> {
+/// The number of a world but for its activations.
+pub(crate) fn key_of(stack: &Stack<'_>, world: &World<'_>) -> Mix {
     let mut mix = Mix { number: 1 };
     put_filters(&mut mix, stack, world);
     put_operations(&mut mix, world);
@@ -279,8 +280,5 @@ pub(crate) fn key_of<'a>(
     put_contexts(&mut mix, world);
     put_items(&mut mix, world);
     mix.put_size(world.activations.len());
-    for going in goings {
-        put_going(&mut mix, alloc, world, *going)?;
-    }
-    Ok(mix)
+    mix
 }
