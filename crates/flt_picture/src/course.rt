@@ -1,6 +1,6 @@
 //! A journal is run along with the rows that are drawn.
 
-use flt_model::{Journal, JournalEntry};
+use flt_model::{Journal, JournalEntry, Move};
 use flt_steps::Setup;
 use flt_world::{Stack, World};
 use std::alloc::{AllocError, Global};
@@ -26,34 +26,49 @@ fn go_unseen(world: &mut World<'_>, activation: usize, steps: u32) -> Result<boo
     Ok(true)
 }
 
-/// Goes on by so many steps, of which the last is seen. Whether the activation holds its operation changes no world.
+/// Makes a step that others see. Whether the activation holds its operation changes no world.
+fn step_seen<'a>(
+    world: &mut World<'a>,
+    stack: &Stack<'a>,
+    setup: Setup,
+) -> Result<bool, AllocError> {
+    let mut events = Vec::new(setup.alloc);
+    flt_steps::step_seen(world, stack, setup, &mut events)
+}
+
+/// Goes on by so many steps, of which the last is seen. False where one of them isn't enabled.
 fn go<'a>(
     world: &mut World<'a>,
     stack: &Stack<'a>,
     setup: Setup,
     steps: u32,
-) -> Result<(), AllocError> {
+) -> Result<bool, AllocError> {
     if steps == 0 || !go_unseen(world, setup.activation, steps - 1)? {
-        return Ok(());
+        return Ok(false);
     }
-    let mut events = Vec::new(setup.alloc);
-    flt_steps::step_seen(world, stack, setup, &mut events)?;
-    Ok(())
+    step_seen(world, stack, setup)
 }
 
-/// Makes an entry; one that isn't enabled changes nothing but who is on.
+/// Makes a move. False where it isn't enabled.
+fn make_move<'a>(
+    world: &mut World<'a>,
+    alloc: Global,
+    stack: &Stack<'a>,
+    step: Move,
+) -> Result<bool, AllocError> {
+    let mut events = Vec::new(alloc);
+    flt_moves::make(world, alloc, stack, step, &mut events)
+}
+
+/// Makes an entry. One that isn't enabled changes nothing but who is on, and is answered by false.
 fn make<'a>(
     world: &mut World<'a>,
     alloc: Global,
     stack: &Stack<'a>,
     entry: JournalEntry,
-) -> Result<(), AllocError> {
+) -> Result<bool, AllocError> {
     match entry {
-        JournalEntry::Move(step) => {
-            let mut events = Vec::new(alloc);
-            flt_moves::make(world, alloc, stack, step, &mut events)?;
-            Ok(())
-        }
+        JournalEntry::Move(step) => make_move(world, alloc, stack, step),
         JournalEntry::Go {
             activation,
             steps,

@@ -11,6 +11,8 @@ use std::fmt::Write;
 pub(crate) enum Look {
     Plain,
     Faint,
+    /// They end at their place.
+    Before,
     Bad,
     Inside,
     Above,
@@ -26,25 +28,57 @@ fn look_words(look: Look) -> &'static str {
     match look {
         Look::Plain => "fill=\"#202020\"",
         Look::Faint => "fill=\"#808080\"",
+        Look::Before => "fill=\"#808080\" text-anchor=\"end\"",
         Look::Bad => "fill=\"#b00020\" font-weight=\"bold\"",
         Look::Inside => "fill=\"#ffffff\" text-anchor=\"middle\"",
         Look::Above => "fill=\"#808080\" text-anchor=\"middle\"",
     }
 }
 
+/// What a letter is written as, where it isn't itself.
+fn escape(letter: char) -> Option<&'static str> {
+    match letter {
+        '<' => Some("&lt;"),
+        '>' => Some("&gt;"),
+        '&' => Some("&amp;"),
+        _ => None,
+    }
+}
+
+fn put_number(out: &mut String, number: usize) -> Result<(), AllocError> {
+    write!(out, "{number}")
+}
+
 impl Drawing {
+    /// Some words, and behind each a number, as long as there are numbers.
+    fn put(&mut self, words: &[&str], numbers: &[usize]) -> Result<(), AllocError> {
+        let mut place: usize = 0;
+        for word in words {
+            self.out.push_str(word)?;
+            if let Some(number) = numbers.get(place) {
+                put_number(&mut self.out, *number)?;
+            }
+            place = place.saturating_add(1);
+        }
+        Ok(())
+    }
+
     /// An empty picture, white.
     pub(crate) fn new(alloc: Global, width: usize, height: usize) -> Result<Drawing, AllocError> {
-        let mut out = String::new(alloc);
-        out.push_str(
-            "<svg xmlns=\"http://www.w3.org/2000/svg\" font-family=\"monospace\" font-size=\"12\"",
+        let mut drawing = Drawing {
+            out: String::new(alloc),
+        };
+        drawing.put(
+            &[
+                "<svg xmlns=\"http://www.w3.org/2000/svg\" font-family=\"monospace\" font-size=\"12\" width=\"",
+                "\" height=\"",
+                "\">\n<rect width=\"",
+                "\" height=\"",
+                "\" fill=\"#ffffff\"/>\n",
+            ],
+            &[width, height, width, height],
         )?;
-        write!(out, " width=\"{width}\" height=\"{height}\">\n")?;
-        write!(
-            out,
-            "<rect width=\"{width}\" height=\"{height}\" fill=\"#ffffff\"/>\n"
-        )?;
-        Ok(Drawing { out })
+        Ok(drawing)
     }
 
     /// A filled box.
@@ -56,33 +90,50 @@ impl Drawing {
         height: usize,
         colour: &str,
     ) -> Result<(), AllocError> {
-        write!(
-            self.out,
-            "<rect x=\"{x}\" y=\"{y}\" width=\"{width}\" height=\"{height}\""
-        )?;
-        write!(self.out, " rx=\"3\" fill=\"{colour}\"/>\n")
+        self.put(
+            &[
+                "<rect x=\"",
+                "\" y=\"",
+                "\" width=\"",
+                "\" height=\"",
+                "\" rx=\"3\" fill=\"",
+                colour,
+                "\"/>\n",
+            ],
+            &[x, y, width, height],
+        )
     }
 
     /// A line from one height to another.
     pub(crate) fn rule(&mut self, x: usize, top: usize, bottom: usize) -> Result<(), AllocError> {
-        write!(
-            self.out,
-            "<line x1=\"{x}\" y1=\"{top}\" x2=\"{x}\" y2=\"{bottom}\""
-        )?;
-        self.out
-            .push_str(" stroke=\"#a0a0a0\" stroke-width=\"2\"/>\n")
+        self.put(
+            &[
+                "<line x1=\"",
+                "\" y1=\"",
+                "\" x2=\"",
+                "\" y2=\"",
+                "\" stroke=\"#a0a0a0\" stroke-width=\"2\"/>\n",
+            ],
+            &[x, top, x, bottom],
+        )
     }
 
     fn put_safely(&mut self, words: &str) -> Result<(), AllocError> {
         for letter in words.chars() {
-            match letter {
-                '<' => self.out.push_str("&lt;")?,
-                '>' => self.out.push_str("&gt;")?,
-                '&' => self.out.push_str("&amp;")?,
-                _ => self.out.push(letter)?,
+            match escape(letter) {
+                Some(escaped) => self.out.push_str(escaped)?,
+                None => self.out.push(letter)?,
             }
         }
         Ok(())
+    }
+
+    /// The beginning of words at a place.
+    fn open(&mut self, x: usize, y: usize, look: Look) -> Result<(), AllocError> {
+        self.put(
+            &["<text x=\"", "\" y=\"", "\" ", look_words(look), ">"],
+            &[x, y],
+        )
     }
 
     /// Words from a place on, or round it where they stand inside a shape.
@@ -93,10 +144,27 @@ impl Drawing {
         look: Look,
         words: &str,
     ) -> Result<(), AllocError> {
-        let look = look_words(look);
-        write!(self.out, "<text x=\"{x}\" y=\"{y}\" {look}>")?;
+        self.open(x, y, look)?;
         self.put_safely(words)?;
         self.out.push_str("</text>\n")
+    }
+
+    /// Words side by side, each from its own place on.
+    pub(crate) fn heads(
+        &mut self,
+        places: &[usize],
+        y: usize,
+        look: Look,
+        heads: &[&str],
+    ) -> Result<(), AllocError> {
+        let mut number: usize = 0;
+        for x in places {
+            if let Some(head) = heads.get(number) {
+                self.words(*x, y, look, head)?;
+            }
+            number = number.saturating_add(1);
+        }
+        Ok(())
     }
 
     /// A number round a place.
@@ -105,13 +173,10 @@ impl Drawing {
         x: usize,
         y: usize,
         look: Look,
-        number: u64,
+        number: usize,
     ) -> Result<(), AllocError> {
-        let look = look_words(look);
-        write!(
-            self.out,
-            "<text x=\"{x}\" y=\"{y}\" {look}>{number}</text>\n"
-        )
+        self.open(x, y, look)?;
+        self.put(&["", "</text>\n"], &[number])
     }
 
     /// The numbers of a row's entries, from 0.
@@ -122,15 +187,11 @@ impl Drawing {
         first: usize,
         last: usize,
     ) -> Result<(), AllocError> {
-        let look = look_words(Look::Faint);
-        write!(
-            self.out,
-            "<text x=\"{x}\" y=\"{y}\" {look} text-anchor=\"end\">{first}"
-        )?;
+        self.open(x, y, Look::Before)?;
         if last > first {
-            write!(self.out, "-{last}")?;
+            return self.put(&["", "-", "</text>\n"], &[first, last]);
         }
-        self.out.push_str("</text>\n")
+        self.put(&["", "</text>\n"], &[first])
     }
 
     /// The end of the picture.

@@ -56,6 +56,15 @@ const KEY: [(&str, &str); 5] = [
     (PURPLE, "the same of a context that isn't linked"),
 ];
 
+/// What stands above the lanes.
+const HEADS: [&str; 5] = [
+    "entries",
+    "operations",
+    "waiting",
+    "contexts",
+    "lines that ran, and how calls went",
+];
+
 /// How many pixels a letter takes, at most.
 const LETTER: usize = 8;
 
@@ -74,6 +83,8 @@ struct Plan<'b, 'a> {
     /// Whether a column is that of one operation alone.
     is_numbered: bool,
     contexts: usize,
+    /// How many letters the words of a row have, at most.
+    letters: usize,
 }
 
 /// What is drawn so far.
@@ -108,14 +119,26 @@ fn lines_of(timeline: &Timeline<'_>) -> usize {
     lines.min(MOST_LINES)
 }
 
+/// The row of a number; none of its entries where there is none.
+fn row_of(timeline: &Timeline<'_>, number: usize) -> Row {
+    match timeline.rows.get(number) {
+        Some(row) => *row,
+        None => NOTHING,
+    }
+}
+
+/// How many letters the words of a row have.
+fn letters_in(alloc: Global, timeline: &Timeline<'_>, row: Row) -> Result<usize, AllocError> {
+    Ok(timeline.words(alloc, row)?.len())
+}
+
 /// How many letters the longest words of a timeline's blocks have.
 fn letters_of(alloc: Global, timeline: &Timeline<'_>) -> Result<usize, AllocError> {
     let mut letters: usize = 0;
     for fold in timeline.folds.as_slice() {
         for number in 0..fold.block {
-            if let Some(row) = timeline.rows.get(fold.first.saturating_add(number)) {
-                letters = letters.max(timeline.words(alloc, *row)?.len());
-            }
+            let row = row_of(timeline, fold.first.saturating_add(number));
+            letters = letters.max(letters_in(alloc, timeline, row)?);
         }
     }
     Ok(letters)
@@ -141,12 +164,29 @@ fn end_of(row: Row) -> usize {
     row.first.saturating_add(row.count)
 }
 
+impl Sheet<'_, '_> {
+    /// A number in a box, in the lane with this left side.
+    fn draw_count(&mut self, lane: usize, colour: &str, count: usize) -> Result<(), AllocError> {
+        let left = lane.saturating_add(2);
+        let top = self.top;
+        self.drawing
+            .fill(left, top.saturating_add(2), LANE - 4, LINE - 4, colour)?;
+        let middle = left.saturating_add(LANE / 2 - 2);
+        self.drawing
+            .number(middle, top.saturating_add(15), Look::Inside, count)
+    }
+
+    /// Words in the next line, which is then done.
+    fn end_line(&mut self, left: usize, look: Look, words: &str) -> Result<(), AllocError> {
+        let base = self.top.saturating_add(15);
+        self.top = self.top.saturating_add(LINE);
+        self.drawing.words(left, base, look, words)
+    }
+}
+
 impl<'b, 'a> Plan<'b, 'a> {
     fn row(&self, number: usize) -> Row {
-        match self.timeline.rows.get(number) {
-            Some(row) => *row,
-            None => NOTHING,
-        }
+        row_of(self.timeline, number)
     }
 
     /// The left side of a lane. The first one is that of what concerns no operation.
@@ -175,6 +215,13 @@ impl<'b, 'a> Plan<'b, 'a> {
         self.context(self.contexts.max(3)).saturating_add(LANE)
     }
 
+    /// How wide the picture is.
+    fn width(&self) -> usize {
+        self.words()
+            .saturating_add(self.letters.saturating_mul(LETTER))
+            .saturating_add(LANE)
+    }
+
     // ---- lanes
 
     /// Who is on in a row, in a lane.
@@ -194,8 +241,8 @@ impl<'b, 'a> Plan<'b, 'a> {
         sheet.drawing.fill(inner, top, LANE - 8, LINE - 4, colour)
     }
 
-    /// The lanes of the operations.
-    fn draw_operations(&self, sheet: &mut Sheet<'_, '_>, row: Row) -> Result<(), AllocError> {
+    /// That the operations of some columns aren't done.
+    fn draw_rules(&self, sheet: &mut Sheet<'_, '_>, row: Row) -> Result<(), AllocError> {
         let top = sheet.top;
         for column in 0..self.columns {
             if self.timeline.is_alive(row, column) {
@@ -203,6 +250,12 @@ impl<'b, 'a> Plan<'b, 'a> {
                 sheet.drawing.rule(middle, top, top.saturating_add(LINE))?;
             }
         }
+        Ok(())
+    }
+
+    /// The lanes of the operations.
+    fn draw_operations(&self, sheet: &mut Sheet<'_, '_>, row: Row) -> Result<(), AllocError> {
+        self.draw_rules(sheet, row)?;
         let left = match self.timeline.column(row) {
             Some(column) => self.operation(column),
             None => self.lane(0),
@@ -216,15 +269,7 @@ impl<'b, 'a> Plan<'b, 'a> {
         if waiting == 0 {
             return Ok(());
         }
-        let left = self.queue().saturating_add(2);
-        let top = sheet.top;
-        sheet
-            .drawing
-            .fill(left, top.saturating_add(2), LANE - 4, LINE - 4, ORANGE)?;
-        let middle = left.saturating_add(LANE / 2 - 2);
-        sheet
-            .drawing
-            .number(middle, top.saturating_add(15), Look::Inside, waiting)
+        sheet.draw_count(self.queue(), ORANGE, waiting as usize)
     }
 
     /// The references of a context.
@@ -238,17 +283,10 @@ impl<'b, 'a> Plan<'b, 'a> {
         } else {
             PURPLE
         };
-        let left = self.context(number).saturating_add(2);
-        let top = sheet.top;
-        sheet
-            .drawing
-            .fill(left, top.saturating_add(2), LANE - 4, LINE - 4, colour)?;
-        let middle = left.saturating_add(LANE / 2 - 2);
-        sheet
-            .drawing
-            .number(middle, top.saturating_add(15), Look::Inside, references)
+        sheet.draw_count(self.context(number), colour, references as usize)
     }
 
+    /// What is there when a row ends.
     fn draw_state(&self, sheet: &mut Sheet<'_, '_>) -> Result<(), AllocError> {
         self.draw_queue(sheet)?;
         for number in 0..self.contexts {
@@ -267,7 +305,7 @@ impl<'b, 'a> Plan<'b, 'a> {
         number: usize,
     ) -> Result<(), AllocError> {
         let middle = left.saturating_add(LANE / 2);
-        sheet.drawing.number(middle, 34, Look::Above, number as u64)
+        sheet.drawing.number(middle, 34, Look::Above, number)
     }
 
     /// The numbers of operations and contexts.
@@ -284,96 +322,115 @@ impl<'b, 'a> Plan<'b, 'a> {
     }
 
     fn draw_heads(&self, sheet: &mut Sheet<'_, '_>) -> Result<(), AllocError> {
-        let drawing = &mut sheet.drawing;
-        drawing.words(LANES - 65, 16, Look::Faint, "entries")?;
-        drawing.words(self.operation(0), 16, Look::Faint, "operations")?;
-        drawing.words(self.queue(), 16, Look::Faint, "waiting")?;
-        drawing.words(self.context(0), 16, Look::Faint, "contexts")?;
-        drawing.words(
+        let places = [
+            LANES - 65,
+            self.operation(0),
+            self.queue(),
+            self.context(0),
             self.words(),
-            16,
-            Look::Faint,
-            "lines that ran, and how calls went",
-        )?;
+        ];
+        sheet.drawing.heads(&places, 16, Look::Faint, &HEADS)?;
         self.draw_numbers(sheet)
     }
 
     /// What the colours say, below the lines.
     fn draw_key(&self, sheet: &mut Sheet<'_, '_>) -> Result<(), AllocError> {
         sheet.top = sheet.top.saturating_add(LINE / 2);
-        for (colour, said) in KEY {
-            let top = sheet.top;
-            sheet.drawing.fill(LANES + 4, top.saturating_add(2), LANE - 8, LINE - 4, colour)?;
-            let base = top.saturating_add(15);
+        for (colour, said) in &KEY {
+            let top = sheet.top.saturating_add(2);
             sheet
                 .drawing
-                .words(LANES + LANE + 8, base, Look::Faint, said)?;
-            sheet.top = top.saturating_add(LINE);
+                .fill(LANES + 4, top, LANE - 8, LINE - 4, colour)?;
+            sheet.end_line(LANES + LANE + 8, Look::Faint, said)?;
         }
         Ok(())
     }
 
-    fn draw_row(
+    /// The line of some entries begins: the number of the first, and the one behind the last.
+    fn begin_line(
         &self,
         sheet: &mut Sheet<'_, '_>,
-        width: usize,
-        row: Row,
+        first: usize,
+        end: usize,
     ) -> Result<(), AllocError> {
         let base = sheet.top.saturating_add(15);
-        let is_broken = self.timeline.is_broken(row);
-        if is_broken {
-            sheet.drawing.fill(0, sheet.top, width, LINE, PINK)?;
-        }
-        sheet.course.go_to(end_of(row))?;
-        let last = end_of(row).saturating_sub(1);
-        sheet.drawing.numbers(LANES - 15, base, row.first, last)?;
-        self.draw_operations(sheet, row)?;
-        self.draw_state(sheet)?;
-        let words = self.timeline.words(self.alloc, row)?;
-        let look = if is_broken { Look::Bad } else { Look::Plain };
+        sheet.course.go_to(end)?;
         sheet
             .drawing
-            .words(self.words(), base, look, words.as_str())?;
-        sheet.top = sheet.top.saturating_add(LINE);
+            .numbers(LANES - 15, base, first, end.saturating_sub(1))
+    }
+
+    /// The line of a row in which the run breaks something stands out.
+    fn draw_ground(&self, sheet: &mut Sheet<'_, '_>, row: Row) -> Result<(), AllocError> {
+        if self.timeline.is_broken(row) {
+            let top = sheet.top;
+            return sheet.drawing.fill(0, top, self.width(), LINE, PINK);
+        }
         Ok(())
+    }
+
+    /// A row's words, which end its line.
+    fn draw_words(&self, sheet: &mut Sheet<'_, '_>, row: Row) -> Result<(), AllocError> {
+        let words = self.timeline.words(self.alloc, row)?;
+        let look = if self.timeline.is_broken(row) {
+            Look::Bad
+        } else {
+            Look::Plain
+        };
+        sheet.end_line(self.words(), look, words.as_str())
+    }
+
+    fn draw_row(&self, sheet: &mut Sheet<'_, '_>, row: Row) -> Result<(), AllocError> {
+        self.draw_ground(sheet, row)?;
+        self.begin_line(sheet, row.first, end_of(row))?;
+        self.draw_operations(sheet, row)?;
+        self.draw_state(sheet)?;
+        self.draw_words(sheet, row)
     }
 
     /// What repeats a block, with what is there behind it.
     fn draw_repetition(&self, sheet: &mut Sheet<'_, '_>, fold: Fold) -> Result<(), AllocError> {
         let first = fold.first.saturating_add(fold.block);
         let last = self.row(first.saturating_add(fold.repeated).saturating_sub(1));
-        sheet.course.go_to(end_of(last))?;
-        let base = sheet.top.saturating_add(15);
-        let from = self.row(first).first;
-        sheet
-            .drawing
-            .numbers(LANES - 15, base, from, end_of(last).saturating_sub(1))?;
+        self.begin_line(sheet, self.row(first).first, end_of(last))?;
         self.draw_state(sheet)?;
-        let mut words = String::new(self.alloc);
-        let rows = fold.repeated;
-        write!(words, "the same again, {rows} rows")?;
-        sheet
-            .drawing
-            .words(self.words(), base, Look::Faint, words.as_str())?;
-        sheet.top = sheet.top.saturating_add(LINE);
-        Ok(())
+        let words = repeated_words(self.alloc, fold.repeated)?;
+        sheet.end_line(self.words(), Look::Faint, words.as_str())
     }
 
-    fn draw_fold(
-        &self,
-        sheet: &mut Sheet<'_, '_>,
-        width: usize,
-        fold: Fold,
-    ) -> Result<(), AllocError> {
+    fn draw_fold(&self, sheet: &mut Sheet<'_, '_>, fold: Fold) -> Result<(), AllocError> {
         for number in 0..fold.block {
             let row = self.row(fold.first.saturating_add(number));
-            self.draw_row(sheet, width, row)?;
+            self.draw_row(sheet, row)?;
         }
         if fold.repeated > 0 {
             self.draw_repetition(sheet, fold)?;
         }
         Ok(())
     }
+
+    /// As many blocks as there is room for.
+    fn draw_folds(&self, sheet: &mut Sheet<'_, '_>) -> Result<(), AllocError> {
+        for fold in self.timeline.folds.as_slice() {
+            if sheet.top < MOST_LINES * LINE {
+                self.draw_fold(sheet, *fold)?;
+            }
+        }
+        Ok(())
+    }
+
+    fn draw(&self, sheet: &mut Sheet<'_, '_>) -> Result<(), AllocError> {
+        self.draw_heads(sheet)?;
+        self.draw_folds(sheet)?;
+        self.draw_key(sheet)
+    }
+}
+
+/// The words for so many rows that repeat a block.
+fn repeated_words(alloc: Global, rows: usize) -> Result<String, AllocError> {
+    let mut words = String::new(alloc);
+    write!(words, "the same again, {rows} rows")?;
+    Ok(words)
 }
 
 /// How many contexts come in a journal, up to what has lanes.
@@ -385,6 +442,41 @@ fn contexts_of<'b, 'a>(
     let mut course = Course::new(alloc, stack, journal)?;
     course.go_to(journal.len())?;
     Ok(course.contexts().min(MOST_CONTEXTS))
+}
+
+/// What is drawn of a journal.
+fn plan_of<'b, 'a>(
+    alloc: Global,
+    stack: &Stack<'_>,
+    journal: &Journal,
+    timeline: &'b Timeline<'a>,
+) -> Result<Plan<'b, 'a>, AllocError> {
+    let contexts = contexts_of(alloc, stack, journal)?;
+    let letters = letters_of(alloc, timeline)?.max(LEAST_LETTERS);
+    Ok(Plan {
+        alloc,
+        timeline,
+        columns: columns_of(timeline),
+        is_numbered: operations_of(journal) <= OWN_COLUMNS,
+        contexts,
+        letters,
+    })
+}
+
+/// An empty sheet for what is drawn.
+fn sheet_of<'b, 'a>(
+    plan: &Plan<'_, '_>,
+    stack: &'b Stack<'a>,
+    journal: &'b Journal,
+) -> Result<Sheet<'b, 'a>, AllocError> {
+    let lines = lines_of(plan.timeline).saturating_add(KEY.len() + 3);
+    let height = lines.saturating_mul(LINE);
+    let drawing = Drawing::new(plan.alloc, plan.width(), height)?;
+    Ok(Sheet {
+        drawing,
+        course: Course::new(plan.alloc, stack, journal)?,
+        top: 2 * LINE,
+    })
 }
 
 /// A journal as a picture, in SVG: the rows of its timeline, with lanes for operations, for how many visits wait in queues and work items
@@ -403,31 +495,8 @@ pub fn picture(
     ensures { IfOk result (λ text. spec.IsClosed (string_bytes text)) }
 {
     let stack = Stack::of(alloc, trees)?;
-    let plan = Plan {
-        alloc,
-        timeline,
-        columns: columns_of(timeline),
-        is_numbered: operations_of(journal) <= OWN_COLUMNS,
-        contexts: contexts_of(alloc, &stack, journal)?,
-    };
-    let letters = letters_of(alloc, timeline)?.max(LEAST_LETTERS);
-    let width = plan
-        .words()
-        .saturating_add(letters.saturating_mul(LETTER))
-        .saturating_add(LANE);
-    let lines = lines_of(timeline).saturating_add(KEY.len() + 3);
-    let height = lines.saturating_mul(LINE);
-    let mut sheet = Sheet {
-        drawing: Drawing::new(alloc, width, height)?,
-        course: Course::new(alloc, &stack, journal)?,
-        top: 2 * LINE,
-    };
-    plan.draw_heads(&mut sheet)?;
-    for fold in timeline.folds.as_slice() {
-        if sheet.top < MOST_LINES * LINE {
-            plan.draw_fold(&mut sheet, width, *fold)?;
-        }
-    }
-    plan.draw_key(&mut sheet)?;
+    let plan = plan_of(alloc, &stack, journal, timeline)?;
+    let mut sheet = sheet_of(&plan, &stack, journal)?;
+    plan.draw(&mut sheet)?;
     sheet.drawing.close()
 }

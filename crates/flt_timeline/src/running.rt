@@ -1,7 +1,7 @@
 //! A journal is run, and what each entry comes to is written down.
 
 use crate::columns::Columns;
-use crate::outcome::sign_of;
+use crate::outcome::{Sign, sign_of};
 use crate::telling::{Happening, Started, Telling, Who};
 use flt_model::{Journal, JournalEntry, Move};
 use flt_records::Upcoming;
@@ -189,28 +189,43 @@ impl<'b, 'a> Teller<'b, 'a> {
         }
     }
 
+    /// The number of the callback that an activation runs; a routine is known by the work item that started it.
+    fn callback_of(&self, activation: usize, filter: usize, routine: Option<usize>) -> usize {
+        if let Some(routine) = routine {
+            return routine;
+        }
+        match self.filters.get(filter) {
+            Some(filter) => callback_for(filter, self.world.place(activation)),
+            None => 0,
+        }
+    }
+
+    /// The callback that an activation runs.
+    fn started(&self, activation: usize, routine: Option<usize>) -> Started {
+        let filter = self.world.filter(activation);
+        Started {
+            filter,
+            callback: self.callback_of(activation, filter, routine),
+            draining: self.world.has_flag(activation),
+        }
+    }
+
+    /// The operation that an activation is about.
+    fn operation_on(&self, activation: usize) -> Option<usize> {
+        match self.world.operation_in(activation, OperationVariable::Data) {
+            Some(visit) => Some(self.world.operation_of(visit)),
+            None => None,
+        }
+    }
+
     /// A callback has started: the activation of a number.
     fn tell_start(
         &mut self,
         activation: usize,
         routine: Option<usize>,
     ) -> Result<Told, AllocError> {
-        let filter = self.world.filter(activation);
-        let place = self.world.place(activation);
-        let callback = match (routine, self.filters.get(filter)) {
-            (Some(routine), _) => routine,
-            (None, Some(filter)) => callback_for(filter, place),
-            (None, None) => 0,
-        };
-        let started = Started {
-            filter,
-            callback,
-            draining: self.world.has_flag(activation),
-        };
-        let operation = match self.world.operation_in(activation, OperationVariable::Data) {
-            Some(visit) => Some(self.world.operation_of(visit)),
-            None => None,
-        };
+        let started = self.started(activation, routine);
+        let operation = self.operation_on(activation);
         self.runs.push(Run { operation, started })?;
         let column = self.columns.find(operation);
         self.columns.start(column);
@@ -223,18 +238,14 @@ impl<'b, 'a> Teller<'b, 'a> {
         Ok(self.told(who, None, Happening::Starts(started)))
     }
 
-    fn tell_move(&mut self, step: Move) -> Result<Told, AllocError> {
-        let routine = self.routine_of(step);
-        let before = self.world.activations.len();
-        let alloc = self.alloc;
-        let stack = self.stack;
-        let mut events = Vec::new(alloc);
-        if !flt_moves::make(&mut self.world, alloc, stack, step, &mut events)? {
-            return Ok(self.aside(Happening::IsRefused(JournalEntry::Move(step))));
-        }
-        if self.world.activations.len() > before {
-            return self.tell_start(before, routine);
-        }
+    /// Makes a move. False where it isn't enabled.
+    fn make(&mut self, step: Move) -> Result<bool, AllocError> {
+        let mut events = Vec::new(self.alloc);
+        flt_moves::make(&mut self.world, self.alloc, self.stack, step, &mut events)
+    }
+
+    /// A move was made that started nothing.
+    fn tell_moved(&mut self, step: Move) -> Told {
         let operation = self.operation_of(step);
         if let (Move::Arrive { .. }, Some(operation)) = (step, operation) {
             self.columns.add(&self.world, operation);
@@ -244,7 +255,19 @@ impl<'b, 'a> Teller<'b, 'a> {
             activation: None,
             ends: false,
         };
-        Ok(self.told(who, None, happening_of(step)))
+        self.told(who, None, happening_of(step))
+    }
+
+    fn tell_move(&mut self, step: Move) -> Result<Told, AllocError> {
+        let routine = self.routine_of(step);
+        let before = self.world.activations.len();
+        if !self.make(step)? {
+            return Ok(self.aside(Happening::IsRefused(JournalEntry::Move(step))));
+        }
+        if self.world.activations.len() > before {
+            return self.tell_start(before, routine);
+        }
+        Ok(self.tell_moved(step))
     }
 
     // ---- steps
@@ -285,21 +308,8 @@ impl<'b, 'a> Teller<'b, 'a> {
         }
     }
 
-    /// Makes the step that others see; none where it isn't enabled.
-    fn run_seen(
-        &mut self,
-        activation: usize,
-        grant: bool,
-        run: Run,
-    ) -> Result<Option<Happening>, AllocError> {
-        let statement = self.next_statement(activation)?;
-        let (line, sign) = match statement {
-            Some(statement) => (
-                line_of(statement),
-                sign_of(&self.world, activation, grant, statement),
-            ),
-            None => (self.end_line(run), None),
-        };
+    /// Makes a step that others see. False where it isn't enabled.
+    fn step_seen(&mut self, activation: usize, grant: bool) -> Result<bool, AllocError> {
         // Whether the activation holds its operation changes no world: only events, and those aren't read.
         let setup = Setup {
             alloc: self.alloc,
@@ -308,7 +318,18 @@ impl<'b, 'a> Teller<'b, 'a> {
             held: true,
         };
         let mut events = Vec::new(self.alloc);
-        if !flt_steps::step_seen(&mut self.world, self.stack, setup, &mut events)? {
+        flt_steps::step_seen(&mut self.world, self.stack, setup, &mut events)
+    }
+
+    /// Makes the step of a line; none where it isn't enabled.
+    fn run_line(
+        &mut self,
+        activation: usize,
+        grant: bool,
+        line: usize,
+        sign: Option<Sign>,
+    ) -> Result<Option<Happening>, AllocError> {
+        if !self.step_seen(activation, grant)? {
             return Ok(None);
         }
         let outcome = match sign {
@@ -316,6 +337,36 @@ impl<'b, 'a> Teller<'b, 'a> {
             None => None,
         };
         Ok(Some(Happening::Runs(line, outcome)))
+    }
+
+    /// Makes the step that others see; none where it isn't enabled.
+    fn run_seen(
+        &mut self,
+        activation: usize,
+        grant: bool,
+        run: Run,
+    ) -> Result<Option<Happening>, AllocError> {
+        match self.next_statement(activation)? {
+            Some(statement) => {
+                let sign = sign_of(&self.world, activation, grant, statement);
+                self.run_line(activation, grant, line_of(statement), sign)
+            }
+            None => self.run_line(activation, grant, self.end_line(run), None),
+        }
+    }
+
+    /// Goes on by so many steps, of which the last is seen; none where one of them isn't enabled.
+    fn go(
+        &mut self,
+        activation: usize,
+        steps: u32,
+        grant: bool,
+        run: Run,
+    ) -> Result<Option<Happening>, AllocError> {
+        if steps == 0 || !self.go_unseen(activation, steps - 1)? {
+            return Ok(None);
+        }
+        self.run_seen(activation, grant, run)
     }
 
     /// An activation has gone on.
@@ -348,10 +399,7 @@ impl<'b, 'a> Teller<'b, 'a> {
         let Some(run) = self.runs.get(activation).copied() else {
             return Ok(self.aside(Happening::IsRefused(entry)));
         };
-        if steps == 0 || !self.go_unseen(activation, steps - 1)? {
-            return Ok(self.aside(Happening::IsRefused(entry)));
-        }
-        match self.run_seen(activation, grant, run)? {
+        match self.go(activation, steps, grant, run)? {
             Some(happening) => Ok(self.tell_run(activation, run, happening)),
             None => Ok(self.aside(Happening::IsRefused(entry))),
         }

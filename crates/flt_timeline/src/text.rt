@@ -5,11 +5,10 @@ use crate::folds::{Fold, folds_of};
 use crate::rows::Row;
 use crate::telling::{Column, Happening, Telling, Who};
 use crate::timeline::Timeline;
-use crate::words::{put_callback, put_happening, violation_word};
+use crate::words::{put, put_callback, put_happening, violation_word};
 use flt_model::Verdict;
 use sqlite_items::Items;
 use std::alloc::{AllocError, Global};
-use std::fmt::Write;
 
 const NOBODY: Who = Who {
     operation: None,
@@ -31,6 +30,21 @@ fn width(number: usize) -> usize {
 fn put_blanks(out: &mut String, count: usize) -> Result<(), AllocError> {
     for _ in 0..count {
         out.push_str(" ")?;
+    }
+    Ok(())
+}
+
+/// What stands between words.
+fn put_comma(out: &mut String, number: usize) -> Result<(), AllocError> {
+    out.push_str(if number > 0 { ", " } else { "" })
+}
+
+/// The signs of columns up to one that is on; alive are those that the bits say, column 0 as the lowest.
+fn put_bars(out: &mut String, alive: u32, columns: usize) -> Result<(), AllocError> {
+    let mut left = alive;
+    for _ in 0..columns {
+        out.push_str(if left % 2 == 1 { "|   " } else { "    " })?;
+        left /= 2;
     }
     Ok(())
 }
@@ -107,15 +121,17 @@ impl<'a> Timeline<'a> {
         Ok(())
     }
 
+    /// An entry's words.
+    fn put_entry(&self, out: &mut String, entry: usize) -> Result<(), AllocError> {
+        let happening = self.happening(entry);
+        put_happening(out, self.filters.as_slice(), self.serial(entry), happening)
+    }
+
     /// Some entries' words.
     fn put_words(&self, out: &mut String, row: Row) -> Result<(), AllocError> {
         for number in 0..row.count {
-            if number > 0 {
-                out.push_str(", ")?;
-            }
-            let entry = row.first.saturating_add(number);
-            let happening = self.happening(entry);
-            put_happening(out, self.filters.as_slice(), self.serial(entry), happening)?;
+            put_comma(out, number)?;
+            self.put_entry(out, row.first.saturating_add(number))?;
         }
         Ok(())
     }
@@ -130,9 +146,23 @@ impl<'a> Timeline<'a> {
         if count == 1 {
             return self.put_words(out, block);
         }
-        write!(out, "{count} times (")?;
+        put(out, &["", " times ("], &[count])?;
         self.put_words(out, block)?;
         out.push_str(")")
+    }
+
+    /// What repeats among a row's words.
+    fn folds_in(&self, alloc: Global, row: Row) -> Result<Items<Fold>, AllocError> {
+        let words = words_of(alloc, row)?;
+        folds_of(alloc, self.told.as_slice(), words.as_slice())
+    }
+
+    fn put_blocks(&self, out: &mut String, row: Row, folds: &[Fold]) -> Result<(), AllocError> {
+        for fold in folds {
+            put_comma(out, fold.first)?;
+            self.put_block(out, row, *fold)?;
+        }
+        Ok(())
     }
 
     /// A row's words, of which what repeats is told once.
@@ -141,15 +171,8 @@ impl<'a> Timeline<'a> {
             return out.push_str("not judged");
         }
         self.put_resumed(out, row)?;
-        let words = words_of(alloc, row)?;
-        let folds = folds_of(alloc, self.told.as_slice(), words.as_slice())?;
-        for fold in folds.as_slice() {
-            if fold.first > 0 {
-                out.push_str(", ")?;
-            }
-            self.put_block(out, row, *fold)?;
-        }
-        Ok(())
+        let folds = self.folds_in(alloc, row)?;
+        self.put_blocks(out, row, folds.as_slice())
     }
 
     // ---- lines
@@ -165,14 +188,22 @@ impl<'a> Timeline<'a> {
     /// The numbers of some entries, to the right of a field.
     fn put_numbers(out: &mut String, field: usize, row: Row) -> Result<(), AllocError> {
         let first = row.first;
-        let last = row.first.saturating_add(row.count.saturating_sub(1));
         if row.count <= 1 {
             put_blanks(out, field.saturating_sub(width(first)))?;
-            return write!(out, "{first}  ");
+            return put(out, &["", "  "], &[first]);
         }
+        let last = row.first.saturating_add(row.count.saturating_sub(1));
         let taken = width(first).saturating_add(width(last)).saturating_add(1);
         put_blanks(out, field.saturating_sub(taken))?;
-        write!(out, "{first}-{last}  ")
+        put(out, &["", "-", "  "], &[first, last])
+    }
+
+    /// The sign of a row's own column.
+    fn put_own(&self, out: &mut String, entry: usize, own: usize) -> Result<(), AllocError> {
+        if own < COLUMNS {
+            return out.push_str("o ");
+        }
+        put(out, &["+ ", ": "], &[self.serial(entry) as usize])
     }
 
     /// The signs of the columns before a row's own, and its own.
@@ -185,16 +216,8 @@ impl<'a> Timeline<'a> {
             Column::Own(own) => own,
             Column::Beyond => COLUMNS,
         };
-        let mut left = telling.alive;
-        for _ in 0..own {
-            out.push_str(if left % 2 == 1 { "|   " } else { "    " })?;
-            left /= 2;
-        }
-        if own < COLUMNS {
-            return out.push_str("o ");
-        }
-        let serial = self.serial(entry);
-        write!(out, "+ {serial}: ")
+        put_bars(out, telling.alive, own)?;
+        self.put_own(out, entry, own)
     }
 
     /// What the run comes to, behind the row of its last entry.
@@ -202,14 +225,19 @@ impl<'a> Timeline<'a> {
         let last = row.first.saturating_add(row.count.saturating_sub(1));
         match self.verdict {
             Verdict::Breaks(violation, entry) if entry == last => {
-                out.push_str("  <- breaks ")?;
-                out.push_str(violation_word(violation))
+                put(out, &["  <- breaks ", violation_word(violation)], &[])
             }
             _ if matches!(self.happening(last), Happening::IsRefused(_)) => {
                 out.push_str("  <- isn't enabled")
             }
             _ => Ok(()),
         }
+    }
+
+    /// What a row's entries came to, and what the run comes to behind them.
+    fn put_told(&self, alloc: Global, out: &mut String, row: Row) -> Result<(), AllocError> {
+        self.put_row(alloc, out, row)?;
+        self.put_end(out, row)
     }
 
     fn put_line(
@@ -221,8 +249,7 @@ impl<'a> Timeline<'a> {
     ) -> Result<(), AllocError> {
         Self::put_numbers(out, field, row)?;
         self.put_columns(out, row.first)?;
-        self.put_row(alloc, out, row)?;
-        self.put_end(out, row)?;
+        self.put_told(alloc, out, row)?;
         out.push_str("\n")
     }
 
@@ -245,10 +272,13 @@ impl<'a> Timeline<'a> {
         Self::put_numbers(out, field, numbers)?;
         let more = times(fold).saturating_sub(1);
         if fold.block == 1 {
-            return write!(out, "the same {more} times more\n");
+            return put(out, &["the same ", " times more\n"], &[more]);
         }
-        let block = fold.block;
-        write!(out, "the same {block} rows {more} times more\n")
+        put(
+            out,
+            &["the same ", " rows ", " times more\n"],
+            &[fold.block, more],
+        )
     }
 
     fn put_fold(
@@ -269,6 +299,13 @@ impl<'a> Timeline<'a> {
         Ok(())
     }
 
+    fn put_folds(&self, alloc: Global, out: &mut String, indent: usize) -> Result<(), AllocError> {
+        for fold in self.folds.as_slice() {
+            self.put_fold(alloc, out, indent, *fold)?;
+        }
+        Ok(())
+    }
+
     // ---- rows by themselves
 
     /// What a row's entries came to, without their numbers and columns.
@@ -278,8 +315,7 @@ impl<'a> Timeline<'a> {
     /// Where a growth was refused.
     pub fn words(&self, alloc: Global, row: Row) -> Result<String, AllocError> {
         let mut out = String::new(alloc);
-        self.put_row(alloc, &mut out, row)?;
-        self.put_end(&mut out, row)?;
+        self.put_told(alloc, &mut out, row)?;
         Ok(out)
     }
 
@@ -327,9 +363,7 @@ impl<'a> Timeline<'a> {
     /// Where a growth was refused.
     pub fn text(&self, alloc: Global, indent: usize) -> Result<String, AllocError> {
         let mut out = String::new(alloc);
-        for fold in self.folds.as_slice() {
-            self.put_fold(alloc, &mut out, indent, *fold)?;
-        }
+        self.put_folds(alloc, &mut out, indent)?;
         Ok(out)
     }
 }

@@ -1,11 +1,11 @@
 //! The timeline of a journal.
 
-ghost use Rattle.std.specs.Prelude.{◌≡◌, length, IfOk};
+ghost use Rattle.std.specs.Prelude.{◌≡◌, ◌+◌, length, IfOk, OnOk};
 
 use crate::folds::{Fold, folds_of};
 use crate::rows::{Row, rows_of};
 use crate::running::{Teller, filters_of};
-use crate::telling::{Happening, Who};
+use crate::telling::{Happening, Telling, Who};
 use crate::tellings::Tellings;
 use flt_model::{Journal, Verdict};
 use flt_tree::{Filter, Tree};
@@ -49,19 +49,33 @@ fn is_refused(happening: Happening) -> bool {
     matches!(happening, Happening::IsRefused(_))
 }
 
+impl Course {
+    /// What is told of the next entry, and who was on.
+    fn add(&mut self, telling: Telling, who: Who) -> Result<(), AllocError>
+        ensures told { OnOk result (length self.new.told ≡ length self.old.told + 1) }
+        ensures whos { OnOk result (length self.new.whos ≡ length self.old.whos + 1) }
+    {
+        let number = self.tellings.number(telling)?;
+        self.told.push(number)?;
+        self.whos.push(who)
+    }
+}
+
 /// Tells a journal entry by entry, up to the one that ends the run.
-fn course_of<'b, 'a>(
+fn course_of(
     alloc: Global,
-    mut teller: Teller<'b, 'a>,
+    teller: &mut Teller<'_, '_>,
     journal: &Journal,
     verdict: Verdict,
 ) -> Result<Course, AllocError>
     ensures told { IfOk result (λ c. length c.told ≡ length journal.now) }
     ensures whos { IfOk result (λ c. length c.whos ≡ length journal.now) }
 {
-    let mut tellings = Tellings::new(alloc);
-    let mut told = Items::new(alloc);
-    let mut whos = Items::new(alloc);
+    let mut course = Course {
+        tellings: Tellings::new(alloc),
+        told: Items::new(alloc),
+        whos: Items::new(alloc),
+    };
     let mut is_over = false;
     for entry in journal.entries() {
         let here = if is_over {
@@ -70,19 +84,30 @@ fn course_of<'b, 'a>(
             teller.tell(*entry)?
         };
         let is_last = !is_over
-            && (ends_at(verdict, told.len()) || is_refused(here.telling.happening));
+            && (ends_at(verdict, course.told.len()) || is_refused(here.telling.happening));
         is_over = is_over || is_last;
-        told.push(tellings.number(here.telling)?)?;
-        whos.push(Who {
+        let who = Who {
             ends: here.who.ends || is_last,
             ..here.who
-        })?;
+        };
+        course.add(here.telling, who)?;
     }
-    Ok(Course {
-        tellings,
-        told,
-        whos,
-    })
+    Ok(course)
+}
+
+/// Tells a journal on some filters, from the highest altitude to the lowest.
+fn course_on(
+    alloc: Global,
+    stack: &Stack<'_>,
+    filters: &[&Filter],
+    journal: &Journal,
+    verdict: Verdict,
+) -> Result<Course, AllocError>
+    ensures told { IfOk result (λ c. length c.told ≡ length journal.now) }
+    ensures whos { IfOk result (λ c. length c.whos ≡ length journal.now) }
+{
+    let mut teller = Teller::new(alloc, stack, filters, journal)?;
+    course_of(alloc, &mut teller, journal, verdict)
 }
 
 impl<'a> Timeline<'a> {
@@ -104,8 +129,7 @@ impl<'a> Timeline<'a> {
     {
         let stack = Stack::of(alloc, trees)?;
         let filters = filters_of(alloc, &stack, trees)?;
-        let teller = Teller::new(alloc, &stack, filters.as_slice(), journal)?;
-        let course = course_of(alloc, teller, journal, verdict)?;
+        let course = course_on(alloc, &stack, filters.as_slice(), journal, verdict)?;
         let rows = rows_of(alloc, course.whos.as_slice())?;
         let folds = folds_of(alloc, course.told.as_slice(), rows.as_slice())?;
         Ok(Timeline {

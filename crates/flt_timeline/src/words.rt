@@ -16,10 +16,11 @@ pub(crate) fn kind_word(kind: Operation) -> &'static str {
     }
 }
 
+/// The word of a mode, between blanks.
 fn mode_word(mode: Mode) -> &'static str {
     match mode {
-        Mode::Irp => "irp",
-        Mode::Fast => "fast",
+        Mode::Irp => " irp ",
+        Mode::Fast => " fast ",
     }
 }
 
@@ -36,32 +37,51 @@ pub(crate) fn violation_word(violation: Violation) -> &'static str {
     }
 }
 
-pub(crate) fn choice_word(choice: bool) -> &'static str {
-    if choice { "yes" } else { "no" }
+/// What was chosen or came out, behind a blank.
+fn choice_word(choice: bool) -> &'static str {
+    if choice { " yes" } else { " no" }
 }
 
-/// A word and a number.
+fn put_number(out: &mut String, number: usize) -> Result<(), AllocError> {
+    write!(out, "{number}")
+}
+
+/// Some words, and behind each a number, as long as there are numbers.
+pub(crate) fn put(out: &mut String, words: &[&str], numbers: &[usize]) -> Result<(), AllocError> {
+    let mut place: usize = 0;
+    for word in words {
+        out.push_str(word)?;
+        if let Some(number) = numbers.get(place) {
+            put_number(out, *number)?;
+        }
+        place = place.saturating_add(1);
+    }
+    Ok(())
+}
+
+/// A word, which ends with a blank, and a number.
 fn put_one(out: &mut String, word: &str, number: u32) -> Result<(), AllocError> {
-    write!(out, "{word} {number}")
+    put(out, &[word], &[number as usize])
 }
 
-/// A word and two numbers.
+/// A word, which ends with a blank, and two numbers.
 fn put_two(out: &mut String, word: &str, one: u32, other: u32) -> Result<(), AllocError> {
-    write!(out, "{word} {one} {other}")
+    put(out, &[word, " "], &[one as usize, other as usize])
 }
 
 fn put_arrival(out: &mut String, kind: Operation, mode: Mode, file: u32) -> Result<(), AllocError> {
-    out.push_str("arrive ")?;
-    out.push_str(kind_word(kind))?;
-    out.push_str(" ")?;
+    put(out, &["arrive ", kind_word(kind)], &[])?;
     put_one(out, mode_word(mode), file)
 }
 
 fn put_unlink(out: &mut String, altitude: u32, key: Key) -> Result<(), AllocError> {
-    put_one(out, "unlink", altitude)?;
     match key {
-        Key::Stream(file) => put_one(out, " stream", file),
-        Key::Instance => out.push_str(" instance"),
+        Key::Stream(file) => put(
+            out,
+            &["unlink ", " stream "],
+            &[altitude as usize, file as usize],
+        ),
+        Key::Instance => put(out, &["unlink ", " instance"], &[altitude as usize]),
     }
 }
 
@@ -73,17 +93,17 @@ pub(crate) fn put_move(out: &mut String, step: Move) -> Result<(), AllocError> {
             mode,
             file,
         } => put_arrival(out, operation, mode, file),
-        Move::Pre { serial } => put_one(out, "pre", serial),
-        Move::Skip { serial } => put_one(out, "skip", serial),
-        Move::Lower { serial } => put_one(out, "lower", serial),
-        Move::Post { serial } => put_one(out, "post", serial),
-        Move::Cancel { serial } => put_one(out, "cancel", serial),
-        Move::Canceled { altitude, serial } => put_two(out, "canceled", altitude, serial),
-        Move::Work { item } => put_one(out, "work", item),
-        Move::Detach { altitude } => put_one(out, "detach", altitude),
-        Move::Drain { altitude, serial } => put_two(out, "drain", altitude, serial),
+        Move::Pre { serial } => put_one(out, "pre ", serial),
+        Move::Skip { serial } => put_one(out, "skip ", serial),
+        Move::Lower { serial } => put_one(out, "lower ", serial),
+        Move::Post { serial } => put_one(out, "post ", serial),
+        Move::Cancel { serial } => put_one(out, "cancel ", serial),
+        Move::Canceled { altitude, serial } => put_two(out, "canceled ", altitude, serial),
+        Move::Work { item } => put_one(out, "work ", item),
+        Move::Detach { altitude } => put_one(out, "detach ", altitude),
+        Move::Drain { altitude, serial } => put_two(out, "drain ", altitude, serial),
         Move::Unlink { altitude, key } => put_unlink(out, altitude, key),
-        Move::Detached { altitude } => put_one(out, "detached", altitude),
+        Move::Detached { altitude } => put_one(out, "detached ", altitude),
     }
 }
 
@@ -96,9 +116,12 @@ fn put_entry(out: &mut String, entry: JournalEntry) -> Result<(), AllocError> {
             steps,
             grant,
         } => {
-            put_two(out, "go", activation, steps)?;
-            out.push_str(" ")?;
-            out.push_str(choice_word(grant))
+            let choice = choice_word(grant);
+            put(
+                out,
+                &["go ", " ", choice],
+                &[activation as usize, steps as usize],
+            )
         }
     }
 }
@@ -111,30 +134,30 @@ fn put_name(out: &mut String, name: &[u8]) -> Result<(), AllocError> {
     Ok(())
 }
 
-/// The head of a callback as its text has it.
+/// A name behind a word, in quotes with it.
+fn put_named(out: &mut String, word: &str, name: &[u8]) -> Result<(), AllocError> {
+    put(out, &["`", word], &[])?;
+    put_name(out, name)?;
+    out.push_str("`")
+}
+
+/// The head of a callback as its text has it, in quotes.
 fn put_head(out: &mut String, head: &Head) -> Result<(), AllocError> {
     match head {
-        Head::Pre(kind) => {
-            out.push_str("pre ")?;
-            out.push_str(kind_word(*kind))
-        }
-        Head::Post(kind) => {
-            out.push_str("post ")?;
-            out.push_str(kind_word(*kind))
-        }
-        Head::Canceled => out.push_str("canceled"),
-        Head::DeferredPre(name) => {
-            out.push_str("deferred_pre ")?;
-            put_name(out, name.as_slice())
-        }
-        Head::DeferredPost(name) => {
-            out.push_str("deferred_post ")?;
-            put_name(out, name.as_slice())
-        }
-        Head::Generic(name) => {
-            out.push_str("generic ")?;
-            put_name(out, name.as_slice())
-        }
+        Head::Pre(kind) => put(out, &["`pre ", kind_word(*kind), "`"], &[]),
+        Head::Post(kind) => put(out, &["`post ", kind_word(*kind), "`"], &[]),
+        Head::Canceled => out.push_str("`canceled`"),
+        Head::DeferredPre(name) => put_named(out, "deferred_pre ", name.as_slice()),
+        Head::DeferredPost(name) => put_named(out, "deferred_post ", name.as_slice()),
+        Head::Generic(name) => put_named(out, "generic ", name.as_slice()),
+    }
+}
+
+/// The head of a filter's callback.
+fn put_head_of(out: &mut String, filter: &Filter, callback: usize) -> Result<(), AllocError> {
+    match filter.callbacks.get(callback) {
+        Some(callback) => put_head(out, &callback.head),
+        None => out.push_str("``"),
     }
 }
 
@@ -147,34 +170,29 @@ pub(crate) fn put_callback(
     let Some(filter) = filters.get(started.filter) else {
         return Ok(());
     };
-    out.push_str("`")?;
-    if let Some(callback) = filter.callbacks.get(started.callback) {
-        put_head(out, &callback.head)?;
-    }
-    out.push_str("`")?;
+    put_head_of(out, filter, started.callback)?;
     if filters.len() > 1 {
         out.push_str(" of ")?;
-        put_name(out, filter.name.as_slice())?;
+        return put_name(out, filter.name.as_slice());
     }
     Ok(())
 }
 
 fn put_start(out: &mut String, filters: &[&Filter], started: Started) -> Result<(), AllocError> {
     put_callback(out, filters, started)?;
-    out.push_str(" starts")?;
-    if started.draining {
-        out.push_str(", draining")?;
-    }
-    Ok(())
+    out.push_str(if started.draining {
+        " starts, draining"
+    } else {
+        " starts"
+    })
 }
 
 fn put_run(out: &mut String, line: usize, outcome: Option<bool>) -> Result<(), AllocError> {
-    write!(out, "{line}")?;
-    if let Some(outcome) = outcome {
-        out.push_str(" ")?;
-        out.push_str(choice_word(outcome))?;
-    }
-    Ok(())
+    let came_out = match outcome {
+        Some(outcome) => choice_word(outcome),
+        None => "",
+    };
+    put(out, &["", came_out], &[line])
 }
 
 /// What an entry came to that is about an operation of this number, if it is about one.
@@ -186,12 +204,12 @@ pub(crate) fn put_happening(
 ) -> Result<(), AllocError> {
     match happening {
         Happening::Arrives(kind, mode, file) => put_arrival(out, kind, mode, file),
-        Happening::Skips => put_one(out, "skip", serial),
-        Happening::Lowers => put_one(out, "lower", serial),
-        Happening::Cancels => put_one(out, "cancel", serial),
-        Happening::Detaches(altitude) => put_one(out, "detach", altitude),
+        Happening::Skips => put_one(out, "skip ", serial),
+        Happening::Lowers => put_one(out, "lower ", serial),
+        Happening::Cancels => put_one(out, "cancel ", serial),
+        Happening::Detaches(altitude) => put_one(out, "detach ", altitude),
         Happening::Unlinks(altitude, key) => put_unlink(out, altitude, key),
-        Happening::IsDetached(altitude) => put_one(out, "detached", altitude),
+        Happening::IsDetached(altitude) => put_one(out, "detached ", altitude),
         Happening::Starts(started) => put_start(out, filters, started),
         Happening::Runs(line, outcome) => put_run(out, line, outcome),
         Happening::IsRefused(entry) => put_entry(out, entry),
