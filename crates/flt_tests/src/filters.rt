@@ -1,7 +1,7 @@
 //! Filters by number, from the highest altitude, and what is read of each.
 
-use flt_frame::{Instruction, Loaded, LoadedFault, Operation, Place};
-use flt_syntax::parse;
+use flt_frame::{Instruction, Loaded, Operation, Place};
+use flt_syntax::{Tree, parse};
 use std::alloc::Global;
 use std::test::Fail;
 
@@ -13,12 +13,12 @@ const HIGH: &str =
 const MIDDLE: &str =
     "filter middle altitude 200\nqueue\npre create {\nreturn NO_CALLBACK\n}\ncanceled {\nFltCompletePendedPreOperation data COMPLETE STATUS_CANCELLED\n}\n";
 
-fn load(alloc: Global, texts: &[&str]) -> Result<Result<Loaded, LoadedFault>, Fail> {
+fn trees_of(alloc: Global, texts: &[&str]) -> Result<Vec<Tree>, Fail> {
     let mut trees = Vec::new(alloc);
     for text in texts {
         trees.push(parse(alloc, text.as_bytes())?)?;
     }
-    Ok(Loaded::new(alloc, trees))
+    Ok(trees)
 }
 
 /// What is read of the filter of a number.
@@ -109,64 +109,90 @@ fn is_read(loaded: &Loaded, number: usize, row: &Row) -> bool {
 /// Altitudes, and the number of the filter that each has.
 const NUMBERS: [(u32, usize); 5] = [(4_294_967_295, 0), (200, 1), (100, 2), (101, 3), (0, 3)];
 
-/// The first row that is wrong, in `ROWS` and `NUMBERS`.
-fn wrong_row(loaded: &Loaded) -> Option<usize> {
-    for (row, (altitude, number)) in NUMBERS.iter().enumerate() {
+/// Whether each altitude has its number.
+fn have_numbers(loaded: &Loaded, numbers: &[(u32, usize)]) -> bool {
+    for (altitude, number) in numbers {
         if loaded.number(*altitude) != *number {
-            return Some(row);
+            return false;
         }
     }
-    for (number, row) in ROWS.iter().enumerate() {
-        if !is_read(loaded, number, row) {
-            return Some(number);
-        }
-    }
-    None
+    true
 }
 
-/// Texts, and the first one whose altitude an earlier one has.
-const REPEATED: [(&[&str], &str); 4] = [
+/// Whether each filter is read as its row says.
+fn are_read(loaded: &Loaded, rows: &[Row]) -> bool {
+    for (number, row) in rows.iter().enumerate() {
+        if !is_read(loaded, number, row) {
+            return false;
+        }
+    }
+    true
+}
+
+/// The orders in which the three texts are loaded.
+const ORDERS: [[&str; 3]; 3] = [
+    [LOW, HIGH, MIDDLE],
+    [HIGH, MIDDLE, LOW],
+    [MIDDLE, LOW, HIGH],
+];
+
+/// Texts, and the first one whose altitude an earlier one has, if there is one.
+const REPEATED: [(&[&str], &str); 5] = [
     (&[LOW, LOW], "altitude file 1"),
     (&[LOW, HIGH, HIGH, LOW], "altitude file 2"),
     (&[HIGH, MIDDLE, LOW, HIGH], "altitude file 3"),
     (&[HIGH, MIDDLE, LOW, MIDDLE, HIGH], "altitude file 3"),
+    (&[], ""),
 ];
 
-/// The first row that is wrong, if the texts are loaded in this order.
-fn wrong_in_order(alloc: Global, texts: &[&str]) -> Result<Option<usize>, Fail> {
-    let loaded = load(alloc, texts)?.ok().ok_or("they are loaded")?;
-    if loaded.filters() != 3 {
-        return Ok(Some(3));
+/// Whether all is read as it should be, if the texts are loaded in this order.
+fn is_loaded(
+    alloc: Global,
+    texts: &[&str],
+    numbers: &[(u32, usize)],
+    rows: &[Row],
+) -> Result<bool, Fail> {
+    let loaded = Loaded::new(alloc, trees_of(alloc, texts)?)?;
+    Ok(loaded.filters() == 3 && have_numbers(&loaded, numbers) && are_read(&loaded, rows))
+}
+
+/// The first order in which something is read otherwise.
+fn wrong_order(
+    alloc: Global,
+    orders: &[[&str; 3]],
+    numbers: &[(u32, usize)],
+    rows: &[Row],
+) -> Result<Option<usize>, Fail> {
+    for (order, texts) in orders.iter().enumerate() {
+        if !is_loaded(alloc, texts, numbers, rows)? {
+            return Ok(Some(order));
+        }
     }
-    Ok(wrong_row(&loaded))
+    Ok(None)
 }
 
-/// What is said of texts that aren't loaded.
-fn fault_of(alloc: Global, texts: &[&str]) -> Result<String, Fail> {
-    let fault = load(alloc, texts)?.err().ok_or("one is repeated")?;
-    Ok(format!(in alloc; "{fault}")?)
+/// What is said of texts: nothing if they are loaded.
+fn told(alloc: Global, texts: &[&str]) -> Result<String, Fail> {
+    match Loaded::new(alloc, trees_of(alloc, texts)?) {
+        Ok(_) => Ok(String::new(alloc)),
+        Err(fault) => Ok(format!(in alloc; "{fault}")?),
+    }
 }
 
+/// The first row of which something else is said.
 fn wrong_fault(alloc: Global, table: &[(&[&str], &str)]) -> Result<Option<usize>, Fail> {
-    for (row, (texts, told)) in table.iter().enumerate() {
-        if fault_of(alloc, texts)?.as_str() != *told {
+    for (row, (texts, wanted)) in table.iter().enumerate() {
+        if told(alloc, texts)?.as_str() != *wanted {
             return Ok(Some(row));
         }
     }
     Ok(None)
 }
 
-fn none_are_loaded(alloc: Global) -> Result<bool, Fail> {
-    Ok(load(alloc, &[])?.is_ok())
-}
-
 /// Whichever order the texts have; and no altitude comes twice.
 #[test]
 fn filters_are_read_by_number(rt: HostRuntime) -> Result<(), Fail> {
-    assert_eq!(rt; wrong_in_order(rt.alloc(), &[LOW, HIGH, MIDDLE])?, None);
-    assert_eq!(rt; wrong_in_order(rt.alloc(), &[HIGH, MIDDLE, LOW])?, None);
-    assert_eq!(rt; wrong_in_order(rt.alloc(), &[MIDDLE, LOW, HIGH])?, None);
-    assert_eq!(rt; wrong_fault(rt.alloc(), &REPEATED)?, None);
-    assert!(rt; none_are_loaded(rt.alloc())?);
+    assert!(rt; wrong_order(rt.alloc(), &ORDERS, &NUMBERS, &ROWS)?.is_none());
+    assert!(rt; wrong_fault(rt.alloc(), &REPEATED)?.is_none());
     Ok(())
 }

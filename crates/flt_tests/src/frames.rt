@@ -1,6 +1,6 @@
 //! Local steps of frames: how many there are, and where they lead.
 
-use flt_frame::{Frame, Loaded, Standing, advance};
+use flt_frame::{Advanced, Frame, Loaded, Standing, advance};
 use flt_syntax::parse;
 use std::alloc::Global;
 use std::test::Fail;
@@ -76,19 +76,21 @@ fn filter_of(alloc: Global, text: &str) -> Result<Loaded, Fail> {
     Ok(Loaded::new(alloc, trees)?)
 }
 
-fn frame(standing: Standing, draining: bool) -> Frame {
-    Frame {
+/// How far a frame that stands so comes. Nothing else is known of it here.
+fn advanced(loaded: &Loaded, standing: Standing, draining: bool) -> Advanced {
+    let frame = Frame {
         activation: 6,
         filter: 0,
         draining,
         standing,
-    }
+    };
+    advance(loaded, frame)
 }
 
 /// Whether a case's steps lead where they should, from its callback's entry.
 fn is_stepped(loaded: &Loaded, case: &Case) -> bool {
     let standing = Standing::starting(case.callback, Some(5), None);
-    let advanced = advance(loaded, frame(standing, case.draining));
+    let advanced = advanced(loaded, standing, case.draining);
     let [n0, n1, _, _, _, _, _, _] = advanced.after.numbers;
     advanced.steps == case.steps
         && advanced.after.point == case.point
@@ -101,14 +103,14 @@ fn is_stepped(loaded: &Loaded, case: &Case) -> bool {
 fn turns_go_along(loaded: &Loaded) -> bool {
     let mut standing = Standing::starting(0, Some(5), None);
     for steps in [3, 2, 2, 4, 2, 2] {
-        let advanced = advance(loaded, frame(standing, false));
+        let advanced = advanced(loaded, standing, false);
         if advanced.steps != steps || advanced.after.point != 3 {
             return false;
         }
         standing = advanced.after;
         standing.point = 1;
     }
-    let advanced = advance(loaded, frame(standing, false));
+    let advanced = advanced(loaded, standing, false);
     let [n0, _, _, _, _, _, _, _] = advanced.after.numbers;
     advanced.steps == 2
         && advanced.after.point == 4
@@ -132,7 +134,7 @@ fn turns_go_with_it(alloc: Global) -> Result<bool, Fail> {
 
 #[test]
 fn steps_lead_to_the_next_seen_one(rt: HostRuntime) -> Result<(), Fail> {
-    assert_eq!(rt; wrong_case(rt.alloc(), &CASES)?, None);
+    assert!(rt; wrong_case(rt.alloc(), &CASES)?.is_none());
     assert!(rt; turns_go_with_it(rt.alloc())?);
     Ok(())
 }

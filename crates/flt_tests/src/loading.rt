@@ -1,7 +1,9 @@
 //! What is loaded of texts with a certificate each, and why others aren't.
 
+use flt_cert::CertFault;
 use flt_stack::{LoadFault, load};
-use std::alloc::Global;
+use flt_syntax::FaultKind;
+use std::alloc::{AllocError, Global};
 use std::test::Fail;
 
 const PASSES: &[u8] = b"filter a altitude 100\npre read {\nreturn NO_CALLBACK\n}\n";
@@ -21,103 +23,135 @@ const IGNORES: &[u8] =
 const IGNORES_CERTIFICATE: &[u8] =
     b"fltcert 1\ncallback 0 3\n0 111111111 11112 3 1 -\n1 111111111 11116 3 1 -\n2 !\ncallback 1 4\n0 111111113 11112 1 1 -\n1 111111112 11112 1 1 -\n2 111111115 11112 1 1 -\n3 111111115 11114 1 1 -\nend\n";
 
-/// `ok`, or the fault: its kind and its file, and what is wrong there.
-fn answer(alloc: Global, files: &[(&[u8], &[u8])]) -> Result<String, LoadFault> {
-    match load(alloc, files) {
-        Ok(_) => Ok(String::from_str(alloc, "ok")?),
-        Err(LoadFault::Count) => Ok(String::from_str(alloc, "count")?),
-        Err(LoadFault::Syntax { file, fault }) => Ok(format!(in alloc; "syntax {file} {fault}")?),
-        Err(LoadFault::Cert { file, fault }) => Ok(format!(in alloc; "cert {file} {fault}")?),
-        Err(LoadFault::Refused { file, refusal }) => {
-            let point = refusal.point;
-            let line = refusal.line;
-            Ok(format!(in alloc; "refused {file} point {point} line {line}")?)
-        }
-        Err(LoadFault::Altitude { file }) => Ok(format!(in alloc; "altitude {file}")?),
-        Err(LoadFault::OutOfMemory) => Err(LoadFault::OutOfMemory),
-    }
-}
+/// A file: its text, and its certificate.
+type File<'a> = (&'a [u8], &'a [u8]);
+
+/// What is answered: in a word, the number of the file, and where in it: the line and the column, the line, or the point and its line.
+type Answer = (&'static str, usize, usize, usize);
+
+const LOADED: Answer = ("ok", 0, 0, 0);
+
+const COUNT: Answer = ("count", 0, 0, 0);
 
 /// Files, and what is answered of them. The faults come in their order: a file's text before its certificate, an earlier file's before a later
 /// one's, and equal altitudes last.
+const CASES: [(&[File<'static>], Answer); 10] = [
+    (&[], COUNT),
+    (&[(PASSES, PASSES_CERTIFICATE)], LOADED),
+    (
+        &[(PASSES, PASSES_CERTIFICATE), (HIGHER, PASSES_CERTIFICATE)],
+        LOADED,
+    ),
+    (
+        &[(PASSES, PASSES_CERTIFICATE), (PASSES, PASSES_CERTIFICATE)],
+        ("altitude", 1, 0, 0),
+    ),
+    (
+        &[(PASSES, SHORT), (b"", PASSES_CERTIFICATE)],
+        ("certificate", 0, 5, 0),
+    ),
+    (
+        &[(PASSES, PASSES_CERTIFICATE), (b"", SHORT)],
+        ("E03", 1, 1, 1),
+    ),
+    (&[(PASSES, NOT_REACHED)], ("refused", 0, 0, 3)),
+    (
+        &[(HIGHER, PASSES_CERTIFICATE), (IGNORES, IGNORES_CERTIFICATE)],
+        ("refused", 1, 0, 4),
+    ),
+    (
+        &[(PASSES, NOT_REACHED), (PASSES, SHORT)],
+        ("refused", 0, 0, 3),
+    ),
+    (
+        &[
+            (PASSES, PASSES_CERTIFICATE),
+            (PASSES, PASSES_CERTIFICATE),
+            (HIGHER, NOT_REACHED),
+        ],
+        ("refused", 2, 0, 3),
+    ),
+];
+
+/// What is answered of a fault.
+fn answer_of(fault: LoadFault) -> Result<Answer, AllocError> {
+    match fault {
+        LoadFault::Count => Ok(COUNT),
+        LoadFault::Syntax { file, fault } => match fault.kind {
+            FaultKind::E03 => Ok(("E03", file, fault.line, fault.column)),
+            _ => Ok(("another fault", file, fault.line, fault.column)),
+        },
+        LoadFault::Cert { file, fault } => match fault {
+            CertFault::Line(line) => Ok(("certificate", file, line, 0)),
+            CertFault::OutOfMemory => Err(AllocError),
+        },
+        LoadFault::Refused { file, refusal } => Ok(("refused", file, refusal.point, refusal.line)),
+        LoadFault::Altitude { file } => Ok(("altitude", file, 0, 0)),
+        LoadFault::OutOfMemory => Err(AllocError),
+    }
+}
+
+/// What is answered of files.
+fn answer(alloc: Global, files: &[File]) -> Result<Answer, AllocError> {
+    match load(alloc, files) {
+        Ok(_) => Ok(LOADED),
+        Err(fault) => answer_of(fault),
+    }
+}
+
+/// The first of these cases of which something else is answered.
+fn wrong_case(alloc: Global, cases: &[(&[File], Answer)]) -> Result<Option<usize>, AllocError> {
+    for (row, (files, wanted)) in cases.iter().enumerate() {
+        if answer(alloc, files)? != *wanted {
+            return Ok(Some(row));
+        }
+    }
+    Ok(None)
+}
+
 #[test]
 fn loads_what_is_accepted(rt: HostRuntime) -> Result<(), Fail> {
-    let cases: [(&[(&[u8], &[u8])], &str); 10] = [
-        (&[], "count"),
-        (&[(PASSES, PASSES_CERTIFICATE)], "ok"),
-        (
-            &[(PASSES, PASSES_CERTIFICATE), (HIGHER, PASSES_CERTIFICATE)],
-            "ok",
-        ),
-        (
-            &[(PASSES, PASSES_CERTIFICATE), (PASSES, PASSES_CERTIFICATE)],
-            "altitude 1",
-        ),
-        (
-            &[(PASSES, SHORT), (b"", PASSES_CERTIFICATE)],
-            "cert 0 certificate line 5",
-        ),
-        (
-            &[(PASSES, PASSES_CERTIFICATE), (b"", SHORT)],
-            "syntax 1 1:1 E03",
-        ),
-        (&[(PASSES, NOT_REACHED)], "refused 0 point 0 line 3"),
-        (
-            &[(HIGHER, PASSES_CERTIFICATE), (IGNORES, IGNORES_CERTIFICATE)],
-            "refused 1 point 0 line 4",
-        ),
-        (
-            &[(PASSES, NOT_REACHED), (PASSES, SHORT)],
-            "refused 0 point 0 line 3",
-        ),
-        (
-            &[
-                (PASSES, PASSES_CERTIFICATE),
-                (PASSES, PASSES_CERTIFICATE),
-                (HIGHER, NOT_REACHED),
-            ],
-            "refused 2 point 0 line 3",
-        ),
-    ];
-    for (files, wanted) in cases {
-        let told = answer(rt.alloc(), files)?;
-        assert_eq!(rt; told.as_str(), wanted);
-    }
+    assert!(rt; wrong_case(rt.alloc(), &CASES)?.is_none());
     Ok(())
 }
 
-/// What is answered of as many filters as there may be and one more, and of those without the last.
-fn seventeen_and_sixteen(alloc: Global) -> Result<(String, String), LoadFault> {
+/// Texts of so many filters, at the altitudes from 1 on.
+fn texts_of(alloc: Global, filters: u32) -> Result<Vec<String>, AllocError> {
     let mut texts = Vec::new(alloc);
-    for altitude in 1..18u32 {
+    for altitude in 1..=filters {
         texts.push(format!(in alloc;
             "filter a altitude {altitude}\npre read {{\nreturn NO_CALLBACK\n}}\n"
         )?)?;
     }
-    let mut files: Vec<(&[u8], &[u8])> = Vec::new(alloc);
+    Ok(texts)
+}
+
+/// What is answered of so many filters, each with its certificate.
+fn answer_of_many(alloc: Global, filters: u32) -> Result<Answer, AllocError> {
+    let texts = texts_of(alloc, filters)?;
+    let mut files = Vec::new(alloc);
     for text in &texts {
         files.push((text.as_bytes(), PASSES_CERTIFICATE))?;
     }
-    let more = answer(alloc, files.as_slice())?;
-    let _ = files.pop();
-    let most = answer(alloc, files.as_slice())?;
-    Ok((more, most))
+    answer(alloc, files.as_slice())
 }
 
+/// As many filters as there may be, and one more.
 #[test]
 fn loads_sixteen_and_not_seventeen(rt: HostRuntime) -> Result<(), Fail> {
-    let (more, most) = seventeen_and_sixteen(rt.alloc())?;
-    assert!(rt; more.as_str() == "count" && most.as_str() == "ok");
+    assert!(rt; answer_of_many(rt.alloc(), 16)? == LOADED);
+    assert!(rt; answer_of_many(rt.alloc(), 17)? == COUNT);
     Ok(())
 }
 
 /// `tools/refuse-allocations.sh tests flt_tests memory` refuses each request for memory in turn.
 #[test]
 fn loads_within_memory(rt: HostRuntime) -> Result<(), Fail> {
-    let told = answer(
-        rt.alloc(),
-        &[(PASSES, PASSES_CERTIFICATE), (HIGHER, PASSES_CERTIFICATE)],
-    )?;
-    assert_eq!(rt; told.as_str(), "ok");
+    assert!(rt;
+        answer(
+            rt.alloc(),
+            &[(PASSES, PASSES_CERTIFICATE), (HIGHER, PASSES_CERTIFICATE)]
+        )? == LOADED
+    );
     Ok(())
 }

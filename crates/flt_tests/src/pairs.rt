@@ -47,6 +47,6 @@ fn wrong_turn(alloc: Global) -> Result<Option<usize>, AllocError> {
 
 #[test]
 fn finds_the_least_of_each_first_number(rt: HostRuntime) -> Result<(), Fail> {
-    assert_eq!(rt; wrong_turn(rt.alloc())?, None);
+    assert!(rt; wrong_turn(rt.alloc())?.is_none());
     Ok(())
 }

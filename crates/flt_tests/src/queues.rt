@@ -48,8 +48,12 @@ impl Plain {
     }
 
     fn place_of(&self, filter: usize, visits: &[usize]) -> Option<usize> {
-        let queue = self.queues.get(filter)?;
-        queue.iter().position(|entry| visits.contains(&entry.visit))
+        for (place, entry) in self.queues.get(filter)?.iter().enumerate() {
+            if visits.contains(&entry.visit) {
+                return Some(place);
+            }
+        }
+        None
     }
 
     fn take(&mut self, filter: usize, place: Option<usize>) -> Option<Entry> {
@@ -134,9 +138,10 @@ fn step(queues: &mut Queues, plain: &mut Plain, dice: &mut Dice) -> Result<bool,
             Ok(queues.remove(filter, visit) == plain.take(filter, place))
         }
         30..=34 => {
-            let expected = plain
-                .place_of(filter, &[visit, other])
-                .and_then(|place| plain.entry(filter, place));
+            let expected = match plain.place_of(filter, &[visit, other]) {
+                Some(place) => plain.entry(filter, place),
+                None => None,
+            };
             Ok(queues.first_of(filter, &[visit, other]).copied() == expected)
         }
         35..=36 => Ok(queues.first_of(filter, &[]).is_none()),
@@ -168,7 +173,7 @@ fn difference(alloc: Global) -> Result<Option<(usize, usize)>, AllocError> {
 
 #[test]
 fn queues_do_what_vectors_do(rt: HostRuntime) -> Result<(), Fail> {
-    assert_eq!(rt; difference(rt.alloc())?, None);
+    assert!(rt; difference(rt.alloc())?.is_none());
     Ok(())
 }
 
@@ -240,6 +245,6 @@ fn wrong_turn(alloc: Global) -> Result<Option<usize>, AllocError> {
 /// `tools/refuse-allocations.sh tests flt_tests memory` refuses each request for memory in turn.
 #[test]
 fn queues_stay_as_they_were_without_memory(rt: HostRuntime) -> Result<(), Fail> {
-    assert_eq!(rt; wrong_turn(rt.alloc())?, None);
+    assert!(rt; wrong_turn(rt.alloc())?.is_none());
     Ok(())
 }

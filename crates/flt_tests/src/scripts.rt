@@ -59,16 +59,15 @@ fn stack(alloc: Global) -> Result<Vec<Tree>, Fail> {
     Ok(trees)
 }
 
-/// Whether the script of each kind of line has its commands.
-fn is_read(alloc: Global) -> Result<bool, Fail> {
+/// Whether a script has these commands.
+fn is_read(alloc: Global, text: &[u8], commands: &[Command]) -> Result<bool, Fail> {
     let trees = stack(alloc)?;
-    let script = read(alloc, trees.as_slice(), EACH_KIND.as_bytes())?;
-    Ok(script.commands() == EACH_KIND_COMMANDS.as_slice())
+    Ok(read(alloc, trees.as_slice(), text)?.commands() == commands)
 }
 
 /// `tools/refuse-allocations.sh tests flt_tests memory` refuses each request for memory in turn.
 #[test]
 fn a_script_is_read_within_memory(rt: HostRuntime) -> Result<(), Fail> {
-    assert!(rt; is_read(rt.alloc())?);
+    assert!(rt; is_read(rt.alloc(), EACH_KIND.as_bytes(), &EACH_KIND_COMMANDS)?);
     Ok(())
 }

@@ -4,21 +4,39 @@ use flt_abs::{Abs, Draining, LockList, Modes, Statuses, join, leq};
 use flt_rules::{Access, HeldLock, LockNumber};
 use std::alloc::Global;
 
-/// A lock that is held alone.
-fn alone(lock: LockNumber) -> HeldLock {
-    HeldLock {
-        lock,
-        access: Access::Exclusive,
-    }
-}
+/// `L1`, held alone.
+const L1: HeldLock = HeldLock {
+    lock: LockNumber::L1,
+    access: Access::Exclusive,
+};
 
-/// A lock that is held beside others.
-fn shared(lock: LockNumber) -> HeldLock {
+/// `L0`, held alone.
+const L0: HeldLock = HeldLock {
+    lock: LockNumber::L0,
+    access: Access::Exclusive,
+};
+
+/// `L0`, held beside others.
+const L0_SHARED: HeldLock = HeldLock {
+    lock: LockNumber::L0,
+    access: Access::Shared,
+};
+
+/// Locks of which one stands twice.
+const TWICE: [HeldLock; 3] = [
     HeldLock {
-        lock,
+        lock: LockNumber::L3,
+        access: Access::Exclusive,
+    },
+    HeldLock {
+        lock: LockNumber::L4,
+        access: Access::Exclusive,
+    },
+    HeldLock {
+        lock: LockNumber::L3,
         access: Access::Shared,
-    }
-}
+    },
+];
 
 /// These locks, the oldest first, unless one stands twice.
 fn list_of(alloc: Global, locks: &[HeldLock]) -> Option<LockList> {
@@ -58,43 +76,34 @@ fn are_apart(one: &Abs, other: &Abs) -> bool {
 
 /// Whether states with more statuses are above those with fewer.
 fn are_ordered(alloc: Global) -> Option<bool> {
-    let both = [alone(LockNumber::L1), shared(LockNumber::L0)];
-    let held = state(alloc, 2, 1, &both)?;
-    let stale = state(alloc, 4, 2, &both)?;
-    let either = state(alloc, 6, 3, &both)?;
+    let held = state(alloc, 2, 1, &[L1, L0_SHARED])?;
+    let stale = state(alloc, 4, 2, &[L1, L0_SHARED])?;
+    let either = state(alloc, 6, 3, &[L1, L0_SHARED])?;
     Some(is_least(&held, &stale, &either))
 }
 
 /// Whether a state with these locks stands beside one whose locks are `L1`, held alone, and `L0`, held beside others.
 fn stands_beside(alloc: Global, locks: &[HeldLock]) -> Option<bool> {
-    let one = state(
-        alloc,
-        1,
-        1,
-        &[alone(LockNumber::L1), shared(LockNumber::L0)],
-    )?;
+    let one = state(alloc, 1, 1, &[L1, L0_SHARED])?;
     let other = state(alloc, 1, 1, locks)?;
     Some(are_apart(&one, &other))
 }
 
 #[test]
 fn order_and_join(rt: HostRuntime) {
-    let turned = [shared(LockNumber::L0), alone(LockNumber::L1)];
-    let both_alone = [alone(LockNumber::L1), alone(LockNumber::L0)];
     assert!(rt; are_ordered(rt.alloc()) == Some(true));
-    assert!(rt; stands_beside(rt.alloc(), &turned) == Some(true));
-    assert!(rt; stands_beside(rt.alloc(), &both_alone) == Some(true));
+    assert!(rt; stands_beside(rt.alloc(), &[L0_SHARED, L1]) == Some(true));
+    assert!(rt; stands_beside(rt.alloc(), &[L1, L0]) == Some(true));
+}
+
+/// Whether these are the digits of a state without locks.
+fn is_state(alloc: Global, digit: u8, draining: u8) -> bool {
+    state(alloc, digit, draining, &[]).is_some()
 }
 
 /// Digits of no state, and locks of which one stands twice.
 #[test]
 fn no_states(rt: HostRuntime) {
-    let twice = [
-        alone(LockNumber::L3),
-        alone(LockNumber::L4),
-        shared(LockNumber::L3),
-    ];
-    assert!(rt; state(rt.alloc(), 0, 1, &[]).is_none());
-    assert!(rt; state(rt.alloc(), 1, 0, &[]).is_none());
-    assert!(rt; list_of(rt.alloc(), &twice).is_none());
+    assert!(rt; !is_state(rt.alloc(), 0, 1) && !is_state(rt.alloc(), 1, 0));
+    assert!(rt; list_of(rt.alloc(), &TWICE).is_none());
 }

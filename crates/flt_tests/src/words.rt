@@ -6,18 +6,21 @@ use flt_syntax::{Action, OperationVariable, ParseError, Statement, parse};
 use std::alloc::Global;
 use std::test::Fail;
 
-/// Canonical texts, which have all 90 words between them.
-const WORDS: [&str; 2] = [
-    "filter a altitude 1\nlock spin s\nlock fast f\nlock push p\nqueue\npre create {\n  if irp data {\n    return WITH_CALLBACK context c0\n  }\n  n0 = file o0\n  n1 = value c1\n  value c2 = n2\n  n2 = n3 + n4\n  n5 = n6 - n7\n  c3 = NULL\n  if FltAllocateContext c4 {\n    FltDeleteContext c4\n    FltReferenceContext c4 as c5\n    FltReleaseContext c5\n  } else {\n    return SYNCHRONIZE context c6\n  }\n  if FltSetStreamContext KEEP_IF_EXISTS c6 old c7 {\n    return COMPLETE STATUS_SUCCESS\n  }\n  if FltSetInstanceContext REPLACE_IF_EXISTS c7 {\n    return COMPLETE STATUS_ACCESS_DENIED\n  }\n  if FltGetStreamContext c0 {\n    return COMPLETE STATUS_INSUFFICIENT_RESOURCES\n  }\n  if FltGetInstanceContext c1 {\n    return COMPLETE STATUS_INVALID_PARAMETER\n  }\n  if FltDeleteStreamContext old c2 {\n    return COMPLETE STATUS_PENDING\n  }\n  if FltDeleteInstanceContext {\n    return DISALLOW_FASTIO\n  }\n  if FltCbdqInsertIo data context c3 {\n    return PENDING\n  }\n  return NO_CALLBACK\n}\ncanceled {\n  if arg != NULL {\n    FltReleaseContext arg\n  }\n  FltCompletePendedPreOperation data COMPLETE STATUS_CANCELLED\n}\n",
-    "filter a altitude 1\nlock spin s\nlock fast f\nlock push p\nqueue\npre read {\n  repeat 3 {\n    KeAcquireSpinLock s\n    KeReleaseSpinLock s\n    ExAcquireFastMutex f\n    ExReleaseFastMutex f\n    FltAcquirePushLockExclusive p\n    FltReleasePushLock p\n    FltAcquirePushLockShared p\n    FltReleasePushLock p\n  }\n  if FltCbdqRemoveNextIo o1 context c0 {\n    FltCompletePendedPreOperation o2 WITH_CALLBACK\n  }\n  if FltQueueDeferredIoWorkItem data r {\n  }\n  if FltQueueGenericWorkItem g context c1 {\n  }\n  if o3 != NULL {\n  }\n}\npost read {\n  if draining {\n    return FINISHED_PROCESSING\n  }\n  return MORE_PROCESSING_REQUIRED\n}\npre write {\n}\npre cleanup {\n}\ncanceled {\n}\ndeferred_pre r {\n}\ndeferred_post d {\n  FltCompletePendedPostOperation data\n}\ngeneric g {\n}\n",
-];
+/// A canonical text. It and the next one have all 90 words between them.
+const PLAIN_WORDS: &[u8] =
+    b"filter a altitude 1\nlock spin s\nlock fast f\nlock push p\nqueue\npre create {\n  if irp data {\n    return WITH_CALLBACK context c0\n  }\n  n0 = file o0\n  n1 = value c1\n  value c2 = n2\n  n2 = n3 + n4\n  n5 = n6 - n7\n  c3 = NULL\n  if FltAllocateContext c4 {\n    FltDeleteContext c4\n    FltReferenceContext c4 as c5\n    FltReleaseContext c5\n  } else {\n    return SYNCHRONIZE context c6\n  }\n  if FltSetStreamContext KEEP_IF_EXISTS c6 old c7 {\n    return COMPLETE STATUS_SUCCESS\n  }\n  if FltSetInstanceContext REPLACE_IF_EXISTS c7 {\n    return COMPLETE STATUS_ACCESS_DENIED\n  }\n  if FltGetStreamContext c0 {\n    return COMPLETE STATUS_INSUFFICIENT_RESOURCES\n  }\n  if FltGetInstanceContext c1 {\n    return COMPLETE STATUS_INVALID_PARAMETER\n  }\n  if FltDeleteStreamContext old c2 {\n    return COMPLETE STATUS_PENDING\n  }\n  if FltDeleteInstanceContext {\n    return DISALLOW_FASTIO\n  }\n  if FltCbdqInsertIo data context c3 {\n    return PENDING\n  }\n  return NO_CALLBACK\n}\ncanceled {\n  if arg != NULL {\n    FltReleaseContext arg\n  }\n  FltCompletePendedPreOperation data COMPLETE STATUS_CANCELLED\n}\n";
+
+const LOCK_WORDS: &[u8] =
+    b"filter a altitude 1\nlock spin s\nlock fast f\nlock push p\nqueue\npre read {\n  repeat 3 {\n    KeAcquireSpinLock s\n    KeReleaseSpinLock s\n    ExAcquireFastMutex f\n    ExReleaseFastMutex f\n    FltAcquirePushLockExclusive p\n    FltReleasePushLock p\n    FltAcquirePushLockShared p\n    FltReleasePushLock p\n  }\n  if FltCbdqRemoveNextIo o1 context c0 {\n    FltCompletePendedPreOperation o2 WITH_CALLBACK\n  }\n  if FltQueueDeferredIoWorkItem data r {\n  }\n  if FltQueueGenericWorkItem g context c1 {\n  }\n  if o3 != NULL {\n  }\n}\npost read {\n  if draining {\n    return FINISHED_PROCESSING\n  }\n  return MORE_PROCESSING_REQUIRED\n}\npre write {\n}\npre cleanup {\n}\ncanceled {\n}\ndeferred_pre r {\n}\ndeferred_post d {\n  FltCompletePendedPostOperation data\n}\ngeneric g {\n}\n";
 
 /// A filter that pends its reads.
 const PENDING_READS: &[u8] =
     b"filter q altitude 100\nqueue\npre read {\n  if irp data {\n    if FltCbdqInsertIo data {\n      return PENDING\n    }\n  }\n  return NO_CALLBACK\n}\ncanceled {\n  if arg != NULL {\n    FltReleaseContext arg\n  }\n  FltCompletePendedPreOperation data COMPLETE STATUS_CANCELLED\n}\n";
 
 /// Texts, and their canonical texts.
-const LAYOUTS: [(&[u8], &[u8]); 3] = [
+const LAYOUTS: [(&[u8], &[u8]); 5] = [
+    (PLAIN_WORDS, PLAIN_WORDS),
+    (LOCK_WORDS, LOCK_WORDS),
     (PENDING_READS, PENDING_READS),
     (
         b"# one line\nfilter a\taltitude 7 pre read{if draining{}else{}if n0==18446744073709551615{n0=n0-10}else{return # no status\n}repeat 3{}}",
@@ -71,19 +74,14 @@ fn assigned(statement: &Statement) -> (u8, usize) {
     }
 }
 
-/// The first of these statements that doesn't assign the variable of its place.
-fn wrong_place(statements: &[Statement]) -> Option<usize> {
+/// Whether these statements assign the variables of these places, in this order.
+fn have_places(statements: &[Statement], places: &[(u8, usize)]) -> bool {
     for (at, statement) in statements.iter().enumerate() {
-        let (kind, place) = assigned(statement);
-        let is_right = match PLACES.get(at) {
-            Some((wanted, number)) => kind == *wanted && place == *number,
-            None => false,
-        };
-        if !is_right {
-            return Some(at);
+        if places.get(at).copied() != Some(assigned(statement)) {
+            return false;
         }
     }
-    None
+    statements.len() == places.len()
 }
 
 /// The canonical text of what a text spells.
@@ -91,40 +89,39 @@ fn printed(alloc: Global, text: &[u8]) -> Result<Vec<u8>, ParseError> {
     Ok(print(alloc, &parse(alloc, text)?)?)
 }
 
-/// Whether the text has this canonical text, which has itself.
+/// Whether the text is printed as this one.
 fn is_printed(alloc: Global, text: &[u8], canonical: &[u8]) -> Result<bool, ParseError> {
-    let once = printed(alloc, text)?;
-    let twice = printed(alloc, once.as_slice())?;
-    Ok(once.as_slice() == canonical && twice.as_slice() == canonical)
+    Ok(printed(alloc, text)?.as_slice() == canonical)
 }
 
-/// Whether each assignment is to the variable of its place.
-fn have_own_places(alloc: Global) -> Result<bool, ParseError> {
-    let tree = parse(alloc, ASSIGNMENTS)?;
-    let callbacks = tree.filter.callbacks.as_slice();
-    for callback in callbacks {
-        let body = callback.body.as_slice();
-        if body.len() != PLACES.len() || wrong_place(body).is_some() {
-            return Ok(false);
+/// The first text that hasn't its canonical text, or whose canonical text hasn't itself.
+fn wrong_layout(alloc: Global, rows: &[(&[u8], &[u8])]) -> Result<Option<usize>, ParseError> {
+    for (row, (text, canonical)) in rows.iter().enumerate() {
+        if !is_printed(alloc, text, canonical)? || !is_printed(alloc, canonical, canonical)? {
+            return Ok(Some(row));
         }
     }
-    Ok(callbacks.len() == 1)
+    Ok(None)
+}
+
+/// Whether a text has one callback, and its statements assign the variables of these places.
+fn have_own_places(alloc: Global, text: &[u8], places: &[(u8, usize)]) -> Result<bool, ParseError> {
+    let tree = parse(alloc, text)?;
+    match tree.filter.callbacks.as_slice() {
+        [callback] => Ok(have_places(callback.body.as_slice(), places)),
+        _ => Ok(false),
+    }
 }
 
 /// `tools/refuse-allocations.sh tests flt_tests memory` refuses each request for memory in turn.
 #[test]
 fn texts_are_printed_within_memory(rt: HostRuntime) -> Result<(), Fail> {
-    for text in WORDS {
-        assert!(rt; is_printed(rt.alloc(), text.as_bytes(), text.as_bytes())?);
-    }
-    for (text, want) in LAYOUTS {
-        assert!(rt; is_printed(rt.alloc(), text, want)?);
-    }
+    assert!(rt; wrong_layout(rt.alloc(), &LAYOUTS)?.is_none());
     Ok(())
 }
 
 #[test]
 fn each_variable_has_its_place(rt: HostRuntime) -> Result<(), Fail> {
-    assert!(rt; have_own_places(rt.alloc())?);
+    assert!(rt; have_own_places(rt.alloc(), ASSIGNMENTS, &PLACES)?);
     Ok(())
 }
