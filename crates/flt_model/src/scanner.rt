@@ -107,7 +107,7 @@ fn digits<R: Source>(reader: &mut R, left: usize, end: u8, number: u32) -> Resul
     }
 }
 
-/// A number of nine digits at most that stands in these bytes, with the byte behind it, and how many bytes both take. None of one that is cut
+/// A number of eight digits at most that stands in these bytes, with the byte behind it, and how many bytes both take. None of one that is cut
 /// off or malformed, and none of 0.
 #[inline(always)]
 fn number_in(bytes: &[u8], end: u8) -> Option<(u32, usize)>
@@ -118,7 +118,7 @@ fn number_in(bytes: &[u8], end: u8) -> Option<(u32, usize)>
         return None;
     }
     let mut number = with_digit(0, first)?;
-    for at in 1..10 {
+    for at in 1..9 {
         let next = *bytes.get(at)?;
         if next == end {
             return Some((number, at + 1));
