@@ -1,7 +1,8 @@
 -- Journals: what is read is spelled so, and a fault stands at the first malformed byte.
-use Rattle.std.proofs.Common.{◌≡◌, ◌≤◌, ◌+◌, ℕ, zero, suc, [], ◌∷◌, ◌++◌, length, refl, sym, ap, subst, arith, ◌∙◌, append_assoc, append-nil, length-append, inl, inr}
+use Rattle.std.proofs.Common.{◌≡◌, ◌≤◌, ◌+◌, ℕ, zero, suc, [], ◌∷◌, ◌++◌, length, drop, refl, sym, ap, subst, arith, ◌∙◌, append_assoc, append-nil, length-append, inl, inr}
 use Rattle.std.specs.Prelude.{◌⊎◌, Option, Some, None, Result, Ok, Err, IfOk, OnOk, MatchResult, codes}
 use Rattle.std.specs.List.{flat_map, AllByRecursion}
+use Rattle.std.proofs.Math.Seq.{drop-append_seam}
 use Rattle.std.proofs.lemmas.Bool.{eq-eqb}
 use Rattle.flt_model.specs.Streams.{Text}
 use Rattle.flt_model.specs.JournalText.{Entries, IsEntry, IsJournal, most_entries, entry_line, first_line, last_line, spelling, line_ends, IsFirstFault}
@@ -42,6 +43,15 @@ data Goes (left : ℕ) (found : Entries) (text : Text) : Reading → Type 0 wher
 pub exactly_again : (front text : Text) → exactly front (front ++ text) ≡ Ok (tt, text)
 exactly_again [] text = refl
 exactly_again (b ∷ front) text = rw (eq-eqb b b refl) (exactly_again front text)
+
+-- what is at hand begins with these bytes, and they are passed over
+pub exactly_at_hand : (bytes ready left coming new : Text) → ready ≡ bytes ++ drop (length bytes) ready → coming ≡ ready ++ left →
+    new ≡ drop (length bytes) coming → exactly bytes coming ≡ Ok (tt, new)
+exactly_at_hand bytes ready left coming new split is passed =
+    let rest = drop (length bytes) ready ++ left in
+    let all : coming ≡ bytes ++ rest = is ∙ ap (λ t. t ++ left) split ∙ append_assoc bytes (drop (length bytes) ready) left in
+    let behind : new ≡ rest = passed ∙ ap (drop (length bytes)) all ∙ drop-append_seam bytes rest in
+    ap (exactly bytes) all ∙ exactly_again bytes rest ∙ ap (λ z. Ok (tt, z)) (sym behind)
 
 -- a byte goes on no line, so a line isn't whole before it
 not_whole : (x : Option JournalEntry) (c w : Text) (b : ℕ) → IsLine x → c ++ w ≡ line_text x →

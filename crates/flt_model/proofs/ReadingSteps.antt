@@ -1,9 +1,9 @@
 -- The steps of reading, as loops and recursions make them.
-use Rattle.std.proofs.Common.{◌≡◌, ◌<◌, ◌+◌, ◌-◌, ℕ, zero, suc, true, false, [], ◌∷◌, ◌++◌, length, drop, drop-cons, refl, ap, arith, ◌∙◌}
-use Rattle.std.specs.Prelude.{◌==◌, Ok, Err, Some, None}
+use Rattle.std.proofs.Common.{◌≡◌, ◌<◌, ◌+◌, ◌-◌, ℕ, zero, suc, true, false, [], ◌∷◌, ◌++◌, length, drop, drop-cons, slice_index_or, refl, sym, ap, arith, ◌∙◌}
+use Rattle.std.specs.Prelude.{◌==◌, ◌≤◌, slice_get, Ok, Err, Some, None}
 use Rattle.flt_model.specs.Streams.{Text}
 use Rattle.flt_model.specs.JournalText.{Entries, most_entries}
-use Rattle.flt_model.specs.JournalTextReading.{Reads, byte, exactly, digits, with_digit, line, ending, closed, entries_from}
+use Rattle.flt_model.specs.JournalTextReading.{Reads, byte, exactly, digits, number, with_digit, line, ending, closed, entries_from}
 use Rattle.flt_model.specs.declared.scanner.Stop.{Stop}
 use Rattle.flt_model.specs.declared.scanner.Stop.TheVariants.{Wrong, Failed}
 use Rattle.flt_model.specs.declared.moves.JournalEntry.{JournalEntry}
@@ -53,6 +53,48 @@ pub digits_more : (left end n b m : ℕ) (text new : Text) → 0 < left → byte
     digits left end n text ≡ digits (left - 1) end m new
 digits_more left end n b m text new z h e d = ap (λ k. digits k end n text) (one_less left z)
     ∙ more_behind (left - 1) end n b m text new h e d
+
+-- ---- bytes at hand
+
+-- the byte of a place
+byte_at : (bytes left : Text) (i j d : ℕ) → i < length bytes → j ≡ suc i →
+    byte (drop i (bytes ++ left)) ≡ Ok (slice_index_or bytes i d, drop j (bytes ++ left))
+byte_at [] left i j d low next = absurd (omega (arith, low))
+byte_at (b ∷ bytes) left i zero d low next = absurd (omega (arith, next))
+byte_at (b ∷ bytes) left zero (suc j) d low next = let none : j ≡ 0 = omega (arith, next) in rw none refl
+byte_at (b ∷ bytes) left (suc i) (suc j) d low next = byte_at bytes left i j d (omega (arith, low)) (omega (arith, next))
+
+byte_read : (bytes left : Text) (i b : ℕ) → i < length bytes → b ≡ slice_index_or bytes i b →
+    byte (drop i (bytes ++ left)) ≡ Ok (b, drop (i + 1) (bytes ++ left))
+byte_read bytes left i b low is =
+    byte_at bytes left i (i + 1) b low (omega arith) ∙ ap (λ x. Ok (x, drop (i + 1) (bytes ++ left))) (sym is)
+
+-- there is one where there is a first
+pub first_within : (bytes : Text) (b : ℕ) → slice_get bytes 0 ≡ Some b → 1 ≤ length bytes
+first_within [] b is = cc is
+first_within (a ∷ bytes) b is = omega arith
+
+pub number_begins : (bytes left : Text) (end b n : ℕ) → slice_get bytes 0 ≡ Some b → (b == 48) ≡ false →
+    with_digit 0 b ≡ Some n → number end (bytes ++ left) ≡ digits 9 end n (drop 1 (bytes ++ left))
+unfolding number
+number_begins [] left end b n is other digit = cc is
+number_begins (a ∷ bytes) left end b n is other digit =
+    let same : a ≡ b = cc is in
+    rw (same, other, digit) refl
+
+pub number_ends : (bytes left : Text) (i end n b : ℕ) → i < length bytes → b ≡ slice_index_or bytes i b → (b == end) ≡ true →
+    digits (10 - i) end n (drop i (bytes ++ left)) ≡ Ok (n, drop (i + 1) (bytes ++ left))
+number_ends bytes left i end n b low is last =
+    digits_end (10 - i) end n b (drop i (bytes ++ left)) (drop (i + 1) (bytes ++ left)) (byte_read bytes left i b low is) last
+
+pub number_goes_on : (bytes left : Text) (i end n b m : ℕ) → i < 10 → i < length bytes → b ≡ slice_index_or bytes i b →
+    (b == end) ≡ false → with_digit n b ≡ Some m →
+    digits (10 - i) end n (drop i (bytes ++ left)) ≡ digits (10 - (i + 1)) end m (drop (i + 1) (bytes ++ left))
+number_goes_on bytes left i end n b m few low is other digit =
+    let less : 10 - i - 1 ≡ 10 - (i + 1) = omega arith in
+    digits_more (10 - i) end n b m (drop i (bytes ++ left)) (drop (i + 1) (bytes ++ left)) (omega (arith, few))
+    (byte_read bytes left i b low is) other digit
+    ∙ ap (λ k. digits k end m (drop (i + 1) (bytes ++ left))) less
 
 -- ---- entries
 

@@ -1,5 +1,5 @@
 -- Reading a journal byte by byte, up to the first malformed byte.
-use Rattle.std.specs.Prelude.{◌≡◌, ◌≢◌, ℕ, zero, suc, ◌+◌, ◌-◌, ◌*◌, ◌^◌, Bool, true, false, ◌&&◌, ◌==◌, nat_lt, if◌then◌else◌, [], ◌∷◌, ◌++◌, length, codes, Option, Some, None, Result, Ok, Err}
+use Rattle.std.specs.Prelude.{◌≡◌, ◌≢◌, ◌≤◌, ℕ, zero, suc, ◌+◌, ◌-◌, ◌*◌, ◌^◌, Bool, true, false, ◌&&◌, ◌==◌, nat_lt, if◌then◌else◌, [], ◌∷◌, ◌++◌, length, drop, codes, Option, Some, None, Result, Ok, Err}
 use Rattle.flt_rules.specs.Parsing as parsing
 pub use Rattle.flt_rules.specs.Parsing.{and_then, ◌>>=◌, ◌>>◌, pure}
 use Rattle.flt_rules.specs.declared.place.Operation.{Operation}
@@ -60,6 +60,11 @@ digits (suc left) end n = byte >>= λ b. if b == end then pure n else found_or (
 -- a number below 2 ^ 32 with no zero in front, and the byte behind it
 unfoldable pub number : ℕ → Parser ℕ
 number end = byte >>= λ b. if b == 48 then exactly (end ∷ []) >> pure 0 else found_or (with_digit 0 b) (digits 9 end)
+
+-- so many of these bytes, whatever comes behind them, are a number and the byte behind it
+abbrev pub IsNumberIn : ℕ → Text → ℕ → ℕ → Type 0
+IsNumberIn end bytes n count =
+    (count ≤ length bytes) × ((left : Text) → number end (bytes ++ left) ≡ Ok (n, drop count (bytes ++ left)))
 
 -- ---- what stands in a line
 

@@ -1,5 +1,5 @@
 -- What a reader still gives. This project's own rule.
-use Rattle.std.specs.Prelude.{◌≡◌, ℕ, List, [], ◌∷◌, Option, Some, None}
+use Rattle.std.specs.Prelude.{◌≡◌, ℕ, List, [], ◌∷◌, ◌++◌, Option, Some, None}
 
 -- bytes
 abbrev pub Text : Type 0
@@ -9,3 +9,7 @@ Text = List ℕ
 abbrev pub Gives : Text → Option ℕ → Text → Type 0
 Gives coming (Some byte) left = coming ≡ byte ∷ left
 Gives coming None left = (coming ≡ []) × (left ≡ [])
+
+-- these come before all others
+abbrev pub ComesFirst : Text → Text → Type 0
+ComesFirst front coming = (left : Text) × (coming ≡ front ++ left)

@@ -1,6 +1,6 @@
 //! The bytes of a reader, and the numbers that stand in them.
 
-ghost use Rattle.std.specs.Prelude.{◌≡◌, ◌<◌, ◌≤◌, ◌+◌, length};
+ghost use Rattle.std.specs.Prelude.{◌≡◌, ◌<◌, ◌≤◌, ◌+◌, length, IfSome};
 ghost use Rattle.flt_model.specs.JournalTextReading as spec;
 
 use crate::streams::{ReadFault, Source};
@@ -33,9 +33,11 @@ pub(crate) fn byte<R: Source>(reader: &mut R) -> Result<u8, Stop>
     reader.next()?.ok_or(Stop::Wrong)
 }
 
-/// These bytes.
+/// These bytes, one by one.
+#[cold]
+#[inline(never)]
 #[tactic(auto, using(crate::proofs::ReadingSteps::exactly_none))]
-pub(crate) fn exactly<R: Source>(reader: &mut R, bytes: &[u8]) -> Result<(), Stop>
+fn exactly_by_bytes<R: Source>(reader: &mut R, bytes: &[u8]) -> Result<(), Stop>
     ensures read { spec.Reads (spec.exactly bytes.now (R.coming reader.old)) result (R.coming reader.new) }
     ensures fails { spec.Counts result (R.failures reader.old) (R.failures reader.new) }
     ensures reads { R.reads reader.new ≤ R.reads reader.old + length bytes.now }
@@ -46,6 +48,20 @@ pub(crate) fn exactly<R: Source>(reader: &mut R, bytes: &[u8]) -> Result<(), Sto
         }
     }
     Ok(())
+}
+
+/// The same, by what is at hand if that will do.
+#[inline(always)]
+pub(crate) fn exactly<R: Source>(reader: &mut R, bytes: &[u8]) -> Result<(), Stop>
+    ensures read { spec.Reads (spec.exactly bytes.now (R.coming reader.old)) result (R.coming reader.new) }
+    ensures fails { spec.Counts result (R.failures reader.old) (R.failures reader.new) }
+    ensures reads { R.reads reader.new ≤ R.reads reader.old + length bytes.now }
+{
+    if reader.ready().starts_with(bytes) {
+        reader.pass(bytes.len());
+        return Ok(());
+    }
+    exactly_by_bytes(reader, bytes)
 }
 
 /// A number with one more digit, if it stays below 2 ^ 32.
@@ -91,9 +107,32 @@ fn digits<R: Source>(reader: &mut R, left: usize, end: u8, number: u32) -> Resul
     }
 }
 
-/// A number with no zero in front, and the byte behind it.
+/// A number of eight digits at most that stands in these bytes, with the byte behind it, and how many bytes both take. None of one that is cut
+/// off or malformed, and none of 0.
+#[inline(always)]
+fn number_in(bytes: &[u8], end: u8) -> Option<(u32, usize)>
+    ensures { IfSome result (λ q. spec.IsNumberIn end bytes.now q.0 q.1) }
+{
+    let first = *bytes.first()?;
+    if first == b'0' {
+        return None;
+    }
+    let mut number = with_digit(0, first)?;
+    for at in 1..9 {
+        let next = *bytes.get(at)?;
+        if next == end {
+            return Some((number, at + 1));
+        }
+        number = with_digit(number, next)?;
+    }
+    None
+}
+
+/// A number with no zero in front, and the byte behind it, byte by byte.
+#[cold]
+#[inline(never)]
 #[tactic(auto, unfolding(crate::specs::JournalTextReading::number))]
-pub(crate) fn number<R: Source>(reader: &mut R, end: u8) -> Result<u32, Stop>
+fn number_by_bytes<R: Source>(reader: &mut R, end: u8) -> Result<u32, Stop>
     ensures read { spec.Reads (spec.number end (R.coming reader.old)) result (R.coming reader.new) }
     ensures fails { spec.Counts result (R.failures reader.old) (R.failures reader.new) }
     ensures reads { R.reads reader.new ≤ R.reads reader.old + 11 }
@@ -106,5 +145,20 @@ pub(crate) fn number<R: Source>(reader: &mut R, end: u8) -> Result<u32, Stop>
     match with_digit(0, first) {
         Some(number) => digits(reader, 9, end, number),
         None => Err(Stop::Wrong),
+    }
+}
+
+/// The same, by what is at hand if that will do.
+pub(crate) fn number<R: Source>(reader: &mut R, end: u8) -> Result<u32, Stop>
+    ensures read { spec.Reads (spec.number end (R.coming reader.old)) result (R.coming reader.new) }
+    ensures fails { spec.Counts result (R.failures reader.old) (R.failures reader.new) }
+    ensures reads { R.reads reader.new ≤ R.reads reader.old + 11 }
+{
+    match number_in(reader.ready(), end) {
+        Some((number, length)) => {
+            reader.pass(length);
+            Ok(number)
+        }
+        None => number_by_bytes(reader, end),
     }
 }

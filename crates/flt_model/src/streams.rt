@@ -1,8 +1,8 @@
 //! Streams of bytes, as journals are read from them, and journals and answers written to them.
 
-ghost use Rattle.flt_model.specs.Streams.{Gives};
+ghost use Rattle.flt_model.specs.Streams.{Gives, ComesFirst};
 ghost use Rattle.std.specs.Io.KnownBytes.{Appends};
-ghost use Rattle.std.specs.Prelude.{◌≡◌, ◌≢◌, ℕ, ◌+◌, ◌≤◌, ◌<◌, List, Option, length, take, OnOk, OnErr, IfOk};
+ghost use Rattle.std.specs.Prelude.{◌≡◌, ◌≢◌, ℕ, ◌+◌, ◌≤◌, ◌<◌, List, Option, length, take, drop, OnOk, OnErr, IfOk};
 
 /// A read failed.
 #[derive(Clone, Copy, Debug)]
@@ -12,10 +12,14 @@ pub struct ReadFault;
 #[derive(Clone, Copy, Debug)]
 pub struct WriteFault;
 
-/// Gives bytes, one at a time, and counts its failures, of which an interruption is one.
+/// Gives bytes, one at a time, and counts its failures, of which an interruption is one. It may have bytes at hand that can be looked at
+/// before they are taken.
 pub trait Source {
     // The bytes that it still gives.
     ghost coming: { Self → List ℕ };
+
+    // Those of them that are at hand.
+    ghost at_hand: { Self → List ℕ };
 
     // The count of its failures, which is another one after each.
     ghost failures: { Self → ℕ };
@@ -29,11 +33,25 @@ pub trait Source {
         ensures fine { OnOk result (failures self.new ≡ failures self.old) }
         ensures err { OnErr result (failures self.new ≢ failures self.old) }
         ensures reads { reads self.new ≤ reads self.old + 1 };
+
+    /// The bytes at hand. There may be none though more come.
+    fn ready(&self) -> &[u8]
+        ensures bytes { result.now ≡ at_hand self.now }
+        ensures first { ComesFirst (at_hand self.now) (coming self.now) };
+
+    /// Passes over so many of the bytes at hand, which is no read.
+    fn pass(&mut self, count: usize)
+        requires { count ≤ length (at_hand self.old) }
+        ensures left { coming self.new ≡ drop count (coming self.old) }
+        ensures fine { failures self.new ≡ failures self.old }
+        ensures reads { reads self.new ≡ reads self.old };
 }
 
-/// The bytes that are left of a slice. No read fails.
+/// The bytes that are left of a slice, all of them at hand. No read fails.
 impl Source for &[u8] {
     ghost coming = { λ s. s.now };
+
+    ghost at_hand = { λ s. s.now };
 
     ghost failures = { λ _. 0 };
 
@@ -47,6 +65,14 @@ impl Source for &[u8] {
             }
             [] => Ok(None),
         }
+    }
+
+    fn ready(&self) -> &[u8] {
+        *self
+    }
+
+    fn pass(&mut self, count: usize) {
+        *self = &self[count..];
     }
 }
 

@@ -19,6 +19,8 @@ struct Bytes<'a> {
 impl Source for Bytes<'_> {
     ghost coming = { λ s. s.left.now };
 
+    ghost at_hand = { λ s. s.left.now };
+
     ghost failures = { λ _. 0 };
 
     ghost reads = { λ _. 0 };
@@ -31,6 +33,14 @@ impl Source for Bytes<'_> {
             }
             [] => Ok(None),
         }
+    }
+
+    fn ready(&self) -> &[u8] {
+        self.left
+    }
+
+    fn pass(&mut self, count: usize) {
+        self.left = &self.left[count..];
     }
 }
 

@@ -79,6 +79,7 @@ impl Counts {
     }
 
     /// Once more. It fails where a count would reach 2^32.
+    #[inline(always)]
     #[tactic(auto, using(crate::proofs::Counting::raised, crate::proofs::Counting::past_the_end))]
     pub fn add(&mut self, number: usize) -> Result<(), AllocError>
         ensures ok { OnOk result ((n : ℕ) → spec.count self.new n ≡ spec.count self.old n + one_if number n) }

@@ -104,6 +104,7 @@ impl Ledger {
     }
 
     /// Whether the activation gained the object more often than it lost it.
+    #[inline(always)]
     #[tactic(auto, using(crate::proofs::Counting::Tallies::held_is))]
     pub(crate) fn holds(&self, activation: usize, object: Object) -> bool
         ensures told { (t : List Event) → spec.Tells t self.now → result ≡ is_held t activation object }

@@ -9,7 +9,7 @@ use flt_rules::{Mode, Operation};
 use std::alloc::{AllocError, Global};
 use std::test::Fail;
 
-/// A reader of these bytes. It fails at a call, counted from 0.
+/// A reader of these bytes that has none at hand. It fails at a call, counted from 0.
 #[derive(Drop)]
 struct Given<'a> {
     left: &'a [u8],
@@ -30,7 +30,11 @@ impl<'a> Given<'a> {
 }
 
 impl Source for Given<'_> {
+    ghost use Rattle.std.specs.Prelude.{[]};
+
     ghost coming = { λ s. s.left.now };
+
+    ghost at_hand = { λ _. [] };
 
     ghost failures = { λ s. s.failures };
 
@@ -51,6 +55,12 @@ impl Source for Given<'_> {
             [] => Ok(None),
         }
     }
+
+    fn ready(&self) -> &[u8] {
+        &[]
+    }
+
+    fn pass(&mut self, _count: usize) {}
 }
 
 /// A writer that keeps what it takes, one byte at a time, and fails at a call, counted from 0.

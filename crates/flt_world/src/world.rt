@@ -511,6 +511,7 @@ impl<'a> World<'a> {
     }
 
     /// An activation goes on with a block in place of its first statement.
+    #[inline(always)]
     pub fn go_on(
         &mut self,
         a: usize,

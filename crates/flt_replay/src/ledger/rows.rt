@@ -117,6 +117,7 @@ impl Rows {
     }
 
     /// Once more of an activation.
+    #[inline(always)]
     #[tactic(auto, using(crate::proofs::Counting::Rows::added))]
     pub(crate) fn add(
         &mut self,
@@ -135,6 +136,7 @@ impl Rows {
     }
 
     /// Once less of an activation, of what counts.
+    #[inline(always)]
     #[tactic(auto, using(crate::proofs::Counting::Rows::taken, crate::proofs::Counting::Rows::counts_no_more, crate::proofs::Counting::Rows::row_counts))]
     pub(crate) fn take(&mut self, activation: usize, number: usize)
         ensures { 0 < spec.count_of self.old activation number → (a n : ℕ) →

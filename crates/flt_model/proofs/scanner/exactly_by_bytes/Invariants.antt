@@ -1,6 +1,6 @@
 use Rattle.std.proofs.Common.{◌≡◌, ◌≤◌, ◌+◌, drop}
 use Rattle.flt_model.specs.JournalTextReading.{exactly}
-use Rattle.flt_model.proofs.scanner.exactly.Given as goal
+use Rattle.flt_model.proofs.scanner.exactly_by_bytes.Given as goal
 
 abbrev pub invariant-loop-wanted : goal.invariant-loop-wanted
 invariant-loop-wanted g l = record {
