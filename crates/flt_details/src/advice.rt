@@ -105,6 +105,6 @@ pub(crate) fn tell_advice(
     let (mark, name) = subject_words(tree, finding.subject);
     match behind {
         Some(behind) => page.words(&[before.as_bytes(), mark, name, mark, behind.as_bytes()]),
-        None => page.texts(&[before]),
+        None => page.bytes(before.as_bytes()),
     }
 }

@@ -12,6 +12,19 @@ fn frame<'a>(coloured: bool) -> (&'a str, &'a str, &'a str) {
     }
 }
 
+/// Writes that there is an error, and its code if it has one.
+fn tell_error(
+    page: &mut Page,
+    error: &str,
+    code: Option<&str>,
+    colon: &str,
+) -> Result<(), AllocError> {
+    match code {
+        Some(code) => page.texts(&[error, "[", code, "]", colon]),
+        None => page.texts(&[error, colon]),
+    }
+}
+
 /// Writes what is wrong, and in which file. Where in it follows on the page.
 pub(crate) fn tell_heading(
     page: &mut Page,
@@ -21,10 +34,7 @@ pub(crate) fn tell_heading(
     name: &str,
 ) -> Result<(), AllocError> {
     let (error, colon, place) = frame(coloured);
-    match code {
-        Some(code) => page.texts(&[error, "[", code, "]", colon]),
-        None => page.texts(&[error, colon]),
-    }?;
+    tell_error(page, error, code, colon)?;
     page.words(&[title])?;
     page.texts(&[place])?;
     page.words(&[name.as_bytes()])
