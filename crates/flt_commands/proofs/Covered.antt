@@ -16,14 +16,14 @@ use Rattle.flt_forms.specs.Sarif.{AreResults}
 use Rattle.flt_notes.specs.Readings.{IsOther}
 use Rattle.flt_notes.specs.Reported.{AreReports, HasNotice, HasNoticeStatus, HasReport, HasStatus, IsText}
 use Rattle.flt_reasons.specs.declared.notice.Notice.{Notice}
-use Rattle.flt_reports.specs.Reports.{IsJudged, IsKnown, findings_status, status_of as status_of_judged, texts_of}
-use Rattle.flt_reports.specs.declared.reports.Explained.{Explained as Told}
-use Rattle.flt_reports.specs.declared.reports.Source.{Source}
+use Rattle.flt_details.specs.Reports.{IsJudged, IsKnown, findings_status, status_of as status_of_judged, texts_of}
+use Rattle.flt_details.specs.declared.sources.Explained.{Explained as Told}
+use Rattle.flt_details.specs.declared.sources.Source.{Source}
 use Rattle.flt_words.specs.declared.request.Form.{Form}
 use Rattle.flt_words.specs.declared.request.Form.TheVariants.{Human, Lines, Sarif}
 use Rattle.json.specs.Token.{Token}
-use Rattle.flt_reports.specs.declared.judged.Judged.{Judged as Found}
-use Rattle.flt_reports.specs.declared.judged.Judged.TheVariants.{Unread, Known}
+use Rattle.flt_details.specs.declared.judged.Judged.{Judged as Found}
+use Rattle.flt_details.specs.declared.judged.Judged.TheVariants.{Unread, Known}
 use Rattle.flt_tree.specs.declared.tree.Tree.{Tree}
 use Rattle.flt_model.specs.Program.{by_altitude}
 use Rattle.flt_model.specs.Runs.{breaks}

@@ -10,9 +10,9 @@ use Rattle.flt_notes.specs.Reported.{AreReports}
 use Rattle.flt_notes.specs.Told.{AreNoted, AreSaid}
 use Rattle.flt_notes.specs.declared.explaining.Told.{Told}
 use Rattle.flt_notes.specs.declared.noted.Noted.{Noted}
-use Rattle.flt_reports.specs.Reports.{texts_of}
-use Rattle.flt_reports.specs.declared.reports.Explained.{Explained as Reported}
-use Rattle.flt_reports.specs.declared.reports.Source.{Source}
+use Rattle.flt_details.specs.Reports.{texts_of}
+use Rattle.flt_details.specs.declared.sources.Explained.{Explained as Reported}
+use Rattle.flt_details.specs.declared.sources.Source.{Source}
 use Rattle.flt_words.specs.declared.request.Form.{Form}
 use Rattle.flt_words.specs.declared.request.Form.TheVariants.{Human, Lines, Sarif}
 use Rattle.flt_commands.specs.Inputs.{Text}

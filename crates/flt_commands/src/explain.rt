@@ -5,7 +5,7 @@ ghost use Rattle.flt_commands.specs.Explain as spec;
 ghost use Rattle.flt_commands.specs.Inputs.{Says};
 ghost use Rattle.flt_notes.specs.Noted.{first_journal};
 ghost use Rattle.flt_notes.specs.Told.{AreNoted};
-ghost use Rattle.flt_reports.specs.Reports.{texts_of};
+ghost use Rattle.flt_details.specs.Reports.{texts_of};
 
 use crate::answer::Answer;
 use crate::failure::Failure;
@@ -14,7 +14,7 @@ use flt_driven::journal_bytes;
 use flt_forms::{lines, sarif};
 use flt_notes::{Noted, Told, explain, first_journal};
 use flt_pages::page;
-use flt_reports::Source;
+use flt_details::Source;
 use flt_words::Form;
 use sqlite_items::Items;
 use std::alloc::{AllocError, Global};

@@ -5,7 +5,7 @@ use Rattle.flt_hints.specs.declared.choices.Choices.{Choices}
 use Rattle.flt_hints.specs.declared.choices.Expected.{Expected}
 use Rattle.flt_hints.specs.declared.spot.Spot.{Spot}
 use Rattle.flt_hints.specs.declared.troubles.Trouble.{Trouble}
-use Rattle.flt_reports.specs.Closing.{fault_name}
+use Rattle.flt_details.specs.Closing.{fault_name}
 use Rattle.flt_syntax.specs.declared.fault.SyntaxFault.{SyntaxFault}
 use Rattle.json.specs.Token.{Token, begin_object, end_object}
 use Rattle.flt_forms.specs.Members.{array_member, bytes_member, filled_member, line_of, number_member, string_member, text_items, text_member}

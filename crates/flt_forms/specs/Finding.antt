@@ -3,10 +3,10 @@ use Rattle.std.specs.Prelude.{◌≡◌, ℕ, List, [], ◌∷◌, ◌++◌, Opt
 use Rattle.std.specs.Borrow.{Bor}
 use Rattle.flt_rules.specs.Rule.{text}
 use Rattle.json.specs.Token.{Token, begin_object, end_object, key}
-use Rattle.flt_reports.specs.Closing.{rule_name}
-use Rattle.flt_reports.specs.declared.study.Detail.{Detail}
-use Rattle.flt_reports.specs.declared.study.Route.{Route}
-use Rattle.flt_reports.specs.declared.study.Words.{Words}
+use Rattle.flt_details.specs.Closing.{rule_name}
+use Rattle.flt_details.specs.declared.study.Detail.{Detail}
+use Rattle.flt_details.specs.declared.study.Route.{Route}
+use Rattle.flt_details.specs.declared.study.Words.{Words}
 use Rattle.flt_explain.specs.declared.finding.Finding.{Finding}
 use Rattle.flt_forms.specs.Members.{line_of, string_member, text_member, number_member, null_member}
 use Rattle.flt_forms.specs.Steps.{kind_name, step_member, steps, steps_member}

@@ -1,11 +1,11 @@
 -- What is found of texts, a JSON object a line. This project's own format.
 use Rattle.std.specs.Prelude.{◌≡◌, ℕ, List, [], ◌∷◌, ◌++◌, flat_map, map, max}
 use Rattle.flt_explain.specs.declared.finding.Finding.{Finding}
-use Rattle.flt_reports.specs.Reports.{IsJudged, status_of}
-use Rattle.flt_reports.specs.declared.judged.Judged.{Judged}
-use Rattle.flt_reports.specs.declared.judged.Judged.TheVariants.{Unread, Known}
-use Rattle.flt_reports.specs.declared.reports.Source.{Source}
-use Rattle.flt_reports.specs.declared.study.Detail.{Detail}
+use Rattle.flt_details.specs.Reports.{IsJudged, status_of}
+use Rattle.flt_details.specs.declared.judged.Judged.{Judged}
+use Rattle.flt_details.specs.declared.judged.Judged.TheVariants.{Unread, Known}
+use Rattle.flt_details.specs.declared.sources.Source.{Source}
+use Rattle.flt_details.specs.declared.study.Detail.{Detail}
 use Rattle.flt_forms.specs.Fault.{IsFaultLine}
 use Rattle.flt_forms.specs.Finding.{finding_line}
 

@@ -3,16 +3,16 @@ use Rattle.std.specs.Prelude.{◌≡◌, ℕ, List, [], ◌∷◌, ◌++◌, Opt
 use Rattle.flt_explain.specs.declared.finding.Finding.{Finding}
 use Rattle.flt_hints.specs.Trouble.{IsDescribed}
 use Rattle.flt_hints.specs.declared.troubles.Trouble.{Trouble}
-use Rattle.flt_reports.specs.Closing.{fault_name, rule_name}
-use Rattle.flt_reports.specs.Reports.{IsJudged, status_of}
-use Rattle.flt_reports.specs.declared.judged.Judged.{Judged}
-use Rattle.flt_reports.specs.declared.judged.Judged.TheVariants.{Unread, Known}
-use Rattle.flt_reports.specs.declared.reports.Source.{Source}
-use Rattle.flt_reports.specs.declared.study.Detail.{Detail}
-use Rattle.flt_reports.specs.declared.study.Route.{Route}
-use Rattle.flt_reports.specs.declared.study.Stage.{Stage}
-use Rattle.flt_reports.specs.declared.study.WayKind.{WayKind}
-use Rattle.flt_reports.specs.declared.study.WayKind.TheVariants.{Clean, Behind, Unreached, Unknown}
+use Rattle.flt_details.specs.Closing.{fault_name, rule_name}
+use Rattle.flt_details.specs.Reports.{IsJudged, status_of}
+use Rattle.flt_details.specs.declared.judged.Judged.{Judged}
+use Rattle.flt_details.specs.declared.judged.Judged.TheVariants.{Unread, Known}
+use Rattle.flt_details.specs.declared.sources.Source.{Source}
+use Rattle.flt_details.specs.declared.study.Detail.{Detail}
+use Rattle.flt_details.specs.declared.study.Route.{Route}
+use Rattle.flt_details.specs.declared.study.Stage.{Stage}
+use Rattle.flt_details.specs.declared.study.WayKind.{WayKind}
+use Rattle.flt_details.specs.declared.study.WayKind.TheVariants.{Clean, Behind, Unreached, Unknown}
 use Rattle.flt_rules.specs.Rule.{text}
 use Rattle.flt_rules.specs.declared.rule.Rule.{Rule}
 use Rattle.flt_rules.specs.declared.rule.Rule.TheVariants.{R01, R02, R03, R04, R05, R06, R07, R08, R09, R10, R11, R12, R13, R14, R15}

@@ -3,9 +3,9 @@ use Rattle.std.specs.Prelude.{ℕ, List, [], ◌∷◌, ◌++◌, Bool, codes, f
 use Rattle.json.specs.Token.{Token, begin_object, end_object, begin_array, end_array, key, null}
 use Rattle.std.specs.Prelude.{Option, Some, None}
 use Rattle.flt_forms.specs.Members.{filled_member, string_member, number_member, null_member}
-use Rattle.flt_reports.specs.declared.study.Stage.{Stage}
-use Rattle.flt_reports.specs.declared.study.WayKind.{WayKind}
-use Rattle.flt_reports.specs.declared.study.WayKind.TheVariants.{Clean, Behind, Unreached, Unknown}
+use Rattle.flt_details.specs.declared.study.Stage.{Stage}
+use Rattle.flt_details.specs.declared.study.WayKind.{WayKind}
+use Rattle.flt_details.specs.declared.study.WayKind.TheVariants.{Clean, Behind, Unreached, Unknown}
 
 -- how a step comes out
 abbrev pub side : Bool → List ℕ

@@ -4,7 +4,7 @@ ghost use Rattle.std.specs.Prelude.{◌≡◌, ◌++◌, [], Err, IfOk, List, �
 ghost use Rattle.flt_forms.specs.Fault.{IsFaultLine};
 ghost use Rattle.flt_forms.specs.Finding as of_finding;
 ghost use Rattle.flt_forms.specs.Lines as spec;
-ghost use Rattle.flt_reports.specs.Reports.{IsJudged};
+ghost use Rattle.flt_details.specs.Reports.{IsJudged};
 ghost use Rattle.flt_syntax.specs.File.{filter_of};
 
 use crate::fault::{help_of, put_fault_line};
@@ -12,7 +12,7 @@ use crate::finding::put_lines;
 use flt_explain::Finding;
 use flt_graph::Graph;
 use flt_hints::{describe, tell};
-use flt_reports::{Explained, Judged, Source, details, judge};
+use flt_details::{Explained, Judged, Source, details, judge};
 use flt_syntax::{SyntaxFault, Tree, spelled_is_read};
 use std::alloc::{AllocError, Global};
 

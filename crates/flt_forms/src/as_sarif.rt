@@ -3,8 +3,8 @@
 ghost use Rattle.std.specs.Prelude.{◌≡◌, ◌++◌, [], Err, IfOk, List, codes, flat_map, max};
 ghost use Rattle.flt_forms.specs.Members.{Added, Adds, array_member, object_member, string_member};
 ghost use Rattle.flt_forms.specs.Sarif as spec;
-ghost use Rattle.flt_reports.specs.Closing.{fault_name as fault_words};
-ghost use Rattle.flt_reports.specs.Reports.{IsJudged};
+ghost use Rattle.flt_details.specs.Closing.{fault_name as fault_words};
+ghost use Rattle.flt_details.specs.Reports.{IsJudged};
 ghost use Rattle.flt_syntax.specs.File.{filter_of};
 ghost use Rattle.json.specs.Token.{Token};
 
@@ -17,7 +17,7 @@ use crate::uri::uri;
 use flt_explain::Finding;
 use flt_graph::Graph;
 use flt_hints::{describe, tell};
-use flt_reports::{Explained, Judged, Source, details, fault_name, judge};
+use flt_details::{Explained, Judged, Source, details, fault_name, judge};
 use flt_rules::Rule;
 use flt_syntax::{FaultKind, SyntaxFault, Tree, spelled_is_read};
 use json::Writer;

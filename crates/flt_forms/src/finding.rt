@@ -4,14 +4,14 @@ ghost use Rattle.std.specs.Prelude.{◌≡◌, ◌++◌, codes, flat_map, IfOk};
 ghost use Rattle.flt_forms.specs.Finding as spec;
 ghost use Rattle.flt_forms.specs.Members.{Adds, string_member};
 ghost use Rattle.flt_rules.specs.Rule.{text as rule_text};
-ghost use Rattle.flt_reports.specs.Closing.{rule_name};
+ghost use Rattle.flt_details.specs.Closing.{rule_name};
 
 use crate::members::{
     close_object, open_object, put_key, put_null, put_number, put_string, put_text,
 };
 use crate::steps::{put_kind, put_step_member, put_steps, put_steps_member};
 use flt_explain::Finding;
-use flt_reports::{Detail, Route, RuleName, Words};
+use flt_details::{Detail, Route, RuleName, Words};
 use flt_rules::{Rule, text};
 use json::Writer;
 use std::alloc::{AllocError, Global};

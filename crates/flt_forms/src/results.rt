@@ -3,13 +3,13 @@
 ghost use Rattle.std.specs.Prelude.{◌≡◌, ◌++◌, codes, flat_map};
 ghost use Rattle.flt_forms.specs.Members.{Adds, array_member, object_member, string_member, text_member};
 ghost use Rattle.flt_forms.specs.Sarif as spec;
-ghost use Rattle.flt_reports.specs.Closing.{fault_name as fault_words, rule_name};
+ghost use Rattle.flt_details.specs.Closing.{fault_name as fault_words, rule_name};
 
 use crate::members::{
     close_array, close_object, open_array, open_object, put_filled, put_key, put_number,
     put_string, put_text,
 };
-use flt_reports::{Detail, RuleName, Stage, WayKind, fault_name};
+use flt_details::{Detail, RuleName, Stage, WayKind, fault_name};
 use flt_rules::Rule;
 use flt_syntax::SyntaxFault;
 use json::Writer;

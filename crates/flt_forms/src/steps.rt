@@ -8,7 +8,7 @@ use crate::members::{
     close_array, close_object, open_array, open_object, put_filled, put_key, put_null, put_number,
     put_string,
 };
-use flt_reports::{Stage, WayKind};
+use flt_details::{Stage, WayKind};
 use json::Writer;
 use sqlite_items::Items;
 use std::alloc::{AllocError, Global};

@@ -12,8 +12,8 @@ use Rattle.flt_tree.specs.declared.tree.Tree.{Tree}
 use Rattle.flt_graph.specs.declared.graph.Graph.{Graph}
 use Rattle.flt_explain.specs.declared.finding.Finding.{Finding}
 use Rattle.flt_reasons.specs.declared.notice.Notice.{Notice}
-use Rattle.flt_reports.specs.Reports.{IsKnown}
-use Rattle.flt_reports.specs.declared.judged.Judged.TheVariants.{Unread, Known as Found}
+use Rattle.flt_details.specs.Reports.{IsKnown}
+use Rattle.flt_details.specs.declared.judged.Judged.TheVariants.{Unread, Known as Found}
 use Rattle.flt_notes.specs.Lines.{BeginsWith, said}
 use Rattle.flt_notes.specs.Noted.{IsNoted}
 use Rattle.flt_notes.specs.Printing.{ClosesFault, ClosesFindings, ClosesNotice, IsKnownIn, IsNoteOf, IsOutput}

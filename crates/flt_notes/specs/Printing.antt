@@ -7,8 +7,8 @@ use Rattle.flt_explain.specs.Findings.{AreFindings}
 use Rattle.flt_explain.specs.declared.finding.Finding.{Finding}
 use Rattle.flt_reasons.specs.Notice as notices
 use Rattle.flt_reasons.specs.declared.notice.Notice.{Notice}
-use Rattle.flt_reports.specs.Closing.{findings_closing, syntax_line}
-use Rattle.flt_reports.specs.Reports.{EndsWith, findings_status}
+use Rattle.flt_details.specs.Closing.{findings_closing, syntax_line}
+use Rattle.flt_details.specs.Reports.{EndsWith, findings_status}
 use Rattle.flt_schedules.specs.Schedules.{IsScheduled}
 use Rattle.flt_schedules.specs.declared.schedules.Suspect.{Suspect}
 use Rattle.flt_notes.specs.Noted.{IsNoted}

@@ -11,7 +11,7 @@ use Rattle.flt_model.specs.Program.{filters_of}
 use Rattle.flt_reasons.specs.Notice.{IsNotice, kind_of}
 use Rattle.flt_reasons.specs.declared.notice.Kind.{Kind}
 use Rattle.flt_reasons.specs.declared.notice.Notice.{Notice}
-use Rattle.flt_reports.specs.Reports.{IsKnown}
+use Rattle.flt_details.specs.Reports.{IsKnown}
 use Rattle.flt_notes.specs.declared.readings.Reading.{Reading}
 use Rattle.flt_notes.specs.declared.readings.Reading.TheVariants.{Unread, Other, Known}
 use Rattle.flt_notes.specs.declared.readings.Readings.{Readings}

@@ -4,10 +4,10 @@ use Rattle.flt_syntax.specs.File.{filter_of}
 use Rattle.flt_tree.specs.Names.{Text}
 use Rattle.flt_reasons.specs.Notice as notices
 use Rattle.flt_reasons.specs.declared.notice.Notice.{Notice}
-use Rattle.flt_reports.specs.Closing as texts
-use Rattle.flt_reports.specs.Reports.{EndsWith, IsJudged, status_of}
-use Rattle.flt_reports.specs.declared.judged.Judged.{Judged}
-use Rattle.flt_reports.specs.declared.judged.Judged.TheVariants.{Unread, Known}
+use Rattle.flt_details.specs.Closing as texts
+use Rattle.flt_details.specs.Reports.{EndsWith, IsJudged, status_of}
+use Rattle.flt_details.specs.declared.judged.Judged.{Judged}
+use Rattle.flt_details.specs.declared.judged.Judged.TheVariants.{Unread, Known}
 use Rattle.flt_notes.specs.Readings.{IsOther, IsUnread}
 
 -- what a text is that isn't taken for anything else: it has this first fault, or it is known

@@ -3,12 +3,12 @@
 ghost use Rattle.std.specs.Prelude.{◌≡◌, IfOk};
 ghost use Rattle.flt_notes.specs.Reported.{AreReports};
 ghost use Rattle.flt_notes.specs.Told as spec;
-ghost use Rattle.flt_reports.specs.Reports.{texts_of};
+ghost use Rattle.flt_details.specs.Reports.{texts_of};
 
 use crate::noted::Noted;
 use crate::printing::{Output, Stage};
 use crate::readings::read_all;
-use flt_reports::{Explained, Source};
+use flt_details::{Explained, Source};
 use sqlite_items::Items;
 use std::alloc::{AllocError, Global};
 

@@ -9,12 +9,11 @@ use crate::lines::{Bounds, note_lines};
 use crate::noted::Noted;
 use crate::notices::notice_lines;
 use crate::readings::{Reading, Studied};
+use flt_details::{Source, fault_line, findings_line};
 use flt_explain::Finding;
 use flt_graph::Graph;
 use flt_reasons::Notice;
-use flt_reports::{
-    Report, Source, fault_line, findings_line, report_findings, report_nothing, report_unread,
-};
+use flt_reports::{Report, report_findings, report_nothing, report_unread};
 use flt_schedules::{Suspect, schedule_among};
 use flt_syntax::SyntaxFault;
 use flt_tree::Tree;

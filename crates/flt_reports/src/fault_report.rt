@@ -1,43 +1,21 @@
 //! The report of a text that doesn't parse.
 
-use crate::closing::fault_name;
+use crate::heading::tell_heading;
 use crate::marks::Drawing;
-use crate::page::{Page, Style};
-use crate::sites::Site;
+use flt_details::{Page, Site, Source, fault_name, line_at};
 use flt_hints::{Told, Trouble, describe, tell};
-use flt_syntax::SyntaxFault;
 use std::alloc::{AllocError, Global};
-
-/// Writes what is wrong.
-fn tell_fault(page: &mut Page, fault: SyntaxFault, told: &Told) -> Result<(), AllocError> {
-    page.style(Style::Mark)?;
-    page.text("error[")?;
-    page.text(fault_name(fault.kind))?;
-    page.text("]: ")?;
-    page.style(Style::Plain)?;
-    page.style(Style::Title)?;
-    page.bytes(told.title.as_slice())?;
-    page.style(Style::Plain)
-}
-
-/// Writes where that is.
-fn tell_place(page: &mut Page, name: &str, fault: SyntaxFault) -> Result<(), AllocError> {
-    page.text("\n  --> ")?;
-    page.bytes(name.as_bytes())?;
-    page.counted(":", fault.line)?;
-    page.counted(":", fault.column)?;
-    page.text("\n")
-}
 
 /// Draws the line with marks under what stands there, and behind them which word is probably meant.
 fn draw_spot(
     page: &mut Page,
+    coloured: bool,
     text: &[u8],
     trouble: &Trouble<'_>,
     told: &Told,
 ) -> Result<(), AllocError> {
     let fault = trouble.spot.fault;
-    let mut drawing = Drawing::new(fault.line);
+    let mut drawing = Drawing::new(coloured, fault.line);
     let site = Site {
         callback: 0,
         point: 0,
@@ -46,30 +24,43 @@ fn draw_spot(
         start: 0,
         end: trouble.spot.bytes.len(),
     };
-    drawing.draw(page, text, &site, b'^')?;
-    if !told.meant.is_empty() {
-        page.text(" ")?;
-        page.bytes(told.meant.as_slice())?;
+    drawing.draw(page, line_at(text, fault.line), &site, b'^')?;
+    if told.meant.is_empty() {
+        page.bytes(b"\n")
+    } else {
+        page.line(&[b" ", told.meant.as_slice()])
     }
-    page.text("\n")
+}
+
+/// Writes what is wrong, where that is, what stands there, and how to mend it. The line isn't drawn where the text is too large.
+fn report_trouble(
+    page: &mut Page,
+    coloured: bool,
+    source: Source<'_>,
+    trouble: &Trouble<'_>,
+    told: &Told,
+) -> Result<(), AllocError> {
+    let fault = trouble.spot.fault;
+    let code = Some(fault_name(fault.kind));
+    tell_heading(page, coloured, code, told.title.as_slice(), source.name)?;
+    page.numbers(&[":", ":", "\n"], &[fault.line, fault.column])?;
+    if trouble.spot.token.is_some() {
+        draw_spot(page, coloured, source.text, trouble, told)?;
+    }
+    page.bytes(told.notes.as_slice())
 }
 
 /// Writes where a text is refused, what stands there, what may stand there in its place, and how to mend it; nothing of a text that
-/// parses. The line isn't drawn where the text is too large.
+/// parses.
 pub(crate) fn report_fault(
     alloc: Global,
     page: &mut Page,
-    name: &str,
-    text: &[u8],
+    coloured: bool,
+    source: Source<'_>,
 ) -> Result<(), AllocError> {
-    let Some(trouble) = describe(alloc, text)? else {
+    let Some(trouble) = describe(alloc, source.text)? else {
         return Ok(());
     };
     let told = tell(alloc, &trouble)?;
-    tell_fault(page, trouble.spot.fault, &told)?;
-    tell_place(page, name, trouble.spot.fault)?;
-    if trouble.spot.token.is_some() {
-        draw_spot(page, text, &trouble, &told)?;
-    }
-    page.lines(told.notes.as_slice())
+    report_trouble(page, coloured, source, &trouble, &told)
 }

@@ -1,122 +1,76 @@
 //! The report of findings that are put together.
 
-use crate::advice::{tell_help, tell_title};
-use crate::closing::RuleName;
-use crate::page::{Page, Style};
-use crate::shown_lines::{draw_alone, draw_way};
-use crate::sites::Sites;
-use crate::tracing::{Shown, Traces};
+use crate::heading::tell_heading;
+use crate::shown_lines::draw_shown;
 use crate::way_lines::tell_way;
+use flt_details::{Page, Scene, Shown, Words};
 use flt_explain::Finding;
-use flt_graph::Graph;
-use flt_origins::{Group, Origin, Traced};
+use flt_origins::Traced;
 use flt_rules::Rule;
-use flt_syntax::Tree;
-use flt_ways::{Answer, Ways};
+use flt_ways::Answer;
 use std::alloc::{AllocError, Global};
 
-/// A text that parses, with all that a report looks up.
-#[derive(Clone, Copy)]
-pub(crate) struct Scene<'a> {
-    pub(crate) name: &'a str,
-    pub(crate) text: &'a [u8],
-    pub(crate) sites: &'a Sites,
-    pub(crate) tree: &'a Tree,
-    pub(crate) graph: &'a Graph,
-}
-
-/// Writes the number of a rule.
-fn tell_rule(alloc: Global, page: &mut Page, rule: Rule) -> Result<(), AllocError> {
-    let rule = RuleName(rule);
-    let rule = format!(in alloc; "error[{rule}]: ")?;
-    page.styled(Style::Mark, rule.as_str())
-}
-
-/// Writes where a finding is.
-fn tell_place(
-    page: &mut Page,
-    name: &str,
-    head: &[u8],
-    finding: &Finding,
-) -> Result<(), AllocError> {
-    page.text("\n  --> ")?;
-    page.bytes(name.as_bytes())?;
-    page.counted(":", finding.line)?;
-    page.text(", ")?;
-    page.quoted(head)?;
-    page.counted(" (callback ", finding.callback)?;
-    page.counted(" point ", finding.point)?;
-    page.text(")\n")
+/// `R01` to `R15`.
+fn code(rule: Rule) -> &'static str {
+    match rule {
+        Rule::R01 => "R01",
+        Rule::R02 => "R02",
+        Rule::R03 => "R03",
+        Rule::R04 => "R04",
+        Rule::R05 => "R05",
+        Rule::R06 => "R06",
+        Rule::R07 => "R07",
+        Rule::R08 => "R08",
+        Rule::R09 => "R09",
+        Rule::R10 => "R10",
+        Rule::R11 => "R11",
+        Rule::R12 => "R12",
+        Rule::R13 => "R13",
+        Rule::R14 => "R14",
+        Rule::R15 => "R15",
+    }
 }
 
 /// Writes what is wrong, and where.
 fn tell_head(
-    alloc: Global,
     page: &mut Page,
-    scene: &Scene<'_>,
+    coloured: bool,
+    name: &str,
     finding: &Finding,
+    words: &Words,
 ) -> Result<(), AllocError> {
-    let head = scene.sites.head(scene.text, finding.callback);
-    tell_rule(alloc, page, finding.rule)?;
-    page.style(Style::Title)?;
-    tell_title(page, scene.tree, head, finding)?;
-    page.style(Style::Plain)?;
-    tell_place(page, scene.name, head, finding)
+    let code = Some(code(finding.rule));
+    let places = [finding.callback, finding.point];
+    tell_heading(page, coloured, code, words.title.as_slice(), name)?;
+    page.numbers(&[":", ", `"], &[finding.line])?;
+    page.words(&[words.head.as_slice()])?;
+    page.numbers(&["` (callback ", " point ", ")\n"], &places)
 }
 
-/// Writes what shows a finding.
-fn tell_ways(
-    alloc: Global,
-    page: &mut Page,
-    scene: &Scene<'_>,
-    finding: &Finding,
-    found: &Ways,
-    origin: Option<&Origin>,
-) -> Result<(), AllocError> {
-    let callback = finding.callback;
-    draw_way(alloc, page, scene, finding, found, origin)?;
-    let steps = found.way.steps.as_slice();
-    tell_way(page, scene, callback, "   = way: ", steps)?;
-    if let Some(other) = &found.other {
-        let steps = other.steps.as_slice();
-        tell_way(page, scene, callback, "   = other way: ", steps)?;
+/// What is said of the ways to a finding.
+fn notes(answer: &Answer) -> &'static str {
+    match answer {
+        Answer::Clean(_) => "",
+        Answer::Behind(_) =>
+            "   = note: each way that was found breaks another rule before: mend that first\n",
+        Answer::Unreached =>
+            "   = note: no way was found: the text is refused because the sets of the rules forget what goes together\n   = help: test the variable itself, as by `if c0 != NULL`, and not what it depends on\n",
+        Answer::Unknown =>
+            "   = note: the search for a way was ended, since there are too many situations\n",
     }
-    Ok(())
 }
 
-/// Writes how a finding is reached.
-fn tell_shown(
-    alloc: Global,
+/// Writes the ways to a finding, and what is said of them.
+fn tell_ways(
     page: &mut Page,
     scene: &Scene<'_>,
-    finding: &Finding,
+    callback: usize,
     shown: &Shown,
 ) -> Result<(), AllocError> {
-    let origin = shown.origin.as_ref();
-    match &shown.answer {
-        Answer::Clean(found) => tell_ways(alloc, page, scene, finding, found, origin),
-        Answer::Behind(found) => {
-            tell_ways(alloc, page, scene, finding, found, origin)?;
-            page.text(
-                "   = note: each way that was found breaks another rule before: mend that first\n",
-            )
-        }
-        Answer::Unreached => {
-            draw_alone(alloc, page, scene, finding, origin)?;
-            page.text(
-                "   = note: no way was found: the text is refused because the sets of the rules forget what goes together\n",
-            )?;
-            page.text(
-                "   = help: test the variable itself, as by `if c0 != NULL`, and not what it depends on\n",
-            )
-        }
-        Answer::Unknown => {
-            draw_alone(alloc, page, scene, finding, origin)?;
-            page.text(
-                "   = note: the search for a way was ended, since there are too many situations\n",
-            )
-        }
-    }
+    let (way, other) = shown.ways();
+    tell_way(page, scene, callback, "   = way: ", way)?;
+    tell_way(page, scene, callback, "   = other way: ", other)?;
+    page.texts(&[notes(&shown.answer)])
 }
 
 /// Writes the lines on which the others of a group stand, each once.
@@ -130,29 +84,30 @@ fn tell_others(page: &mut Page, others: &[Traced]) -> Result<(), AllocError> {
             } else {
                 ", "
             };
-            page.counted(word, line)?;
+            page.numbers(&[word], &[line])?;
             last = line;
         }
     }
-    if last == 0 {
-        return Ok(());
-    }
-    page.text("\n")
+    page.texts(&[if last == 0 { "" } else { "\n" }])
 }
 
-/// Writes the report of a group of findings: that of the first, and where the others are.
-pub(crate) fn report_group(
+/// Writes the report of a finding: what is wrong and where, what shows it, where the others of its group are, and how to mend it.
+pub(crate) fn report_finding(
     alloc: Global,
     page: &mut Page,
+    coloured: bool,
+    name: &str,
     scene: &Scene<'_>,
-    traces: &Traces,
-    group: &Group,
+    finding: &Finding,
+    words: &Words,
+    shown: Option<&Shown>,
+    others: &[Traced],
 ) -> Result<(), AllocError> {
-    let finding = group.first.finding;
-    tell_head(alloc, page, scene, &finding)?;
-    if let Some(shown) = traces.shown(&group.first) {
-        tell_shown(alloc, page, scene, &finding, shown)?;
+    tell_head(page, coloured, name, finding, words)?;
+    if let Some(shown) = shown {
+        draw_shown(alloc, page, coloured, scene, finding, words, shown)?;
+        tell_ways(page, scene, finding.callback, shown)?;
     }
-    tell_others(page, group.others.as_slice())?;
-    tell_help(page, scene.tree, &finding)
+    tell_others(page, others)?;
+    page.line(&[b"   = help: ", words.help.as_slice()])
 }

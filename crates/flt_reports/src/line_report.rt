@@ -1,8 +1,8 @@
 //! The report of a line of a file that isn't the text of a filter.
 
+use crate::heading::tell_heading;
 use crate::marks::Drawing;
-use crate::page::{Page, Style};
-use crate::sites::Site;
+use flt_details::{Page, Site};
 use std::alloc::{AllocError, Global};
 
 /// A line in which something is wrong. Lines and columns count from 1.
@@ -24,21 +24,20 @@ pub struct MarkedLine<'a> {
     pub help: &'a str,
 }
 
-/// Writes what is wrong, and where.
-fn tell(page: &mut Page, marked: &MarkedLine<'_>) -> Result<(), AllocError> {
-    page.styled(Style::Mark, "error: ")?;
-    page.style(Style::Title)?;
-    page.bytes(marked.message)?;
-    page.style(Style::Plain)?;
-    page.text("\n  --> ")?;
-    page.bytes(marked.name.as_bytes())?;
-    page.counted(":", marked.line)?;
-    page.counted(":", marked.column)?;
-    page.text("\n")
+/// Writes which word is probably meant, and ends the line.
+fn tell_meant(page: &mut Page, meant: &[u8]) -> Result<(), AllocError> {
+    if meant.is_empty() {
+        page.bytes(b"\n")
+    } else {
+        page.line(&[b" did you mean `", meant, b"`?"])
+    }
 }
 
-/// Draws the line, and behind the marks which word is probably meant.
-fn draw(page: &mut Page, marked: &MarkedLine<'_>) -> Result<(), AllocError> {
+/// Draws the line, and behind the marks which word is probably meant; nothing where nothing is shown.
+fn draw(page: &mut Page, coloured: bool, marked: &MarkedLine<'_>) -> Result<(), AllocError> {
+    if marked.shown.is_empty() {
+        return Ok(());
+    }
     let site = Site {
         callback: 0,
         point: 0,
@@ -47,13 +46,24 @@ fn draw(page: &mut Page, marked: &MarkedLine<'_>) -> Result<(), AllocError> {
         start: 0,
         end: marked.marked,
     };
-    Drawing::new(marked.line).draw_in(page, marked.shown, &site, b'^')?;
-    if !marked.meant.is_empty() {
-        page.text(" did you mean ")?;
-        page.quoted(marked.meant)?;
-        page.text("?")?;
+    Drawing::new(coloured, marked.line).draw(page, marked.shown, &site, b'^')?;
+    tell_meant(page, marked.meant)
+}
+
+/// Writes how to mend it.
+fn tell_help(page: &mut Page, help: &str) -> Result<(), AllocError> {
+    if help.is_empty() {
+        Ok(())
+    } else {
+        page.texts(&["   = help: ", help, "\n"])
     }
-    page.text("\n")
+}
+
+fn tell(page: &mut Page, coloured: bool, marked: &MarkedLine<'_>) -> Result<(), AllocError> {
+    tell_heading(page, coloured, None, marked.message, marked.name)?;
+    page.numbers(&[":", ":", "\n"], &[marked.line, marked.column])?;
+    draw(page, coloured, marked)?;
+    tell_help(page, marked.help)
 }
 
 /// What is reported of a line of a file that isn't the text of a filter: what is wrong and where, and how to mend it. Whole lines. With
@@ -67,15 +77,7 @@ pub fn report_line(
     coloured: bool,
     marked: &MarkedLine<'_>,
 ) -> Result<Vec<u8>, AllocError> {
-    let mut page = Page::new(alloc, coloured);
-    tell(&mut page, marked)?;
-    if !marked.shown.is_empty() {
-        draw(&mut page, marked)?;
-    }
-    if !marked.help.is_empty() {
-        page.text("   = help: ")?;
-        page.text(marked.help)?;
-        page.text("\n")?;
-    }
+    let mut page = Page::new(alloc);
+    tell(&mut page, coloured, marked)?;
     Ok(page.out)
 }

@@ -1,13 +1,38 @@
 //! Lines of a text with marks under them.
 
-use crate::page::{Page, Style, width};
-use crate::pieces::line_at;
-use crate::sites::Site;
+use flt_details::{Page, Site};
 use std::alloc::AllocError;
 
-/// The lines that are drawn: the width of their numbers, and the last of them, 0 where none is.
+/// What stands round the numbers of lines and round marks.
+#[derive(Clone, Copy)]
+struct Frame {
+    number: &'static str,
+    behind_number: &'static str,
+    bar: &'static str,
+    mark: &'static str,
+    behind_mark: &'static str,
+}
+
+const COLOURED: Frame = Frame {
+    number: "\x1b[1;34m",
+    behind_number: " | \x1b[0m",
+    bar: "\x1b[1;34m | \x1b[0m",
+    mark: "\x1b[1;31m",
+    behind_mark: "\x1b[0m",
+};
+
+const PLAIN: Frame = Frame {
+    number: "",
+    behind_number: " | ",
+    bar: " | ",
+    mark: "",
+    behind_mark: "",
+};
+
+/// The lines that are drawn: their frame, the width of their numbers, and the last of them, 0 where none is.
 #[derive(Clone, Copy)]
 pub(crate) struct Drawing {
+    frame: Frame,
     margin: usize,
     last: usize,
 }
@@ -18,64 +43,69 @@ fn marks(line: &[u8], site: &Site) -> usize {
     rest.min(site.end.saturating_sub(site.start)).max(1)
 }
 
+/// How many digits a number has.
+fn width(number: usize) -> usize {
+    if number < 10 {
+        1
+    } else {
+        width(number / 10).saturating_add(1)
+    }
+}
+
 impl Drawing {
     /// For lines up to this one.
-    pub(crate) fn new(greatest: usize) -> Drawing {
+    pub(crate) fn new(coloured: bool, greatest: usize) -> Drawing {
         Drawing {
+            frame: if coloured { COLOURED } else { PLAIN },
             margin: width(greatest),
             last: 0,
         }
     }
 
-    /// The frame to the left of marks.
-    fn frame(self, page: &mut Page) -> Result<(), AllocError> {
-        page.repeated(b' ', self.margin)?;
-        page.styled(Style::Frame, " | ")
-    }
-
-    /// Draws a line of the text, unless it is the last that was drawn.
-    fn draw_line(&mut self, page: &mut Page, line: &[u8], number: usize) -> Result<(), AllocError> {
-        if number == self.last {
-            return Ok(());
-        }
+    /// What stands between the last line and another one.
+    fn gap(self, number: usize) -> &'static str {
         if self.last != 0 && number != self.last.saturating_add(1) {
-            page.text("...\n")?;
+            "...\n"
+        } else {
+            ""
         }
-        page.repeated(b' ', self.margin.saturating_sub(width(number)))?;
-        page.style(Style::Frame)?;
-        page.number(number)?;
-        page.text(" | ")?;
-        page.style(Style::Plain)?;
-        page.bytes(line)?;
-        page.text("\n")?;
-        self.last = number;
-        Ok(())
     }
 
-    /// Draws a site of a text with signs under it. What it says follows on the page.
-    pub(crate) fn draw(
-        &mut self,
+    /// Draws a line of the text.
+    fn draw_line(self, page: &mut Page, line: &[u8], number: usize) -> Result<(), AllocError> {
+        let blanks = self.margin.saturating_sub(width(number));
+        page.texts(&[self.gap(number)])?;
+        page.run(b' ', blanks, self.frame.number)?;
+        page.numbers(&["", self.frame.behind_number], &[number])?;
+        page.line(&[line])
+    }
+
+    /// Draws signs under a site.
+    fn draw_marks(
+        self,
         page: &mut Page,
-        text: &[u8],
+        line: &[u8],
         site: &Site,
         sign: u8,
     ) -> Result<(), AllocError> {
-        self.draw_in(page, line_at(text, site.line), site, sign)
+        page.run(b' ', self.margin, self.frame.bar)?;
+        page.run(b' ', site.column.saturating_sub(1), self.frame.mark)?;
+        page.run(sign, marks(line, site), self.frame.behind_mark)
     }
 
-    /// The same of a site in a line.
-    pub(crate) fn draw_in(
+    /// Draws a site in its line with signs under it; the line only where it isn't the last that was drawn. What it says follows on the
+    /// page.
+    pub(crate) fn draw(
         &mut self,
         page: &mut Page,
         line: &[u8],
         site: &Site,
         sign: u8,
     ) -> Result<(), AllocError> {
-        self.draw_line(page, line, site.line)?;
-        self.frame(page)?;
-        page.repeated(b' ', site.column.saturating_sub(1))?;
-        page.style(Style::Mark)?;
-        page.repeated(sign, marks(line, site))?;
-        page.style(Style::Plain)
+        if site.line != self.last {
+            self.draw_line(page, line, site.line)?;
+            self.last = site.line;
+        }
+        self.draw_marks(page, line, site, sign)
     }
 }

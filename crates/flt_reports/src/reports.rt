@@ -1,30 +1,14 @@
 //! Reports of texts, part by part.
 
 use crate::fault_report::report_fault;
-use crate::finding_report::{Scene, report_group};
-use crate::page::Page;
-use crate::pieces::pieces;
-use crate::sites::Sites;
-use crate::tracing::Traces;
+use crate::finding_report::report_finding;
+use flt_details::{Page, Scene, Sites, Source, Traces, words_of};
 use flt_explain::Finding;
 use flt_graph::Graph;
+use flt_origins::Group;
 use flt_syntax::Tree;
 use sqlite_items::Items;
 use std::alloc::{AllocError, Global};
-
-/// A text, and the name under which it is reported.
-#[derive(Clone, Copy)]
-pub struct Source<'a> {
-    pub name: &'a str,
-    pub text: &'a [u8],
-}
-
-/// What is printed, and the exit status: 0 where nothing is found, 1 where something is, 2 where a text doesn't parse.
-#[derive(Drop)]
-pub struct Explained {
-    pub output: Vec<u8>,
-    pub status: u8,
-}
 
 /// What is reported of a finding, and of those of the same origin.
 #[derive(Drop)]
@@ -35,6 +19,58 @@ pub struct Report {
     pub is_behind: bool,
     /// Whole lines.
     pub lines: Vec<u8>,
+}
+
+/// The lines of a report of a group of findings: that of the first, and where the others are.
+fn group_lines(
+    alloc: Global,
+    coloured: bool,
+    name: &str,
+    scene: &Scene<'_>,
+    traces: &Traces,
+    group: &Group,
+) -> Result<Vec<u8>, AllocError> {
+    let mut page = Page::new(alloc);
+    report_group(alloc, &mut page, coloured, name, scene, traces, group)?;
+    Ok(page.out)
+}
+
+/// Writes the report of a group of findings.
+fn report_group(
+    alloc: Global,
+    page: &mut Page,
+    coloured: bool,
+    name: &str,
+    scene: &Scene<'_>,
+    traces: &Traces,
+    group: &Group,
+) -> Result<(), AllocError> {
+    let finding = group.first.finding;
+    let words = words_of(alloc, scene, &finding)?;
+    let shown = traces.shown(&group.first);
+    let others = group.others.as_slice();
+    report_finding(
+        alloc, page, coloured, name, scene, &finding, &words, shown, others,
+    )
+}
+
+/// The reports of the groups of findings of a text, in their order.
+fn report_groups(
+    alloc: Global,
+    coloured: bool,
+    name: &str,
+    scene: &Scene<'_>,
+    traces: &Traces,
+) -> Result<Items<Report>, AllocError> {
+    let mut all = Items::new(alloc);
+    for group in traces.groups.as_slice() {
+        all.push(Report {
+            finding: group.first.number,
+            is_behind: traces.is_behind(&group.first),
+            lines: group_lines(alloc, coloured, name, scene, traces, group)?,
+        })?;
+    }
+    Ok(all)
 }
 
 /// The reports of the findings of a text that parses, in their order, those of one origin in one report: each with the lines that show
@@ -51,27 +87,15 @@ pub fn report_findings(
     graph: &Graph,
     found: &[Finding],
 ) -> Result<Items<Report>, AllocError> {
-    let pieces = pieces(alloc, source.text)?;
-    let sites = Sites::of(alloc, source.text, pieces.as_slice())?;
+    let sites = Sites::of(alloc, source.text)?;
     let scene = Scene {
-        name: source.name,
         text: source.text,
         sites: &sites,
         tree,
         graph,
     };
     let traces = Traces::of(alloc, graph, found)?;
-    let mut all = Items::new(alloc);
-    for group in traces.groups.as_slice() {
-        let mut page = Page::new(alloc, coloured);
-        report_group(alloc, &mut page, &scene, &traces, group)?;
-        all.push(Report {
-            finding: group.first.number,
-            is_behind: traces.is_behind(&group.first),
-            lines: page.out,
-        })?;
-    }
-    Ok(all)
+    report_groups(alloc, coloured, source.name, &scene, &traces)
 }
 
 /// What is reported of a text of which nothing is found, and what that promises; whole lines.
@@ -80,12 +104,17 @@ pub fn report_findings(
 ///
 /// Where a growth was refused.
 pub fn report_nothing(alloc: Global, source: Source<'_>) -> Result<Vec<u8>, AllocError> {
-    let mut page = Page::new(alloc, false);
-    page.bytes(source.name.as_bytes())?;
-    page.text(": a certificate covers this text, so that no run of it breaks V1 to V8\n")?;
-    page.text("   = help: `fltstack analyse ")?;
-    page.bytes(source.name.as_bytes())?;
-    page.text("` prints the certificate\n")?;
+    let mut page = Page::new(alloc);
+    let name = source.name.as_bytes();
+    page.line(&[
+        name,
+        b": a certificate covers this text, so that no run of it breaks V1 to V8",
+    ])?;
+    page.line(&[
+        b"   = help: `fltstack analyse ",
+        name,
+        b"` prints the certificate",
+    ])?;
     Ok(page.out)
 }
 
@@ -99,7 +128,7 @@ pub fn report_unread(
     coloured: bool,
     source: Source<'_>,
 ) -> Result<Vec<u8>, AllocError> {
-    let mut page = Page::new(alloc, coloured);
-    report_fault(alloc, &mut page, source.name, source.text)?;
+    let mut page = Page::new(alloc);
+    report_fault(alloc, &mut page, coloured, source)?;
     Ok(page.out)
 }

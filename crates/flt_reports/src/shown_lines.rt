@@ -1,16 +1,13 @@
 //! The lines of a text that show a finding, with marks: its point, where what is found comes from, and where ways meet.
 
-use crate::finding_report::Scene;
 use crate::marks::Drawing;
-use crate::page::Page;
-use crate::sites::Site;
-use crate::subjects::{fact_word, state_word, tell_subject};
-use crate::way_lines::call_outcome;
+use flt_details::{
+    Page, Scene, Shown, Site, Words, fact_word, line_at, state_at_end, step_call_outcome,
+};
 use flt_explain::Finding;
-use flt_graph::Instruction;
 use flt_origins::{Cause, Fact, Origin};
 use flt_rules::Rule;
-use flt_ways::{Step, Way, Ways};
+use flt_ways::{Step, Way};
 use std::alloc::{AllocError, Global};
 
 /// What a mark shows.
@@ -31,48 +28,78 @@ struct Mark {
 
 /// Adds a mark at a point, if that is in the text.
 fn add_mark(
-    scene: &Scene<'_>,
     marks: &mut Vec<Mark>,
-    finding: &Finding,
+    scene: &Scene<'_>,
+    callback: usize,
     point: usize,
     sign: Sign,
 ) -> Result<(), AllocError> {
-    if let Some(site) = scene.sites.site(finding.callback, point) {
+    if let Some(site) = scene.site(callback, point) {
         marks.push(Mark { sign, site })?;
     }
     Ok(())
 }
 
-/// The marks that show a finding, in the order of their lines.
-fn marks_of(
-    alloc: Global,
+/// Adds the mark of an origin, if that is a step.
+fn add_origin(
+    marks: &mut Vec<Mark>,
+    scene: &Scene<'_>,
+    callback: usize,
+    origin: Option<&Origin>,
+) -> Result<(), AllocError> {
+    let Some(origin) = origin else {
+        return Ok(());
+    };
+    match origin.cause {
+        Cause::Made(step) => {
+            let sign = Sign::Origin(origin.fact, step);
+            add_mark(marks, scene, callback, step.point, sign)
+        }
+        Cause::Entry => Ok(()),
+    }
+}
+
+/// Adds the mark of the point where two ways meet, if two are shown.
+fn add_meeting(
+    marks: &mut Vec<Mark>,
+    scene: &Scene<'_>,
+    callback: usize,
+    shown: &Shown,
+) -> Result<(), AllocError> {
+    match shown.ways() {
+        (Some(way), Some(_)) => add_mark(marks, scene, callback, way.end.point, Sign::Meeting),
+        _ => Ok(()),
+    }
+}
+
+/// Adds the marks that show a finding, in the order of their lines.
+fn add_marks(
+    marks: &mut Vec<Mark>,
     scene: &Scene<'_>,
     finding: &Finding,
-    meeting: Option<usize>,
-    origin: Option<&Origin>,
-) -> Result<Vec<Mark>, AllocError> {
-    let mut marks = Vec::new(alloc);
-    if let Some(origin) = origin {
-        if let Cause::Made(step) = origin.cause {
-            let sign = Sign::Origin(origin.fact, step);
-            add_mark(scene, &mut marks, finding, step.point, sign)?;
-        }
-    }
-    add_mark(scene, &mut marks, finding, finding.point, Sign::Point)?;
-    if let Some(point) = meeting {
-        add_mark(scene, &mut marks, finding, point, Sign::Meeting)?;
-    }
-    marks.sort_by_key(|mark| mark.site.line)?;
-    Ok(marks)
+    shown: &Shown,
+) -> Result<(), AllocError> {
+    add_origin(marks, scene, finding.callback, shown.origin.as_ref())?;
+    add_mark(marks, scene, finding.callback, finding.point, Sign::Point)?;
+    add_meeting(marks, scene, finding.callback, shown)?;
+    marks.sort_by_key(|mark| mark.site.line)
 }
 
 /// What becomes of a subject, where this is known.
 fn becomes(finding: &Finding, way: Option<&Way>, fact: Fact) -> (&'static str, &'static str) {
-    let Some(way) = way else {
+    if way.is_none() {
         return (" may become ", fact_word(fact));
-    };
-    match state_word(way.end.situation.state(), finding.subject) {
+    }
+    match state_at_end(finding, way) {
         Some(word) => (" becomes ", word),
+        None => ("", ""),
+    }
+}
+
+/// How the call of an origin comes out, and what stands before that.
+fn call_side(scene: &Scene<'_>, finding: &Finding, step: Step) -> (&'static str, &'static str) {
+    match step_call_outcome(scene, finding.callback, step) {
+        Some(outcome) => (", where this ", outcome),
         None => ("", ""),
     }
 }
@@ -82,120 +109,110 @@ fn tell_origin(
     page: &mut Page,
     scene: &Scene<'_>,
     finding: &Finding,
+    words: &Words,
     way: Option<&Way>,
     fact: Fact,
     step: Step,
 ) -> Result<(), AllocError> {
     if let Fact::Lock(_, held) = fact {
-        return page.text(if held {
+        return page.texts(&[if held {
             " taken here\n"
         } else {
             " released here\n"
-        });
+        }]);
     }
-    page.text(" ")?;
-    tell_subject(page, scene.tree, finding.subject)?;
     let (becomes, word) = becomes(finding, way, fact);
-    page.text(becomes)?;
-    page.text(word)?;
-    page.text(" here")?;
-    if let Instruction::Call(call, _, _) = scene.graph.instruction(finding.callback, step.point) {
-        if let Some(outcome) = call_outcome(&call, step.granted) {
-            page.text(", where this ")?;
-            page.text(outcome)?;
-        }
-    }
-    page.text("\n")
+    let (before, outcome) = call_side(scene, finding, step);
+    page.words(&[b" ", words.subject.as_slice()])?;
+    page.texts(&[becomes, word, " here", before, outcome, "\n"])
+}
+
+/// Writes what a subject is at a point.
+fn tell_state(page: &mut Page, subject: &[u8], state: &str) -> Result<(), AllocError> {
+    page.line(&[b" ", subject, b" is ", state.as_bytes(), b" here"])
 }
 
 /// Writes what the mark of the finding's point says.
 fn tell_point(
     page: &mut Page,
-    scene: &Scene<'_>,
     finding: &Finding,
+    words: &Words,
     way: Option<&Way>,
 ) -> Result<(), AllocError> {
     if let Rule::R12 = finding.rule {
-        return page.text(" this way leads on with other locks\n");
+        return page.bytes(b" this way leads on with other locks\n");
     }
-    if let Some(way) = way {
-        if let Some(word) = state_word(way.end.situation.state(), finding.subject) {
-            page.text(" ")?;
-            tell_subject(page, scene.tree, finding.subject)?;
-            page.text(" is ")?;
-            page.text(word)?;
-            page.text(" here")?;
-        }
+    match state_at_end(finding, way) {
+        Some(state) => tell_state(page, words.subject.as_slice(), state),
+        None => page.bytes(b"\n"),
     }
-    page.text("\n")
 }
 
-/// Draws a mark with what it says.
-fn draw_mark(
+/// Writes what a mark says.
+fn tell_mark(
     page: &mut Page,
     scene: &Scene<'_>,
     finding: &Finding,
-    way: Option<&Way>,
-    mark: &Mark,
-    drawing: &mut Drawing,
+    words: &Words,
+    shown: &Shown,
+    sign: Sign,
 ) -> Result<(), AllocError> {
-    let sign = match mark.sign {
+    let (way, _) = shown.ways();
+    match sign {
+        Sign::Origin(fact, step) => tell_origin(page, scene, finding, words, way, fact, step),
+        Sign::Point => tell_point(page, finding, words, way),
+        Sign::Meeting => page.bytes(b" the ways meet here\n"),
+    }
+}
+
+/// The byte that is drawn under a site.
+fn stroke(sign: Sign) -> u8 {
+    match sign {
         Sign::Point => b'^',
         Sign::Origin(_, _) | Sign::Meeting => b'-',
-    };
-    drawing.draw(page, scene.text, &mark.site, sign)?;
-    match mark.sign {
-        Sign::Origin(fact, step) => tell_origin(page, scene, finding, way, fact, step),
-        Sign::Point => tell_point(page, scene, finding, way),
-        Sign::Meeting => page.text(" the ways meet here\n"),
     }
 }
 
-/// Draws marks, in their order.
+/// Draws marks, in their order, with what they say.
 fn draw_marks(
     page: &mut Page,
+    drawing: &mut Drawing,
     scene: &Scene<'_>,
     finding: &Finding,
-    way: Option<&Way>,
+    words: &Words,
+    shown: &Shown,
     marks: &[Mark],
 ) -> Result<(), AllocError> {
-    let greatest = match marks {
-        [.., last] => last.site.line,
-        [] => finding.line,
-    };
-    let mut drawing = Drawing::new(greatest);
     for mark in marks {
-        draw_mark(page, scene, finding, way, mark, &mut drawing)?;
+        let line = line_at(scene.text, mark.site.line);
+        drawing.draw(page, line, &mark.site, stroke(mark.sign))?;
+        tell_mark(page, scene, finding, words, shown, mark.sign)?;
     }
     Ok(())
 }
 
-/// Draws the lines that show a finding on a way, in their order in the text.
-pub(crate) fn draw_way(
-    alloc: Global,
-    page: &mut Page,
-    scene: &Scene<'_>,
-    finding: &Finding,
-    found: &Ways,
-    origin: Option<&Origin>,
-) -> Result<(), AllocError> {
-    let meeting = if found.other.is_some() {
-        Some(found.way.end.point)
-    } else {
-        None
-    };
-    let marks = marks_of(alloc, scene, finding, meeting, origin)?;
-    draw_marks(page, scene, finding, Some(&found.way), marks.as_slice())
+/// The greatest line on which a mark stands; that of the finding where there is none.
+fn greatest_line(finding: &Finding, marks: &[Mark]) -> usize {
+    match marks {
+        [.., last] => last.site.line,
+        [] => finding.line,
+    }
 }
 
-/// Draws the lines that show a finding to which no way is known: its point, and where what is found may come from.
-pub(crate) fn draw_alone(
+/// Draws the lines that show a finding, in their order in the text: on a way, or where no way is known its point and where what is found
+/// may come from.
+pub(crate) fn draw_shown(
     alloc: Global,
     page: &mut Page,
+    coloured: bool,
     scene: &Scene<'_>,
     finding: &Finding,
-    origin: Option<&Origin>,
+    words: &Words,
+    shown: &Shown,
 ) -> Result<(), AllocError> {
-    let marks = marks_of(alloc, scene, finding, None, origin)?;
-    draw_marks(page, scene, finding, None, marks.as_slice())
+    let mut marks = Vec::new(alloc);
+    add_marks(&mut marks, scene, finding, shown)?;
+    let marks = marks.as_slice();
+    let mut drawing = Drawing::new(coloured, greatest_line(finding, marks));
+    draw_marks(page, &mut drawing, scene, finding, words, shown, marks)
 }

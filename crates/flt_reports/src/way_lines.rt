@@ -1,50 +1,26 @@
 //! The branches of a way.
 
-use crate::finding_report::Scene;
-use crate::page::Page;
-use crate::pieces::between;
-use flt_graph::{Instruction, Invocation};
-use flt_rules::row;
-use flt_ways::Step;
+use flt_details::{Page, Scene, step_outcome, tell_branch};
+use flt_ways::{Step, Way};
 use std::alloc::AllocError;
 
-/// How a branch comes out, in words; none where it is no branch.
-pub(crate) fn outcome(instruction: &Instruction, granted: bool) -> Option<&'static str> {
-    match (instruction, granted) {
-        (Instruction::Test(_, _, _), true) => Some("is true"),
-        (Instruction::Test(_, _, _), false) => Some("is false"),
-        (Instruction::Repeat(_, _, _), true) => Some("takes a turn"),
-        (Instruction::Repeat(_, _, _), false) => Some("has no turn left"),
-        (Instruction::Call(call, _, _), _) => call_outcome(call, granted),
-        _ => None,
-    }
-}
-
-/// How a call that can fail comes out, in words.
-pub(crate) fn call_outcome(call: &Invocation, granted: bool) -> Option<&'static str> {
-    let can_fail = row(call.call).on_fail.is_some();
-    match (can_fail, granted) {
-        (true, true) => Some("succeeds"),
-        (true, false) => Some("fails"),
-        (false, _) => None,
-    }
-}
-
-/// Writes the branches of a way, a line each, behind a word for it.
+/// Writes the branches of a way, a line each, behind a word for it; nothing where there is no way.
 pub(crate) fn tell_way(
     page: &mut Page,
     scene: &Scene<'_>,
     callback: usize,
     word: &str,
-    steps: &[Step],
+    way: Option<&Way>,
 ) -> Result<(), AllocError> {
+    let Some(way) = way else {
+        return Ok(());
+    };
     let mut told = false;
-    for step in steps {
-        let instruction = scene.graph.instruction(callback, step.point);
-        if let Some(outcome) = outcome(&instruction, step.granted) {
+    for step in way.steps.as_slice() {
+        if let Some(outcome) = step_outcome(scene, callback, *step) {
             begin(page, word, told)?;
             told = true;
-            tell_branch(page, scene, callback, step.point, outcome)?;
+            tell_step(page, scene, callback, *step, outcome)?;
         }
     }
     Ok(())
@@ -53,25 +29,20 @@ pub(crate) fn tell_way(
 /// Writes what stands before a branch: the word before the first, and else as many blanks.
 fn begin(page: &mut Page, word: &str, told: bool) -> Result<(), AllocError> {
     if told {
-        page.repeated(b' ', word.len())
+        page.run(b' ', word.len(), "")
     } else {
-        page.text(word)
+        page.texts(&[word])
     }
 }
 
-fn tell_branch(
+fn tell_step(
     page: &mut Page,
     scene: &Scene<'_>,
     callback: usize,
-    point: usize,
+    step: Step,
     outcome: &str,
 ) -> Result<(), AllocError> {
-    page.number(scene.graph.line(callback, point))?;
-    page.text(": ")?;
-    if let Some(site) = scene.sites.site(callback, point) {
-        page.quoted(between(scene.text, site.start, site.end))?;
-        page.text(" ")?;
-    }
-    page.text(outcome)?;
-    page.text("\n")
+    page.numbers(&["", ": "], &[scene.line(callback, step.point)])?;
+    tell_branch(page, scene, callback, step.point, outcome)?;
+    page.bytes(b"\n")
 }

@@ -1,6 +1,6 @@
 use Rattle.std.proofs.Common.{◌≡◌, map, take}
 use Rattle.flt_commands.specs.Explain.{names_in}
-use Rattle.flt_reports.specs.Reports.{texts_of}
+use Rattle.flt_details.specs.Reports.{texts_of}
 use Rattle.flt_commands.proofs.explain.sources.Given as goal
 
 abbrev pub invariant-loop-number : goal.invariant-loop-number

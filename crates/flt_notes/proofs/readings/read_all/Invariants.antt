@@ -1,5 +1,5 @@
 use Rattle.std.proofs.Common.{◌≡◌, take}
-use Rattle.flt_reports.specs.Reports.{texts_of}
+use Rattle.flt_details.specs.Reports.{texts_of}
 use Rattle.flt_notes.specs.Readings.{AreReadings, texts_read}
 use Rattle.flt_notes.proofs.readings.read_all.Given as goal
 

@@ -1,34 +1,33 @@
 //! What findings are about, in words.
 
-use crate::page::Page;
 use flt_abs::{Abs, Statuses};
 use flt_explain::Subject;
 use flt_origins::{Fact, VariableStatus};
 use flt_rules::Mode;
 use flt_syntax::Tree;
-use std::alloc::AllocError;
 
 const CONTEXTS: [&str; 9] = ["c0", "c1", "c2", "c3", "c4", "c5", "c6", "c7", "arg"];
 
 const OPERATIONS: [&str; 5] = ["o0", "o1", "o2", "o3", "data"];
 
-/// Writes what a finding is about.
-pub(crate) fn tell_subject(
-    page: &mut Page,
-    tree: &Tree,
-    subject: Subject,
-) -> Result<(), AllocError> {
+/// A lock by its name, with a mark.
+fn lock_words(tree: &Tree, place: usize) -> (&[u8], &[u8]) {
+    match tree.filter.locks.get(place) {
+        Some(lock) => (b"`", lock.name.as_slice()),
+        None => (b"", b"a lock"),
+    }
+}
+
+/// What a finding is about, in words, and the mark that stands round them where they are those of the text.
+pub(crate) fn subject_words(tree: &Tree, subject: Subject) -> (&[u8], &[u8]) {
     match subject {
-        Subject::Context(variable) => page.quoted(CONTEXTS[variable.place()].as_bytes()),
-        Subject::Operation(variable) => page.quoted(OPERATIONS[variable.place()].as_bytes()),
-        Subject::Lock(lock) => match tree.filter.locks.get(lock.place() as usize) {
-            Some(lock) => page.quoted(lock.name.as_slice()),
-            None => page.text("a lock"),
-        },
-        Subject::Mode => page.text("the mode of the operation"),
-        Subject::Draining => page.text("FLTFL_POST_OPERATION_DRAINING"),
-        Subject::Call => page.text("this call"),
-        Subject::Status => page.text("this status"),
+        Subject::Context(variable) => (b"`", CONTEXTS[variable.place()].as_bytes()),
+        Subject::Operation(variable) => (b"`", OPERATIONS[variable.place()].as_bytes()),
+        Subject::Lock(lock) => lock_words(tree, lock.place() as usize),
+        Subject::Mode => (b"", b"the mode of the operation"),
+        Subject::Draining => (b"", b"FLTFL_POST_OPERATION_DRAINING"),
+        Subject::Call => (b"", b"this call"),
+        Subject::Status => (b"", b"this status"),
     }
 }
 
@@ -69,7 +68,7 @@ pub(crate) fn state_word(state: &Abs, subject: Subject) -> Option<&'static str> 
 }
 
 /// What a fact says, in a word.
-pub(crate) fn fact_word(fact: Fact) -> &'static str {
+pub fn fact_word(fact: Fact) -> &'static str {
     match fact {
         Fact::Context(_, VariableStatus::Null) | Fact::Operation(_, VariableStatus::Null) => "NULL",
         Fact::Context(_, VariableStatus::Held) | Fact::Operation(_, VariableStatus::Held) => "held",

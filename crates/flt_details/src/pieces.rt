@@ -13,7 +13,7 @@ pub(crate) struct Piece {
 }
 
 /// What a byte is to the bytes beside it.
-#[derive(Clone, Copy, PartialEq, Eq)]
+#[derive(Clone, Copy)]
 enum Class {
     Blank,
     Letter,
@@ -35,9 +35,16 @@ fn class_of(byte: u8) -> Class {
     match byte {
         b' ' | b'\t' | b'\r' | b'\n' | b'#' => Class::Blank,
         b'=' | b'!' => Class::Equals,
-        b'_' => Class::Letter,
-        b if b.is_ascii_alphanumeric() => Class::Letter,
+        b'_' | b'0'..=b'9' | b'A'..=b'Z' | b'a'..=b'z' => Class::Letter,
         _ => Class::Alone,
+    }
+}
+
+/// Whether a byte goes on with the piece of the byte before it.
+fn goes_on(last: Class, class: Class) -> bool {
+    match (last, class) {
+        (Class::Letter, Class::Letter) | (Class::Equals, Class::Equals) => true,
+        _ => false,
     }
 }
 
@@ -55,9 +62,12 @@ impl Reader {
             line: self.line,
             column: self.column,
         };
-        let goes_on = class == self.last && class != Class::Alone;
-        if class != Class::Blank {
-            let piece = if goes_on { self.longer(begun) } else { begun };
+        if !matches!(class, Class::Blank) {
+            let piece = if goes_on(self.last, class) {
+                self.longer(begun)
+            } else {
+                begun
+            };
             self.found.push(piece)?;
         }
         self.last = class;
@@ -131,7 +141,7 @@ fn without_return(line: &[u8]) -> &[u8] {
 }
 
 /// A line of a text, from 1, without its end.
-pub(crate) fn line_at(text: &[u8], line: usize) -> &[u8] {
+pub fn line_at(text: &[u8], line: usize) -> &[u8] {
     let mut at: usize = 0;
     let mut number: usize = 1;
     let mut start: usize = 0;

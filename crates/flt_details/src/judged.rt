@@ -1,7 +1,7 @@
 //! What a text is found to be.
 
 ghost use Rattle.std.specs.Prelude.{◌≡◌, IfOk};
-ghost use Rattle.flt_reports.specs.Reports as spec;
+ghost use Rattle.flt_details.specs.Reports as spec;
 
 use flt_explain::{Finding, findings};
 use flt_graph::{Graph, lower};

@@ -3,13 +3,12 @@
 ghost use Rattle.std.specs.Prelude.{◌≡◌, IfOk, map};
 
 use crate::advice::{tell_advice, tell_title};
-use crate::finding_report::Scene;
+use crate::branches::{step_outcome, tell_branch};
 use crate::page::Page;
-use crate::pieces::{between, pieces};
+use crate::scene::Scene;
 use crate::sites::Sites;
-use crate::subjects::{state_word, tell_subject};
+use crate::subjects::{state_word, subject_words};
 use crate::tracing::{Shown, trace};
-use crate::way_lines::outcome;
 use flt_explain::Finding;
 use flt_graph::Graph;
 use flt_origins::Cause;
@@ -87,38 +86,25 @@ fn branch_of(
     alloc: Global,
     scene: &Scene<'_>,
     callback: usize,
-    step: &Step,
+    step: Step,
 ) -> Result<Vec<u8>, AllocError> {
-    let mut page = Page::new(alloc, false);
-    let instruction = scene.graph.instruction(callback, step.point);
-    if let Some(word) = outcome(&instruction, step.granted) {
-        if let Some(site) = scene.sites.site(callback, step.point) {
-            page.quoted(between(scene.text, site.start, site.end))?;
-            page.text(" ")?;
-        }
-        page.text(word)?;
+    let mut page = Page::new(alloc);
+    if let Some(outcome) = step_outcome(scene, callback, step) {
+        tell_branch(&mut page, scene, callback, step.point, outcome)?;
     }
     Ok(page.out)
-}
-
-/// Where the statement of a point begins, from 1.
-fn column_of(scene: &Scene<'_>, callback: usize, point: usize) -> usize {
-    match scene.sites.site(callback, point) {
-        Some(site) => site.column,
-        None => 1,
-    }
 }
 
 fn stage_of(
     alloc: Global,
     scene: &Scene<'_>,
     callback: usize,
-    step: &Step,
+    step: Step,
 ) -> Result<Stage, AllocError> {
     Ok(Stage {
         point: step.point,
-        line: scene.graph.line(callback, step.point),
-        column: column_of(scene, callback, step.point),
+        line: scene.line(callback, step.point),
+        column: scene.column(callback, step.point),
         granted: step.granted,
         words: branch_of(alloc, scene, callback, step)?,
     })
@@ -132,7 +118,7 @@ fn stages(
 ) -> Result<Items<Stage>, AllocError> {
     let mut all = Items::new(alloc);
     for step in steps {
-        all.push(stage_of(alloc, scene, callback, step)?)?;
+        all.push(stage_of(alloc, scene, callback, *step)?)?;
     }
     Ok(all)
 }
@@ -143,14 +129,6 @@ fn kind_of(answer: &Answer) -> WayKind {
         Answer::Behind(_) => WayKind::Behind,
         Answer::Unreached => WayKind::Unreached,
         Answer::Unknown => WayKind::Unknown,
-    }
-}
-
-/// The way that shows a finding, and the other one where two do.
-fn ways_in(answer: &Answer) -> (Option<&Way>, Option<&Way>) {
-    match answer {
-        Answer::Clean(found) | Answer::Behind(found) => (Some(&found.way), found.other.as_ref()),
-        Answer::Unreached | Answer::Unknown => (None, None),
     }
 }
 
@@ -191,7 +169,7 @@ fn origin_of(
         return Ok(None);
     };
     match origin.cause {
-        Cause::Made(step) => Ok(Some(stage_of(alloc, scene, callback, &step)?)),
+        Cause::Made(step) => Ok(Some(stage_of(alloc, scene, callback, step)?)),
         Cause::Entry => Ok(None),
     }
 }
@@ -199,29 +177,30 @@ fn origin_of(
 // ---- words
 
 fn title_of(alloc: Global, scene: &Scene<'_>, finding: &Finding) -> Result<Vec<u8>, AllocError> {
-    let mut page = Page::new(alloc, false);
-    let head = scene.sites.head(scene.text, finding.callback);
-    tell_title(&mut page, scene.tree, head, finding)?;
+    let mut page = Page::new(alloc);
+    tell_title(&mut page, scene.tree, scene.head(finding.callback), finding)?;
     Ok(page.out)
 }
 
 fn help_of(alloc: Global, scene: &Scene<'_>, finding: &Finding) -> Result<Vec<u8>, AllocError> {
-    let mut page = Page::new(alloc, false);
+    let mut page = Page::new(alloc);
     tell_advice(&mut page, scene.tree, finding)?;
     Ok(page.out)
 }
 
 fn subject_of(alloc: Global, scene: &Scene<'_>, finding: &Finding) -> Result<Vec<u8>, AllocError> {
-    let mut page = Page::new(alloc, false);
-    tell_subject(&mut page, scene.tree, finding.subject)?;
+    let mut page = Page::new(alloc);
+    let (mark, name) = subject_words(scene.tree, finding.subject);
+    page.words(&[mark, name, mark])?;
     Ok(page.out)
 }
 
-fn words_of(alloc: Global, scene: &Scene<'_>, finding: &Finding) -> Result<Words, AllocError> {
+/// What is said of a finding in words.
+pub fn words_of(alloc: Global, scene: &Scene<'_>, finding: &Finding) -> Result<Words, AllocError> {
     let title = title_of(alloc, scene, finding)?;
     let help = help_of(alloc, scene, finding)?;
     let subject = subject_of(alloc, scene, finding)?;
-    let head = Vec::from_slice(alloc, scene.sites.head(scene.text, finding.callback))?;
+    let head = Vec::from_slice(alloc, scene.head(finding.callback))?;
     Ok(Words {
         title,
         help,
@@ -231,7 +210,7 @@ fn words_of(alloc: Global, scene: &Scene<'_>, finding: &Finding) -> Result<Words
 }
 
 /// What a finding is about at the end of a way, in a word.
-fn state_at_end(finding: &Finding, way: Option<&Way>) -> Option<&'static str> {
+pub fn state_at_end(finding: &Finding, way: Option<&Way>) -> Option<&'static str> {
     match way {
         Some(way) => state_word(way.end.situation.state(), finding.subject),
         None => None,
@@ -242,7 +221,7 @@ fn state_at_end(finding: &Finding, way: Option<&Way>) -> Option<&'static str> {
 
 fn route_of(alloc: Global, scene: &Scene<'_>, finding: &Finding) -> Result<Route, AllocError> {
     let shown = trace(alloc, scene.graph, finding)?;
-    let (way, other) = ways_in(&shown.answer);
+    let (way, other) = shown.ways();
     let stages = stages_on(alloc, scene, finding.callback, way)?;
     let other = other_stages(alloc, scene, finding.callback, other)?;
     let origin = origin_of(alloc, scene, finding.callback, &shown)?;
@@ -262,7 +241,7 @@ fn detail_of(alloc: Global, scene: &Scene<'_>, finding: &Finding) -> Result<Deta
     let route = route_of(alloc, scene, finding)?;
     Ok(Detail {
         finding: *finding,
-        column: column_of(scene, finding.callback, finding.point),
+        column: scene.column(finding.callback, finding.point),
         words,
         route,
     })
@@ -282,10 +261,8 @@ pub fn details(
 ) -> Result<Items<Detail>, AllocError>
     ensures { IfOk result (λ ds. map (λ d. d.finding) ds ≡ found.now) }
 {
-    let pieces = pieces(alloc, text)?;
-    let sites = Sites::of(alloc, text, pieces.as_slice())?;
+    let sites = Sites::of(alloc, text)?;
     let scene = Scene {
-        name: "",
         text,
         sites: &sites,
         tree,

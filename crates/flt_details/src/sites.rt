@@ -1,19 +1,19 @@
 //! Where the points of a text stand in it.
 
-use crate::pieces::{Piece, between, piece_at};
+use crate::pieces::{Piece, between, piece_at, pieces};
 use flt_syntax::keywords;
 use sqlite_items::Items;
 use std::alloc::{AllocError, Global};
 
 /// Where a point stands: callbacks and points count from 0, lines and columns from 1. What an `if` asks stands for it.
 #[derive(Clone, Copy)]
-pub(crate) struct Site {
-    pub(crate) callback: usize,
-    pub(crate) point: usize,
-    pub(crate) line: usize,
-    pub(crate) column: usize,
-    pub(crate) start: usize,
-    pub(crate) end: usize,
+pub struct Site {
+    pub callback: usize,
+    pub point: usize,
+    pub line: usize,
+    pub column: usize,
+    pub start: usize,
+    pub end: usize,
 }
 
 /// A callback's head: its bytes from `start` up to `end`, from 0.
@@ -25,7 +25,7 @@ pub(crate) struct Heading {
 
 /// The points of a text in their order, and the heads of its callbacks.
 #[derive(Drop)]
-pub(crate) struct Sites {
+pub struct Sites {
     points: Items<Site>,
     heads: Items<Heading>,
     depth: usize,
@@ -163,7 +163,13 @@ impl Sites {
     }
 
     /// The points of a text that parses.
-    pub(crate) fn of(alloc: Global, text: &[u8], pieces: &[Piece]) -> Result<Sites, AllocError> {
+    pub fn of(alloc: Global, text: &[u8]) -> Result<Sites, AllocError> {
+        let pieces = pieces(alloc, text)?;
+        Sites::among(alloc, text, pieces.as_slice())
+    }
+
+    /// The points of a text that has these pieces.
+    fn among(alloc: Global, text: &[u8], pieces: &[Piece]) -> Result<Sites, AllocError> {
         let mut sites = Sites {
             points: Items::new(alloc),
             heads: Items::new(alloc),

@@ -12,16 +12,16 @@ use std::alloc::{AllocError, Global};
 
 /// What shows a finding, and where what is found comes from, where that is known.
 #[derive(Drop)]
-pub(crate) struct Shown {
-    pub(crate) answer: Answer,
-    pub(crate) origin: Option<Origin>,
+pub struct Shown {
+    pub answer: Answer,
+    pub origin: Option<Origin>,
 }
 
 /// The findings of a text as they are reported.
 #[derive(Drop)]
-pub(crate) struct Traces {
+pub struct Traces {
     shown: Items<Shown>,
-    pub(crate) groups: Items<Group>,
+    pub groups: Items<Group>,
 }
 
 /// What of a situation breaks the rule of a finding. A call that isn't legal at its place is wrong whatever is so.
@@ -82,82 +82,129 @@ fn has(finding: &Finding, status: VariableStatus) -> Option<Fact> {
 }
 
 /// What may break the rule of a finding, by the rule alone: one thing, or else another.
-fn offences(finding: &Finding) -> [Option<Fact>; 2] {
+fn offences(finding: &Finding) -> (Option<Fact>, Option<Fact>) {
     match (finding.rule, finding.subject) {
-        (Rule::R01 | Rule::R04 | Rule::R13, _) => [
+        (Rule::R01 | Rule::R04 | Rule::R13, _) => (
             has(finding, VariableStatus::Stale),
             has(finding, VariableStatus::Null),
-        ],
-        (Rule::R02 | Rule::R03 | Rule::R05, _) => [has(finding, VariableStatus::Held), None],
-        (Rule::R10 | Rule::R11, Subject::Lock(lock)) => [Some(Fact::Lock(lock, true)), None],
-        _ => [None, None],
+        ),
+        (Rule::R02 | Rule::R03 | Rule::R05, _) => (has(finding, VariableStatus::Held), None),
+        (Rule::R10 | Rule::R11, Subject::Lock(lock)) => (Some(Fact::Lock(lock, true)), None),
+        _ => (None, None),
     }
 }
 
-/// Where that may come from, by the graph alone.
+/// Where a fact may come from, by the graph alone.
+fn origin_by_graph(
+    alloc: Global,
+    graph: &Graph,
+    finding: &Finding,
+    fact: Option<Fact>,
+) -> Result<Option<Origin>, AllocError> {
+    match fact {
+        Some(fact) => origin_at(alloc, graph, finding.callback, fact, finding.point),
+        None => Ok(None),
+    }
+}
+
+/// Where what breaks the rule may come from, by the graph alone.
 fn origin_without_way(
     alloc: Global,
     graph: &Graph,
     finding: &Finding,
 ) -> Result<Option<Origin>, AllocError> {
-    for fact in offences(finding) {
-        if let Some(fact) = fact {
-            let found = origin_at(alloc, graph, finding.callback, fact, finding.point)?;
-            if found.is_some() {
-                return Ok(found);
-            }
-        }
+    let (fact, other) = offences(finding);
+    let found = origin_by_graph(alloc, graph, finding, fact)?;
+    if found.is_some() {
+        return Ok(found);
     }
-    Ok(None)
+    origin_by_graph(alloc, graph, finding, other)
+}
+
+/// Where what is found comes from.
+fn origin_by(
+    alloc: Global,
+    graph: &Graph,
+    finding: &Finding,
+    answer: &Answer,
+) -> Result<Option<Origin>, AllocError> {
+    match answer {
+        Answer::Clean(found) | Answer::Behind(found) => origin_of(alloc, graph, finding, found),
+        Answer::Unreached | Answer::Unknown => origin_without_way(alloc, graph, finding),
+    }
 }
 
 /// What shows a finding, with its origin.
 pub(crate) fn trace(alloc: Global, graph: &Graph, finding: &Finding) -> Result<Shown, AllocError> {
     let answer = ways(alloc, graph, finding)?;
-    let origin = match &answer {
-        Answer::Clean(found) | Answer::Behind(found) => origin_of(alloc, graph, finding, found)?,
-        Answer::Unreached | Answer::Unknown => origin_without_way(alloc, graph, finding)?,
-    };
+    let origin = origin_by(alloc, graph, finding, &answer)?;
     Ok(Shown { answer, origin })
 }
 
+/// What shows each finding of a text.
+fn trace_all(alloc: Global, graph: &Graph, found: &[Finding]) -> Result<Items<Shown>, AllocError> {
+    let mut all = Items::new(alloc);
+    for finding in found {
+        all.push(trace(alloc, graph, finding)?)?;
+    }
+    Ok(all)
+}
+
 /// What made an origin's fact.
-fn cause(shown: &Shown) -> Option<Cause> {
-    match &shown.origin {
+fn cause(shown: Option<&Shown>) -> Option<Cause> {
+    match &shown?.origin {
         Some(origin) => Some(origin.cause),
         None => None,
     }
 }
 
+/// The findings of a text with what made them so, put together by that.
+fn grouped(
+    alloc: Global,
+    found: &[Finding],
+    shown: &Items<Shown>,
+) -> Result<Items<Group>, AllocError> {
+    let mut all = Items::new(alloc);
+    let mut number: usize = 0;
+    for finding in found {
+        all.push(Traced {
+            number,
+            finding: *finding,
+            cause: cause(shown.get(number)),
+        })?;
+        number = number.saturating_add(1);
+    }
+    groups(alloc, all.as_slice())
+}
+
+impl Shown {
+    /// The way that shows a finding, and the other one where two do.
+    pub fn ways(&self) -> (Option<&Way>, Option<&Way>) {
+        match &self.answer {
+            Answer::Clean(found) | Answer::Behind(found) => (
+                Some(&found.way),
+                found.other.as_ref(),
+            ),
+            Answer::Unreached | Answer::Unknown => (None, None),
+        }
+    }
+}
+
 impl Traces {
     /// What shows the findings of a text, put together by their origins.
-    pub(crate) fn of(
-        alloc: Global,
-        graph: &Graph,
-        found: &[Finding],
-    ) -> Result<Traces, AllocError> {
-        let mut all = Items::new(alloc);
-        let mut traced = Items::new(alloc);
-        for finding in found {
-            let shown = trace(alloc, graph, finding)?;
-            traced.push(Traced {
-                number: all.len(),
-                finding: *finding,
-                cause: cause(&shown),
-            })?;
-            all.push(shown)?;
-        }
-        let groups = groups(alloc, traced.as_slice())?;
-        Ok(Traces { shown: all, groups })
+    pub fn of(alloc: Global, graph: &Graph, found: &[Finding]) -> Result<Traces, AllocError> {
+        let shown = trace_all(alloc, graph, found)?;
+        let groups = grouped(alloc, found, &shown)?;
+        Ok(Traces { shown, groups })
     }
 
     /// What shows a finding.
-    pub(crate) fn shown(&self, traced: &Traced) -> Option<&Shown> {
+    pub fn shown(&self, traced: &Traced) -> Option<&Shown> {
         self.shown.get(traced.number)
     }
 
     /// Whether each way to a finding that was found breaks another rule before.
-    pub(crate) fn is_behind(&self, traced: &Traced) -> bool {
+    pub fn is_behind(&self, traced: &Traced) -> bool {
         match self.shown(traced) {
             Some(shown) => matches!(shown.answer, Answer::Behind(_)),
             None => false,

@@ -8,9 +8,9 @@ use Rattle.flt_graph.specs.Lowering.{IsLowered}
 use Rattle.flt_graph.specs.declared.graph.Graph.{Graph}
 use Rattle.flt_explain.specs.Findings.{AreFindings}
 use Rattle.flt_explain.specs.declared.finding.Finding.{Finding}
-use Rattle.flt_reports.specs.declared.judged.Judged.{Judged}
-use Rattle.flt_reports.specs.declared.judged.Judged.TheVariants.{Unread, Known}
-use Rattle.flt_reports.specs.declared.reports.Source.{Source}
+use Rattle.flt_details.specs.declared.judged.Judged.{Judged}
+use Rattle.flt_details.specs.declared.judged.Judged.TheVariants.{Unread, Known}
+use Rattle.flt_details.specs.declared.sources.Source.{Source}
 
 -- a text spells a tree, which has these points, and this is what is found: nothing exactly where a certificate covers the points,
 -- else the analyser's refusal comes first

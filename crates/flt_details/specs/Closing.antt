@@ -7,8 +7,8 @@ use Rattle.flt_syntax.specs.declared.fault.FaultKind.{FaultKind}
 use Rattle.flt_syntax.specs.declared.fault.FaultKind.TheVariants.{E01, E02, E03, E04, E05, E06, E07, E08}
 use Rattle.flt_syntax.specs.declared.fault.SyntaxFault.{SyntaxFault}
 use Rattle.flt_explain.specs.declared.finding.Finding.{Finding}
-use Rattle.flt_reports.specs.declared.judged.Judged.{Judged}
-use Rattle.flt_reports.specs.declared.judged.Judged.TheVariants.{Unread, Known}
+use Rattle.flt_details.specs.declared.judged.Judged.{Judged}
+use Rattle.flt_details.specs.declared.judged.Judged.TheVariants.{Unread, Known}
 
 -- `R01` to `R15`
 abbrev pub rule_name : Rule → List ℕ

@@ -1,7 +1,7 @@
 //! The lines that end reports.
 
 ghost use Rattle.std.specs.Prelude.{◌≡◌, ◌++◌, ◌∷◌, [], Some, IfOk, string_bytes};
-ghost use Rattle.flt_reports.specs.Closing as spec;
+ghost use Rattle.flt_details.specs.Closing as spec;
 
 use flt_explain::Finding;
 use flt_rules::{Rule, number, text};

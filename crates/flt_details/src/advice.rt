@@ -1,14 +1,14 @@
 //! What is wrong by a rule, and how to mend it.
 
 use crate::page::Page;
-use crate::subjects::tell_subject;
+use crate::subjects::subject_words;
 use flt_explain::{Finding, Subject};
 use flt_rules::Rule;
 use flt_syntax::Tree;
 use std::alloc::AllocError;
 
 /// What stands before what a finding is about, what stands behind it, and what stands behind the callback's head, if that follows.
-fn parts(rule: Rule, subject: Subject) -> (&'static str, &'static str, Option<&'static str>) {
+fn parts<'a>(rule: Rule, subject: Subject) -> (&'a str, &'a str, Option<&'a str>) {
     match (rule, subject) {
         (Rule::R01 | Rule::R04, _) => ("", " may not be held where it is used", None),
         (Rule::R02 | Rule::R05, _) => ("", " may still be held when ", Some(" ends")),
@@ -29,25 +29,32 @@ fn parts(rule: Rule, subject: Subject) -> (&'static str, &'static str, Option<&'
 }
 
 /// Writes what is wrong.
-pub(crate) fn tell_title(
+pub(crate) fn tell_title<'a>(
     page: &mut Page,
-    tree: &Tree,
-    head: &[u8],
+    tree: &'a Tree,
+    head: &'a [u8],
     finding: &Finding,
 ) -> Result<(), AllocError> {
     let (before, behind, ends) = parts(finding.rule, finding.subject);
-    page.text(before)?;
-    tell_subject(page, tree, finding.subject)?;
-    page.text(behind)?;
-    if let Some(ends) = ends {
-        page.quoted(head)?;
-        page.text(ends)?;
+    let (mark, name) = subject_words(tree, finding.subject);
+    match ends {
+        Some(ends) => page.words(&[
+            before.as_bytes(),
+            mark,
+            name,
+            mark,
+            behind.as_bytes(),
+            b"`",
+            head,
+            b"`",
+            ends.as_bytes(),
+        ]),
+        None => page.words(&[before.as_bytes(), mark, name, mark, behind.as_bytes()]),
     }
-    Ok(())
 }
 
 /// How to mend what breaks a rule: what stands before what the finding is about, and what stands behind it, if it is named.
-fn help(rule: Rule, subject: Subject) -> (&'static str, Option<&'static str>) {
+fn help<'a>(rule: Rule, subject: Subject) -> (&'a str, Option<&'a str>) {
     match (rule, subject) {
         (Rule::R01, _) => (
             "use ",
@@ -88,24 +95,16 @@ fn help(rule: Rule, subject: Subject) -> (&'static str, Option<&'static str>) {
     }
 }
 
-/// Writes how to mend what is found, in words alone.
+/// Writes how to mend what is found.
 pub(crate) fn tell_advice(
     page: &mut Page,
     tree: &Tree,
     finding: &Finding,
 ) -> Result<(), AllocError> {
     let (before, behind) = help(finding.rule, finding.subject);
-    page.text(before)?;
-    if let Some(behind) = behind {
-        tell_subject(page, tree, finding.subject)?;
-        page.text(behind)?;
+    let (mark, name) = subject_words(tree, finding.subject);
+    match behind {
+        Some(behind) => page.words(&[before.as_bytes(), mark, name, mark, behind.as_bytes()]),
+        None => page.bytes(before.as_bytes()),
     }
-    Ok(())
-}
-
-/// Writes how to mend what is found.
-pub(crate) fn tell_help(page: &mut Page, tree: &Tree, finding: &Finding) -> Result<(), AllocError> {
-    page.text("   = help: ")?;
-    tell_advice(page, tree, finding)?;
-    page.text("\n")
 }

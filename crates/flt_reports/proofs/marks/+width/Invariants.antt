@@ -1,4 +1,4 @@
-use Rattle.flt_reports.proofs.page.+width.Given as goal
+use Rattle.flt_reports.proofs.marks.+width.Given as goal
 
 abbrev pub decreases-width : goal.decreases-width
 decreases-width l = l.number

@@ -1,0 +1,59 @@
+//! How points come out on a way, in words.
+
+use crate::page::Page;
+use crate::scene::Scene;
+use flt_graph::{Instruction, Invocation};
+use flt_rules::row;
+use flt_ways::Step;
+use std::alloc::AllocError;
+
+/// How an instruction comes out; none where nothing is asked.
+fn outcome(instruction: &Instruction, granted: bool) -> Option<&'static str> {
+    match (instruction, granted) {
+        (Instruction::Test(_, _, _), true) => Some("is true"),
+        (Instruction::Test(_, _, _), false) => Some("is false"),
+        (Instruction::Repeat(_, _, _), true) => Some("takes a turn"),
+        (Instruction::Repeat(_, _, _), false) => Some("has no turn left"),
+        (Instruction::Call(call, _, _), _) => call_outcome(call, granted),
+        _ => None,
+    }
+}
+
+/// How a call comes out; none where it can't fail.
+fn call_outcome(call: &Invocation, granted: bool) -> Option<&'static str> {
+    let can_fail = row(call.call).on_fail.is_some();
+    match (can_fail, granted) {
+        (true, true) => Some("succeeds"),
+        (true, false) => Some("fails"),
+        (false, _) => None,
+    }
+}
+
+/// How a step comes out; none where nothing is asked there.
+pub fn step_outcome(scene: &Scene<'_>, callback: usize, step: Step) -> Option<&'static str> {
+    outcome(&scene.instruction(callback, step.point), step.granted)
+}
+
+/// How the call of a step comes out; none where it is no call, or one that can't fail.
+pub fn step_call_outcome(scene: &Scene<'_>, callback: usize, step: Step) -> Option<&'static str> {
+    match scene.instruction(callback, step.point) {
+        Instruction::Call(call, _, _) => call_outcome(&call, step.granted),
+        _ => None,
+    }
+}
+
+/// Writes what is asked at a point, and how it comes out.
+pub fn tell_branch(
+    page: &mut Page,
+    scene: &Scene<'_>,
+    callback: usize,
+    point: usize,
+    outcome: &str,
+) -> Result<(), AllocError> {
+    let asked = scene.at_point(callback, point);
+    if asked.is_empty() {
+        page.words(&[outcome.as_bytes()])
+    } else {
+        page.words(&[b"`", asked, b"` ", outcome.as_bytes()])
+    }
+}

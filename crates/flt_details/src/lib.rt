@@ -1,0 +1,28 @@
+//! What is found of texts, and all that is said of it: `judge` finds it, `details` says it for other forms, and a `Scene` with its `Traces`
+//! has what `flt_reports` draws for people. Here too are the lines that end reports, and the `Page` on which words are written.
+#![tactic(auto)]
+
+mod advice;
+mod branches;
+mod closing;
+mod judged;
+mod page;
+mod pieces;
+mod scene;
+mod sites;
+mod sources;
+mod study;
+mod subjects;
+mod tracing;
+
+pub use branches::{step_call_outcome, step_outcome, tell_branch};
+pub use closing::{RuleName, fault_line, fault_name, findings_line};
+pub use judged::{Judged, judge};
+pub use page::Page;
+pub use pieces::line_at;
+pub use scene::Scene;
+pub use sites::{Site, Sites};
+pub use sources::{Explained, Source};
+pub use study::{Detail, Route, Stage, WayKind, Words, details, state_at_end, words_of};
+pub use subjects::fact_word;
+pub use tracing::{Shown, Traces};

@@ -1,0 +1,105 @@
+//! The page on which words are written.
+
+ghost use Rattle.std.specs.Prelude.{◌<◌};
+
+use std::alloc::{AllocError, Global};
+
+/// What is written so far.
+#[derive(Drop)]
+pub struct Page {
+    pub out: Vec<u8>,
+}
+
+impl Page {
+    pub fn new(alloc: Global) -> Page {
+        Page {
+            out: Vec::new(alloc),
+        }
+    }
+
+    /// Bytes, as they stand.
+    pub fn bytes(&mut self, bytes: &[u8]) -> Result<(), AllocError> {
+        self.out.extend_from_slice(bytes)
+    }
+
+    /// Words of the program, one behind the other.
+    pub fn texts(&mut self, texts: &[&str]) -> Result<(), AllocError> {
+        for text in texts {
+            self.bytes(text.as_bytes())?;
+        }
+        Ok(())
+    }
+
+    /// The same with a number behind each; behind the last none, where there is one number less.
+    pub fn numbers(&mut self, texts: &[&str], numbers: &[usize]) -> Result<(), AllocError> {
+        let mut at: usize = 0;
+        for text in texts {
+            self.bytes(text.as_bytes())?;
+            self.number(numbers.get(at))?;
+            at = at.saturating_add(1);
+        }
+        Ok(())
+    }
+
+    fn number(&mut self, number: Option<&usize>) -> Result<(), AllocError> {
+        match number {
+            Some(number) => digits(&mut self.out, *number as u64),
+            None => Ok(()),
+        }
+    }
+
+    /// Words of a text among those of the program. A tab is a blank, and what isn't printed as it stands a `?`, so that each byte has one
+    /// column.
+    pub fn words(&mut self, words: &[&[u8]]) -> Result<(), AllocError> {
+        for word in words {
+            self.word(word)?;
+        }
+        Ok(())
+    }
+
+    fn word(&mut self, word: &[u8]) -> Result<(), AllocError> {
+        for byte in word {
+            self.out.push(shown(*byte))?;
+        }
+        Ok(())
+    }
+
+    /// A line of such words.
+    pub fn line(&mut self, words: &[&[u8]]) -> Result<(), AllocError> {
+        self.words(words)?;
+        self.bytes(b"\n")
+    }
+
+    /// The same sign several times, and words behind it.
+    pub fn run(&mut self, sign: u8, times: usize, text: &str) -> Result<(), AllocError> {
+        for _time in 0..times {
+            self.out.push(sign)?;
+        }
+        self.bytes(text.as_bytes())
+    }
+}
+
+/// What is printed for a byte of a text.
+fn shown(byte: u8) -> u8 {
+    match byte {
+        b'\t' => b' ',
+        0..=31 | 127 => b'?',
+        _ => byte,
+    }
+}
+
+fn digit(out: &mut Vec<u8>, digit: u8) -> Result<(), AllocError>
+    requires { digit < 10 }
+{
+    out.push(b'0' + digit)?;
+    Ok(())
+}
+
+/// The digits of a number.
+fn digits(out: &mut Vec<u8>, n: u64) -> Result<(), AllocError> {
+    if n < 10 {
+        return digit(out, n as u8);
+    }
+    digits(out, n / 10)?;
+    digit(out, (n % 10) as u8)
+}
