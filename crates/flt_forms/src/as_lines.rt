@@ -9,10 +9,10 @@ ghost use Rattle.flt_syntax.specs.File.{filter_of};
 
 use crate::fault::{help_of, put_fault_line};
 use crate::finding::put_lines;
+use flt_details::{Explained, Judged, Source, details, judge};
 use flt_explain::Finding;
 use flt_graph::Graph;
 use flt_hints::{describe, tell};
-use flt_details::{Explained, Judged, Source, details, judge};
 use flt_syntax::{SyntaxFault, Tree, spelled_is_read};
 use std::alloc::{AllocError, Global};
 

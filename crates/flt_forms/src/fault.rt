@@ -7,8 +7,8 @@ ghost use Rattle.flt_forms.specs.Members.{Adds, line_of, array_member, text_item
 use crate::members::{
     close_object, open_object, put_bytes, put_filled, put_number, put_string, put_text, put_texts,
 };
-use flt_hints::{Choices, Expected, Told, Trouble};
 use flt_details::fault_name;
+use flt_hints::{Choices, Expected, Told, Trouble};
 use flt_syntax::SyntaxFault;
 use json::Writer;
 use sqlite_items::Items;

@@ -10,8 +10,8 @@ use crate::members::{
     close_object, open_object, put_key, put_null, put_number, put_string, put_text,
 };
 use crate::steps::{put_kind, put_step_member, put_steps, put_steps_member};
-use flt_explain::Finding;
 use flt_details::{Detail, Route, RuleName, Words};
+use flt_explain::Finding;
 use flt_rules::{Rule, text};
 use json::Writer;
 use std::alloc::{AllocError, Global};

@@ -5,10 +5,10 @@ ghost use Rattle.flt_details.specs.Reports.{IsJudged, IsKnown, texts_of};
 ghost use Rattle.flt_syntax.specs.File.{filter_of};
 ghost use Rattle.flt_notes.specs.Readings as spec;
 
+use flt_details::{Judged, Source, judge};
 use flt_explain::Finding;
 use flt_graph::Graph;
 use flt_reasons::{Notice, describe, kind_of};
-use flt_details::{Judged, Source, judge};
 use flt_syntax::{SyntaxFault, Tree, spelled_is_read};
 use sqlite_items::Items;
 use std::alloc::{AllocError, Global};
