@@ -1,6 +1,6 @@
 //! What a command answers where a writer fails, at each call in turn, and whether it takes many bytes at a time or one.
 
-use flt_commands::{CommandFault, Inputs, Pictures, Unwatched, command};
+use flt_commands::{CommandFault, Inputs, Pictures, Reasons, Unwatched, command};
 use flt_model::{Sink, WriteFault};
 use std::alloc::{AllocError, Global};
 use std::sync::Wait;
@@ -39,6 +39,8 @@ impl Inputs for Given {
         Ok(None)
     }
 }
+
+impl Reasons for Given {}
 
 /// No picture can be written.
 #[derive(Drop)]

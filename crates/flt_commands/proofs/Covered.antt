@@ -1,22 +1,19 @@
 -- What is covered breaks nothing, and an exit status 0 says that something is covered.
-use Rattle.std.proofs.Common.{◌⊎◌, inl, inr, ◌≡◌, ℕ, zero, suc, List, [], ◌∷◌, ◌++◌, Bool, None, Option, Some, Result, Ok, Err, take, drop, max, refl, sym, ◌∙◌, arith}
+use Rattle.std.proofs.Common.{◌⊎◌, inl, inr, ◌≡◌, ℕ, zero, suc, List, [], ◌∷◌, ◌++◌, Bool, None, Option, Some, Result, Ok, Err, IfOk, take, drop, max, refl, sym, ◌∙◌, arith}
 use Rattle.std.proofs.Math.Path.{subst}
 use Rattle.flt_syntax.specs.File.{filter_of}
 use Rattle.flt_syntax.specs.declared.fault.SyntaxFault.{SyntaxFault}
-use Rattle.flt_syntax.specs.Spelling.{SpellsAtMostOne, SpelledIsWellFormed}
+use Rattle.flt_syntax.specs.Spelling.{Spells, SpellsAtMostOne}
 use Rattle.flt_graph.specs.declared.graph.Graph.{Graph}
 use Rattle.flt_cert.specs.Format.{Certificate}
 use Rattle.flt_check.specs.Covering.{Covers}
-use Rattle.flt_sound.specs.Soundness.{IsAccepted, AreAccepted, AcceptedRunsBreakNothing}
 use Rattle.flt_crew.specs.Running.{IsRun}
 use Rattle.flt_crew.specs.declared.running.Ran.{Ran}
 use Rattle.flt_explain.specs.declared.finding.Finding.{Finding}
 use Rattle.flt_forms.specs.Lines.{AreLines}
 use Rattle.flt_forms.specs.Sarif.{AreResults}
-use Rattle.flt_notes.specs.Readings.{IsOther}
 use Rattle.flt_notes.specs.Reported.{AreReports, HasNotice, HasNoticeStatus, HasReport, HasStatus, IsText}
-use Rattle.flt_reasons.specs.declared.notice.Notice.{Notice}
-use Rattle.flt_reports.specs.Reports.{IsJudged, IsKnown, findings_status, status_of as status_of_judged, texts_of}
+use Rattle.flt_reports.specs.Reports.{IsJudged as IsReadAs, IsKnown, findings_status, status_of as status_of_judged, texts_of}
 use Rattle.flt_reports.specs.declared.reports.Explained.{Explained as Told}
 use Rattle.flt_reports.specs.declared.reports.Source.{Source}
 use Rattle.flt_words.specs.declared.request.Form.{Form}
@@ -27,24 +24,26 @@ use Rattle.flt_reports.specs.declared.judged.Judged.TheVariants.{Unread, Known}
 use Rattle.flt_tree.specs.declared.tree.Tree.{Tree}
 use Rattle.flt_model.specs.Program.{by_altitude}
 use Rattle.flt_model.specs.Runs.{breaks}
-use Rattle.flt_syntax.specs.Spelling.{Spells}
 use Rattle.flt_tree.specs.declared.filter.Filter.{Filter}
-use Rattle.flt_commands.proofs.OnePlace.{zipped_once}
-use Rattle.flt_commands.specs.Analyse.{IsAnalysed}
+use Rattle.flt_answers.specs.Analyse.{IsAnalysed}
+use Rattle.flt_answers.specs.Check.{HasPoints, IsAnswer, IsChecked}
+use Rattle.flt_answers.specs.Clean.{BreaksNothing}
+use Rattle.flt_answers.specs.Inputs.{Giving, given, Text}
+use Rattle.flt_answers.specs.Judgement.{status_of as status_of_judgement}
+use Rattle.flt_answers.specs.declared.failure.Failure.{Failure}
+use Rattle.flt_answers.specs.declared.judgement.Judgement.{Judgement}
+use Rattle.flt_answers.specs.declared.judgement.Judgement.TheVariants.{Accepted, Refused, Certificate as Written, Judged as has_verdict, FileRefused, Shown}
+use Rattle.flt_commands.proofs.Spelled.{zipped_once}
 use Rattle.flt_commands.specs.Answer.{status_of}
-use Rattle.flt_commands.specs.Check.{HasPoints, IsAnswer, IsChecked}
-use Rattle.flt_commands.specs.Clean.{BreakNothing, BreaksNothing, EachBreaksNothing, IsClean, YesIsClean}
-use Rattle.flt_commands.specs.Commands.{IsSaid, IsSaidOf, IsReported}
+use Rattle.flt_commands.specs.Clean.{BreakNothing, EachBreaksNothing, IsClean, YesIsClean}
+use Rattle.flt_commands.specs.Commands.{IsJudged, IsReported, IsSaid, IsSaidFor, IsSaidOf}
 use Rattle.flt_commands.specs.Explain.{IsExplained, IsTold}
-use Rattle.flt_commands.specs.Inputs.{Giving, given, Text}
 use Rattle.flt_commands.specs.Running.{IsRan}
 use Rattle.flt_words.specs.Request.{Asked, Check, Analyse, Run, Replay, Show, Explain, Page}
 use Rattle.flt_words.specs.Words.{asked}
 use Rattle.flt_commands.specs.declared.answer.Answer.{Answer}
-use Rattle.flt_commands.specs.declared.answer.Answer.TheVariants.{Accepted, Refused, Certificate as Written, Judged, Ran as has_run, FileRefused, Explained, Page as has_page, Shown}
+use Rattle.flt_commands.specs.declared.answer.Answer.TheVariants.{Judged, Ran as has_run, Explained, Page as has_page}
 use Rattle.flt_commands.specs.declared.commands.CommandFault.{CommandFault}
-use Rattle.flt_commands.specs.declared.failure.Failure.{Failure}
-use Rattle.std.specs.Prelude.{IfOk}
 
 -- the laws' clauses
 abbrev pub Law : Type 0
@@ -56,25 +55,6 @@ LawOfRuns = (script : Text) (texts : List Text) (ran : Ran) → IsRun script tex
 abbrev pub LawOfReading : Type 0
 LawOfReading = (text : Text) (f : Filter) → Spells text f → filter_of text ≡ Ok f
 
-pub covered_is_clean : SpellsAtMostOne → SpelledIsWellFormed → AcceptedRunsBreakNothing → Law
-covered_is_clean one fine theorem text graph cert points covers f transitions spelled = theorem (f ∷ []) transitions all
-  where
-    same : points.filter ≡ f
-    same = one text points.filter f points.spelled spelled
-
-    accepted : IsAccepted f
-    accepted = subst IsAccepted same (record {
-      graph = graph;
-      cert = cert;
-      well_formed = fine text points.filter points.spelled;
-      lowered = points.lowered;
-      covers = covers;
-    })
-
-    all : AreAccepted (f ∷ [])
-    all zero d within = accepted
-    all (suc k) d within = absurd (omega (arith, within))
-
 -- the filters of a run are those that its texts spell
 pub driven_is_clean : SpellsAtMostOne → LawOfRuns
 driven_is_clean one script texts ran is filters transitions spelled =
@@ -83,50 +63,58 @@ driven_is_clean one script texts ran is filters transitions spelled =
 
 module _ (law : Law) (runs : LawOfRuns) (read : LawOfReading) where
   -- what is said of a text and its certificate with the status 0 is that it is accepted
-  judged : (text certificate : Text) (answer : Answer) → IsAnswer text certificate answer → status_of answer ≡ 0 → BreaksNothing text
+  judged : (text certificate : Text) (j : Judgement) → IsAnswer text certificate j → status_of_judgement j ≡ 0 → BreaksNothing text
   judged text certificate Accepted said good = law text said.graph said.cert said.points said.decided
   judged text certificate (Refused f) said good = absurd (omega (arith, good))
   judged text certificate (Written bytes) said good = absurd said.decided
-  judged text certificate (Judged v) said good = absurd said.decided
-  judged text certificate (has_run ran) said good = absurd said.decided
-  judged text certificate (FileRefused n f) said good = absurd said.decided
-  judged text certificate (Explained r) said good = absurd said.decided
+  judged text certificate (has_verdict v) said good = absurd said.decided
   judged text certificate (Shown rows v) said good = absurd said.decided
-  judged text certificate (has_page t) said good = absurd said.decided
+  judged text certificate (FileRefused n f) said good = absurd said.decided
 
-  checked : (texts : List Text) (answer : Answer) (file : Text) (cert : Option Text) → IsChecked texts (Ok answer) →
+  checked_by : (texts : List Text) (j : Judgement) (file : Text) (cert : Option Text) → IsChecked texts (Ok j) →
+      status_of_judgement j ≡ 0 → IsClean (Check file cert) texts
+  checked_by [] j file cert said good = said
+  checked_by (bytes ∷ []) j file cert said good = (said.0, said.1, judged (take said.0 bytes) (drop said.0 bytes) j said.2 good)
+  checked_by (text ∷ certificate ∷ []) j file cert said good = judged text certificate j said good
+  checked_by (text ∷ certificate ∷ more ∷ texts) j file cert said good = said
+
+  checked : (texts : List Text) (answer : Answer) (file : Text) (cert : Option Text) → IsJudged IsChecked texts (Ok answer) →
       status_of answer ≡ 0 → IsClean (Check file cert) texts
-  checked [] answer file cert said good = said
-  checked (bytes ∷ []) answer file cert said good = (said.0, said.1, judged (take said.0 bytes) (drop said.0 bytes) answer said.2 good)
-  checked (text ∷ certificate ∷ []) answer file cert said good = judged text certificate answer said good
-  checked (text ∷ certificate ∷ more ∷ texts) answer file cert said good = said
+  checked texts (Judged j) file cert said good = checked_by texts j file cert said good
+  checked texts (has_run ran) file cert said good = absurd said
+  checked texts (Explained r) file cert said good = absurd said
+  checked texts (has_page t) file cert said good = absurd said
 
-  analysed : (texts : List Text) (answer : Answer) (file : Text) → IsAnalysed texts (Ok answer) → status_of answer ≡ 0 →
+  analysed_by : (texts : List Text) (j : Judgement) (file : Text) → IsAnalysed texts (Ok j) → status_of_judgement j ≡ 0 →
       IsClean (Analyse file) texts
-  analysed [] answer file said good = said
-  analysed (text ∷ []) (Written bytes) file said good = law text said.graph said.cert said.points said.covers
-  analysed (text ∷ []) (Refused f) file said good = absurd (omega (arith, good))
-  analysed (text ∷ []) Accepted file said good = absurd said
-  analysed (text ∷ []) (Judged v) file said good = absurd said
-  analysed (text ∷ []) (has_run ran) file said good = absurd said
-  analysed (text ∷ []) (FileRefused n f) file said good = absurd said
-  analysed (text ∷ []) (Explained r) file said good = absurd said
-  analysed (text ∷ []) (Shown rows v) file said good = absurd said
-  analysed (text ∷ []) (has_page t) file said good = absurd said
-  analysed (text ∷ more ∷ texts) answer file said good = said
+  analysed_by [] j file said good = said
+  analysed_by (text ∷ []) (Written bytes) file said good = law text said.graph said.cert said.points said.covers
+  analysed_by (text ∷ []) (Refused f) file said good = absurd (omega (arith, good))
+  analysed_by (text ∷ []) Accepted file said good = absurd said
+  analysed_by (text ∷ []) (has_verdict v) file said good = absurd said
+  analysed_by (text ∷ []) (Shown rows v) file said good = absurd said
+  analysed_by (text ∷ []) (FileRefused n f) file said good = absurd said
+  analysed_by (text ∷ more ∷ texts) j file said good = said
+
+  analysed : (texts : List Text) (answer : Answer) (file : Text) → IsJudged IsAnalysed texts (Ok answer) → status_of answer ≡ 0 →
+      IsClean (Analyse file) texts
+  analysed texts (Judged j) file said good = analysed_by texts j file said good
+  analysed texts (has_run ran) file said good = absurd said
+  analysed texts (Explained r) file said good = absurd said
+  analysed texts (has_page t) file said good = absurd said
 
   driven : (texts : List Text) (answer : Answer) (workers : ℕ) (quiet : Bool) (script : Text) (files : List Text) →
       IsRan texts (Ok answer) → status_of answer ≡ 0 → IsClean (Run workers quiet script files) texts
   driven [] answer workers quiet script files said good = said
   driven (bytes ∷ texts) (has_run ran) workers quiet script files said good = runs bytes texts ran said
-  driven (bytes ∷ texts) (FileRefused n f) workers quiet script files said good = absurd (omega (arith, good))
-  driven (bytes ∷ texts) Accepted workers quiet script files said good = absurd said
+  driven (bytes ∷ texts) (Judged (FileRefused n f)) workers quiet script files said good = absurd (omega (arith, good))
+  driven (bytes ∷ texts) (Judged Accepted) workers quiet script files said good = absurd said
+  driven (bytes ∷ texts) (Judged (Refused f)) workers quiet script files said good = absurd said
+  driven (bytes ∷ texts) (Judged (Written c)) workers quiet script files said good = absurd said
+  driven (bytes ∷ texts) (Judged (has_verdict v)) workers quiet script files said good = absurd said
+  driven (bytes ∷ texts) (Judged (Shown rows v)) workers quiet script files said good = absurd said
   driven (bytes ∷ texts) (Explained r) workers quiet script files said good = absurd said
-  driven (bytes ∷ texts) (Shown rows v) workers quiet script files said good = absurd said
   driven (bytes ∷ texts) (has_page t) workers quiet script files said good = absurd said
-  driven (bytes ∷ texts) (Refused f) workers quiet script files said good = absurd said
-  driven (bytes ∷ texts) (Written c) workers quiet script files said good = absurd said
-  driven (bytes ∷ texts) (Judged v) workers quiet script files said good = absurd said
 
   -- a text of which nothing is found is covered
   unfound : (text : Text) (tree : Tree) (graph : Graph) (found : List Finding) → IsKnown text tree graph found →
@@ -137,7 +125,7 @@ module _ (law : Law) (runs : LawOfRuns) (read : LawOfReading) where
       is.findings.covers
   unfound text tree graph (f ∷ fs) is good = absurd (omega (arith, good))
 
-  found_well : (text : Text) (j : Found) → IsJudged text j → status_of_judged j ≡ 0 → BreaksNothing text
+  found_well : (text : Text) (j : Found) → IsReadAs text j → status_of_judged j ≡ 0 → BreaksNothing text
   found_well text (Unread f) is good = absurd (omega (arith, good))
   found_well text (Known tree graph found) is good = unfound text tree graph found is good
 
@@ -194,14 +182,9 @@ module _ (law : Law) (runs : LawOfRuns) (read : LawOfReading) where
   explained : (form : Form) (states : ℕ) (journal : Option Text) (names texts : List Text) (answer : Answer) → IsExplained form journal names texts (Ok answer) → status_of answer ≡ 0 →
       IsClean (Explain form states journal names) texts
   explained form states journal files texts (Explained e) said good = subst EachBreaksNothing said.given (told_well form said.sources e.explained said.told good)
-  explained form states journal files texts (Shown rows v) said good = absurd said
   explained form states journal files texts (has_page t) said good = absurd said
   explained form states journal files texts (has_run ran) said good = absurd said
-  explained form states journal files texts (FileRefused n f) said good = absurd said
-  explained form states journal files texts Accepted said good = absurd said
-  explained form states journal files texts (Refused f) said good = absurd said
-  explained form states journal files texts (Written c) said good = absurd said
-  explained form states journal files texts (Judged v) said good = absurd said
+  explained form states journal files texts (Judged j) said good = absurd said
 
   said_is_clean : (request : Asked) (texts : List Text) (answer : Answer) → IsSaidOf request texts (Ok answer) →
       status_of answer ≡ 0 → IsClean request texts
@@ -220,11 +203,12 @@ module _ (law : Law) (runs : LawOfRuns) (read : LawOfReading) where
       (texts, there, said_is_clean request texts answer said (sym reported.1))
 
   -- where what the words ask for is said, and reported with the status 0, the text breaks nothing
-  pub clean_of : (gives : Giving) (words : List (List ℕ)) (request : Asked) (said : Result Answer Failure)
+  pub clean_of : (gives : Giving) (words : List (List ℕ)) (asks : Option Asked) (said : Result Answer Failure)
       (result : Result ℕ CommandFault) (P : ℕ → List ℕ → Type 0)
-      → Some request ≡ asked words → IsSaid gives request said →
+      → asks ≡ asked words → IsSaidFor gives asks (Some said) →
       IfOk result (λ status. (bytes : List ℕ) × IsReported said bytes status × P status bytes)
       → IfOk result (λ status. status ≡ 0 → YesIsClean gives (asked words))
-  clean_of gives words request said (Ok status) P asks is (bytes, reported, rest) =
-      λ good. rw (← asks) (of_said gives request said bytes is (subst (λ n. IsReported said bytes n) good reported))
-  clean_of gives words request said (Err f) P asks is reported = tt
+  clean_of gives words (Some request) said (Ok status) P same is (bytes, reported, rest) =
+      λ good. rw (← same) (of_said gives request said bytes is (subst (λ n. IsReported said bytes n) good reported))
+  clean_of gives words None said (Ok status) P same is reported = absurd is
+  clean_of gives words asks said (Err f) P same is reported = tt

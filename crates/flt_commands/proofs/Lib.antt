@@ -1,11 +1,5 @@
 pub mod Covered
-pub mod Firsts
 pub mod Kept
-pub mod OneAnalysis
 pub mod OneAnswer
-pub mod OneCheck
-pub mod OnePlace
-pub mod OneReading
-pub mod OneVerdict
-pub mod Readings
-pub mod Pages
+pub mod Printed
+pub mod Spelled

@@ -1,87 +1,31 @@
 -- How the answers of commands are written. This project's own program.
-use Rattle.std.specs.Prelude.{ℕ, List, [], ◌∷◌, ◌++◌, codes, nat_lt, if◌then◌else◌}
-use Rattle.std.specs.Fmt.{decimal}
-use Rattle.flt_rules.specs.Rule.{number, text}
-use Rattle.flt_rules.specs.declared.rule.Rule.{Rule}
+use Rattle.std.specs.Prelude.{ℕ, List, [], ◌∷◌, ◌++◌, codes, Result, Ok, Err}
+use Rattle.flt_answers.specs.Judgement.{output as output_of_judgement, status_of as status_of_judgement}
+use Rattle.flt_answers.specs.declared.failure.Failure.{Failure}
+use Rattle.flt_answers.specs.declared.judgement.Judgement.{Judgement}
 use Rattle.flt_crew.specs.declared.ending.Ending.{Ending}
 use Rattle.flt_crew.specs.declared.ending.Ending.TheVariants.{Whole, Full, Differ}
-use Rattle.flt_check.specs.declared.checker.Refusal.{Refusal}
-use Rattle.flt_model.specs.declared.verdict.Verdict.{Verdict}
-use Rattle.flt_model.specs.declared.verdict.Verdict.TheVariants.{Legal, NotARun, Breaks}
-use Rattle.flt_model.specs.declared.verdict.Violation.{Violation}
-use Rattle.flt_model.specs.declared.verdict.Violation.TheVariants.{V1, V2, V3, V4, V5, V6, V7, V8}
 use Rattle.flt_commands.specs.declared.answer.Answer.{Answer}
-use Rattle.flt_commands.specs.declared.answer.Answer.TheVariants.{Accepted, Refused, Certificate, Judged, Explained, Page, Ran, FileRefused, Shown}
+use Rattle.flt_commands.specs.declared.answer.Answer.TheVariants.{Judged, Explained, Page, Ran}
 
--- `R01` to `R15`
-abbrev pub rule_name : Rule → List ℕ
-rule_name r = codes "R" ++ ((if nat_lt (number r) 10 then codes "0" else []) ++ decimal (number r))
-
--- where a text is refused
-abbrev pub place : Refusal → List ℕ
-place f = codes "callback " ++ decimal f.callback ++ codes " point " ++ decimal f.point ++ codes " line " ++ decimal f.line
-
--- the rule that it breaks, in words
-abbrev pub broken : Rule → List ℕ
-broken r = rule_name r ++ codes " " ++ text r
-
--- a refusal
-abbrev pub refusal_line : Refusal → List ℕ
-refusal_line f = codes "refused " ++ place f ++ codes " " ++ broken f.rule
-
--- the same of one of several files
-abbrev pub file_refusal_line : ℕ → Refusal → List ℕ
-file_refusal_line file f = codes "refused file " ++ decimal file ++ codes " " ++ place f ++ codes " " ++ broken f.rule
-
--- the number of a violation
-abbrev pub violation_number : Violation → ℕ
-violation_number V1 = 1
-violation_number V2 = 2
-violation_number V3 = 3
-violation_number V4 = 4
-violation_number V5 = 5
-violation_number V6 = 6
-violation_number V7 = 7
-violation_number V8 = 8
-
--- what is said of a journal
-abbrev pub verdict_line : Verdict → List ℕ
-verdict_line Legal = codes "legal"
-verdict_line (NotARun n) = codes "not a run at " ++ decimal n
-verdict_line (Breaks v n) = codes "breaks V" ++ decimal (violation_number v) ++ codes " at " ++ decimal n
-
--- what stands on the standard output: the certificate, reports, a page, the journal, or a line and a line feed; of a
--- journal that is shown, rows before that line
+-- what stands on the standard output: reports, a page, the journal, or what is said of a text or of a journal
 abbrev pub output : Answer → List ℕ
-output Accepted = codes "accepted" ++ 10 ∷ []
-output (Refused f) = refusal_line f ++ 10 ∷ []
-output (Certificate bytes) = bytes.items
-output (Judged v) = verdict_line v ++ 10 ∷ []
+output (Judged j) = output_of_judgement j
 output (Explained e) = e.explained.output.items
 output (Page text) = text.now
 output (Ran ran) = ran.journal.items
-output (Shown rows v) = rows.items ++ (verdict_line v ++ 10 ∷ [])
-output (FileRefused file f) = file_refusal_line file f ++ 10 ∷ []
 
 -- the exit status of a journal: 2 where it is full before its script has ended, or where the receipts contradict it
 abbrev pub ended_status : Ending → ℕ
 ended_status Whole = 0
 ended_status _ = 2
 
--- the exit status: 0 where the certificate covers or is found, or nothing is broken, and of a page; of a journal, by how its run ended; of
--- reports, their own; 1 for any other answer
+-- the exit status: of what is said of a text or of a journal, and of reports, their own; of a page 0; of a journal, by how its run ended
 abbrev pub status_of : Answer → ℕ
-status_of Accepted = 0
-status_of (Refused f) = 1
-status_of (Certificate bytes) = 0
-status_of (Judged Legal) = 0
-status_of (Judged _) = 1
+status_of (Judged j) = status_of_judgement j
 status_of (Explained e) = e.explained.status
 status_of (Page text) = 0
 status_of (Ran ran) = ended_status ran.ending
-status_of (FileRefused file f) = 1
-status_of (Shown rows Legal) = 0
-status_of (Shown rows _) = 1
 
 -- how the run ended of which an answer is the journal; all other answers are whole
 abbrev pub ending_of : Answer → Ending
@@ -93,3 +37,8 @@ abbrev pub remark : Ending → List ℕ
 remark Whole = []
 remark Full = codes "full" ++ 10 ∷ []
 remark Differ = codes "receipts differ" ++ 10 ∷ []
+
+-- what is said of a text or of a journal, as what a command answers
+abbrev pub judged : Result Judgement Failure → Result Answer Failure
+judged (Ok j) = Ok (Judged j)
+judged (Err f) = Err f

@@ -1,21 +1,17 @@
 -- What the exit status 0 is worth: no run of the machine on the text breaks anything. This project's own program.
 use Rattle.std.specs.Prelude.{◌≡◌, ℕ, List, [], ◌∷◌, Option, Some, None, take}
-use Rattle.flt_syntax.specs.Spelling.{Spells}
 use Rattle.flt_tree.specs.declared.filter.Filter.{Filter}
 use Rattle.flt_model.specs.Program.{by_altitude}
 use Rattle.flt_model.specs.Runs.{breaks}
 use Rattle.flt_model.specs.Steps.{Transition}
+use Rattle.flt_answers.specs.Clean.{BreaksNothing}
 use Rattle.flt_commands.specs.Commands.{names_of}
-use Rattle.flt_commands.specs.Inputs.{AreGiven, Giving, Text}
-use Rattle.flt_commands.specs.Replay.{AreSpelled}
-use Rattle.flt_commands.specs.Split.{IsCertificateStart}
+use Rattle.flt_answers.specs.Inputs.{AreGiven, Giving, Text}
+use Rattle.flt_answers.specs.Replay.{AreSpelled}
+use Rattle.flt_answers.specs.Split.{IsCertificateStart}
 use Rattle.flt_words.specs.Request.{Asked, Check, Analyse, Run, Replay, Show, Explain, Page}
 
--- the filter that the text spells breaks nothing: whatever transitions are tried on it, in whatever order and however many
-abbrev pub BreaksNothing : Text → Type 0
-BreaksNothing text = (f : Filter) (transitions : List Transition) → Spells text f → breaks (f ∷ []) transitions ≡ None
-
--- nor do the filters that several texts spell, in one stack
+-- the filters that several texts spell break nothing in one stack: whatever transitions are tried on them, in whatever order and however many
 abbrev pub BreakNothing : List Text → Type 0
 BreakNothing texts = (filters : List Filter) (transitions : List Transition) → AreSpelled texts filters →
     breaks (by_altitude filters) transitions ≡ None

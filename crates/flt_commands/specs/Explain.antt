@@ -15,11 +15,11 @@ use Rattle.flt_reports.specs.declared.reports.Explained.{Explained as Reported}
 use Rattle.flt_reports.specs.declared.reports.Source.{Source}
 use Rattle.flt_words.specs.declared.request.Form.{Form}
 use Rattle.flt_words.specs.declared.request.Form.TheVariants.{Human, Lines, Sarif}
-use Rattle.flt_commands.specs.Inputs.{Text}
+use Rattle.flt_answers.specs.Inputs.{Text}
 use Rattle.flt_commands.specs.declared.answer.Answer.{Answer}
 use Rattle.flt_commands.specs.declared.answer.Answer.TheVariants.{Explained, Page}
-use Rattle.flt_commands.specs.declared.failure.Failure.{Failure}
-use Rattle.flt_commands.specs.declared.failure.Failure.TheVariants.{CannotRead, CannotWrite, OutOfMemory}
+use Rattle.flt_answers.specs.declared.failure.Failure.{Failure}
+use Rattle.flt_answers.specs.declared.failure.Failure.TheVariants.{CannotRead, CannotWrite, OutOfMemory}
 
 -- the names of sources
 abbrev pub names_in : List Source → List Text

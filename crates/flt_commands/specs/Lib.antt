@@ -1,12 +1,6 @@
-pub mod Analyse
 pub mod Answer
-pub mod Check
 pub mod Clean
 pub mod Commands
 pub mod Explain
-pub mod Failure
-pub mod Inputs
-pub mod Replay
 pub mod Running
 pub mod Single
-pub mod Split

@@ -3,18 +3,19 @@ use Rattle.std.specs.Prelude.{◌≡◌, ◌<◌, List, [], ◌∷◌, length, R
 use Rattle.flt_crew.specs.Running.{IsRun}
 use Rattle.flt_driven.specs.Preparing.{Fails}
 use Rattle.flt_driven.specs.declared.fault.RunFault.TheVariants as fault
-use Rattle.flt_commands.specs.Inputs.{Text}
-use Rattle.flt_commands.specs.Replay.{max_filters}
+use Rattle.flt_answers.specs.Inputs.{Text}
+use Rattle.flt_answers.specs.Replay.{max_filters}
 use Rattle.flt_commands.specs.declared.answer.Answer.{Answer}
-use Rattle.flt_commands.specs.declared.answer.Answer.TheVariants.{Ran, FileRefused}
-use Rattle.flt_commands.specs.declared.failure.Failure.{Failure}
-use Rattle.flt_commands.specs.declared.failure.Failure.TheVariants.{NoFile, TooManyFiles, FileSyntax, ScriptLine, Altitude, OutOfMemory}
+use Rattle.flt_answers.specs.declared.judgement.Judgement.TheVariants.{FileRefused}
+use Rattle.flt_commands.specs.declared.answer.Answer.TheVariants.{Judged, Ran}
+use Rattle.flt_answers.specs.declared.failure.Failure.{Failure}
+use Rattle.flt_answers.specs.declared.failure.Failure.TheVariants.{NoFile, TooManyFiles, FileSyntax, ScriptLine, Altitude, OutOfMemory}
 
 -- the journal is that of a stack of the filters that the texts spell; or this file is the first that no certificate covers, where the
 -- script is one for them
 abbrev pub IsAnswer : Text → List Text → Answer → Type 0
 IsAnswer script texts (Ran ran) = IsRun script texts ran
-IsAnswer script texts (FileRefused number f) = Fails script texts (fault.Refused number f)
+IsAnswer script texts (Judged (FileRefused number f)) = Fails script texts (fault.Refused number f)
 IsAnswer script texts _ = ⊥
 
 -- the first fault of the texts, or else that of the script, or else, where no text is refused, of the altitudes; memory may run out

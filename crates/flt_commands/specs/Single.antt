@@ -1,20 +1,11 @@
 -- What is one at most, where the inputs give one thing for each name. This project's own program.
 use Rattle.std.specs.Prelude.{◌≡◌, ◌≢◌, ℕ, List, Option, Some, None, Result, Ok, Err}
 use Rattle.flt_words.specs.Request.{Asked, Run, Show, Explain, Page}
+use Rattle.flt_answers.specs.Single.{told}
+use Rattle.flt_answers.specs.declared.failure.Failure.{Failure}
+use Rattle.flt_answers.specs.declared.failure.Failure.TheVariants.{OutOfMemory}
 use Rattle.flt_commands.specs.Answer.{output, status_of}
-use Rattle.flt_commands.specs.Inputs.{Giving, Text}
 use Rattle.flt_commands.specs.declared.answer.Answer.{Answer}
-use Rattle.flt_commands.specs.declared.failure.Failure.{Failure}
-use Rattle.flt_commands.specs.declared.failure.Failure.TheVariants.{CannotRead, OutOfMemory}
-
--- for each name one thing is given at most: its bytes, or none
-abbrev pub GivesOne : Giving → Type 0
-GivesOne gives = (name : Text) (a b : Option Text) → gives name a → gives name b → a ≡ b
-
--- a failure, whatever the address of the name in it
-abbrev pub told : Failure → Failure
-told (CannotRead name) = CannotRead (record { ref_ptr = (0, 0); now = name.now })
-told f = f
 
 -- what is seen of what is said: the output and the exit status, or why there is none
 abbrev pub seen : Result Answer Failure → Result (List ℕ × ℕ) Failure
@@ -39,7 +30,3 @@ HasOneAnswer _ = Unit {0}
 abbrev pub AskForOne : Option Asked → Type 0
 AskForOne None = Unit {0}
 AskForOne (Some request) = HasOneAnswer request
-
--- of some bytes one thing is said at most
-abbrev pub SaysOne : (List Text → Result Answer Failure → Type 0) → Type 0
-SaysOne IsSaidOf = (texts : List Text) (a b : Result Answer Failure) → IsSaidOf texts a → IsSaidOf texts b → AreSame a b

@@ -1,23 +1,23 @@
 //! The commands, over inputs and writers.
 
 ghost use Rattle.std.specs.Io.KnownBytes.{Appends};
-ghost use Rattle.std.specs.Prelude.{◌≡◌, ◌≢◌, ◌⊎◌, ℕ, List, OnErr, OnOk, IfOk, IfErr, map, string_bytes};
+ghost use Rattle.std.specs.Prelude.{◌≡◌, ◌≢◌, ◌⊎◌, ℕ, List, None, OnErr, OnOk, IfNone, IfOk, IfErr, IfSome, map, string_bytes};
 ghost use Rattle.flt_commands.specs.Answer.{ending_of, output, remark, status_of};
 ghost use Rattle.flt_commands.specs.Clean.{YesIsClean};
 ghost use Rattle.flt_commands.specs.Commands as spec;
+ghost use Rattle.flt_words.specs.Request.{asked_of};
 ghost use Rattle.flt_words.specs.Words.{asked};
 
-use crate::analyse::analyse_file;
-use crate::answer::Answer;
-use crate::check::check_files;
-use crate::clean::{covered_texts_break_nothing, driven_texts_break_nothing};
+use crate::answer::{Answer, judged};
+use crate::clean::driven_texts_break_nothing;
 use crate::explain::{Asked, explain_files, page_of};
-use crate::failure::Failure;
-use crate::inputs::{Inputs, Pictures};
-use crate::replay::replay_files;
+use crate::pictures::Pictures;
 use crate::running::run_files;
 use crate::showing::show_files;
-use crate::unread::why_unread;
+use crate::unread::{Reasons, lines_before};
+use flt_answers::{
+    Failure, Inputs, analyse_file, check_files, covered_texts_break_nothing, replay_files,
+};
 use flt_crew::{Ending, Unwatched, Watch};
 use flt_model::{Sink, WriteFault, put_all};
 use flt_syntax::spelled_is_read;
@@ -127,7 +127,7 @@ fn excuse<E: Sink>(
 }
 
 /// Writes what a command says: its answer to `out`, or why it has none to `err`, behind some other lines.
-fn report_behind<O: Sink, E: Sink>(
+fn report<O: Sink, E: Sink>(
     alloc: Global,
     before: Vec<u8>,
     said: Result<Answer, Failure>,
@@ -150,23 +150,100 @@ fn report_behind<O: Sink, E: Sink>(
     }
 }
 
-/// Writes what a command says: its answer to `out`, or why it has none to `err`.
-fn report<O: Sink, E: Sink>(
+/// What is said of what is asked for; none of what is a text of the program's own, about its use or its version.
+fn said_of<'a, R: Threads + Wait + Sync, I: Inputs, P: Pictures, W: Watch>(
+    rt: &R,
     alloc: Global,
-    said: Result<Answer, Failure>,
-    out: &mut O,
-    err: &mut E,
-) -> Result<u8, CommandFault>
-    ensures prints { IfOk result (λ status. (bytes : List ℕ) × spec.IsReported said.entry bytes status
-        × Appends (O.taken out.old) (O.taken out.new) bytes) }
-    ensures write { IfErr result (λ e. e ≡ CommandFault.Write → (O.failures out.new ≢ O.failures out.old)
-        ⊎ (E.failures err.new ≢ E.failures err.old)) }
-    ensures fine { OnOk result ((O.failures out.new ≡ O.failures out.old) × (E.failures err.new ≡ E.failures err.old)) }
-    ensures memory { IfErr result (λ e. e ≡ CommandFault.OutOfMemory → (out.new ≡ out.old) × (err.new ≡ err.old)) }
-    ensures quiet { IfOk result (λ status. status ≢ 2 → err.new ≡ err.old) }
-    ensures whole { spec.IsWhole said.entry → IfOk result (λ _. err.new ≡ err.old) }
+    request: &Request<'a>,
+    inputs: &I,
+    pictures: &mut P,
+    coloured: bool,
+    watch: &mut W,
+) -> Option<Result<Answer, Failure<'a>>>
+    ensures said { spec.IsSaidFor (I.gives inputs.now) (asked_of request.now) result }
+    ensures none { IfNone result (asked_of request.now ≡ None) }
+    ensures kept { IfSome result (λ said. IfOk said (λ _. spec.KeepsFor (I.gives inputs.now) (P.written pictures.new)
+        (asked_of request.now))) }
 {
-    report_behind(alloc, Vec::new(alloc), said, out, err)
+    match request {
+        Request::Usage(_) => None,
+        Request::Check { file, cert } => Some(judged(check_files(alloc, inputs, *file, *cert))),
+        Request::Analyse { file } => Some(judged(analyse_file(alloc, inputs, *file))),
+        Request::Run {
+            workers,
+            quiet: true,
+            script,
+            files,
+        } => Some(run_files(
+            rt,
+            alloc,
+            *workers,
+            inputs,
+            *script,
+            files.as_slice(),
+            &mut Unwatched,
+        )),
+        Request::Run {
+            workers,
+            script,
+            files,
+            ..
+        } => Some(run_files(
+            rt,
+            alloc,
+            *workers,
+            inputs,
+            *script,
+            files.as_slice(),
+            watch,
+        )),
+        Request::Replay { journal, files } => Some(judged(replay_files(
+            alloc,
+            inputs,
+            *journal,
+            files.as_slice(),
+        ))),
+        Request::Show {
+            timeline,
+            picture,
+            journal,
+            files,
+        } => Some(judged(show_files(
+            alloc,
+            inputs,
+            *timeline,
+            *picture,
+            *journal,
+            files.as_slice(),
+            pictures,
+        ))),
+        Request::Explain {
+            form,
+            states,
+            journal,
+            files,
+        } => Some(explain_files(
+            alloc,
+            coloured,
+            *form,
+            Asked {
+                states: *states,
+                journal: *journal,
+            },
+            inputs,
+            files.as_slice(),
+            pictures,
+        )),
+        Request::Page { name } => Some(page_of(*name)),
+    }
+}
+
+/// The text of the program's own that is asked for.
+fn usage_of<'r>(request: &'r Request<'_>) -> &'r str {
+    match request {
+        Request::Usage(text) => text.as_str(),
+        _ => "",
+    }
 }
 
 /// Runs the command of a program's words, its own name left out, and answers the exit status: 0 for yes, 1 for no, and 2
@@ -174,7 +251,14 @@ fn report<O: Sink, E: Sink>(
 /// there is no answer, `full` or `receipts differ` to `err`; a picture or a journal to `pictures`. Reports have the colours of a terminal
 /// where it is `coloured`. Where it drives filters, it tells `watch` of each line of the script, unless it is asked to be quiet. Threads are
 /// started by `run` alone, where it has more than one worker.
-pub fn command<R: Threads + Wait + Sync, I: Inputs, P: Pictures, O: Sink, E: Sink, W: Watch>(
+pub fn command<
+    R: Threads + Wait + Sync,
+    I: Inputs + Reasons,
+    P: Pictures,
+    O: Sink,
+    E: Sink,
+    W: Watch,
+>(
     rt: &R,
     alloc: Global,
     words: &[String],
@@ -199,88 +283,15 @@ pub fn command<R: Threads + Wait + Sync, I: Inputs, P: Pictures, O: Sink, E: Sin
     covered_texts_break_nothing();
     driven_texts_break_nothing();
     spelled_is_read();
-    match read_words(alloc, words)? {
-        Request::Usage(text) => {
-            put_all(err, text.as_bytes())?;
+    let request = read_words(alloc, words)?;
+    match said_of(rt, alloc, &request, inputs, pictures, coloured, watch) {
+        None => {
+            put_all(err, usage_of(&request).as_bytes())?;
             Ok(2)
         }
-        Request::Check { file, cert } => {
-            let said = check_files(alloc, inputs, file, cert);
-            report(alloc, said, out, err)
-        }
-        Request::Analyse { file } => {
-            let said = analyse_file(alloc, inputs, file);
-            report(alloc, said, out, err)
-        }
-        Request::Run {
-            workers,
-            quiet: true,
-            script,
-            files,
-        } => {
-            let said = run_files(
-                rt,
-                alloc,
-                workers,
-                inputs,
-                script,
-                files.as_slice(),
-                &mut Unwatched,
-            );
-            report(alloc, said, out, err)
-        }
-        Request::Run {
-            workers,
-            script,
-            files,
-            ..
-        } => {
-            let said = run_files(rt, alloc, workers, inputs, script, files.as_slice(), watch);
-            report(alloc, said, out, err)
-        }
-        Request::Replay { journal, files } => {
-            let said = replay_files(alloc, inputs, journal, files.as_slice());
-            report(alloc, said, out, err)
-        }
-        Request::Show {
-            timeline,
-            picture,
-            journal,
-            files,
-        } => {
-            let said = show_files(
-                alloc,
-                inputs,
-                timeline,
-                picture,
-                journal,
-                files.as_slice(),
-                pictures,
-            );
-            report(alloc, said, out, err)
-        }
-        Request::Explain {
-            form,
-            states,
-            journal,
-            files,
-        } => {
-            let asked = Asked { states, journal };
-            let said = explain_files(
-                alloc,
-                coloured,
-                form,
-                asked,
-                inputs,
-                files.as_slice(),
-                pictures,
-            );
-            let before = why_unread(alloc, inputs, files.as_slice(), &said)?;
-            report_behind(alloc, before, said, out, err)
-        }
-        Request::Page { name } => {
-            let said = page_of(name);
-            report(alloc, said, out, err)
+        Some(said) => {
+            let before = lines_before(alloc, inputs, &request, &said)?;
+            report(alloc, before, said, out, err)
         }
     }
 }

@@ -2,14 +2,14 @@
 
 ghost use Rattle.std.specs.Prelude.{◌≡◌, IfOk, IsTrue, length, map, option_map};
 ghost use Rattle.flt_commands.specs.Explain as spec;
-ghost use Rattle.flt_commands.specs.Inputs.{Says};
+ghost use Rattle.flt_answers.specs.Inputs.{Says};
 ghost use Rattle.flt_notes.specs.Noted.{first_journal};
 ghost use Rattle.flt_notes.specs.Told.{AreNoted};
 ghost use Rattle.flt_reports.specs.Reports.{texts_of};
 
 use crate::answer::Answer;
-use crate::failure::Failure;
-use crate::inputs::{Inputs, Pictures, read_all};
+use crate::pictures::Pictures;
+use flt_answers::{Failure, Inputs, read_all};
 use flt_driven::journal_bytes;
 use flt_forms::{lines, sarif};
 use flt_notes::{Noted, Told, explain, first_journal};

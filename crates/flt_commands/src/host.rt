@@ -1,7 +1,9 @@
 //! The files and the streams of the system.
 
 use crate::commands::{CommandFault, command};
-use crate::inputs::{Inputs, MAX_INPUT, Pictures, read_within};
+use crate::pictures::Pictures;
+use crate::unread::Reasons;
+use flt_answers::{Inputs, MAX_INPUT, read_within};
 use flt_crew::Watch;
 use flt_model::{Sink, WriteFault};
 use flt_reasons::Unread;
@@ -32,7 +34,9 @@ impl Inputs for Files<'_> {
             Err(_) => Ok(None),
         }
     }
+}
 
+impl Reasons for Files<'_> {
     fn why(&self, name: &str) -> Unread {
         if name == "-" {
             return Unread::Failed;

@@ -1,12 +1,11 @@
 //! What `run` says of the names that it is given.
 
 ghost use Rattle.std.specs.Prelude.{◌≡◌, ◌∷◌, map};
-ghost use Rattle.flt_commands.specs.Inputs.{Says};
+ghost use Rattle.flt_answers.specs.Inputs.{Says};
 ghost use Rattle.flt_commands.specs.Running as spec;
 
 use crate::answer::Answer;
-use crate::failure::Failure;
-use crate::inputs::{Inputs, read_all};
+use flt_answers::{Failure, Inputs, Judgement, read_first};
 use flt_crew::{RunFault, Watch, run};
 use flt_words::Workers;
 use std::alloc::Global;
@@ -29,7 +28,9 @@ fn run_texts<'a, R: Threads + Wait + Sync, W: Watch>(
     }
     match run(rt, alloc, workers.count(), script, texts, watch) {
         Ok(ran) => Ok(Answer::Ran(ran)),
-        Err(RunFault::Refused { file, refusal }) => Ok(Answer::FileRefused(file, refusal)),
+        Err(RunFault::Refused { file, refusal }) => {
+            Ok(Answer::Judged(Judgement::FileRefused(file, refusal)))
+        }
         Err(RunFault::Count) => Err(Failure::TooManyFiles),
         Err(RunFault::Syntax { file, fault }) => Err(Failure::FileSyntax(file, fault)),
         Err(RunFault::Script { line }) => Err(Failure::ScriptLine(line)),
@@ -50,9 +51,13 @@ pub fn run_files<'a, R: Threads + Wait + Sync, I: Inputs, W: Watch>(
 ) -> Result<Answer, Failure<'a>>
     ensures { Says (I.gives inputs.now) (script.entry.now ∷ map (λ name. name.now) files.now) spec.IsRan result }
 {
-    let mut names = Vec::new(alloc);
-    names.push(script)?;
-    names.extend_from_slice(files)?;
-    let texts = read_all(alloc, inputs, names.as_slice())?;
-    run_texts(rt, alloc, workers, texts[0].as_slice(), &texts[1..], watch)
+    let texts = read_first(alloc, inputs, script, files)?;
+    run_texts(
+        rt,
+        alloc,
+        workers,
+        texts.first.as_slice(),
+        texts.others.as_slice(),
+        watch,
+    )
 }

@@ -1,14 +1,12 @@
 //! What `replay` says of the names that it is given, where the journal is shown.
 
 ghost use Rattle.std.specs.Prelude.{◌≡◌, [], ◌∷◌, false, IfOk, map, option_map};
-ghost use Rattle.flt_commands.specs.Inputs.{Says};
-ghost use Rattle.flt_commands.specs.Replay as spec;
+ghost use Rattle.flt_answers.specs.Inputs.{Says};
+ghost use Rattle.flt_answers.specs.Replay as spec;
 
-use crate::answer::Answer;
-use crate::failure::Failure;
-use crate::inputs::{Inputs, Pictures, read_all};
-use crate::replay::{Replayed, replay_all};
-use flt_model::{Journal, Verdict};
+use crate::pictures::Pictures;
+use flt_answers::{Failure, Inputs, Judgement, Replayed, read_first, replay_all};
+use flt_model::Journal;
 use flt_picture::picture;
 use flt_timeline::Timeline;
 use flt_tree::Tree;
@@ -44,7 +42,7 @@ fn show<'a, P: Pictures>(
     name: Option<&'a str>,
     replayed: &Replayed,
     pictures: &mut P,
-) -> Result<Answer, Failure<'a>>
+) -> Result<Judgement, Failure<'a>>
     ensures { spec.IsShownOf is_asked (option_map (λ name. name.now) name.entry) replayed.now.verdict result }
 {
     let trees = replayed.trees.as_slice();
@@ -55,7 +53,7 @@ fn show<'a, P: Pictures>(
         }
     }
     let rows = rows_of(alloc, is_asked, &timeline)?;
-    Ok(Answer::Shown(rows, replayed.verdict))
+    Ok(Judgement::Shown(rows, replayed.verdict))
 }
 
 /// What is said of a journal on some texts, where it is shown.
@@ -66,7 +64,7 @@ fn show_texts<'a, P: Pictures>(
     written: &[u8],
     texts: &[Vec<u8>],
     pictures: &mut P,
-) -> Result<Answer, Failure<'a>>
+) -> Result<Judgement, Failure<'a>>
     ensures { spec.ShownJudges is_asked (option_map (λ name. name.now) name.entry) written.now
         (map (λ text. text.items) texts.now) result }
 {
@@ -84,20 +82,17 @@ pub fn show_files<'a, I: Inputs, P: Pictures>(
     journal: &'a str,
     files: &[&'a str],
     pictures: &mut P,
-) -> Result<Answer, Failure<'a>>
+) -> Result<Judgement, Failure<'a>>
     ensures { Says (I.gives inputs.now) (journal.entry.now ∷ map (λ name. name.now) files.now)
         (spec.IsShown is_asked (option_map (λ name. name.now) name.entry)) result }
 {
-    let mut names = Vec::new(alloc);
-    names.push(journal)?;
-    names.extend_from_slice(files)?;
-    let texts = read_all(alloc, inputs, names.as_slice())?;
+    let texts = read_first(alloc, inputs, journal, files)?;
     show_texts(
         alloc,
         is_asked,
         name,
-        texts[0].as_slice(),
-        &texts[1..],
+        texts.first.as_slice(),
+        texts.others.as_slice(),
         pictures,
     )
 }

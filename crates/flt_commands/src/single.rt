@@ -1,77 +1,24 @@
 //! That a command line has one answer at most.
 
 ghost use Rattle.std.specs.Prelude.{◌≡◌, ℕ, List, Result};
-ghost use Rattle.flt_commands.specs.Analyse.{IsAnalysed};
-ghost use Rattle.flt_commands.specs.Check.{HasPoints, IsChecked};
+ghost use Rattle.flt_answers.specs.Single.{GivesOne};
+ghost use Rattle.flt_answers.specs.declared.failure.Failure.{Failure};
 ghost use Rattle.flt_commands.specs.Commands.{IsSaid, Prints};
-ghost use Rattle.flt_commands.specs.Inputs.{Text};
-ghost use Rattle.flt_commands.specs.Replay.{IsReplayed};
 ghost use Rattle.flt_commands.specs.Single as spec;
+ghost use Rattle.flt_commands.specs.declared.answer.Answer.{Answer};
 ghost use Rattle.flt_words.specs.Request.{Asked};
 ghost use Rattle.flt_words.specs.Words.{asked};
-ghost use Rattle.flt_commands.specs.declared.answer.Answer.{Answer};
-ghost use Rattle.flt_commands.specs.declared.failure.Failure.{Failure};
-ghost use Rattle.flt_graph.specs.declared.graph.Graph.{Graph};
 
-use crate::inputs::Inputs;
-use flt_analyse::{one_certificate_is_least, one_fault_is_named};
-use flt_cert::{one_certificate_is_spelled, one_fault_is_first};
-use flt_check::{covering_is_faultless, one_fault_is_least};
-use flt_graph::one_graph_at_most;
-use flt_model::{one_first_fault_at_most, one_journal_is_spelled};
-use flt_syntax::{spelled_is_read, spelled_is_well_formed, spells_at_most_one};
-
-/// A text has one graph at most. It does nothing: its clause is the law.
-fn texts_have_one_graph()
-    ensures { (text : Text) (g h : Graph) → HasPoints text g → HasPoints text h → g ≡ h }
-{
-    spells_at_most_one();
-    spelled_is_well_formed();
-    one_graph_at_most();
-}
-
-/// `check` says one thing at most of some bytes. It does nothing: its clause is the law.
-fn one_check_at_most()
-    ensures { spec.SaysOne IsChecked }
-{
-    texts_have_one_graph();
-    spelled_is_read();
-    one_certificate_is_spelled();
-    one_fault_is_first();
-    covering_is_faultless();
-    one_fault_is_least();
-}
-
-/// `analyse` says one thing at most of some bytes. It does nothing: its clause is the law.
-fn one_analysis_at_most()
-    ensures { spec.SaysOne IsAnalysed }
-{
-    texts_have_one_graph();
-    spelled_is_read();
-    one_certificate_is_least();
-    one_fault_is_named();
-}
-
-/// `replay` says one thing at most of some bytes. It does nothing: its clause is the law.
-fn one_verdict_at_most()
-    ensures { spec.SaysOne IsReplayed }
-{
-    spells_at_most_one();
-    spelled_is_read();
-    one_journal_is_spelled();
-    one_first_fault_at_most();
-}
+use flt_answers::{Inputs, one_judgement_at_most};
 
 /// A command line has one answer at most, where the inputs give one thing for each name, and it asks for no run, no reports and
 /// no page. What is printed is one, and so is the exit status; why there is none is one too, unless memory ran out. It does nothing: its clauses are the law.
 pub fn one_answer_at_most<I: Inputs>()
     ensures one { (inputs : I) (words : List (List ℕ)) (bytes other : List ℕ) (status other_status : ℕ) →
-        spec.AskForOne (asked words) → spec.GivesOne (I.gives inputs) → Prints (I.gives inputs) words bytes status →
+        spec.AskForOne (asked words) → GivesOne (I.gives inputs) → Prints (I.gives inputs) words bytes status →
         Prints (I.gives inputs) words other other_status → (bytes ≡ other) × (status ≡ other_status) }
     ensures said { (inputs : I) (request : Asked) (a b : Result Answer Failure) → spec.HasOneAnswer request →
-        spec.GivesOne (I.gives inputs) → IsSaid (I.gives inputs) request a → IsSaid (I.gives inputs) request b → spec.AreSame a b }
+        GivesOne (I.gives inputs) → IsSaid (I.gives inputs) request a → IsSaid (I.gives inputs) request b → spec.AreSame a b }
 {
-    one_check_at_most();
-    one_analysis_at_most();
-    one_verdict_at_most();
+    one_judgement_at_most::<I>();
 }

@@ -2,8 +2,8 @@ use Rattle.std.proofs.Common.{◌≡◌, ℕ, Err, Vec, Global, map, ap, ◌∙�
 use Rattle.std.proofs.Math.Path.{subst}
 use Rattle.flt_notes.specs.Told.{AreNoted}
 use Rattle.flt_reports.specs.Reports.{texts_of}
-use Rattle.flt_commands.specs.Inputs.{given, unread}
-use Rattle.flt_commands.specs.declared.failure.Failure.TheVariants.{OutOfMemory}
+use Rattle.flt_answers.specs.Inputs.{given, unread}
+use Rattle.flt_answers.specs.declared.failure.Failure.TheVariants.{OutOfMemory}
 use Rattle.flt_commands.proofs.explain.explain_files.Goals as goal
 
 pub returns-in_err-texts-clause-said : goal.returns-in_err-texts-clause-said

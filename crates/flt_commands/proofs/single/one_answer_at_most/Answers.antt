@@ -4,10 +4,9 @@ use Rattle.flt_commands.proofs.single.one_answer_at_most.Goals as goal
 
 pub returns : goal.returns
 returns g c =
-    let checked = c.one_check_at_most.ensures in
-    let analysed = c.one_analysis_at_most.ensures in
-    let replayed = c.one_verdict_at_most.ensures in
+    let law = c.one_judgement_at_most.ensures in
     record {
-      one = λ inputs words. printed_once checked analysed replayed (g.I.Inputs.gives inputs) (asked words);
-      said = λ inputs. said_once checked analysed replayed (g.I.Inputs.gives inputs);
+      one = λ inputs words. printed_once (g.I.Inputs.gives inputs) (law.checked inputs) (law.analysed inputs) (law.replayed inputs)
+          (asked words);
+      said = λ inputs. said_once (g.I.Inputs.gives inputs) (law.checked inputs) (law.analysed inputs) (law.replayed inputs);
     }

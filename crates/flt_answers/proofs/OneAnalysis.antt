@@ -1,0 +1,91 @@
+-- Of some bytes `analyse` says one thing at most.
+use Rattle.std.proofs.Common.{◌≡◌, ◌≢◌, [], ◌∷◌, Result, Ok, Err, refl, sym, ap, ◌∙◌, subst}
+use Rattle.flt_syntax.specs.File.{filter_of}
+use Rattle.flt_syntax.specs.Spelling.{Spells}
+use Rattle.flt_tree.specs.declared.filter.Filter.{Filter}
+use Rattle.flt_graph.specs.declared.graph.Graph.{Graph}
+use Rattle.flt_cert.specs.Format.{Certificate, spelling}
+use Rattle.flt_check.specs.Covering.{Covers}
+use Rattle.flt_check.specs.declared.checker.Refusal.{Refusal}
+use Rattle.flt_analyse.specs.Least.{IsLeast, IsNamed, NoneCovers}
+use Rattle.flt_answers.proofs.OneCheck.{not_faulty, one_syntax_fault}
+use Rattle.flt_answers.specs.Analyse.{IsAnalysed, IsCertified, IsFailure, IsRefused, Judges}
+use Rattle.flt_answers.specs.Check.{HasPoints}
+use Rattle.flt_answers.specs.Inputs.{Text}
+use Rattle.flt_answers.specs.Single.{AreSame, SaysOne, seen, told}
+use Rattle.flt_answers.specs.declared.judgement.Judgement.{Judgement}
+use Rattle.flt_answers.specs.declared.judgement.Judgement.TheVariants.{Accepted, Refused, Certificate as Written, Judged, FileRefused, Shown}
+use Rattle.flt_answers.specs.declared.failure.Failure.{Failure}
+use Rattle.flt_answers.specs.declared.failure.Failure.TheVariants.{Syntax, OutOfMemory}
+
+module _ (graph : (text : Text) (g h : Graph) → HasPoints text g → HasPoints text h → g ≡ h)
+    (read : (text : Text) (f : Filter) → Spells text f → filter_of text ≡ Ok f)
+    (least : (g : Graph) (k l : Certificate) → Covers g k → IsLeast g k → Covers g l → IsLeast g l → k ≡ l)
+    (named : (g : Graph) (f h : Refusal) → IsNamed g f → IsNamed g h → f ≡ h) where
+  certified_once : (text bytes others : Text) → IsCertified text bytes → IsCertified text others → bytes ≡ others
+  certified_once text bytes others x y =
+      let points : y.graph ≡ x.graph = graph text y.graph x.graph y.points x.points in
+      let cert = least x.graph x.cert y.cert x.covers x.least (subst (λ g. Covers g y.cert) points y.covers)
+      (subst (λ g. IsLeast g y.cert) points y.least) in
+      x.written ∙ ap spelling cert ∙ sym y.written
+
+  not_refused : (text bytes : Text) (f : Refusal) → IsCertified text bytes → IsRefused text f → ⊥
+  not_refused text bytes f x y =
+      let points : y.graph ≡ x.graph = graph text y.graph x.graph y.points x.points in
+      subst (λ g. NoneCovers g) points y.none x.cert x.certified x.covers
+
+  refused_once : (text : Text) (f h : Refusal) → IsRefused text f → IsRefused text h → f ≡ h
+  refused_once text f h x y =
+      let points : y.graph ≡ x.graph = graph text y.graph x.graph y.points x.points in
+      named x.graph f h x.named (subst (λ g. IsNamed g h) points y.named)
+
+  -- a text of which something is answered spells a filter
+  answered : (text : Text) (a : Judgement) → Judges text (Ok a) → (f : Filter) × (filter_of text ≡ Ok f)
+  answered text (Written c) x = (x.points.filter, read text x.points.filter x.points.spelled)
+  answered text (Refused f) x = (x.points.filter, read text x.points.filter x.points.spelled)
+  answered text Accepted x = absurd x
+  answered text (Judged v) x = absurd x
+  answered text (FileRefused n f) x = absurd x
+  answered text (Shown rows v) x = absurd x
+
+  answers_once : (text : Text) (a b : Judgement) → Judges text (Ok a) → Judges text (Ok b) → seen (Ok a) ≡ seen (Ok b)
+  answers_once text (Written c) (Written d) x y = let same : c.items ≡ d.items = certified_once text c.items d.items x y in cc
+  answers_once text (Written c) (Refused f) x y = absurd (not_refused text c.items f x y)
+  answers_once text (Refused f) (Written c) x y = absurd (not_refused text c.items f y x)
+  answers_once text (Refused f) (Refused h) x y = ap (λ r. seen (Ok (Refused r))) (refused_once text f h x y)
+  answers_once text (Written c) Accepted x y = absurd y
+  answers_once text (Written c) (Judged v) x y = absurd y
+  answers_once text (Written c) (FileRefused n f) x y = absurd y
+  answers_once text (Written c) (Shown rows v) x y = absurd y
+  answers_once text (Refused f) Accepted x y = absurd y
+  answers_once text (Refused f) (Judged v) x y = absurd y
+  answers_once text (Refused f) (FileRefused n h) x y = absurd y
+  answers_once text (Refused f) (Shown rows v) x y = absurd y
+  answers_once text Accepted b x y = absurd x
+  answers_once text (Judged v) b x y = absurd x
+  answers_once text (FileRefused n f) b x y = absurd x
+  answers_once text (Shown rows v) b x y = absurd x
+
+  not_both : (text : Text) (a : Judgement) (f : Failure) → Judges text (Ok a) → IsFailure text f → f ≢ OutOfMemory → ⊥
+  not_both text a (Syntax e) x y told = let found = answered text a x in not_faulty text found.0 e found.1 y
+  not_both text a OutOfMemory x y told = told refl
+  not_both text a f x y told = y
+
+  failures_once : (text : Text) (f h : Failure) → IsFailure text f → IsFailure text h → f ≢ OutOfMemory → h ≢ OutOfMemory → told f ≡ told h
+  failures_once text (Syntax e) (Syntax f) x y p q = ap Syntax (one_syntax_fault text e f x y)
+  failures_once text OutOfMemory h x y p q = absurd (p refl)
+  failures_once text (Syntax e) OutOfMemory x y p q = absurd (q refl)
+  failures_once text (Syntax e) h x y p q = absurd y
+  failures_once text f h x y p q = absurd x
+
+  judged_once : (text : Text) (a b : Result Judgement Failure) → Judges text a → Judges text b → AreSame a b
+  judged_once text (Ok a) (Ok b) x y p q = answers_once text a b x y
+  judged_once text (Ok a) (Err f) x y p q = absurd (not_both text a f x y (λ e. q (ap Err e)))
+  judged_once text (Err f) (Ok b) x y p q = absurd (not_both text b f y x (λ e. p (ap Err e)))
+  judged_once text (Err f) (Err h) x y p q = ap Err (failures_once text f h x y (λ e. p (ap Err e)) (λ e. q (ap Err e)))
+
+  -- of some bytes `analyse` says one thing at most
+  pub analysed_once : SaysOne IsAnalysed
+  analysed_once [] a b x y = absurd x
+  analysed_once (text ∷ []) a b x y = judged_once text a b x y
+  analysed_once (text ∷ more ∷ texts) a b x y = absurd x

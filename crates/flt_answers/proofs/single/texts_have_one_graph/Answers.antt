@@ -1,0 +1,5 @@
+use Rattle.flt_answers.proofs.OneCheck.{graph_once}
+use Rattle.flt_answers.proofs.single.texts_have_one_graph.Goals as goal
+
+pub returns : goal.returns
+returns c = graph_once c.spells_at_most_one.ensures c.spelled_is_well_formed.ensures c.one_graph_at_most.ensures

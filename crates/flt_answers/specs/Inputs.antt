@@ -1,0 +1,54 @@
+-- What is read for the names of a command line. This project's own program.
+use Rattle.std.specs.Prelude.{◌≡◌, ◌⊎◌, ℕ, ◌≤◌, Bool, ◌&&◌, true, List, ◌∷◌, ◌++◌, codes, count_by, Option, Some, None, Result, Err}
+use Rattle.std.specs.List.{AllZip, list_any}
+use Rattle.std.specs.Str.{bytes_eq}
+use Rattle.flt_answers.specs.declared.failure.Failure.{Failure}
+use Rattle.flt_answers.specs.declared.failure.Failure.TheVariants.{CannotRead, OutOfMemory}
+
+-- a name, or what it gives, as bytes
+abbrev pub Text : Type 0
+Text = List ℕ
+
+-- what may be given for a name: its bytes, or none
+abbrev pub Giving : Type 1
+Giving = Text → Option Text → Type 0
+
+abbrev pub is_standard : Text → Bool
+is_standard name = bytes_eq name (codes "-")
+
+-- each name is given, and the standard input once
+pub record AreGiven (gives : Giving) (names texts : List Text) : Type 0 where
+  pub each : AllZip (λ name text. gives name (Some text)) names texts
+  pub once : count_by is_standard names ≤ 1
+
+-- nothing is given for the name behind others, or it is the standard input again
+abbrev pub IsMissing : Giving → List Text → Text → Type 0
+IsMissing gives before name = (is_standard name && list_any is_standard before ≡ true) ⊎ gives name None
+
+-- the failure says that this name can't be read
+abbrev pub IsUnread : Text → Failure → Type 0
+IsUnread name (CannotRead unread) = unread.now ≡ name
+IsUnread name failure = ⊥
+
+-- the first name for which nothing is given
+pub record IsUnreadable (gives : Giving) (names : List Text) (f : Failure) : Type 0 where
+  pub before : List Text
+  pub name : Text
+  pub after : List Text
+  pub parts : names ≡ before ++ name ∷ after
+  pub texts : List Text
+  pub given : AreGiven gives before texts
+  pub missing : IsMissing gives before name
+  pub told : IsUnread name f
+
+-- memory ran out, or the names have this failure
+abbrev pub NamesFail : Giving → List Text → Failure → Type 0
+NamesFail gives names OutOfMemory = Unit {0}
+NamesFail gives names f = IsUnreadable gives names f
+
+-- what is said where these names are read: how that fails, or what is said of the bytes that they give
+pub data Says {A : Type 0} (gives : Giving) (names : List Text)
+    (IsSaidOf : List Text → Result A Failure → Type 0) : Result A Failure → Type 0 where
+  unread : (f : Failure) → NamesFail gives names f → Says gives names IsSaidOf (Err f)
+  given : (texts : List Text) (result : Result A Failure) → AreGiven gives names texts → IsSaidOf texts result →
+      Says gives names IsSaidOf result

@@ -1,0 +1,9 @@
+pub mod Analyse
+pub mod Check
+pub mod Clean
+pub mod Failure
+pub mod Inputs
+pub mod Judgement
+pub mod Replay
+pub mod Single
+pub mod Split

@@ -1,0 +1,61 @@
+//! A text and its certificate in one input.
+
+ghost use Rattle.std.specs.Prelude.{◌≡◌, ◌≤◌, length};
+ghost use Rattle.flt_answers.specs.Split as spec;
+
+/// The line with which a certificate begins.
+const HEADER: &[u8] = b"fltcert 1";
+
+/// There is nothing behind a line, or its line feed.
+fn ends_line(bytes: &[u8]) -> bool
+    ensures { result ≡ spec.ends_line bytes.now }
+{
+    match bytes.first() {
+        None => true,
+        Some(byte) => *byte == b'\n',
+    }
+}
+
+/// The first line is the one with which a certificate begins.
+fn is_header(bytes: &[u8]) -> bool
+    ensures { result ≡ spec.is_header bytes.now }
+{
+    if bytes.len() < HEADER.len() {
+        return false;
+    }
+    &bytes[..HEADER.len()] == HEADER && ends_line(&bytes[HEADER.len()..])
+}
+
+/// A line begins at a place: at the start, and behind each line feed.
+fn begins_line(input: &[u8], at: usize) -> bool
+    requires { at ≤ length input.now }
+    ensures { result ≡ spec.begins_line input.now at }
+{
+    if at == 0 {
+        return true;
+    }
+    input[at - 1] == b'\n'
+}
+
+/// A certificate's first line begins at a place.
+fn is_header_at(input: &[u8], at: usize) -> bool
+    requires { at ≤ length input.now }
+    ensures { result ≡ spec.is_header_at input.now at }
+{
+    begins_line(input, at) && is_header(&input[at..])
+}
+
+/// Where the certificate begins in an input, counted from 0: at the first line that is exactly `fltcert 1`, or, where
+/// there is none, at the end.
+pub fn certificate_start(input: &[u8]) -> usize
+    ensures { spec.IsCertificateStart input.now result }
+{
+    let mut start = 0;
+    while start < input.len() {
+        if is_header_at(input, start) {
+            return start;
+        }
+        start += 1;
+    }
+    start
+}
