@@ -1,5 +1,5 @@
 -- Inputs that were read: one, two, and a first one with others.
-use Rattle.std.proofs.Common.{◌≡◌, ◌<◌, ℕ, List, [], ◌∷◌, Vec, Global, Result, length, map, sym, ap, ◌∙◌, arith, remove, slice_index_or}
+use Rattle.std.proofs.Common.{◌≡◌, ℕ, List, [], ◌∷◌, Vec, Global, Result, length, map, sym, ap, ◌∙◌, arith, remove, slice_index_or}
 use Rattle.flt_answers.specs.Inputs.{AreGiven, Giving, Says, Text, given}
 use Rattle.flt_answers.specs.declared.judgement.Judgement.{Judgement}
 use Rattle.flt_answers.specs.declared.failure.Failure.{Failure}
@@ -36,12 +36,12 @@ module _ (gives : Giving) (IsSaidOf : List Text → Result Judgement Failure →
       Says gives (name ∷ other ∷ []) IsSaidOf result
   says_of_both name other x y two first second read said = given _ result (rw (both texts x y two first second) at read) said
 
--- the bytes of a first input and of those behind it, which was taken out
-pub first_apart : (gives : Giving) (names : List Text) (texts others : List (Vec ℕ Global)) (x : Vec ℕ Global) → 0 < length texts →
-    x ≡ slice_index_or texts 0 x → others ≡ remove texts 0 → AreGiven gives names (map (λ t. t.items) texts) →
-    AreGiven gives names (x.items ∷ map (λ t. t.items) others)
-first_apart gives names [] others x some first behind read = absurd (omega (arith, some))
-first_apart gives names (t ∷ texts) others x some first behind read =
+-- the bytes of a first input, which was taken out, and of those behind it
+pub first_apart : (gives : Giving) (name : Text) (names : List Text) (texts others : List (Vec ℕ Global)) (x : Vec ℕ Global) →
+    x ≡ slice_index_or texts 0 x → others ≡ remove texts 0 → AreGiven gives (name ∷ names) (map (λ t. t.items) texts) →
+    AreGiven gives (name ∷ names) (x.items ∷ map (λ t. t.items) others)
+first_apart gives name names [] others x first behind read = absurd read.each
+first_apart gives name names (t ∷ texts) others x first behind read =
     let is_first : x ≡ t = first in
     let are_others : others ≡ texts = behind in
     rw (is_first, are_others) read

@@ -1,4 +1,4 @@
-use Rattle.std.proofs.Common.{◌≡◌, ◌<◌, List, ◌∷◌, ℕ, Bor, length, map, refl, arith}
+use Rattle.std.proofs.Common.{◌≡◌, List, ◌∷◌, ℕ, Bor, map, refl}
 use Rattle.flt_answers.proofs.Readings.{first_apart}
 use Rattle.flt_answers.proofs.inputs.read_first.Goals as goal
 
@@ -14,5 +14,5 @@ returns-clause-ok g c =
     let names : map (λ (n : Bor (List ℕ)). n.now) c.as_slice.result.now ≡ c.args.name.now
     ∷ map (λ (n : Bor (List ℕ)). n.now) c.args.others.now =
     rw (c.as_slice.ensures.value, c.in_ok-extend_from_slice.ensures.items, c.in_ok-push.ensures.items, c.new-names.ensures.items) refl in
-    first_apart _ _ c.in_ok-texts.texts.items _ _ c.remove-first.requires c.remove-first.ensures.value c.remove-first.ensures.items
+    first_apart _ _ _ c.in_ok-texts.texts.items _ _ c.remove-first.ensures.value c.remove-first.ensures.items
     (rw names at c.in_ok-texts.ensures.ok)
