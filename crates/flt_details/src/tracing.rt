@@ -26,11 +26,11 @@ pub struct Traces {
 
 /// What of a situation breaks the rule of a finding. A call that isn't legal at its place is wrong whatever is so.
 fn offence(finding: &Finding, situation: &Situation) -> Option<Fact> {
-    match (finding.rule, finding.subject) {
-        (Rule::R07, _) => fact_about(finding.subject, situation),
-        (_, Subject::Call) => None,
-        _ => fact_about(finding.subject, situation),
+    let is_call = matches!(finding.subject, Subject::Call);
+    if is_call && !matches!(finding.rule, Rule::R07) {
+        return None;
     }
+    fact_about(finding.subject, situation)
 }
 
 /// Where that comes from at the end of a way.
@@ -81,16 +81,29 @@ fn has(finding: &Finding, status: VariableStatus) -> Option<Fact> {
     }
 }
 
-/// What may break the rule of a finding, by the rule alone: one thing, or else another.
-fn offences(finding: &Finding) -> (Option<Fact>, Option<Fact>) {
-    match (finding.rule, finding.subject) {
-        (Rule::R01 | Rule::R04 | Rule::R13, _) => (
-            has(finding, VariableStatus::Stale),
-            has(finding, VariableStatus::Null),
-        ),
-        (Rule::R02 | Rule::R03 | Rule::R05, _) => (has(finding, VariableStatus::Held), None),
-        (Rule::R10 | Rule::R11, Subject::Lock(lock)) => (Some(Fact::Lock(lock, true)), None),
-        _ => (None, None),
+/// That a lock is held, if a finding is about one.
+fn is_taken(finding: &Finding) -> Option<Fact> {
+    match finding.subject {
+        Subject::Lock(lock) => Some(Fact::Lock(lock, true)),
+        _ => None,
+    }
+}
+
+/// What may break the rule of a finding, by the rule alone.
+fn likely_offence(finding: &Finding) -> Option<Fact> {
+    match finding.rule {
+        Rule::R01 | Rule::R04 | Rule::R13 => has(finding, VariableStatus::Stale),
+        Rule::R02 | Rule::R03 | Rule::R05 => has(finding, VariableStatus::Held),
+        Rule::R10 | Rule::R11 => is_taken(finding),
+        _ => None,
+    }
+}
+
+/// What else may break it.
+fn other_offence(finding: &Finding) -> Option<Fact> {
+    match finding.rule {
+        Rule::R01 | Rule::R04 | Rule::R13 => has(finding, VariableStatus::Null),
+        _ => None,
     }
 }
 
@@ -113,12 +126,11 @@ fn origin_without_way(
     graph: &Graph,
     finding: &Finding,
 ) -> Result<Option<Origin>, AllocError> {
-    let (fact, other) = offences(finding);
-    let found = origin_by_graph(alloc, graph, finding, fact)?;
+    let found = origin_by_graph(alloc, graph, finding, likely_offence(finding))?;
     if found.is_some() {
         return Ok(found);
     }
-    origin_by_graph(alloc, graph, finding, other)
+    origin_by_graph(alloc, graph, finding, other_offence(finding))
 }
 
 /// Where what is found comes from.
