@@ -9,6 +9,21 @@ use std::test::*;
 use std::thread;
 use std::thread::Threads;
 
+/// What one seat collects of what another one asks for, some of it twice.
+fn collected(pads: &Pads, caller: &mut Seat, worker: &mut Seat) -> [u64; 4]
+    requires caller { IsSeatOf pads.now caller.old }
+    requires worker { IsSeatOf pads.now worker.old }
+{
+    pads.ask(caller, 63);
+    pads.ask(caller, 64);
+    pads.ask(caller, 63);
+    let first = pads.collect(worker, 0);
+    let second = pads.collect(worker, 1);
+    let again = pads.collect(worker, 0);
+    pads.ask(caller, 65535);
+    [first, second, again, pads.collect(worker, 1023)]
+}
+
 #[test]
 fn collects_what_was_asked(rt: HostRuntime) -> Result<(), Fail> {
     let (pads, mut seats) = Pads::open(rt.alloc(), 3)?;
@@ -18,15 +33,19 @@ fn collects_what_was_asked(rt: HostRuntime) -> Result<(), Fail> {
     let Some(mut worker) = seats.pop() else {
         panic!(rt; "a seat")
     };
-    pads.ask(&mut caller, 63);
-    pads.ask(&mut caller, 64);
-    pads.ask(&mut caller, 63);
-    assert_eq!(rt; pads.collect(&mut worker, 0), 9223372036854775808);
-    assert_eq!(rt; pads.collect(&mut worker, 1), 1);
-    assert_eq!(rt; pads.collect(&mut worker, 0), 0);
-    pads.ask(&mut caller, 65535);
-    assert_eq!(rt; pads.collect(&mut worker, 1023), 9223372036854775808);
+    let collected = collected(&pads, &mut caller, &mut worker);
+    assert!(rt; collected == [9223372036854775808, 1, 0, 9223372036854775808]);
     Ok(())
+}
+
+/// What a seat collects each time that it asks for the same.
+fn collected_again(pads: &Pads, seat: &mut Seat) -> [u64; 2]
+    requires { IsSeatOf pads.now seat.old }
+{
+    pads.ask(seat, 5);
+    let once = pads.collect(seat, 0);
+    pads.ask(seat, 5);
+    [once, pads.collect(seat, 0)]
 }
 
 #[test]
@@ -35,10 +54,7 @@ fn collects_again_what_is_asked_again(rt: HostRuntime) -> Result<(), Fail> {
     let Some(mut seat) = seats.pop() else {
         panic!(rt; "a seat")
     };
-    pads.ask(&mut seat, 5);
-    assert_eq!(rt; pads.collect(&mut seat, 0), 32);
-    pads.ask(&mut seat, 5);
-    assert_eq!(rt; pads.collect(&mut seat, 0), 32);
+    assert!(rt; collected_again(&pads, &mut seat) == [32, 32]);
     Ok(())
 }
 
@@ -113,6 +129,38 @@ fn share<R: Threads + Sync>(
     thread::map_vec(rt, seats, &|seat| take_part(pads, &comers, seat))
 }
 
+/// Adds what others gathered.
+fn add_up(shares: Vec<Gathered>, all: &mut Gathered) {
+    for gathered in shares {
+        for word in 0..ASKED_WORDS {
+            all.words[word] |= gathered.words[word];
+        }
+        all.count = all.count.wrapping_add(gathered.count);
+    }
+}
+
+/// Whether each of the serials below 800 was gathered, and none twice.
+fn is_each_once(gathered: &Gathered) -> bool {
+    for word in 0..12 {
+        if gathered.words[word] != u64::MAX {
+            return false;
+        }
+    }
+    gathered.words[12] == 4294967295 && gathered.count == 800
+}
+
+/// Whether the words behind those hold nothing.
+fn nothing_is_left(pads: &Pads, seat: &mut Seat) -> bool
+    requires { IsSeatOf pads.now seat.old }
+{
+    for word in 13..1024 {
+        if pads.collect(seat, word) != 0 {
+            return false;
+        }
+    }
+    true
+}
+
 #[test]
 fn ten_threads_lose_and_invent_nothing(rt: HostRuntime) -> Result<(), Fail> {
     let (pads, mut seats) = Pads::open(rt.alloc(), 11)?;
@@ -121,19 +169,8 @@ fn ten_threads_lose_and_invent_nothing(rt: HostRuntime) -> Result<(), Fail> {
     };
     let shares = share(&rt, &pads, seats)?;
     let mut all = gather(&pads, &mut last, 1);
-    for gathered in shares {
-        for word in 0..ASKED_WORDS {
-            all.words[word] |= gathered.words[word];
-        }
-        all.count = all.count.wrapping_add(gathered.count);
-    }
-    for word in 0..12 {
-        assert_eq!(rt; all.words[word], u64::MAX);
-    }
-    assert_eq!(rt; all.words[12], 4294967295);
-    assert_eq!(rt; all.count, 800);
-    for word in 13..1024 {
-        assert_eq!(rt; pads.collect(&mut last, word), 0);
-    }
+    add_up(shares, &mut all);
+    assert!(rt; is_each_once(&all));
+    assert!(rt; nothing_is_left(&pads, &mut last));
     Ok(())
 }

@@ -9,6 +9,47 @@ use std::test::*;
 use std::thread;
 use std::thread::Threads;
 
+const ENTRY: Ticket = Ticket::Entry {
+    altitude: 100,
+    serial: 7,
+};
+
+/// Puts a ticket into the injector, and answers whether it went in.
+fn put<R: Wait>(rt: &R, pool: &Pool, seat: &mut PutSeat, ticket: Ticket) -> bool
+    requires { IsPutSeatOf pool.now seat.old }
+    ensures { IsPutSeatOf pool.now seat.new }
+{
+    pool.put(rt, seat, ticket).is_ok()
+}
+
+/// Pushes two tickets onto the seat's own deque, and answers whether both went in.
+fn push_two(pool: &Pool, seat: &mut TakeSeat, first: Ticket, second: Ticket) -> bool
+    requires { IsTakeSeatOf pool.now seat.old }
+    ensures { IsTakeSeatOf pool.now seat.new }
+{
+    seat.push(first).is_ok() && seat.push(second).is_ok()
+}
+
+/// Takes a ticket. Nothing else is known of it here.
+fn take<R: Wait>(rt: &R, pool: &Pool, seat: &mut TakeSeat) -> Option<Ticket>
+    requires { IsTakeSeatOf pool.now seat.old }
+    ensures { IsTakeSeatOf pool.now seat.new }
+{
+    pool.take(rt, seat)
+}
+
+/// Whether the seat takes these tickets, in this order, and no more.
+fn takes<R: Wait>(rt: &R, pool: &Pool, seat: &mut TakeSeat, expected: &[Ticket]) -> bool
+    requires { IsTakeSeatOf pool.now seat.old }
+{
+    for ticket in expected {
+        if take(rt, pool, seat) != Some(*ticket) {
+            return false;
+        }
+    }
+    take(rt, pool, seat).is_none()
+}
+
 /// Each kind of ticket goes in and comes out: of the own deque first, then of the injector, then of the other worker's deque, and of
 /// each in the order in which it went in.
 #[test]
@@ -21,29 +62,28 @@ fn takes_the_own_deque_then_the_injector_then_steals(rt: HostRuntime) -> Result<
     ) else {
         panic!(rt; "the seats")
     };
-    let entry = Ticket::Entry {
-        altitude: 100,
-        serial: 7,
-    };
-    assert!(rt; other.push(Ticket::Item(3)).is_ok());
-    assert!(rt; other.push(Ticket::Detach(100)).is_ok());
-    assert!(rt; pool.put(&rt, &mut caller, Ticket::Operation(1)).is_ok());
-    assert!(rt; pool.put(&rt, &mut caller, entry).is_ok());
-    assert!(rt; worker.push(Ticket::Activation(2)).is_ok());
-    assert!(rt; worker.push(Ticket::Operation(2)).is_ok());
+    assert!(rt; push_two(&pool, &mut other, Ticket::Item(3), Ticket::Detach(100)));
+    assert!(rt;
+        put(&rt, &pool, &mut caller, Ticket::Operation(1)) && put(&rt, &pool, &mut caller, ENTRY)
+    );
+    assert!(rt;
+        push_two(
+            &pool,
+            &mut worker,
+            Ticket::Activation(2),
+            Ticket::Operation(2)
+        )
+    );
     let expected = [
         Ticket::Activation(2),
         Ticket::Operation(2),
         Ticket::Operation(1),
-        entry,
+        ENTRY,
         Ticket::Item(3),
         Ticket::Detach(100),
     ];
-    for ticket in expected {
-        assert!(rt; pool.take(&rt, &mut worker) == Some(ticket));
-    }
-    assert!(rt; pool.take(&rt, &mut worker).is_none());
-    assert!(rt; pool.take(&rt, &mut other).is_none());
+    assert!(rt; takes(&rt, &pool, &mut worker, &expected));
+    assert!(rt; take(&rt, &pool, &mut other).is_none());
     Ok(())
 }
 
@@ -128,6 +168,16 @@ fn add_up(shares: Vec<Taken>, all: &mut Taken) {
     }
 }
 
+/// Whether each of the 2,000 operations was taken once.
+fn is_each_once(taken: &Taken) -> bool {
+    for word in 0..31 {
+        if taken.words[word] != u64::MAX {
+            return false;
+        }
+    }
+    taken.words[31] == 65535 && taken.count == 2000
+}
+
 /// Two workers take from the injector and from a third one's deque, and the third takes what they leave: 2,000 tickets, each once.
 #[test]
 fn workers_take_each_ticket_once(rt: HostRuntime) -> Result<(), Fail> {
@@ -138,15 +188,11 @@ fn workers_take_each_ticket_once(rt: HostRuntime) -> Result<(), Fail> {
     let Some(mut last) = workers.pop() else {
         panic!(rt; "a worker's seat")
     };
-    assert_eq!(rt; put_most(&rt, &pool, &mut caller), 0);
-    assert_eq!(rt; push_rest(&pool, &mut last), 0);
+    assert!(rt; put_most(&rt, &pool, &mut caller) == 0);
+    assert!(rt; push_rest(&pool, &mut last) == 0);
     let shares = share(&rt, &pool, workers)?;
     let mut all = take_often(&rt, &pool, &mut last, 2001);
     add_up(shares, &mut all);
-    assert_eq!(rt; all.count, 2000);
-    for word in 0..31 {
-        assert_eq!(rt; all.words[word], u64::MAX);
-    }
-    assert_eq!(rt; all.words[31], 65535);
+    assert!(rt; is_each_once(&all));
     Ok(())
 }
