@@ -27,21 +27,26 @@ const PREVENTED: [(Rule, &[u8]); 15] = [
 /// Whether a rule prevents the violations of these numbers, in this order.
 fn prevents(rule: Rule, numbers: &[u8]) -> bool {
     let prevented = violations_of(rule);
+    for (violation, number) in prevented.iter().zip(numbers) {
+        if number_of(*violation) != *number {
+            return false;
+        }
+    }
     prevented.len() == numbers.len()
-        && prevented
-            .iter()
-            .zip(numbers)
-            .all(|(violation, number)| number_of(*violation) == *number)
 }
 
 /// The first rule that prevents something else.
 fn first_unlike(rows: &[(Rule, &[u8])]) -> Option<usize> {
-    rows.iter()
-        .position(|(rule, numbers)| !prevents(*rule, *numbers))
+    for (row, (rule, numbers)) in rows.iter().enumerate() {
+        if !prevents(*rule, *numbers) {
+            return Some(row);
+        }
+    }
+    None
 }
 
 #[test]
 fn rules_prevent_these(rt: HostRuntime) -> Result<(), Fail> {
-    assert_eq!(rt; first_unlike(&PREVENTED), None);
+    assert!(rt; first_unlike(&PREVENTED).is_none());
     Ok(())
 }

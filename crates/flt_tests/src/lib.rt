@@ -19,6 +19,8 @@ mod lists;
 #[cfg(test)]
 mod loading;
 #[cfg(test)]
+mod malformed;
+#[cfg(test)]
 mod operations;
 #[cfg(test)]
 mod pairs;

@@ -1,6 +1,6 @@
 //! Malformed certificates and journals, and what is said of them: written by hand from their formats.
 
-use flt_reasons::{Kind, Notice, describe};
+use flt_reasons::{Kind, Notice, Reason, describe};
 use std::alloc::{AllocError, Global};
 use std::test::Fail;
 
@@ -308,18 +308,20 @@ const JOURNALS: [Example; 14] = [
     ),
 ];
 
-/// Whether this is said of an input, which stands in its file behind ten lines.
+/// Whether a reason has the places and the words of an example, which stands in its file behind ten lines.
+fn is_like(reason: &Reason<'_>, example: &Example) -> bool {
+    reason.line == example.1
+        && reason.file_line == example.1.saturating_add(10)
+        && reason.column == example.2
+        && reason.found == example.3.as_bytes()
+        && reason.message.as_slice() == example.4.as_bytes()
+        && reason.meant.as_slice() == example.5.as_bytes()
+}
+
+/// Whether this is said of an input.
 fn is_told(alloc: Global, kind: Kind, example: &Example) -> Result<bool, AllocError> {
     match describe(alloc, kind, 10, example.0.as_bytes())? {
-        Notice::Malformed(own, reason) => Ok(
-            own == kind
-                && reason.line == example.1
-                && reason.file_line == example.1.saturating_add(10)
-                && reason.column == example.2
-                && reason.found == example.3.as_bytes()
-                && reason.message.as_slice() == example.4.as_bytes()
-                && reason.meant.as_slice() == example.5.as_bytes(),
-        ),
+        Notice::Malformed(own, reason) => Ok(own == kind && is_like(&reason, example)),
         Notice::Whole(_, _) => Ok(false),
     }
 }
@@ -330,45 +332,52 @@ fn first_other(
     kind: Kind,
     examples: &[Example],
 ) -> Result<Option<usize>, AllocError> {
-    let mut at: usize = 0;
-    for example in examples {
+    for (row, example) in examples.iter().enumerate() {
         if !is_told(alloc, kind, example)? {
-            return Ok(Some(at));
+            return Ok(Some(row));
         }
-        at = at.saturating_add(1);
     }
     Ok(None)
 }
 
-/// How many callbacks or entries a well-formed input is said to have.
-fn count_of(alloc: Global, kind: Kind, input: &str) -> Result<Option<usize>, AllocError> {
-    match describe(alloc, kind, 0, input.as_bytes())? {
-        Notice::Whole(own, count) if own == kind => Ok(Some(count)),
-        _ => Ok(None),
+#[test]
+fn what_is_wrong_is_told(rt: HostRuntime) -> Result<(), Fail> {
+    assert!(rt; first_other(rt.alloc(), Kind::Certificate, &CERTIFICATES)?.is_none());
+    assert!(rt; first_other(rt.alloc(), Kind::Journal, &JOURNALS)?.is_none());
+    Ok(())
+}
+
+/// Well-formed inputs, and how many callbacks or entries they are said to have.
+const WELL_FORMED: [(Kind, &str, usize); 3] = [
+    (
+        Kind::Certificate,
+        "fltcert 1\ncallback 0 1\n0 !\ncallback 1 1\n0 !\nend\n",
+        2,
+    ),
+    (Kind::Journal, "fltjournal 1\npre 0\nend\n", 1),
+    (Kind::Journal, "fltjournal 1\nend\n", 0),
+];
+
+/// Whether a well-formed input is said to have so many callbacks or entries.
+fn is_counted(alloc: Global, kind: Kind, input: &[u8], wanted: usize) -> Result<bool, AllocError> {
+    match describe(alloc, kind, 0, input)? {
+        Notice::Whole(own, count) => Ok(own == kind && count == wanted),
+        Notice::Malformed(_, _) => Ok(false),
     }
 }
 
-#[test]
-fn what_is_wrong_is_told(rt: HostRuntime) -> Result<(), Fail> {
-    let alloc = rt.alloc();
-    let certificates = CERTIFICATES;
-    let other = first_other(alloc, Kind::Certificate, certificates.as_slice())?;
-    assert_eq!(rt; other, None);
-    let journals = JOURNALS;
-    let other = first_other(alloc, Kind::Journal, journals.as_slice())?;
-    assert_eq!(rt; other, None);
-    Ok(())
+/// The first of these inputs that is counted otherwise.
+fn wrong_count(alloc: Global, rows: &[(Kind, &str, usize)]) -> Result<Option<usize>, AllocError> {
+    for (row, (kind, input, wanted)) in rows.iter().enumerate() {
+        if !is_counted(alloc, *kind, input.as_bytes(), *wanted)? {
+            return Ok(Some(row));
+        }
+    }
+    Ok(None)
 }
 
 #[test]
 fn well_formed_inputs_are_counted(rt: HostRuntime) -> Result<(), Fail> {
-    let alloc = rt.alloc();
-    let certificate = "fltcert 1\ncallback 0 1\n0 !\ncallback 1 1\n0 !\nend\n";
-    let callbacks = count_of(alloc, Kind::Certificate, certificate)?;
-    assert_eq!(rt; callbacks, Some(2));
-    let entries = count_of(alloc, Kind::Journal, "fltjournal 1\npre 0\nend\n")?;
-    assert_eq!(rt; entries, Some(1));
-    let entries = count_of(alloc, Kind::Journal, "fltjournal 1\nend\n")?;
-    assert_eq!(rt; entries, Some(0));
+    assert!(rt; wrong_count(rt.alloc(), &WELL_FORMED)?.is_none());
     Ok(())
 }
