@@ -49,6 +49,10 @@ pub(crate) struct Look {
 pub(crate) struct Scene {
     loaded: Loaded,
     board: Board,
+    /// What got a ticket by the last entry that went.
+    tickets: Vec<Subject>,
+    /// Whether an entry was refused memory.
+    was_refused: bool,
 }
 
 impl Model for Scene {
@@ -91,10 +95,14 @@ pub(crate) fn finding(
     journal: &Journal,
 ) -> Result<Option<(u8, usize)>, Fail> {
     let trees = trees_of(alloc, texts)?;
-    match replay(alloc, trees.as_slice(), journal)? {
-        Verdict::Legal => Ok(None),
-        Verdict::NotARun(number) => Ok(Some((0, number))),
-        Verdict::Breaks(violation, number) => Ok(Some((number_of(violation), number))),
+    Ok(finding_of(replay(alloc, trees.as_slice(), journal)?))
+}
+
+fn finding_of(verdict: Verdict) -> Option<(u8, usize)> {
+    match verdict {
+        Verdict::Legal => None,
+        Verdict::NotARun(number) => Some((0, number)),
+        Verdict::Breaks(violation, number) => Some((number_of(violation), number)),
     }
 }
 
@@ -125,14 +133,33 @@ fn end_of(outcome: Option<Outcome>) -> u8 {
 
 // ---- the board
 
-fn went(fine: bool) -> Answer {
-    if fine { Answer::Went } else { Answer::Wrong }
+/// What a board answers to a move that it refuses.
+fn refusal(fault: ApplyFault) -> Answer {
+    match fault {
+        ApplyFault::NotEnabled => Answer::NotEnabled,
+        ApplyFault::Full => Answer::Full,
+        ApplyFault::OutOfMemory => Answer::OutOfMemory,
+    }
 }
 
-/// The same of what a commit answers.
-fn answer_of(commit: Commit) -> Answer {
-    match commit {
-        Commit::Committed(_) => Answer::Went,
+/// What a board answers to an advance; what gets a ticket by it is kept. The board is the loaded filters' own then as before.
+fn commit_on(
+    board: &mut Board,
+    alloc: Global,
+    loaded: &Loaded,
+    advanced: &Advanced,
+    grant: bool,
+    tickets: &mut Vec<Subject>,
+) -> Answer
+    requires own { IsOwn loaded.now board.old }
+    requires advance { IsAdvanced loaded.now advanced.now }
+    ensures own { IsOwn loaded.now board.new }
+{
+    match board.commit(alloc, loaded, advanced, grant) {
+        Commit::Committed(events) => {
+            *tickets = events.next;
+            Answer::Went
+        }
         Commit::Stale => Answer::NotEnabled,
         Commit::Blocked => Answer::Blocked,
         Commit::Full => Answer::Full,
@@ -140,30 +167,29 @@ fn answer_of(commit: Commit) -> Answer {
     }
 }
 
-/// What a board answers to an advance. It is the loaded filters' own then as before.
-fn commit_on(
-    board: &mut Board,
-    alloc: Global,
-    loaded: &Loaded,
-    advanced: &Advanced,
-    grant: bool,
-) -> Answer
-    requires own { IsOwn loaded.now board.old }
-    requires advance { IsAdvanced loaded.now advanced.now }
-    ensures own { IsOwn loaded.now board.new }
-{
-    answer_of(board.commit(alloc, loaded, advanced, grant))
-}
-
 impl Scene {
     pub(crate) fn new(alloc: Global, texts: &[&str]) -> Result<Scene, Fail> {
         let loaded = Loaded::new(alloc, trees_of(alloc, texts)?)?;
         let board = Board::new(alloc, &loaded)?;
-        Ok(Scene { loaded, board })
+        Ok(Scene {
+            loaded,
+            board,
+            tickets: Vec::new(alloc),
+            was_refused: false,
+        })
     }
 
     pub(crate) fn board(&self) -> &Board {
         &self.board
+    }
+
+    /// What got a ticket by the last entry that went.
+    pub(crate) fn tickets(&self) -> &[Subject] {
+        self.tickets.as_slice()
+    }
+
+    pub(crate) fn was_refused(&self) -> bool {
+        self.was_refused
     }
 
     pub(crate) fn next_move(&self, serial: u32) -> Option<Move> {
@@ -174,22 +200,36 @@ impl Scene {
         self.board.next_detach(&self.loaded, altitude)
     }
 
+    fn is_enabled(&self, step: Move) -> bool {
+        self.board.enabled(&self.loaded, step)
+    }
+
+    /// What a move would give tickets to; nothing where memory is refused.
+    fn tickets_by(&self, alloc: Global, step: Move) -> Option<Vec<Subject>> {
+        self.board.tickets(alloc, &self.loaded, step).ok()
+    }
+
+    /// Makes a move.
+    fn make(&mut self, alloc: Global, step: Move) -> Answer {
+        match self.board.apply(alloc, &self.loaded, step) {
+            Ok(events) => {
+                self.tickets = events.next;
+                Answer::Went
+            }
+            Err(fault) => refusal(fault),
+        }
+    }
+
     /// Makes a move. Whether it is enabled and what gets a ticket by it is asked first, and must be answered so.
     pub(crate) fn apply(&mut self, alloc: Global, step: Move) -> Answer {
-        let enabled = self.board.enabled(&self.loaded, step);
-        let Ok(tickets) = self.board.tickets(alloc, &self.loaded, step) else {
+        let enabled = self.is_enabled(step);
+        let Some(tickets) = self.tickets_by(alloc, step) else {
             return Answer::OutOfMemory;
         };
-        let answer = match self.board.apply(alloc, &self.loaded, step) {
-            Ok(events) => went(events.next == tickets),
-            Err(ApplyFault::NotEnabled) => Answer::NotEnabled,
-            Err(ApplyFault::Full) => Answer::Full,
-            Err(ApplyFault::OutOfMemory) => Answer::OutOfMemory,
-        };
-        if enabled == (answer == Answer::NotEnabled) {
-            return Answer::Wrong;
-        }
-        answer
+        let answer = self.make(alloc, step);
+        let is_wrong = enabled == (answer == Answer::NotEnabled)
+            || (answer == Answer::Went && self.tickets != tickets);
+        if is_wrong { Answer::Wrong } else { answer }
     }
 
     /// An activation goes on to the next step that others see, by so many steps where a number is given. The same frame again is
@@ -209,56 +249,29 @@ impl Scene {
         if steps.unwrap_or(own) != own {
             return Answer::NotEnabled;
         }
-        let answer = commit_on(&mut self.board, alloc, &self.loaded, &advanced, grant);
+        let answer = commit_on(
+            &mut self.board,
+            alloc,
+            &self.loaded,
+            &advanced,
+            grant,
+            &mut self.tickets,
+        );
         if answer != Answer::Went {
             return answer;
         }
-        match commit_on(&mut self.board, alloc, &self.loaded, &advanced, grant) {
-            Answer::NotEnabled => Answer::Went,
-            _ => Answer::Wrong,
-        }
-    }
-
-    /// Makes a move: what gets a ticket by it.
-    fn tickets_of_move(&mut self, alloc: Global, step: Move) -> Option<Vec<Subject>> {
-        match self.board.apply(alloc, &self.loaded, step) {
-            Ok(events) => Some(events.next),
-            Err(_) => None,
-        }
-    }
-
-    /// The same of an activation that goes on, by so many steps.
-    fn tickets_of_go(
-        &mut self,
-        alloc: Global,
-        activation: u32,
-        steps: u32,
-        grant: bool,
-    ) -> Option<Vec<Subject>> {
-        let frame = self.board.checkout(activation)?;
-        let advanced = advance(&self.loaded, frame);
-        if advanced.steps + 1 != steps {
-            return None;
-        }
-        match self.board.commit(alloc, &self.loaded, &advanced, grant) {
-            Commit::Committed(events) => Some(events.next),
-            _ => None,
-        }
-    }
-
-    /// What an entry says is done: what gets a ticket by it, where it goes.
-    pub(crate) fn tickets_of(
-        &mut self,
-        alloc: Global,
-        entry: JournalEntry,
-    ) -> Option<Vec<Subject>> {
-        match entry {
-            JournalEntry::Move(step) => self.tickets_of_move(alloc, step),
-            JournalEntry::Go {
-                activation,
-                steps,
-                grant,
-            } => self.tickets_of_go(alloc, activation, steps, grant),
+        let again = commit_on(
+            &mut self.board,
+            alloc,
+            &self.loaded,
+            &advanced,
+            grant,
+            &mut self.tickets,
+        );
+        if again == Answer::NotEnabled {
+            Answer::Went
+        } else {
+            Answer::Wrong
         }
     }
 
@@ -274,12 +287,55 @@ impl Scene {
         }
     }
 
+    /// What an entry says is done, and once more where memory is refused. A call that is refused memory changes nothing.
+    pub(crate) fn enter_or_again(&mut self, alloc: Global, entry: JournalEntry) -> Answer {
+        let before = self.look();
+        let answer = self.enter(alloc, entry);
+        if answer != Answer::OutOfMemory {
+            return answer;
+        }
+        self.was_refused = true;
+        if self.look() != before {
+            return Answer::Wrong;
+        }
+        self.enter(alloc, entry)
+    }
+
+    pub(crate) fn references(&self, context: usize) -> Option<u64> {
+        self.board.references(context)
+    }
+
+    fn end(&self, serial: u32) -> u8 {
+        end_of(self.board.outcome(serial))
+    }
+
+    /// The point at which an activation stands.
+    fn point(&self, activation: u32) -> Option<usize> {
+        match self.board.checkout(activation) {
+            Some(frame) => Some(frame.standing.point),
+            None => None,
+        }
+    }
+
+    pub(crate) fn has_activation(&self, activation: u32) -> bool {
+        self.point(activation).is_some()
+    }
+
+    /// The number of entries, and the last one.
+    fn last_entry(&self) -> (usize, Option<JournalEntry>) {
+        let journal = self.board.journal();
+        (
+            journal.len(),
+            journal.entry(journal.len().saturating_sub(1)),
+        )
+    }
+
     /// What the board shows.
     pub(crate) fn look(&self) -> Look {
-        let entries = self.board.journal().len();
+        let (entries, last) = self.last_entry();
         let mut look = Look {
             entries,
-            last: self.board.journal().entry(entries.saturating_sub(1)),
+            last,
             references: [None; SHOWN],
             ends: [0; SHOWN],
             nexts: [None; SHOWN],
@@ -287,13 +343,51 @@ impl Scene {
         };
         for number in 0..SHOWN {
             let serial = number as u32;
-            look.references[number] = self.board.references(number);
-            look.ends[number] = end_of(self.board.outcome(serial));
+            look.references[number] = self.references(number);
+            look.ends[number] = self.end(serial);
             look.nexts[number] = self.next_move(serial);
-            if let Some(frame) = self.board.checkout(serial) {
-                look.points[number] = Some(frame.standing.point);
-            }
+            look.points[number] = self.point(serial);
         }
         look
+    }
+
+    /// Whether the board says beforehand that this move comes next, where it is one of the moves of which it says so.
+    fn is_next(&self, step: Move) -> Option<bool> {
+        let next = match step {
+            Move::Pre { serial }
+            | Move::Skip { serial }
+            | Move::Lower { serial }
+            | Move::Post { serial } => self.next_move(serial),
+            Move::Drain { altitude, .. }
+            | Move::Unlink { altitude, .. }
+            | Move::Detached { altitude } => self.next_detach(altitude),
+            _ => return None,
+        };
+        Some(next == Some(step))
+    }
+
+    /// The same of an entry.
+    fn comes_next(&self, entry: JournalEntry) -> Option<bool> {
+        match entry {
+            JournalEntry::Move(step) => self.is_next(step),
+            JournalEntry::Go { .. } => None,
+        }
+    }
+
+    /// Makes an entry, and says whether it is answered as is wanted and as the board said beforehand. Only what goes changes the board.
+    pub(crate) fn answers(&mut self, alloc: Global, entry: JournalEntry, wanted: Answer) -> bool {
+        let before = self.look();
+        let next = self.comes_next(entry);
+        let answer = self.enter_or_again(alloc, entry);
+        let after = self.look();
+        let went = answer == Answer::Went;
+        if answer != wanted || next.unwrap_or(went) != went {
+            return false;
+        }
+        if went {
+            after.entries == before.entries.saturating_add(1) && after.last == Some(entry)
+        } else {
+            after == before
+        }
     }
 }

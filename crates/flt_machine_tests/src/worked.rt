@@ -4,9 +4,8 @@
 use crate::scene::{Answer, Scene, finding, journal_of};
 use crate::texts;
 use flt_machine::ApplyFault;
-use flt_model::{Journal, JournalEntry, Move};
+use flt_model::{Journal, JournalEntry};
 use std::alloc::Global;
-use std::process::Abort;
 use std::test::Fail;
 
 /// The texts of a board's filters, and a journal.
@@ -521,69 +520,19 @@ const EXAMPLES: [Case; 27] = [
     },
 ];
 
-/// Whether the board says beforehand that this entry comes next, where it is one of the moves of which it says so.
-fn is_next(scene: &Scene, entry: JournalEntry) -> Option<bool> {
-    let JournalEntry::Move(step) = entry else {
-        return None;
-    };
-    match step {
-        Move::Pre { serial }
-        | Move::Skip { serial }
-        | Move::Lower { serial }
-        | Move::Post { serial } => Some(scene.next_move(serial) == Some(step)),
-        Move::Drain { altitude, .. }
-        | Move::Unlink { altitude, .. }
-        | Move::Detached { altitude } => Some(scene.next_detach(altitude) == Some(step)),
-        _ => None,
-    }
-}
-
-/// Makes an entry. A call that is refused memory changes nothing, and goes when it is made again.
-fn made(scene: &mut Scene, alloc: Global, entry: JournalEntry, refused: &mut bool) -> Answer {
-    let before = scene.look();
-    let answer = scene.enter(alloc, entry);
-    if answer != Answer::OutOfMemory {
-        return answer;
-    }
-    *refused = true;
-    if scene.look() != before {
-        return Answer::Wrong;
-    }
-    scene.enter(alloc, entry)
-}
-
-/// Makes an entry, and says whether it is answered as is wanted and as the board said beforehand. Only what goes changes the board.
-fn is_answered(
-    scene: &mut Scene,
-    alloc: Global,
-    entry: JournalEntry,
-    wanted: Answer,
-    refused: &mut bool,
-) -> bool {
-    let before = scene.look();
-    let next = is_next(scene, entry);
-    let answer = made(scene, alloc, entry, refused);
-    let after = scene.look();
-    let went = answer == Answer::Went;
-    if answer != wanted || next.unwrap_or(went) != went {
-        return false;
-    }
-    if went {
-        after.entries == before.entries.saturating_add(1) && after.last == Some(entry)
-    } else {
-        after == before
-    }
-}
-
-/// Whether contexts and operations are as the case has them at the end.
-fn ends_so(scene: &Scene, case: &Case) -> bool {
-    for (context, references) in case.references.iter().enumerate() {
-        if scene.board().references(context) != *references {
+/// Whether these contexts have these references.
+fn are_referenced_so(scene: &Scene, wanted: &[Option<u64>]) -> bool {
+    for (context, references) in wanted.iter().enumerate() {
+        if scene.references(context) != *references {
             return false;
         }
     }
-    let ends = scene.look().ends;
-    for (serial, end) in case.ends.iter().enumerate() {
+    true
+}
+
+/// Whether the first operations ended so.
+fn have_ended_so(ends: &[u8], wanted: &[u8]) -> bool {
+    for (serial, end) in wanted.iter().enumerate() {
         if ends.get(serial) != Some(end) {
             return false;
         }
@@ -591,75 +540,90 @@ fn ends_so(scene: &Scene, case: &Case) -> bool {
     true
 }
 
-/// Makes the entries one by one. The number of the first that isn't answered as is wanted, if there is one.
-fn first_wrong(
+/// Whether contexts and operations are as the case has them at the end.
+fn ends_so(scene: &Scene, case: &Case) -> bool {
+    are_referenced_so(scene, case.references) && have_ended_so(&scene.look().ends, case.ends)
+}
+
+/// What the entry of a number answers.
+fn wanted_of(number: usize, stops: Option<(usize, Answer)>) -> Answer {
+    match stops {
+        Some((stop, told)) if stop == number => told,
+        _ => Answer::Went,
+    }
+}
+
+/// Makes the entries one by one, up to the one that stops. Whether each is answered as is wanted.
+fn go_so(
     scene: &mut Scene,
     alloc: Global,
     entries: &[JournalEntry],
     stops: Option<(usize, Answer)>,
-    refused: &mut bool,
-) -> Option<usize> {
+) -> bool {
     for (number, entry) in entries.iter().enumerate() {
-        let wanted = match stops {
-            Some((stop, told)) if stop == number => told,
-            _ => Answer::Went,
-        };
-        if !is_answered(scene, alloc, *entry, wanted, refused) {
-            return Some(number);
+        let wanted = wanted_of(number, stops);
+        if !scene.answers(alloc, *entry, wanted) {
+            return false;
         }
         if wanted != Answer::Went {
-            return None;
+            return true;
         }
     }
-    None
+    true
 }
 
 /// What the monitor finds of the whole journal: as of the entries that are made, or that it is no run where they stop.
-fn is_found(alloc: Global, case: &Case, scene: &Scene, journal: &Journal) -> Result<bool, Fail> {
-    let made = finding(alloc, case.texts, scene.board().journal())?;
-    let whole = finding(alloc, case.texts, journal)?;
+fn whole_finding(case: &Case) -> Option<(u8, usize)> {
     match case.stops {
-        Some((stop, _)) => Ok(made == case.finding && whole == Some((0, stop))),
-        None => Ok(made == case.finding && whole == case.finding),
+        Some((stop, _)) => Some((0, stop)),
+        None => case.finding,
     }
 }
 
-/// Whether a board goes through the case's journal as is wanted. That memory was refused is carried out at the end.
+/// Whether a board goes through the case's journal as is wanted.
 fn goes_so(alloc: Global, case: &Case, scene: &mut Scene, journal: &Journal) -> Result<bool, Fail> {
-    let mut refused = false;
-    let wrong = first_wrong(scene, alloc, journal.entries(), case.stops, &mut refused);
-    if wrong.is_some() || !ends_so(scene, case) || !is_found(alloc, case, scene, journal)? {
+    if !go_so(scene, alloc, journal.entries(), case.stops) || !ends_so(scene, case) {
         return Ok(false);
     }
-    if refused {
-        return Err(ApplyFault::OutOfMemory)?;
-    }
-    Ok(true)
+    let made = finding(alloc, case.texts, scene.board().journal())?;
+    let whole = finding(alloc, case.texts, journal)?;
+    Ok(made == case.finding && whole == whole_finding(case))
 }
 
-/// The same of a new board.
+/// The same of a new board. That memory was refused is carried out at the end.
 fn drive(alloc: Global, case: &Case) -> Result<bool, Fail> {
     let journal = journal_of(alloc, case.entries)?;
     let mut scene = Scene::new(alloc, case.texts)?;
-    goes_so(alloc, case, &mut scene, &journal)
+    let fine = goes_so(alloc, case, &mut scene, &journal)?;
+    if fine && scene.was_refused() {
+        return Err(ApplyFault::OutOfMemory)?;
+    }
+    Ok(fine)
 }
 
-fn drive_all(rt: &impl Abort, alloc: Global, cases: &[Case]) -> Result<(), Fail> {
-    for case in cases {
-        let fine = drive(alloc, case)?;
-        assert!(rt; fine, "{}", case.entries);
+/// The number of the first case that goes otherwise, if there is one.
+fn wrong_case(alloc: Global, cases: &[Case]) -> Result<Option<usize>, Fail> {
+    for (row, case) in cases.iter().enumerate() {
+        if !drive(alloc, case)? {
+            return Ok(Some(row));
+        }
     }
-    Ok(())
+    Ok(None)
 }
 
 #[test]
 fn journals_go_entry_by_entry(rt: HostRuntime) -> Result<(), Fail> {
-    drive_all(&rt, rt.alloc(), &WORKED)?;
-    drive_all(&rt, rt.alloc(), &EXAMPLES)
+    let worked = wrong_case(rt.alloc(), &WORKED)?;
+    assert_eq!(rt; worked, None);
+    let example = wrong_case(rt.alloc(), &EXAMPLES)?;
+    assert_eq!(rt; example, None);
+    Ok(())
 }
 
 /// `tools/refuse-allocations.sh tests flt_machine_tests memory` refuses each request for memory in turn.
 #[test]
 fn scenes_go_within_memory(rt: HostRuntime) -> Result<(), Fail> {
-    drive_all(&rt, rt.alloc(), &SCENES)
+    let wrong = wrong_case(rt.alloc(), &SCENES)?;
+    assert_eq!(rt; wrong, None);
+    Ok(())
 }
