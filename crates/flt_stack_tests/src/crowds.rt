@@ -4,7 +4,7 @@ ghost use Rattle.flt_workers.specs.Places.{IsCallerOf, IsFreshCaller, IsFreshWor
 
 use crate::filters::{Filter, PASSES, PENDS, STREAMS, loaded};
 use crate::fixture::{Ended, finished};
-use crate::journals::{is_legal, tally_of};
+use crate::journals::{Tally, legal_tally};
 use flt_core::{CallerEntries, Locked, OtherEntries};
 use flt_rules::{Mode, Operation};
 use flt_running::sharing::{loaded_is_shared, sent, shared};
@@ -60,6 +60,11 @@ impl Course {
 
     fn have_callers_gone(&self) -> bool {
         self.gone.load(Ordering::SeqCst) == self.plan.callers as u64
+    }
+
+    /// Whether two workers were at work at once, and neither waited in vain.
+    fn have_met(&self) -> bool {
+        self.second_of_zero.load(Ordering::SeqCst) && !self.missed.load(Ordering::SeqCst)
     }
 
     /// Whether a worker's next call is its last one.
@@ -301,6 +306,38 @@ fn follow<R: Threads + Wait + Sync>(
     crowd::<Brand, R>(rt, alloc, loaded, blanks, course)
 }
 
+/// How many entries of some kinds the journal of a plan has on a stack of this filter, where it is legal and the receipts agree with it.
+fn tally_of_plan<R: Threads + Wait + Sync>(
+    rt: &R,
+    alloc: Global,
+    filter: Filter,
+    course: &Course,
+) -> Result<Option<Tally>, Fail>
+    requires callers { (1 ≤ course.now.plan.callers) × (course.now.plan.callers ≤ 16) }
+    requires workers { (1 ≤ course.now.plan.workers) × (course.now.plan.workers ≤ 16) }
+{
+    let ended = follow(rt, alloc, loaded(alloc, &[filter])?, course)?;
+    legal_tally(alloc, &[filter], &ended)
+}
+
+/// Whether so many reads have arrived, and all of them were lowered.
+fn all_lowered(tally: Option<Tally>, reads: u32) -> bool {
+    match tally {
+        Some(tally) => tally.arrived == reads && tally.lowered == reads,
+        None => false,
+    }
+}
+
+/// Whether 800 reads have arrived, from 40 to 400 of them were cancelled, and all of these have odd serial numbers.
+fn many_cancelled(tally: Option<Tally>) -> bool {
+    match tally {
+        Some(tally) => {
+            tally.arrived == 800 && 40 <= tally.cancelled && tally.cancelled <= 400 && tally.all_odd
+        }
+        None => false,
+    }
+}
+
 // ---- tests
 
 /// Two reads have arrived, and two workers are at work at once.
@@ -313,14 +350,9 @@ fn two_workers_at_once(rt: HostRuntime) -> Result<(), Fail> {
         cancels: false,
         meets: true,
     });
-    let ended = follow(&rt, rt.alloc(), loaded(rt.alloc(), &[PASSES])?, &course)?;
-    let tally = tally_of(&ended.journal);
-    assert!(rt; course.second_of_zero.load(Ordering::SeqCst));
-    assert!(rt; !course.missed.load(Ordering::SeqCst));
-    assert!(rt; tally.arrived == 2);
-    assert!(rt; tally.lowered == 2);
-    assert!(rt; ended.agrees);
-    assert!(rt; is_legal(rt.alloc(), &[PASSES], &ended.journal)?);
+    let tally = tally_of_plan(&rt, rt.alloc(), PASSES, &course)?;
+    assert!(rt; course.have_met());
+    assert!(rt; all_lowered(tally, 2));
     Ok(())
 }
 
@@ -334,12 +366,8 @@ fn four_workers_lower_what_arrives(rt: HostRuntime) -> Result<(), Fail> {
         cancels: false,
         meets: false,
     });
-    let ended = follow(&rt, rt.alloc(), loaded(rt.alloc(), &[STREAMS])?, &course)?;
-    let tally = tally_of(&ended.journal);
-    assert!(rt; tally.arrived == 200);
-    assert!(rt; tally.lowered == 200);
-    assert!(rt; ended.agrees);
-    assert!(rt; is_legal(rt.alloc(), &[STREAMS], &ended.journal)?);
+    let tally = tally_of_plan(&rt, rt.alloc(), STREAMS, &course)?;
+    assert!(rt; all_lowered(tally, 200));
     Ok(())
 }
 
@@ -354,13 +382,7 @@ fn eight_callers_beside_four_workers(rt: HostRuntime) -> Result<(), Fail> {
         cancels: true,
         meets: false,
     });
-    let ended = follow(&rt, rt.alloc(), loaded(rt.alloc(), &[PENDS])?, &course)?;
-    let tally = tally_of(&ended.journal);
-    assert!(rt; tally.arrived == 800);
-    assert!(rt; 40 <= tally.cancelled);
-    assert!(rt; tally.cancelled <= 400);
-    assert!(rt; tally.all_odd);
-    assert!(rt; ended.agrees);
-    assert!(rt; is_legal(rt.alloc(), &[PENDS], &ended.journal)?);
+    let tally = tally_of_plan(&rt, rt.alloc(), PENDS, &course)?;
+    assert!(rt; many_cancelled(tally));
     Ok(())
 }

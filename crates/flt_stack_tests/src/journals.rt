@@ -1,6 +1,7 @@
 //! What is looked at of journals.
 
 use crate::filters::{Filter, trees};
+use crate::fixture::Ended;
 use flt_model::{Journal, JournalEntry, Move, Verdict, read};
 use flt_replay::replay;
 use std::alloc::Global;
@@ -31,7 +32,7 @@ pub(crate) struct Tally {
     pub(crate) all_odd: bool,
 }
 
-pub(crate) fn tally_of(journal: &Journal) -> Tally {
+fn tally_of(journal: &Journal) -> Tally {
     let mut tally = Tally {
         arrived: 0,
         lowered: 0,
@@ -42,6 +43,18 @@ pub(crate) fn tally_of(journal: &Journal) -> Tally {
         count(&mut tally, *entry);
     }
     tally
+}
+
+/// The same of a journal that is legal, where the callers' receipts agree with it; else nothing.
+pub(crate) fn legal_tally(
+    alloc: Global,
+    filters: &[Filter],
+    ended: &Ended,
+) -> Result<Option<Tally>, Fail> {
+    if !ended.agrees || !is_legal(alloc, filters, &ended.journal)? {
+        return Ok(None);
+    }
+    Ok(Some(tally_of(&ended.journal)))
 }
 
 fn count(tally: &mut Tally, entry: JournalEntry) {
