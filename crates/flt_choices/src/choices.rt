@@ -59,23 +59,29 @@ impl<'b, 'a> Field<'b, 'a> {
     /// What may come behind some entries; nothing where one of them isn't enabled.
     pub fn choices(&self, entries: &[JournalEntry]) -> Result<Option<Choices>, AllocError> {
         match world_after(self.alloc, self.stack, entries)? {
-            Some(world) => Ok(Some(self.choices_in(world)?)),
+            Some(mut world) => Ok(Some(self.choices_in(&mut world)?)),
             None => Ok(None),
         }
     }
 
-    fn choices_in(&self, mut world: World<'a>) -> Result<Choices, AllocError> {
+    /// What may come in a world, which is spent.
+    fn choices_in(&self, world: &mut World<'a>) -> Result<Choices, AllocError> {
         let mut choices = Choices {
-            key: key_of(self.stack, &world),
+            key: key_of(self.stack, world),
             activations: world.activations.len(),
-            passing: first_passing(self.stack, &world),
+            passing: first_passing(self.stack, world),
             entries: Vec::new(self.alloc),
         };
-        for activation in 0..choices.activations {
-            self.push_going(&mut world, activation, &mut choices)?;
-        }
-        self.push_seen(&world, &mut choices.entries)?;
+        self.push_all(world, &mut choices)?;
         Ok(choices)
+    }
+
+    /// Adds all that may come.
+    fn push_all(&self, world: &mut World<'a>, choices: &mut Choices) -> Result<(), AllocError> {
+        for activation in 0..choices.activations {
+            self.push_going(world, activation, choices)?;
+        }
+        self.push_seen(world, &mut choices.entries)
     }
 
     /// Adds how an activation that goes on can go on. It is spent.

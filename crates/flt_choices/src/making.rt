@@ -83,6 +83,21 @@ pub(crate) fn make<'a>(
     }
 }
 
+/// Makes some entries. False where one of them isn't enabled: the world is spent then.
+fn make_all<'a>(
+    world: &mut World<'a>,
+    alloc: Global,
+    stack: &Stack<'a>,
+    entries: &[JournalEntry],
+) -> Result<bool, AllocError> {
+    for entry in entries {
+        if !make(world, alloc, stack, *entry)? {
+            return Ok(false);
+        }
+    }
+    Ok(true)
+}
+
 /// The world behind some entries; none where one of them isn't enabled.
 pub(crate) fn world_after<'a>(
     alloc: Global,
@@ -90,12 +105,11 @@ pub(crate) fn world_after<'a>(
     entries: &[JournalEntry],
 ) -> Result<Option<World<'a>>, AllocError> {
     let mut world = World::opening(alloc, stack.len())?;
-    for entry in entries {
-        if !make(&mut world, alloc, stack, *entry)? {
-            return Ok(None);
-        }
+    if make_all(&mut world, alloc, stack, entries)? {
+        Ok(Some(world))
+    } else {
+        Ok(None)
     }
-    Ok(Some(world))
 }
 
 /// How an activation goes on to the next step that others see.

@@ -66,6 +66,26 @@ fn routine_of(world: &World<'_>, entry: JournalEntry) -> Option<usize> {
     }
 }
 
+/// The routine that the activation of a number runs, where some entries start it in a world; none where it is no work item's.
+fn routine_started<'a>(
+    world: &mut World<'a>,
+    alloc: Global,
+    stack: &Stack<'a>,
+    entries: &[JournalEntry],
+    activation: usize,
+) -> Result<Option<usize>, AllocError> {
+    for entry in entries {
+        let routine = routine_of(world, *entry);
+        if !make(world, alloc, stack, *entry)? {
+            return Ok(None);
+        }
+        if world.activations.len() > activation {
+            return Ok(routine);
+        }
+    }
+    Ok(None)
+}
+
 /// The routine that the activation of a number runs; none where it is no work item's.
 fn routine_run<'a>(
     alloc: Global,
@@ -74,16 +94,7 @@ fn routine_run<'a>(
     activation: usize,
 ) -> Result<Option<usize>, AllocError> {
     let mut world = World::opening(alloc, stack.len())?;
-    for entry in entries {
-        let routine = routine_of(&world, *entry);
-        if !make(&mut world, alloc, stack, *entry)? {
-            return Ok(None);
-        }
-        if world.activations.len() > activation {
-            return Ok(routine);
-        }
-    }
-    Ok(None)
+    routine_started(&mut world, alloc, stack, entries, activation)
 }
 
 // ---- the line
@@ -115,6 +126,55 @@ fn line_at(world: &mut World<'_>, callback: &Callback, step: Step) -> Result<usi
 
 // ---- the spot
 
+/// The number of the callback that an activation behind some entries runs, by its place where it is no work item's.
+fn callback_run<'a>(
+    alloc: Global,
+    stack: &Stack<'a>,
+    filter: &Filter,
+    before: &[JournalEntry],
+    activation: usize,
+    place: Place,
+) -> Result<usize, AllocError> {
+    match routine_run(alloc, stack, before, activation)? {
+        Some(routine) => Ok(routine),
+        None => Ok(callback_for(filter, place)),
+    }
+}
+
+/// Whether a step of a callback stands on a line, if one is asked for.
+fn is_on_line(
+    world: &mut World<'_>,
+    callback: &Callback,
+    step: Step,
+    line: Option<usize>,
+) -> Result<bool, AllocError> {
+    match line {
+        Some(line) => Ok(line_at(world, callback, step)? == line),
+        None => Ok(true),
+    }
+}
+
+/// Whether a step in the world behind some entries stands in a spot.
+fn is_step_from<'a>(
+    world: &mut World<'a>,
+    alloc: Global,
+    stack: &Stack<'a>,
+    filter: &Filter,
+    before: &[JournalEntry],
+    step: Step,
+    spot: Spot,
+) -> Result<bool, AllocError> {
+    if world.filter(step.activation) != filter_number(stack, filter) {
+        return Ok(false);
+    }
+    let place = world.place(step.activation);
+    let number = callback_run(alloc, stack, filter, before, step.activation, place)?;
+    match filter.callbacks.get(number) {
+        Some(callback) if number == spot.callback => is_on_line(world, callback, step, spot.line),
+        _ => Ok(false),
+    }
+}
+
 /// Whether a step behind some entries stands in a spot.
 fn is_step_in<'a>(
     alloc: Global,
@@ -124,22 +184,9 @@ fn is_step_in<'a>(
     step: Step,
     spot: Spot,
 ) -> Result<bool, AllocError> {
-    let Some(mut world) = world_after(alloc, stack, before)? else {
-        return Ok(false);
-    };
-    if world.filter(step.activation) != filter_number(stack, filter) {
-        return Ok(false);
-    }
-    let number = match routine_run(alloc, stack, before, step.activation)? {
-        Some(routine) => routine,
-        None => callback_for(filter, world.place(step.activation)),
-    };
-    let (true, Some(callback)) = (number == spot.callback, filter.callbacks.get(number)) else {
-        return Ok(false);
-    };
-    match spot.line {
-        Some(line) => Ok(line_at(&mut world, callback, step)? == line),
-        None => Ok(true),
+    match world_after(alloc, stack, before)? {
+        Some(mut world) => is_step_from(&mut world, alloc, stack, filter, before, step, spot),
+        None => Ok(false),
     }
 }
 

@@ -219,19 +219,50 @@ pub fn state_at_end(finding: &Finding, way: Option<&Way>) -> Option<&'static str
 
 // ---- findings
 
+/// How a finding is reached, before its stages are told.
+fn bare_route(alloc: Global, finding: &Finding, shown: &Shown) -> Route {
+    let (way, _) = shown.ways();
+    Route {
+        kind: kind_of(&shown.answer),
+        stages: Items::new(alloc),
+        other: None,
+        origin: None,
+        state: state_at_end(finding, way),
+    }
+}
+
+impl Route {
+    /// Tells the stages of what shows a finding in a callback.
+    fn tell(
+        &mut self,
+        alloc: Global,
+        scene: &Scene<'_>,
+        callback: usize,
+        shown: &Shown,
+    ) -> Result<(), AllocError> {
+        let (way, other) = shown.ways();
+        self.stages = stages_on(alloc, scene, callback, way)?;
+        self.other = other_stages(alloc, scene, callback, other)?;
+        self.origin = origin_of(alloc, scene, callback, shown)?;
+        Ok(())
+    }
+}
+
+/// How a finding is reached, by what shows it.
+fn route_by(
+    alloc: Global,
+    scene: &Scene<'_>,
+    finding: &Finding,
+    shown: &Shown,
+) -> Result<Route, AllocError> {
+    let mut route = bare_route(alloc, finding, shown);
+    route.tell(alloc, scene, finding.callback, shown)?;
+    Ok(route)
+}
+
 fn route_of(alloc: Global, scene: &Scene<'_>, finding: &Finding) -> Result<Route, AllocError> {
     let shown = trace(alloc, scene.graph, finding)?;
-    let (way, other) = shown.ways();
-    let stages = stages_on(alloc, scene, finding.callback, way)?;
-    let other = other_stages(alloc, scene, finding.callback, other)?;
-    let origin = origin_of(alloc, scene, finding.callback, &shown)?;
-    Ok(Route {
-        kind: kind_of(&shown.answer),
-        stages,
-        other,
-        origin,
-        state: state_at_end(finding, way),
-    })
+    route_by(alloc, scene, finding, &shown)
 }
 
 fn detail_of(alloc: Global, scene: &Scene<'_>, finding: &Finding) -> Result<Detail, AllocError>
