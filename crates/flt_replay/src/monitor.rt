@@ -5,7 +5,7 @@ ghost use Rattle.flt_model.specs.declared.moves.Move.{Move};
 ghost use Rattle.flt_model.specs.declared.verdict.Violation.{Violation};
 ghost use Rattle.flt_model.specs.Effects.{Step};
 ghost use Rattle.flt_model.specs.Expansion as spec;
-ghost use Rattle.flt_model.specs.Runs.{Moment, broken, after};
+ghost use Rattle.flt_model.specs.Runs.{Moment, broken, after, start};
 ghost use Rattle.flt_model.specs.Steps.{Transition, Make, Local, Board};
 ghost use Rattle.flt_replay.specs.Ledger.{Agrees};
 ghost use Rattle.flt_replay.specs.Judging.{Follows, first_of, of_rules};
@@ -189,14 +189,34 @@ impl<'a> Monitor<'a> {
             } => self.go(alloc, stack, activation as usize, steps, grant, room),
         }
     }
+
+    /// The verdict about a journal, entry by entry, before the first of which the monitor stands.
+    fn verdict(
+        &mut self,
+        alloc: Global,
+        stack: &Stack<'a>,
+        journal: &Journal,
+        room: &mut Room,
+    ) -> Result<Verdict, AllocError>
+        requires { IsAt self.old (start stack.now) }
+        ensures { IfOk result (λ v. v ≡ spec.verdict_from stack.now (start stack.now) 0 journal.now) }
+    {
+        for (number, entry) in journal.entries().iter().enumerate() {
+            match self.entry(alloc, stack, *entry, room)? {
+                Course::Reaches => {}
+                Course::Stops => return Ok(Verdict::NotARun(number)),
+                Course::Fails(violation) => return Ok(Verdict::Breaks(violation, number)),
+            }
+        }
+        Ok(Verdict::Legal)
+    }
 }
 
-/// The verdict about a journal, entry by entry.
-fn verdict_of(alloc: Global, trees: &[Tree], journal: &Journal) -> Result<Verdict, AllocError>
-    ensures { IfOk result (λ v. v ≡ spec.verdict (filters_of trees.now) journal.now) }
+/// The verdict about a journal on a stack.
+fn verdict_on(alloc: Global, stack: &Stack<'_>, journal: &Journal) -> Result<Verdict, AllocError>
+    ensures { IfOk result (λ v. v ≡ spec.verdict_from stack.now (start stack.now) 0 journal.now) }
 {
     locks_stay_exclusive();
-    let stack = Stack::of(alloc, trees)?;
     let mut monitor = Monitor {
         world: World::opening(alloc, stack.len())?,
         ledger: Ledger::new(alloc),
@@ -205,14 +225,15 @@ fn verdict_of(alloc: Global, trees: &[Tree], journal: &Journal) -> Result<Verdic
         events: Vec::new(alloc),
         touched: Vec::new(alloc),
     };
-    for (number, entry) in journal.entries().iter().enumerate() {
-        match monitor.entry(alloc, &stack, *entry, &mut room)? {
-            Course::Reaches => {}
-            Course::Stops => return Ok(Verdict::NotARun(number)),
-            Course::Fails(violation) => return Ok(Verdict::Breaks(violation, number)),
-        }
-    }
-    Ok(Verdict::Legal)
+    monitor.verdict(alloc, stack, journal, &mut room)
+}
+
+/// The verdict about a journal on the filters of some texts.
+fn verdict_of(alloc: Global, trees: &[Tree], journal: &Journal) -> Result<Verdict, AllocError>
+    ensures { IfOk result (λ v. v ≡ spec.verdict (filters_of trees.now) journal.now) }
+{
+    let stack = Stack::of(alloc, trees)?;
+    verdict_on(alloc, &stack, journal)
 }
 
 /// What a journal is on some filters, in any order. Entries are numbered from 0. It fails where memory is refused, or where a number or
