@@ -433,6 +433,12 @@ fn repeated_words(alloc: Global, rows: usize) -> Result<String, AllocError> {
     Ok(words)
 }
 
+/// How many contexts there are behind so many entries, up to what has lanes.
+fn contexts_behind(course: &mut Course<'_, '_>, entries: usize) -> Result<usize, AllocError> {
+    course.go_to(entries)?;
+    Ok(course.contexts().min(MOST_CONTEXTS))
+}
+
 /// How many contexts come in a journal, up to what has lanes.
 fn contexts_of<'b, 'a>(
     alloc: Global,
@@ -440,8 +446,7 @@ fn contexts_of<'b, 'a>(
     journal: &'b Journal,
 ) -> Result<usize, AllocError> {
     let mut course = Course::new(alloc, stack, journal)?;
-    course.go_to(journal.len())?;
-    Ok(course.contexts().min(MOST_CONTEXTS))
+    contexts_behind(&mut course, journal.len())
 }
 
 /// What is drawn of a journal.
@@ -479,6 +484,28 @@ fn sheet_of<'b, 'a>(
     })
 }
 
+/// What is drawn of a journal by a plan.
+fn drawn(plan: &Plan<'_, '_>, stack: &Stack<'_>, journal: &Journal) -> Result<String, AllocError>
+    ensures { IfOk result (λ text. spec.IsClosed (string_bytes text)) }
+{
+    let mut sheet = sheet_of(plan, stack, journal)?;
+    plan.draw(&mut sheet)?;
+    sheet.drawing.close()
+}
+
+/// A journal on a stack as a picture.
+fn picture_on(
+    alloc: Global,
+    stack: &Stack<'_>,
+    journal: &Journal,
+    timeline: &Timeline<'_>,
+) -> Result<String, AllocError>
+    ensures { IfOk result (λ text. spec.IsClosed (string_bytes text)) }
+{
+    let plan = plan_of(alloc, stack, journal, timeline)?;
+    drawn(&plan, stack, journal)
+}
+
 /// A journal as a picture, in SVG: the rows of its timeline, with lanes for operations, for how many visits wait in queues and work items
 /// when a row ends, and for the references that each context then has. Below it stands what the colours say. The filters and the journal
 /// are those of the timeline. At most 1,000 lines are drawn, and the first twelve contexts.
@@ -495,8 +522,5 @@ pub fn picture(
     ensures { IfOk result (λ text. spec.IsClosed (string_bytes text)) }
 {
     let stack = Stack::of(alloc, trees)?;
-    let plan = plan_of(alloc, &stack, journal, timeline)?;
-    let mut sheet = sheet_of(&plan, &stack, journal)?;
-    plan.draw(&mut sheet)?;
-    sheet.drawing.close()
+    picture_on(alloc, &stack, journal, timeline)
 }

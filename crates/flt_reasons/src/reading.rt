@@ -1,6 +1,7 @@
 //! What is said of a certificate or of a journal.
 
-ghost use Rattle.std.specs.Prelude.{◌≡◌, IfOk};
+ghost use Rattle.std.specs.Prelude.{◌≡◌, IfOk, MatchResult};
+ghost use Rattle.flt_cert.specs.Reading.{IsFaultOf};
 ghost use Rattle.flt_reasons.specs.Notice as spec;
 
 use crate::notice::{Kind, Notice};
@@ -57,6 +58,16 @@ pub fn kind_of(input: &[u8]) -> Option<Kind>
     None
 }
 
+/// How many callbacks a certificate has.
+fn callbacks_in(alloc: Global, input: &[u8]) -> Result<usize, CertFault>
+    ensures { MatchResult result (spec.IsCertificate input.now) (IsFaultOf input.now) }
+{
+    match flt_cert::read(alloc, input) {
+        Ok(cert) => Ok(cert.callbacks().len()),
+        Err(fault) => Err(fault),
+    }
+}
+
 fn of_certificate<'a>(
     alloc: Global,
     before: usize,
@@ -64,8 +75,8 @@ fn of_certificate<'a>(
 ) -> Result<Notice<'a>, AllocError>
     ensures { IfOk result (spec.IsNotice Kind.Certificate input.now) }
 {
-    match flt_cert::read(alloc, input) {
-        Ok(cert) => Ok(Notice::Whole(Kind::Certificate, cert.callbacks().len())),
+    match callbacks_in(alloc, input) {
+        Ok(callbacks) => Ok(Notice::Whole(Kind::Certificate, callbacks)),
         Err(CertFault::Line(line)) => {
             let trouble = certificates::trouble(input, line);
             let reason = reason(alloc, Kind::Certificate, before, line, &trouble)?;
