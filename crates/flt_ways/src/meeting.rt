@@ -60,6 +60,33 @@ impl Reach {
     }
 }
 
+/// The ways to a pair.
+fn ways_to(search: &Reach, alloc: Global, pair: Pair) -> Result<Reached, AllocError> {
+    let Some(path) = search.path_to(alloc, pair.number, Some(pair.step))? else {
+        return Ok(Reached::TooMany);
+    };
+    match search.path_to(alloc, pair.other, None)? {
+        Some(other) => Ok(Reached::Met(path, other)),
+        None => Ok(Reached::TooMany),
+    }
+}
+
+/// The ways to a pair among what was reached, which may be all that can be.
+fn meeting_in(
+    search: &Reach,
+    alloc: Global,
+    graph: &Graph,
+    finding: &Finding,
+    clean: bool,
+    is_all: bool,
+) -> Result<Reached, AllocError> {
+    match search.pair(graph, finding, clean) {
+        Some(pair) => ways_to(search, alloc, pair),
+        None if is_all => Ok(Reached::Nothing),
+        None => Ok(Reached::TooMany),
+    }
+}
+
 /// Looks for two ways that meet as the finding says: where `clean`, past nothing that is broken.
 pub(crate) fn search_meeting(
     alloc: Global,
@@ -68,17 +95,5 @@ pub(crate) fn search_meeting(
     clean: bool,
 ) -> Result<Reached, AllocError> {
     let (search, is_all) = reach_all(alloc, graph, finding.callback, clean)?;
-    let Some(pair) = search.pair(graph, finding, clean) else {
-        return Ok(if is_all {
-            Reached::Nothing
-        } else {
-            Reached::TooMany
-        });
-    };
-    let path = search.path_to(alloc, pair.number, Some(pair.step))?;
-    let other = search.path_to(alloc, pair.other, None)?;
-    match (path, other) {
-        (Some(path), Some(other)) => Ok(Reached::Met(path, other)),
-        _ => Ok(Reached::TooMany),
-    }
+    meeting_in(&search, alloc, graph, finding, clean, is_all)
 }

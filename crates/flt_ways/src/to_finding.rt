@@ -1,6 +1,6 @@
 //! Ways that show a finding, checked by walking them.
 
-ghost use Rattle.std.specs.Prelude.{IfOk, IfSome};
+ghost use Rattle.std.specs.Prelude.{◌≡◌, IfOk, IfSome, IsTrue};
 ghost use Rattle.flt_ways.specs.Ways as spec;
 
 use crate::answer::{Answer, Step, Way, Ways};
@@ -50,6 +50,17 @@ fn shown(
     Ok(Some(Ways { way, other: None }))
 }
 
+/// Whether two ways meet as the finding says.
+fn do_meet(finding: &Finding, way: &Way, other: &Way) -> bool
+    ensures from { IsTrue result → IsTrue (spec.is_last way.now.steps finding.now.point) }
+    ensures there { IsTrue result → way.now.end.point ≡ other.now.end.point }
+    ensures apart { IsTrue result → IsTrue (spec.are_apart finding.now.subject way.now.end.situation other.now.end.situation) }
+{
+    way.end.point == other.end.point
+        && is_last(way.steps.as_slice(), finding.point)
+        && are_apart(finding.subject, &way.end.situation, &other.end.situation)
+}
+
 /// The ways that two paths are, if they meet as the finding says.
 fn met(
     alloc: Global,
@@ -63,14 +74,14 @@ fn met(
 {
     let way = walked(alloc, graph, finding.callback, clean, path)?;
     let other = walked(alloc, graph, finding.callback, clean, other)?;
-    let apart = are_apart(finding.subject, &way.end.situation, &other.end.situation);
-    if !apart || way.end.point != other.end.point || !is_last(way.steps.as_slice(), finding.point) {
-        return None;
+    if do_meet(finding, &way, &other) {
+        Some(Ways {
+            way,
+            other: Some(other),
+        })
+    } else {
+        None
     }
-    Some(Ways {
-        way,
-        other: Some(other),
-    })
 }
 
 /// What a search came to, checked; none where it came to its end without finding anything.

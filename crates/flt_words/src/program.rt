@@ -1,6 +1,7 @@
 //! The program's commands with their arguments, as `clap` takes them.
 
 ghost use Rattle.std.specs.Prelude.{◌≡◌, false, IfOk};
+ghost use Rattle.clap.specs.Simple.{App, with_subcommand};
 ghost use Rattle.clap.specs.Walk.{rule_of};
 ghost use Rattle.flt_words.specs.Program as spec;
 
@@ -257,14 +258,24 @@ fn bare_program<'a>(alloc: Global) -> Command<'a>
         .no_binary_name(true)
 }
 
+/// A program with a command more, if memory was there for both.
+fn with_command<'a>(
+    program: Result<Command<'a>, AllocError>,
+    command: Result<Command<'a>, AllocError>,
+) -> Result<Command<'a>, AllocError>
+    ensures { (a s : App) → IfOk program.entry (λ c. spec.IsCommand c a) → IfOk command.entry (λ c. spec.IsCommand c s)
+        → IfOk result (λ c. spec.IsCommand c (with_subcommand a s.top)) }
+{
+    program?.subcommand(command?)
+}
+
 /// The program with its commands.
 pub(crate) fn program<'a>(alloc: Global) -> Result<Command<'a>, AllocError>
     ensures { IfOk result (λ c. spec.IsCommand c spec.program_app) }
 {
-    bare_program(alloc)
-        .subcommand(check_command(alloc)?)?
-        .subcommand(analyse_command(alloc)?)?
-        .subcommand(explain_command(alloc)?)?
-        .subcommand(run_command(alloc)?)?
-        .subcommand(replay_command(alloc)?)
+    let program = with_command(Ok(bare_program(alloc)), check_command(alloc));
+    let program = with_command(program, analyse_command(alloc));
+    let program = with_command(program, explain_command(alloc));
+    let program = with_command(program, run_command(alloc));
+    with_command(program, replay_command(alloc))
 }
