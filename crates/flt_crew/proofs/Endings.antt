@@ -9,10 +9,10 @@ use Rattle.flt_model.specs.declared.moves.JournalEntry.{JournalEntry}
 use Rattle.flt_receipts.specs.Receipts.{receipts_in, together}
 use Rattle.flt_script.specs.ScriptText.{Commands}
 
-module _ {S : Type 0} (seats before : List S) (seat : S) (none : before ≡ []) (one : seats ≡ before ++ seat ∷ []) (held : S → List Receipt) where
+module _ {S : Type 0} (seats : List S) (seat : S) (one : seats ≡ seat ∷ []) (held : S → List Receipt) where
   -- one seat holds what all hold
   alone : together (map held seats) ≡ held seat
-  alone = rw (one, none) (append-nil (held seat))
+  alone = rw one (append-nil (held seat))
 
   -- its receipts aren't the journal's
   pub differed : (commands : Commands) (entries : List JournalEntry) →

@@ -1,6 +1,6 @@
 //! A script on the texts of some filters.
 
-ghost use Rattle.std.specs.Prelude.{◌≡◌, ◌≤◌, ◌<◌, [], All, IfOk, length, map};
+ghost use Rattle.std.specs.Prelude.{◌≡◌, ◌≤◌, ◌<◌, ◌∷◌, [], All, IfOk, length, map};
 ghost use Rattle.flt_crew.specs.Giving.{AreGiven};
 ghost use Rattle.flt_crew.specs.Running as spec;
 ghost use Rattle.flt_model.specs.Expansion.{IsCleanRun};
@@ -122,6 +122,18 @@ fn follow<N: StackName + Send + Sync, R: Threads + Wait + Sync, W: Watch>(
     }
 }
 
+/// A list of the one caller.
+fn callers_of<N: StackName>(
+    alloc: Global,
+    caller: CallerSeat<N>,
+) -> Result<Vec<CallerSeat<N>>, AllocError>
+    ensures { IfOk result (λ callers. callers.items ≡ caller ∷ []) }
+{
+    let mut callers = Vec::with_capacity(alloc, 1)?;
+    callers.push(caller)?;
+    Ok(callers)
+}
+
 /// Ends the stack.
 fn finish<N: StackName>(
     alloc: Global,
@@ -137,8 +149,7 @@ fn finish<N: StackName>(
         workers,
         is_full: was_full,
     } = followed;
-    let mut callers = Vec::with_capacity(alloc, 1)?;
-    callers.push(caller)?;
+    let callers = callers_of(alloc, caller)?;
     match stack.finish(callers, workers) {
         Ok(journal) => {
             let ending = if was_full && is_full(&journal) {
