@@ -2,9 +2,10 @@
 
 use crate::scene::{Answer, Scene, finding};
 use crate::texts;
-use flt_model::{JournalEntry, Move};
+use flt_model::{Journal, JournalEntry, Move};
 use flt_rules::{Mode, Operation};
 use std::alloc::Global;
+use std::process::Abort;
 use std::test::Fail;
 
 const READ: Move = Move::Arrive {
@@ -42,21 +43,41 @@ fn none_arrives(scene: &mut Scene, alloc: Global) -> bool {
         && scene.next_move(65_536).is_none()
 }
 
-/// The 65,536th operation has the serial number 65,535. Other moves go on.
-#[test]
-fn the_last_operation_arrives_and_no_more(rt: HostRuntime) -> Result<(), Fail> {
-    let alloc = rt.alloc();
-    let mut scene = Scene::new(alloc, &[texts::PASSES])?;
-    assert!(rt; all_arrive(&mut scene, alloc));
-    assert!(rt; none_arrives(&mut scene, alloc));
+/// The monitor finds nothing of what was made.
+fn is_clean(rt: &impl Abort, alloc: Global, texts: &[&str], journal: &Journal) -> Result<(), Fail> {
+    let found = finding(alloc, texts, journal)?;
+    assert!(rt; found.is_none());
+    Ok(())
+}
+
+/// The last of all operations goes on, and no other arrives.
+fn last_operation(rt: &impl Abort, scene: &mut Scene, alloc: Global) -> Result<(), Fail> {
+    assert!(rt; all_arrive(scene, alloc));
+    assert!(rt; none_arrives(scene, alloc));
     assert!(rt; scene.apply(alloc, Move::Pre { serial: 65_535 }) == Answer::Went);
     assert!(rt; scene.go(alloc, 0, Some(1), true) == Answer::Went);
     assert!(rt; scene.apply(alloc, Move::Cancel { serial: 65_535 }) == Answer::Went);
     assert!(rt; scene.apply(alloc, Move::Lower { serial: 65_535 }) == Answer::Went);
-    assert!(rt; none_arrives(&mut scene, alloc));
-    let found = finding(alloc, &[texts::PASSES], scene.board().journal())?;
-    assert!(rt; found.is_none());
-    Ok(())
+    assert!(rt; none_arrives(scene, alloc));
+    is_clean(rt, alloc, &[texts::PASSES], scene.board().journal())
+}
+
+/// The same of a new board.
+fn operations_arrive(rt: &impl Abort, alloc: Global) -> Result<(), Fail> {
+    match Scene::new(alloc, &[texts::PASSES]) {
+        Ok(mut scene) => {
+            let fine = last_operation(rt, &mut scene, alloc);
+            scene.end();
+            fine
+        }
+        Err(fail) => Err(fail),
+    }
+}
+
+/// The 65,536th operation has the serial number 65,535. Other moves go on.
+#[test]
+fn the_last_operation_arrives_and_no_more(rt: HostRuntime) -> Result<(), Fail> {
+    operations_arrive(&rt, rt.alloc())
 }
 
 /// Lets an activation go on to its end, or to what stops it: how often it went, and the last answer.
@@ -114,22 +135,40 @@ fn no_entry_more(scene: &mut Scene, alloc: Global) -> bool {
         && scene.look() == before
 }
 
+/// Both reads that ended made so many steps.
+fn have_steps(rt: &impl Abort, entries: &[JournalEntry]) {
+    assert!(rt; steps_of(entries, 0) == 802_002);
+    assert!(rt; steps_of(entries, 1) == 802_002);
+}
+
+/// The reads fill the journal, and nothing more is written.
+fn last_entry(rt: &impl Abort, scene: &mut Scene, alloc: Global) -> Result<(), Fail> {
+    assert!(rt; read_on(scene, alloc, 0) == (400_001, Answer::NotEnabled));
+    assert!(rt; scene.apply(alloc, Move::Lower { serial: 0 }) == Answer::Went);
+    assert!(rt; read_on(scene, alloc, 1) == (400_001, Answer::NotEnabled));
+    assert!(rt; scene.apply(alloc, Move::Lower { serial: 1 }) == Answer::Went);
+    assert!(rt; read_on(scene, alloc, 2) == (199_990, Answer::Full));
+    assert!(rt; no_entry_more(scene, alloc));
+    have_steps(rt, scene.board().journal().entries());
+    is_clean(rt, alloc, &[texts::GOES_ON], scene.board().journal())
+}
+
+/// The same of a new board.
+fn entries_are_made(rt: &impl Abort, alloc: Global) -> Result<(), Fail> {
+    match Scene::new(alloc, &[texts::GOES_ON]) {
+        Ok(mut scene) => {
+            let fine = last_entry(rt, &mut scene, alloc);
+            scene.end();
+            fine
+        }
+        Err(fail) => Err(fail),
+    }
+}
+
 /// Each of two reads goes on 400,001 times, by 802,002 steps: 1,001 of the outer `repeat`, 401,000 of the inner one, 400,000 that ask for
 /// the file, and the `return`. With three moves each they make 800,008 entries, and the third read makes the rest: two moves, and 199,990
 /// times it goes on.
 #[test]
 fn a_journal_has_a_million_entries_and_no_more(rt: HostRuntime) -> Result<(), Fail> {
-    let alloc = rt.alloc();
-    let mut scene = Scene::new(alloc, &[texts::GOES_ON])?;
-    assert!(rt; read_on(&mut scene, alloc, 0) == (400_001, Answer::NotEnabled));
-    assert!(rt; scene.apply(alloc, Move::Lower { serial: 0 }) == Answer::Went);
-    assert!(rt; read_on(&mut scene, alloc, 1) == (400_001, Answer::NotEnabled));
-    assert!(rt; scene.apply(alloc, Move::Lower { serial: 1 }) == Answer::Went);
-    assert!(rt; read_on(&mut scene, alloc, 2) == (199_990, Answer::Full));
-    assert!(rt; no_entry_more(&mut scene, alloc));
-    assert!(rt; steps_of(scene.board().journal().entries(), 0) == 802_002);
-    assert!(rt; steps_of(scene.board().journal().entries(), 1) == 802_002);
-    let found = finding(alloc, &[texts::GOES_ON], scene.board().journal())?;
-    assert!(rt; found.is_none());
-    Ok(())
+    entries_are_made(&rt, rt.alloc())
 }

@@ -19,7 +19,7 @@ struct Stack {
     accepted: bool,
 }
 
-const STACKS: [Stack; 33] = [
+static STACKS: [Stack; 33] = [
     Stack {
         texts: &[texts::PENDS],
         altitude: 100,
@@ -369,8 +369,9 @@ fn first_wrong(
     None
 }
 
-/// Plays a stack with a seed on a new board, and answers what the monitor finds of the run; as of none where a turn went wrong.
-fn play(
+/// Plays a stack with a seed on a board, and answers what the monitor finds of the run; as of none where a turn went wrong.
+fn play_on(
+    scene: &mut Scene,
     alloc: Global,
     stack: &Stack,
     seed: u64,
@@ -382,11 +383,27 @@ fn play(
         arrived: 0,
         started: 0,
     };
-    let mut scene = Scene::new(alloc, stack.texts)?;
-    if let Some(turn) = first_wrong(&mut player, &mut scene, alloc, kinds) {
-        return Ok(Some((0, turn)));
+    match first_wrong(&mut player, scene, alloc, kinds) {
+        Some(turn) => Ok(Some((0, turn))),
+        None => finding(alloc, stack.texts, scene.board().journal()),
     }
-    finding(alloc, stack.texts, scene.board().journal())
+}
+
+/// The same of a new board.
+fn play(
+    alloc: Global,
+    stack: &Stack,
+    seed: u64,
+    kinds: &mut [u64; KINDS],
+) -> Result<Option<(u8, usize)>, Fail> {
+    match Scene::new(alloc, stack.texts) {
+        Ok(mut scene) => {
+            let found = play_on(&mut scene, alloc, stack, seed, kinds);
+            scene.end();
+            found
+        }
+        Err(fail) => Err(fail),
+    }
 }
 
 /// Plays each stack. Of filters that are accepted each run is legal; others break something in one of them.
@@ -409,13 +426,17 @@ fn play_all(
     Ok(())
 }
 
+fn all_are_made(rt: &impl Abort, kinds: &[u64]) {
+    for kind in kinds {
+        assert!(rt; *kind != 0);
+    }
+}
+
 /// Each kind of entry is made.
 #[test]
 fn moves_at_random_make_runs(rt: HostRuntime) -> Result<(), Fail> {
     let mut kinds = [0; KINDS];
     play_all(&rt, rt.alloc(), &STACKS, &mut kinds)?;
-    for kind in kinds {
-        assert!(rt; kind != 0);
-    }
+    all_are_made(&rt, &kinds);
     Ok(())
 }

@@ -129,6 +129,15 @@ fn went(fine: bool) -> Answer {
     if fine { Answer::Went } else { Answer::Wrong }
 }
 
+/// What a board answers to a move that it doesn't make.
+fn refusal(fault: ApplyFault) -> Answer {
+    match fault {
+        ApplyFault::NotEnabled => Answer::NotEnabled,
+        ApplyFault::Full => Answer::Full,
+        ApplyFault::OutOfMemory => Answer::OutOfMemory,
+    }
+}
+
 /// The same of what a commit answers.
 fn answer_of(commit: Commit) -> Answer {
     match commit {
@@ -162,6 +171,9 @@ impl Scene {
         Ok(Scene { loaded, board })
     }
 
+    /// Ends it: it is dropped here alone.
+    pub(crate) fn end(self) {}
+
     pub(crate) fn board(&self) -> &Board {
         &self.board
     }
@@ -174,18 +186,26 @@ impl Scene {
         self.board.next_detach(&self.loaded, altitude)
     }
 
-    /// Makes a move. Whether it is enabled and what gets a ticket by it is asked first, and must be answered so.
+    /// Makes a move, by which these must get a ticket.
+    fn apply_for(&mut self, alloc: Global, step: Move, tickets: &[Subject]) -> Answer {
+        match self.board.apply(alloc, &self.loaded, step) {
+            Ok(events) => went(events.next.as_slice() == tickets),
+            Err(fault) => refusal(fault),
+        }
+    }
+
+    /// Makes a move. What gets a ticket by it is asked first, and must be answered so.
+    fn apply_asked(&mut self, alloc: Global, step: Move) -> Answer {
+        match self.board.tickets(alloc, &self.loaded, step) {
+            Ok(tickets) => self.apply_for(alloc, step, tickets.as_slice()),
+            Err(_) => Answer::OutOfMemory,
+        }
+    }
+
+    /// The same. Whether the move is enabled is asked before, and must be answered so.
     pub(crate) fn apply(&mut self, alloc: Global, step: Move) -> Answer {
         let enabled = self.board.enabled(&self.loaded, step);
-        let Ok(tickets) = self.board.tickets(alloc, &self.loaded, step) else {
-            return Answer::OutOfMemory;
-        };
-        let answer = match self.board.apply(alloc, &self.loaded, step) {
-            Ok(events) => went(events.next == tickets),
-            Err(ApplyFault::NotEnabled) => Answer::NotEnabled,
-            Err(ApplyFault::Full) => Answer::Full,
-            Err(ApplyFault::OutOfMemory) => Answer::OutOfMemory,
-        };
+        let answer = self.apply_asked(alloc, step);
         if enabled == (answer == Answer::NotEnabled) {
             return Answer::Wrong;
         }

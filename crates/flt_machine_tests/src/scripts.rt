@@ -44,11 +44,18 @@ fn has_ended_so(driven: &Driven, wanted: &Journal) -> bool {
     !driven.is_full && driven.board.journal().entries() == wanted.entries()
 }
 
+/// Whether a case's script gives this journal.
+fn gives(alloc: Global, case: &Case, wanted: &Journal) -> Result<bool, Fail> {
+    match driven(alloc, case.texts, case.script) {
+        Ok(driven) => Ok(has_ended_so(&driven, wanted)),
+        Err(fail) => Err(fail),
+    }
+}
+
 /// Whether a case's script gives its journal.
 fn goes_so(alloc: Global, case: &Case) -> Result<bool, Fail> {
     let wanted = journal_of(alloc, case.entries)?;
-    let driven = driven(alloc, case.texts, case.script)?;
-    Ok(has_ended_so(&driven, &wanted))
+    gives(alloc, case, &wanted)
 }
 
 /// The first case whose script gives another journal.

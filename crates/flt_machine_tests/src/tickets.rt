@@ -135,11 +135,26 @@ fn first_wrong(
     None
 }
 
-/// Drives a new board through the case's journal.
+/// Drives a new board through a journal.
+fn drive_through(
+    alloc: Global,
+    case: &Case,
+    entries: &[JournalEntry],
+) -> Result<Option<usize>, Fail> {
+    match Scene::new(alloc, case.texts) {
+        Ok(mut scene) => {
+            let wrong = first_wrong(&mut scene, alloc, entries, case.tickets);
+            scene.end();
+            Ok(wrong)
+        }
+        Err(fail) => Err(fail),
+    }
+}
+
+/// The same of the case's journal.
 fn drive(alloc: Global, case: &Case) -> Result<Option<usize>, Fail> {
     let journal = journal_of(alloc, case.entries)?;
-    let mut scene = Scene::new(alloc, case.texts)?;
-    Ok(first_wrong(&mut scene, alloc, journal.entries(), case.tickets))
+    drive_through(alloc, case, journal.entries())
 }
 
 fn drive_all(rt: &impl Abort, alloc: Global, cases: &[Case]) -> Result<(), Fail> {

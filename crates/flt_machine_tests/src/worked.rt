@@ -25,7 +25,7 @@ struct Case {
     ends: &'static [u8],
 }
 
-const SCENES: [Case; 6] = [
+static SCENES: [Case; 6] = [
     // A read goes down through two filters and up again.
     Case {
         texts: &[texts::UPPER, texts::LOWER],
@@ -82,7 +82,7 @@ const SCENES: [Case; 6] = [
     },
 ];
 
-const WORKED: [Case; 25] = [
+static WORKED: [Case; 25] = [
     // The order in which the texts are given doesn't matter.
     Case {
         texts: &[texts::LOWER, texts::UPPER],
@@ -302,7 +302,7 @@ const WORKED: [Case; 25] = [
     },
 ];
 
-const EXAMPLES: [Case; 27] = [
+static EXAMPLES: [Case; 27] = [
     Case {
         texts: &[texts::BACKGROUND_SCAN],
         entries: "arrive write irp 0\npre 0\ngo 0 1 yes\ngo 0 1 yes\ngo 0 1 yes\ngo 0 1 yes\nlower 0\narrive cleanup irp 0\npre 1\ngo 1 1 yes\ngo 1 1 yes\nwork 0\ngo 2 2 yes\ngo 1 1 yes\nlower 1\ngo 2 18 yes\ngo 2 1 yes\ngo 2 1 yes\n",
@@ -638,10 +638,21 @@ fn goes_so(alloc: Global, case: &Case, scene: &mut Scene, journal: &Journal) -> 
 }
 
 /// The same of a new board.
+fn drive_through(alloc: Global, case: &Case, journal: &Journal) -> Result<bool, Fail> {
+    match Scene::new(alloc, case.texts) {
+        Ok(mut scene) => {
+            let fine = goes_so(alloc, case, &mut scene, journal);
+            scene.end();
+            fine
+        }
+        Err(fail) => Err(fail),
+    }
+}
+
+/// The same of the journal that the case spells.
 fn drive(alloc: Global, case: &Case) -> Result<bool, Fail> {
     let journal = journal_of(alloc, case.entries)?;
-    let mut scene = Scene::new(alloc, case.texts)?;
-    goes_so(alloc, case, &mut scene, &journal)
+    drive_through(alloc, case, &journal)
 }
 
 fn drive_all(rt: &impl Abort, alloc: Global, cases: &[Case]) -> Result<(), Fail> {
