@@ -262,7 +262,9 @@ fn route_by(
 
 fn route_of(alloc: Global, scene: &Scene<'_>, finding: &Finding) -> Result<Route, AllocError> {
     let shown = trace(alloc, scene.graph, finding)?;
-    route_by(alloc, scene, finding, &shown)
+    let route = route_by(alloc, scene, finding, &shown);
+    drop(shown);
+    route
 }
 
 fn detail_of(alloc: Global, scene: &Scene<'_>, finding: &Finding) -> Result<Detail, AllocError>

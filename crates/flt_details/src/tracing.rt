@@ -134,11 +134,20 @@ fn origin_by(
     }
 }
 
+/// What shows a finding with its origin, if memory was there for this.
+fn shown_by(
+    answer: Answer,
+    origin: Result<Option<Origin>, AllocError>,
+) -> Result<Shown, AllocError> {
+    let origin = origin?;
+    Ok(Shown { answer, origin })
+}
+
 /// What shows a finding, with its origin.
 pub(crate) fn trace(alloc: Global, graph: &Graph, finding: &Finding) -> Result<Shown, AllocError> {
     let answer = ways(alloc, graph, finding)?;
-    let origin = origin_by(alloc, graph, finding, &answer)?;
-    Ok(Shown { answer, origin })
+    let origin = origin_by(alloc, graph, finding, &answer);
+    shown_by(answer, origin)
 }
 
 /// What shows each finding of a text.
