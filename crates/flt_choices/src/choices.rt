@@ -59,7 +59,11 @@ impl<'b, 'a> Field<'b, 'a> {
     /// What may come behind some entries; nothing where one of them isn't enabled.
     pub fn choices(&self, entries: &[JournalEntry]) -> Result<Option<Choices>, AllocError> {
         match world_after(self.alloc, self.stack, entries)? {
-            Some(mut world) => Ok(Some(self.choices_in(&mut world)?)),
+            Some(mut world) => {
+                let choices = self.choices_in(&mut world);
+                drop(world);
+                Ok(Some(choices?))
+            }
             None => Ok(None),
         }
     }

@@ -446,7 +446,9 @@ fn contexts_of<'b, 'a>(
     journal: &'b Journal,
 ) -> Result<usize, AllocError> {
     let mut course = Course::new(alloc, stack, journal)?;
-    contexts_behind(&mut course, journal.len())
+    let contexts = contexts_behind(&mut course, journal.len());
+    drop(course);
+    contexts
 }
 
 /// What is drawn of a journal.

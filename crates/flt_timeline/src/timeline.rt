@@ -107,7 +107,9 @@ fn course_on(
     ensures whos { IfOk result (λ c. length c.whos ≡ length journal.now) }
 {
     let mut teller = Teller::new(alloc, stack, filters, journal)?;
-    course_of(alloc, &mut teller, journal, verdict)
+    let course = course_of(alloc, &mut teller, journal, verdict);
+    drop(teller);
+    course
 }
 
 impl<'a> Timeline<'a> {

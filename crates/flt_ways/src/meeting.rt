@@ -95,5 +95,7 @@ pub(crate) fn search_meeting(
     clean: bool,
 ) -> Result<Reached, AllocError> {
     let (search, is_all) = reach_all(alloc, graph, finding.callback, clean)?;
-    meeting_in(&search, alloc, graph, finding, clean, is_all)
+    let reached = meeting_in(&search, alloc, graph, finding, clean, is_all);
+    drop(search);
+    reached
 }
