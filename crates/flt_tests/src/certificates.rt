@@ -20,13 +20,22 @@ fn is_worked(cert: &Cert) -> bool {
 
 /// Whether a certificate is written as this text.
 fn is_written(alloc: Global, cert: &Cert, text: &[u8]) -> Result<bool, CertFault> {
-    Ok(write(alloc, cert)?.as_slice() == text)
+    let written = write(alloc, cert)?;
+    Ok(written.as_slice() == text)
+}
+
+/// Whether a certificate is written as this text, and is as the worked one only if it should be.
+fn is_right(alloc: Global, cert: &Cert, text: &[u8], worked: bool) -> Result<bool, CertFault> {
+    if is_worked(cert) != worked {
+        return Ok(false);
+    }
+    is_written(alloc, cert, text)
 }
 
 /// Whether a certificate is written as it was read, and is as the worked one only if it should be.
 fn comes_back(alloc: Global, text: &[u8], worked: bool) -> Result<bool, CertFault> {
     let cert = read(alloc, text)?;
-    Ok(is_worked(&cert) == worked && is_written(alloc, &cert, text)?)
+    is_right(alloc, &cert, text, worked)
 }
 
 /// `tools/refuse-allocations.sh tests flt_tests memory` refuses each request for memory in turn.

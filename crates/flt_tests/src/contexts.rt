@@ -334,22 +334,39 @@ fn step(contexts: &mut Contexts, rows: &mut Rows, dice: &mut Dice) -> Result<boo
     }
 }
 
+/// The first of a script's turns at which the programs differ.
+fn wrong_turn(
+    contexts: &mut Contexts,
+    rows: &mut Rows,
+    dice: &mut Dice,
+) -> Result<Option<usize>, AllocError> {
+    for turn in 0..40 {
+        let same = step(contexts, rows, dice)?
+            && same_contexts(contexts, rows)
+            && same_links(contexts, rows);
+        if !same {
+            return Ok(Some(turn));
+        }
+    }
+    Ok(None)
+}
+
+/// The first turn of a new script at which the programs differ.
+fn wrong_script(dice: &mut Dice, alloc: Global) -> Result<Option<usize>, AllocError> {
+    let mut contexts = Contexts::new(alloc, FILTERS)?;
+    let mut rows = Rows {
+        rows: Vec::new(alloc),
+        closed: Vec::new(alloc),
+    };
+    wrong_turn(&mut contexts, &mut rows, dice)
+}
+
 /// The first script and turn at which the programs differ.
 fn difference(alloc: Global) -> Result<Option<(usize, usize)>, AllocError> {
     let mut dice = Dice { state: 20261123 };
     for script in 0..300 {
-        let mut contexts = Contexts::new(alloc, FILTERS)?;
-        let mut rows = Rows {
-            rows: Vec::new(alloc),
-            closed: Vec::new(alloc),
-        };
-        for turn in 0..40 {
-            let same = step(&mut contexts, &mut rows, &mut dice)?
-                && same_contexts(&contexts, &rows)
-                && same_links(&contexts, &rows);
-            if !same {
-                return Ok(Some((script, turn)));
-            }
+        if let Some(turn) = wrong_script(&mut dice, alloc)? {
+            return Ok(Some((script, turn)));
         }
     }
     Ok(None)
@@ -434,15 +451,20 @@ fn answers(contexts: &mut Contexts, call: Call) -> Result<bool, AllocError> {
     }
 }
 
-/// The first of these calls on the contexts of so many filters that doesn't answer what it should.
-fn wrong_call(alloc: Global, filters: usize, calls: &[Call]) -> Result<Option<usize>, AllocError> {
-    let mut contexts = Contexts::new(alloc, filters)?;
+/// The first of these calls on the contexts that doesn't answer what it should.
+fn wrong_call_on(contexts: &mut Contexts, calls: &[Call]) -> Result<Option<usize>, AllocError> {
     for (at, call) in calls.iter().enumerate() {
-        if !answers(&mut contexts, *call)? {
+        if !answers(contexts, *call)? {
             return Ok(Some(at));
         }
     }
     Ok(None)
+}
+
+/// The first of these calls on the contexts of so many filters that doesn't answer what it should.
+fn wrong_call(alloc: Global, filters: usize, calls: &[Call]) -> Result<Option<usize>, AllocError> {
+    let mut contexts = Contexts::new(alloc, filters)?;
+    wrong_call_on(&mut contexts, calls)
 }
 
 /// Whether context 1 is set over context 0 as the row says.

@@ -2,7 +2,7 @@
 
 use flt_frame::{Instruction, Loaded, Operation, Place};
 use flt_syntax::{Tree, parse};
-use std::alloc::Global;
+use std::alloc::{AllocError, Global};
 use std::test::Fail;
 
 const LOW: &str = "filter low altitude 100\npre read {\nreturn NO_CALLBACK\n}\n";
@@ -13,11 +13,24 @@ const HIGH: &str =
 const MIDDLE: &str =
     "filter middle altitude 200\nqueue\npre create {\nreturn NO_CALLBACK\n}\ncanceled {\nFltCompletePendedPreOperation data COMPLETE STATUS_CANCELLED\n}\n";
 
+/// Puts the tree of a text behind others.
+fn add_tree(alloc: Global, trees: &mut Vec<Tree>, text: &str) -> Result<(), Fail> {
+    let tree = parse(alloc, text.as_bytes())?;
+    trees.push(tree)?;
+    Ok(())
+}
+
+/// Puts the trees of these texts behind others.
+fn add_trees(alloc: Global, trees: &mut Vec<Tree>, texts: &[&str]) -> Result<(), Fail> {
+    for text in texts {
+        add_tree(alloc, trees, text)?;
+    }
+    Ok(())
+}
+
 fn trees_of(alloc: Global, texts: &[&str]) -> Result<Vec<Tree>, Fail> {
     let mut trees = Vec::new(alloc);
-    for text in texts {
-        trees.push(parse(alloc, text.as_bytes())?)?;
-    }
+    add_trees(alloc, &mut trees, texts)?;
     Ok(trees)
 }
 
@@ -145,6 +158,11 @@ const REPEATED: [(&[&str], &str); 5] = [
     (&[], ""),
 ];
 
+/// Whether all is read of three filters as it should be.
+fn is_as_said(loaded: &Loaded, numbers: &[(u32, usize)], rows: &[Row]) -> bool {
+    loaded.filters() == 3 && have_numbers(loaded, numbers) && are_read(loaded, rows)
+}
+
 /// Whether all is read as it should be, if the texts are loaded in this order.
 fn is_loaded(
     alloc: Global,
@@ -152,8 +170,9 @@ fn is_loaded(
     numbers: &[(u32, usize)],
     rows: &[Row],
 ) -> Result<bool, Fail> {
-    let loaded = Loaded::new(alloc, trees_of(alloc, texts)?)?;
-    Ok(loaded.filters() == 3 && have_numbers(&loaded, numbers) && are_read(&loaded, rows))
+    let trees = trees_of(alloc, texts)?;
+    let loaded = Loaded::new(alloc, trees)?;
+    Ok(is_as_said(&loaded, numbers, rows))
 }
 
 /// The first order in which something is read otherwise.
@@ -171,18 +190,25 @@ fn wrong_order(
     Ok(None)
 }
 
-/// What is said of texts: nothing if they are loaded.
-fn told(alloc: Global, texts: &[&str]) -> Result<String, Fail> {
-    match Loaded::new(alloc, trees_of(alloc, texts)?) {
+/// What is said of trees: nothing if they are loaded.
+fn told(alloc: Global, trees: Vec<Tree>) -> Result<String, AllocError> {
+    match Loaded::new(alloc, trees) {
         Ok(_) => Ok(String::new(alloc)),
-        Err(fault) => Ok(format!(in alloc; "{fault}")?),
+        Err(fault) => format!(in alloc; "{fault}"),
     }
+}
+
+/// Whether this is said of texts.
+fn is_told(alloc: Global, texts: &[&str], wanted: &str) -> Result<bool, Fail> {
+    let trees = trees_of(alloc, texts)?;
+    let said = told(alloc, trees)?;
+    Ok(said.as_str() == wanted)
 }
 
 /// The first row of which something else is said.
 fn wrong_fault(alloc: Global, table: &[(&[&str], &str)]) -> Result<Option<usize>, Fail> {
     for (row, (texts, wanted)) in table.iter().enumerate() {
-        if told(alloc, texts)?.as_str() != *wanted {
+        if !is_told(alloc, texts, wanted)? {
             return Ok(Some(row));
         }
     }

@@ -71,8 +71,9 @@ const STOPS_IN_A_TURN: &str =
     "filter a altitude 100\npre read {\nrepeat 2 {\nrepeat 3 {\nn0 = n0 - 1\nif irp data {\n}\n}\n}\nreturn NO_CALLBACK\n}\n";
 
 fn filter_of(alloc: Global, text: &str) -> Result<Loaded, Fail> {
+    let tree = parse(alloc, text.as_bytes())?;
     let mut trees = Vec::new(alloc);
-    trees.push(parse(alloc, text.as_bytes())?)?;
+    trees.push(tree)?;
     Ok(Loaded::new(alloc, trees)?)
 }
 
@@ -118,10 +119,16 @@ fn turns_go_along(loaded: &Loaded) -> bool {
         && !advanced.after.is_same(&standing)
 }
 
+/// Whether a case's steps lead where they should in the filter of its text.
+fn holds(alloc: Global, case: &Case) -> Result<bool, Fail> {
+    let loaded = filter_of(alloc, case.text)?;
+    Ok(is_stepped(&loaded, case))
+}
+
 /// The first of these cases whose steps lead elsewhere.
 fn wrong_case(alloc: Global, cases: &[Case]) -> Result<Option<usize>, Fail> {
     for (row, case) in cases.iter().enumerate() {
-        if !is_stepped(&filter_of(alloc, case.text)?, case) {
+        if !holds(alloc, case)? {
             return Ok(Some(row));
         }
     }

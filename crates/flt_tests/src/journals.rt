@@ -224,13 +224,12 @@ fn is_written(alloc: Global, journal: &Journal, text: &str) -> bool {
     write(journal, &mut out).is_ok() && out.bytes.as_slice() == text.as_bytes()
 }
 
-/// A journal of these entries.
-fn made_of(alloc: Global, entries: &[JournalEntry]) -> Result<Journal, JournalFault> {
-    let mut made = Journal::new(alloc);
+/// Puts these entries behind those of a journal.
+fn push_all(journal: &mut Journal, entries: &[JournalEntry]) -> Result<(), JournalFault> {
     for entry in entries {
-        made.push(*entry)?;
+        journal.push(*entry)?;
     }
-    Ok(made)
+    Ok(())
 }
 
 /// Whether a journal has these entries and no more.
@@ -251,27 +250,46 @@ fn gives_back(journal: &mut Journal, entries: &[JournalEntry]) -> bool {
     journal.pop().is_none()
 }
 
+/// Whether an empty journal gets these entries, is written as this text and gives them back.
+fn is_made(
+    alloc: Global,
+    made: &mut Journal,
+    text: &str,
+    entries: &[JournalEntry],
+) -> Result<bool, JournalFault> {
+    push_all(made, entries)?;
+    Ok(has(made, entries) && is_written(alloc, made, text) && gives_back(made, entries))
+}
+
+/// Whether the text reads as these entries.
+fn reads_as(alloc: Global, text: &str, entries: &[JournalEntry]) -> Result<bool, JournalFault> {
+    let journal = read_text(alloc, text.as_bytes())?;
+    Ok(has(&journal, entries))
+}
+
 /// Whether the text reads as these entries, and they are written so.
 fn goes_both_ways(
     alloc: Global,
     text: &str,
     entries: &[JournalEntry],
 ) -> Result<bool, JournalFault> {
+    if !reads_as(alloc, text, entries)? {
+        return Ok(false);
+    }
+    let mut made = Journal::new(alloc);
+    is_made(alloc, &mut made, text, entries)
+}
+
+/// Whether the text is written as it was read.
+fn comes_back(alloc: Global, text: &str) -> Result<bool, JournalFault> {
     let journal = read_text(alloc, text.as_bytes())?;
-    let mut made = made_of(alloc, entries)?;
-    Ok(
-        has(&journal, entries)
-            && has(&made, entries)
-            && is_written(alloc, &made, text)
-            && gives_back(&mut made, entries),
-    )
+    Ok(is_written(alloc, &journal, text))
 }
 
 /// The first of these texts that isn't written as it was read.
 fn wrong_run(alloc: Global, texts: &[&str]) -> Result<Option<usize>, JournalFault> {
     for (row, text) in texts.iter().enumerate() {
-        let journal = read_text(alloc, text.as_bytes())?;
-        if !is_written(alloc, &journal, text) {
+        if !comes_back(alloc, text)? {
             return Ok(Some(row));
         }
     }
@@ -322,16 +340,20 @@ fn write_is_told(alloc: Global, journal: &Journal, call: u64, fails: bool) -> bo
     write(journal, &mut out).is_err() == fails && out.failures == failures
 }
 
+/// The first call at which a writer of the journal fails in vain, where it should take so many of them.
+fn wrong_call(alloc: Global, journal: &Journal, last: u64) -> Option<u64> {
+    for call in 0..=last {
+        if !write_is_told(alloc, journal, call, call < last) {
+            return Some(call);
+        }
+    }
+    None
+}
+
 /// The first call at which a writer fails in vain. A journal of n bytes takes n writes of a byte.
 fn wrong_write(alloc: Global, text: &[u8]) -> Result<Option<u64>, JournalFault> {
     let journal = read_text(alloc, text)?;
-    let last = text.len() as u64;
-    for call in 0..last + 1 {
-        if !write_is_told(alloc, &journal, call, call < last) {
-            return Ok(Some(call));
-        }
-    }
-    Ok(None)
+    Ok(wrong_call(alloc, &journal, text.len() as u64))
 }
 
 #[test]

@@ -115,25 +115,43 @@ fn loads_what_is_accepted(rt: HostRuntime) -> Result<(), Fail> {
     Ok(())
 }
 
-/// Texts of so many filters, at the altitudes from 1 on.
-fn texts_of(alloc: Global, filters: u32) -> Result<Vec<String>, AllocError> {
-    let mut texts = Vec::new(alloc);
+/// Puts the text of a filter at this altitude behind others.
+fn add_text(alloc: Global, texts: &mut Vec<String>, altitude: u32) -> Result<(), AllocError> {
+    let text = format!(in alloc;
+        "filter a altitude {altitude}\npre read {{\nreturn NO_CALLBACK\n}}\n"
+    )?;
+    texts.push(text)?;
+    Ok(())
+}
+
+/// Puts the texts of so many filters, at the altitudes from 1 on, behind others.
+fn add_texts(alloc: Global, texts: &mut Vec<String>, filters: u32) -> Result<(), AllocError> {
     for altitude in 1..=filters {
-        texts.push(format!(in alloc;
-            "filter a altitude {altitude}\npre read {{\nreturn NO_CALLBACK\n}}\n"
-        )?)?;
+        add_text(alloc, texts, altitude)?;
     }
-    Ok(texts)
+    Ok(())
+}
+
+/// Puts a file of each text behind others, with the certificate of a filter that passes.
+fn add_files<'a>(files: &mut Vec<File<'a>>, texts: &'a [String]) -> Result<(), AllocError> {
+    for text in texts {
+        files.push((text.as_bytes(), PASSES_CERTIFICATE))?;
+    }
+    Ok(())
+}
+
+/// What is answered of these texts, each with its certificate.
+fn answer_of_texts(alloc: Global, texts: &[String]) -> Result<Answer, AllocError> {
+    let mut files = Vec::new(alloc);
+    add_files(&mut files, texts)?;
+    answer(alloc, files.as_slice())
 }
 
 /// What is answered of so many filters, each with its certificate.
 fn answer_of_many(alloc: Global, filters: u32) -> Result<Answer, AllocError> {
-    let texts = texts_of(alloc, filters)?;
-    let mut files = Vec::new(alloc);
-    for text in &texts {
-        files.push((text.as_bytes(), PASSES_CERTIFICATE))?;
-    }
-    answer(alloc, files.as_slice())
+    let mut texts = Vec::new(alloc);
+    add_texts(alloc, &mut texts, filters)?;
+    answer_of_texts(alloc, texts.as_slice())
 }
 
 /// As many filters as there may be, and one more.

@@ -378,19 +378,37 @@ fn step(
     }
 }
 
+/// The first of a script's turns at which the programs differ.
+fn wrong_turn(
+    operations: &mut Operations,
+    plain: &mut Plain,
+    dice: &mut Dice,
+    alloc: Global,
+) -> Result<Option<usize>, Fail> {
+    for turn in 0..60 {
+        let same = step(operations, plain, dice, alloc)?
+            && agree(operations, plain)
+            && agree_on_visits(operations, plain);
+        if !same {
+            return Ok(Some(turn));
+        }
+    }
+    Ok(None)
+}
+
+/// The first turn of a new script at which the programs differ.
+fn wrong_script(dice: &mut Dice, alloc: Global) -> Result<Option<usize>, Fail> {
+    let mut operations = Operations::new(alloc, FILTERS);
+    let mut plain = Plain::new(alloc);
+    wrong_turn(&mut operations, &mut plain, dice, alloc)
+}
+
 /// The first script and turn at which the programs differ.
 fn difference(alloc: Global) -> Result<Option<(usize, usize)>, Fail> {
     let mut dice = Dice { state: 20240612 };
     for script in 0..400 {
-        let mut operations = Operations::new(alloc, FILTERS);
-        let mut plain = Plain::new(alloc);
-        for turn in 0..60 {
-            let same = step(&mut operations, &mut plain, &mut dice, alloc)?
-                && agree(&operations, &plain)
-                && agree_on_visits(&operations, &plain);
-            if !same {
-                return Ok(Some((script, turn)));
-            }
+        if let Some(turn) = wrong_script(&mut dice, alloc)? {
+            return Ok(Some((script, turn)));
         }
     }
     Ok(None)
@@ -403,23 +421,33 @@ fn calls_do_what_the_plain_program_does(rt: HostRuntime) -> Result<(), Fail> {
     Ok(())
 }
 
-/// Whether as many operations arrive as there may be, and no more.
-fn no_more_arrive(alloc: Global) -> Result<bool, ArriveFault> {
-    let mut operations = Operations::new(alloc, FILTERS);
+/// Whether as many operations arrive as there may be.
+fn all_arrive(operations: &mut Operations) -> Result<bool, ArriveFault> {
     for serial in 0..65_536u32 {
         if operations.arrive(Operation::Write, Mode::Irp, serial % 1024)? != serial {
             return Ok(false);
         }
     }
+    Ok(true)
+}
+
+/// Whether no operation arrives, and the last one is the one that should be.
+fn are_full(operations: &mut Operations) -> bool {
     for _ in 0..2 {
         if operations.arrive(Operation::Write, Mode::Irp, 0) != Err(ArriveFault::Full)
             || place(operations.position(65_535)) != 2
             || place(operations.position(65_536)) != 0
         {
-            return Ok(false);
+            return false;
         }
     }
-    Ok(true)
+    true
+}
+
+/// Whether as many operations arrive as there may be, and no more.
+fn no_more_arrive(alloc: Global) -> Result<bool, ArriveFault> {
+    let mut operations = Operations::new(alloc, FILTERS);
+    Ok(all_arrive(&mut operations)? && are_full(&mut operations))
 }
 
 /// A call on the first operation.
@@ -470,21 +498,28 @@ fn made(
     }
 }
 
+/// Whether an operation that arrives first goes down and up by these calls.
+fn is_led(
+    operations: &mut Operations,
+    calls: &[(Call, Option<(usize, usize, Option<usize>)>)],
+) -> Result<bool, Fail> {
+    if operations.arrive(Operation::Read, Mode::Irp, 7)? != 0 {
+        return Ok(false);
+    }
+    for (call, wanted) in calls {
+        if operations.is_done(0) || made(operations, *call)? != *wanted {
+            return Ok(false);
+        }
+    }
+    Ok(operations.is_done(0) && end(operations.outcome(0)) == 2)
+}
+
 /// Whether the operation goes down and up by these calls.
 fn goes_down_and_up(
     alloc: Global,
     calls: &[(Call, Option<(usize, usize, Option<usize>)>)],
 ) -> Result<bool, Fail> {
-    let mut operations = Operations::new(alloc, FILTERS);
-    if operations.arrive(Operation::Read, Mode::Irp, 7)? != 0 {
-        return Ok(false);
-    }
-    for (call, wanted) in calls {
-        if operations.is_done(0) || made(&mut operations, *call)? != *wanted {
-            return Ok(false);
-        }
-    }
-    Ok(operations.is_done(0) && end(operations.outcome(0)) == 2)
+    is_led(&mut Operations::new(alloc, FILTERS), calls)
 }
 
 /// `tools/refuse-allocations.sh tests flt_tests memory` refuses each request for memory in turn.

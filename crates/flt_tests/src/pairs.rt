@@ -21,9 +21,8 @@ fn least(row: &[bool; SECONDS]) -> Option<u32> {
     None
 }
 
-/// The first turn at which a set says something else than the table.
-fn wrong_turn(alloc: Global) -> Result<Option<usize>, AllocError> {
-    let mut pairs = PairSet::new(alloc);
+/// The first turn at which an empty set says something else than the table.
+fn wrong_turn_of(pairs: &mut PairSet) -> Result<Option<usize>, AllocError> {
     let mut there = [[false; SECONDS]; FIRSTS];
     let mut dice = Dice { state: 20261124 };
     for turn in 0..1000 {
@@ -43,6 +42,11 @@ fn wrong_turn(alloc: Global) -> Result<Option<usize>, AllocError> {
         }
     }
     Ok(None)
+}
+
+/// The first turn at which a new set says something else than the table.
+fn wrong_turn(alloc: Global) -> Result<Option<usize>, AllocError> {
+    wrong_turn_of(&mut PairSet::new(alloc))
 }
 
 #[test]

@@ -17,13 +17,21 @@ struct Plain {
 
 impl Plain {
     fn new(alloc: Global) -> Result<Plain, AllocError> {
-        let mut queues = Vec::new(alloc);
-        let mut disabled = Vec::new(alloc);
+        let mut plain = Plain {
+            queues: Vec::new(alloc),
+            disabled: Vec::new(alloc),
+        };
+        plain.add_queues(alloc)?;
+        Ok(plain)
+    }
+
+    /// Gives each filter an empty queue.
+    fn add_queues(&mut self, alloc: Global) -> Result<(), AllocError> {
         for _ in 0..FILTERS {
-            queues.push(Vec::new(alloc))?;
-            disabled.push(false)?;
+            self.queues.push(Vec::new(alloc))?;
+            self.disabled.push(false)?;
         }
-        Ok(Plain { queues, disabled })
+        Ok(())
     }
 
     fn is_disabled(&self, filter: usize) -> bool {
@@ -77,26 +85,38 @@ impl Plain {
     }
 }
 
-/// Whether both programs hold the same entries in the same order, as far as entries can be asked for.
+/// Whether both programs hold the same so many entries of a filter in the same order, as far as entries can be asked for.
+fn agree_by_place(queues: &Queues, plain: &Plain, filter: usize, length: usize) -> bool {
+    for place in 0..length {
+        if queues.entry(filter, place).copied() != plain.entry(filter, place) {
+            return false;
+        }
+    }
+    queues.entry(filter, length).is_none()
+}
+
+/// Whether a walk finds the same so many entries of a filter in the same order.
+fn agree_on_a_walk(queues: &Queues, plain: &Plain, filter: usize, length: usize) -> bool {
+    let mut left = queues.walk(filter);
+    for place in 0..length.saturating_add(1) {
+        if left.next_entry() != plain.entry(filter, place) {
+            return false;
+        }
+    }
+    true
+}
+
+/// Whether both programs hold the same entries in the same order.
 fn agree(queues: &Queues, plain: &Plain) -> bool {
     for filter in 0..FILTERS + 1 {
         let length = match plain.queues.get(filter) {
             Some(queue) => queue.len(),
             None => 0,
         };
-        for place in 0..length {
-            if queues.entry(filter, place).copied() != plain.entry(filter, place) {
-                return false;
-            }
-        }
-        if queues.entry(filter, length).is_some() {
+        if !agree_by_place(queues, plain, filter, length)
+            || !agree_on_a_walk(queues, plain, filter, length)
+        {
             return false;
-        }
-        let mut left = queues.walk(filter);
-        for place in 0..length + 1 {
-            if left.next_entry() != plain.entry(filter, place) {
-                return false;
-            }
         }
     }
     true
@@ -156,16 +176,33 @@ fn step(queues: &mut Queues, plain: &mut Plain, dice: &mut Dice) -> Result<bool,
     }
 }
 
+/// The first of a script's turns at which the programs differ.
+fn wrong_roll(
+    queues: &mut Queues,
+    plain: &mut Plain,
+    dice: &mut Dice,
+) -> Result<Option<usize>, AllocError> {
+    for turn in 0..60 {
+        if !step(queues, plain, dice)? || !agree(queues, plain) {
+            return Ok(Some(turn));
+        }
+    }
+    Ok(None)
+}
+
+/// The first turn of a new script at which the programs differ.
+fn wrong_script(dice: &mut Dice, alloc: Global) -> Result<Option<usize>, AllocError> {
+    let mut queues = Queues::new(alloc, FILTERS)?;
+    let mut plain = Plain::new(alloc)?;
+    wrong_roll(&mut queues, &mut plain, dice)
+}
+
 /// The first script and turn at which the programs differ.
 fn difference(alloc: Global) -> Result<Option<(usize, usize)>, AllocError> {
     let mut dice = Dice { state: 20240708 };
     for script in 0..400 {
-        let mut queues = Queues::new(alloc, FILTERS)?;
-        let mut plain = Plain::new(alloc)?;
-        for turn in 0..60 {
-            if !step(&mut queues, &mut plain, &mut dice)? || !agree(&queues, &plain) {
-                return Ok(Some((script, turn)));
-            }
+        if let Some(turn) = wrong_script(&mut dice, alloc)? {
+            return Ok(Some((script, turn)));
         }
     }
     Ok(None)
@@ -187,30 +224,41 @@ const SECOND: Entry = Entry {
     context: None,
 };
 
+/// Whether these queues, in which nothing waits, take an entry for each of two filters, and a second one for the first.
+fn take_what_comes(queues: &mut Queues) -> bool {
+    queues.insert(0, FIRST).is_ok()
+        && queues.insert(0, SECOND).is_ok()
+        && queues.insert(1, SECOND).is_ok()
+}
+
+/// Whether the queue of the first filter, which is disabled, gives what waits and takes nothing; and the other goes on.
+fn give_what_waits(queues: &mut Queues) -> bool {
+    queues.insert(0, FIRST) == Err(InsertFault::Disabled(FIRST))
+        && queues.insert(2, FIRST) == Err(InsertFault::Disabled(FIRST))
+        && queues.insert(1, FIRST).is_ok()
+        && queues.first_of(0, &[9, 7]).copied() == Some(FIRST)
+        && queues.first_of(0, &[8, 9]).copied() == Some(SECOND)
+        && queues.first_of(0, &[8]).is_none()
+        && queues.remove(0, 9) == Some(SECOND)
+        && queues.remove(0, 9).is_none()
+        && queues.remove_next(0) == Some(FIRST)
+        && queues.remove_next(0).is_none()
+        && queues.entry(1, 0).copied() == Some(SECOND)
+        && queues.entry(1, 1).copied() == Some(FIRST)
+}
+
 /// Whether a queue that is disabled while an entry waits keeps it; each filter has a queue of its own.
-fn keeps_what_waits(alloc: Global) -> Result<bool, AllocError> {
-    let mut queues = Queues::new(alloc, 2)?;
-    if queues.insert(0, FIRST).is_err()
-        || queues.insert(0, SECOND).is_err()
-        || queues.insert(1, SECOND).is_err()
-    {
-        return Ok(false);
+fn keep_what_waits(queues: &mut Queues) -> bool {
+    if !take_what_comes(queues) {
+        return false;
     }
     queues.disable(0);
-    Ok(
-        queues.insert(0, FIRST) == Err(InsertFault::Disabled(FIRST))
-            && queues.insert(2, FIRST) == Err(InsertFault::Disabled(FIRST))
-            && queues.insert(1, FIRST).is_ok()
-            && queues.first_of(0, &[9, 7]).copied() == Some(FIRST)
-            && queues.first_of(0, &[8, 9]).copied() == Some(SECOND)
-            && queues.first_of(0, &[8]).is_none()
-            && queues.remove(0, 9) == Some(SECOND)
-            && queues.remove(0, 9).is_none()
-            && queues.remove_next(0) == Some(FIRST)
-            && queues.remove_next(0).is_none()
-            && queues.entry(1, 0).copied() == Some(SECOND)
-            && queues.entry(1, 1).copied() == Some(FIRST),
-    )
+    give_what_waits(queues)
+}
+
+/// Whether new queues of two filters do so.
+fn keeps_what_waits(alloc: Global) -> Result<bool, AllocError> {
+    Ok(keep_what_waits(&mut Queues::new(alloc, 2)?))
 }
 
 #[test]
@@ -219,27 +267,37 @@ fn a_disabled_queue_keeps_what_waits(rt: HostRuntime) -> Result<(), Fail> {
     Ok(())
 }
 
+/// Whether both programs answer the same in a turn of putting an entry in, and of taking one out in each fifth.
+fn is_same_turn(queues: &mut Queues, plain: &mut Plain, turn: usize) -> Result<bool, AllocError> {
+    let filter = turn % FILTERS;
+    let entry = Entry {
+        visit: turn % 11,
+        context: None,
+    };
+    let mut same = insert(queues, plain, filter, entry)?;
+    if turn % 5 == 4 {
+        let place = plain.place_of(filter, &[turn % 7]);
+        same = same && queues.remove(filter, turn % 7) == plain.take(filter, place);
+    }
+    Ok(same && agree(queues, plain))
+}
+
+/// The first of the turns at which the programs differ.
+fn wrong_turn_of(queues: &mut Queues, plain: &mut Plain) -> Result<Option<usize>, AllocError> {
+    for turn in 0..40 {
+        if !is_same_turn(queues, plain, turn)? {
+            return Ok(Some(turn));
+        }
+    }
+    Ok(None)
+}
+
 /// The first turn at which the programs differ, where entries are put in and taken out. A refused entry comes back, and the queues stay as
 /// they were.
 fn wrong_turn(alloc: Global) -> Result<Option<usize>, AllocError> {
     let mut queues = Queues::new(alloc, FILTERS)?;
     let mut plain = Plain::new(alloc)?;
-    for turn in 0..40 {
-        let filter = turn % FILTERS;
-        let entry = Entry {
-            visit: turn % 11,
-            context: None,
-        };
-        let mut same = insert(&mut queues, &mut plain, filter, entry)?;
-        if turn % 5 == 4 {
-            let place = plain.place_of(filter, &[turn % 7]);
-            same = same && queues.remove(filter, turn % 7) == plain.take(filter, place);
-        }
-        if !same || !agree(&queues, &plain) {
-            return Ok(Some(turn));
-        }
-    }
-    Ok(None)
+    wrong_turn_of(&mut queues, &mut plain)
 }
 
 /// `tools/refuse-allocations.sh tests flt_tests memory` refuses each request for memory in turn.

@@ -51,18 +51,37 @@ const EACH_KIND_COMMANDS: [Command; 13] = [
     Command::Refuse { choice: 0 },
 ];
 
-fn stack(alloc: Global) -> Result<Vec<Tree>, Fail> {
-    let mut trees = Vec::new(alloc);
+/// Puts the tree of a text behind others.
+fn add_tree(alloc: Global, trees: &mut Vec<Tree>, text: &[u8]) -> Result<(), Fail> {
+    let tree = parse(alloc, text)?;
+    trees.push(tree)?;
+    Ok(())
+}
+
+/// Puts the trees of the stack's filters behind others.
+fn add_stack(alloc: Global, trees: &mut Vec<Tree>) -> Result<(), Fail> {
     for text in FILTERS {
-        trees.push(parse(alloc, text)?)?;
+        add_tree(alloc, trees, text)?;
     }
-    Ok(trees)
+    Ok(())
+}
+
+/// Whether a script for these filters has these commands.
+fn is_read_for(
+    alloc: Global,
+    trees: &[Tree],
+    text: &[u8],
+    commands: &[Command],
+) -> Result<bool, Fail> {
+    let script = read(alloc, trees, text)?;
+    Ok(script.commands() == commands)
 }
 
 /// Whether a script has these commands.
 fn is_read(alloc: Global, text: &[u8], commands: &[Command]) -> Result<bool, Fail> {
-    let trees = stack(alloc)?;
-    Ok(read(alloc, trees.as_slice(), text)?.commands() == commands)
+    let mut trees = Vec::new(alloc);
+    add_stack(alloc, &mut trees)?;
+    is_read_for(alloc, trees.as_slice(), text, commands)
 }
 
 /// `tools/refuse-allocations.sh tests flt_tests memory` refuses each request for memory in turn.

@@ -74,19 +74,35 @@ fn are_apart(one: &Abs, other: &Abs) -> bool {
     join(one, other).is_err() && !leq(one, other) && !leq(other, one)
 }
 
+/// As `is_least`, where all three are states.
+fn are_least(low: &Option<Abs>, high: &Option<Abs>, either: &Option<Abs>) -> Option<bool> {
+    match (low, high, either) {
+        (Some(low), Some(high), Some(either)) => Some(is_least(low, high, either)),
+        _ => None,
+    }
+}
+
 /// Whether states with more statuses are above those with fewer.
 fn are_ordered(alloc: Global) -> Option<bool> {
-    let held = state(alloc, 2, 1, &[L1, L0_SHARED])?;
-    let stale = state(alloc, 4, 2, &[L1, L0_SHARED])?;
-    let either = state(alloc, 6, 3, &[L1, L0_SHARED])?;
-    Some(is_least(&held, &stale, &either))
+    let held = state(alloc, 2, 1, &[L1, L0_SHARED]);
+    let stale = state(alloc, 4, 2, &[L1, L0_SHARED]);
+    let either = state(alloc, 6, 3, &[L1, L0_SHARED]);
+    are_least(&held, &stale, &either)
+}
+
+/// As `are_apart`, where both are states.
+fn stand_apart(one: &Option<Abs>, other: &Option<Abs>) -> Option<bool> {
+    match (one, other) {
+        (Some(one), Some(other)) => Some(are_apart(one, other)),
+        _ => None,
+    }
 }
 
 /// Whether a state with these locks stands beside one whose locks are `L1`, held alone, and `L0`, held beside others.
 fn stands_beside(alloc: Global, locks: &[HeldLock]) -> Option<bool> {
-    let one = state(alloc, 1, 1, &[L1, L0_SHARED])?;
-    let other = state(alloc, 1, 1, locks)?;
-    Some(are_apart(&one, &other))
+    let one = state(alloc, 1, 1, &[L1, L0_SHARED]);
+    let other = state(alloc, 1, 1, locks);
+    stand_apart(&one, &other)
 }
 
 #[test]

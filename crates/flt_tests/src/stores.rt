@@ -55,10 +55,15 @@ fn nothing_is_there(store: &Store) -> bool {
         && !store.makes_frame(0, Way::Frames)
 }
 
+/// Whether a store is one before the first move.
+fn is_before_all(store: &Store) -> bool {
+    store.filters() == FILTERS && filters_are_fresh(store) && nothing_is_there(store)
+}
+
 /// Whether a new store is one before the first move.
 fn is_fresh(alloc: Global) -> Result<bool, AllocError> {
     let store = Store::new(alloc, FILTERS)?;
-    Ok(store.filters() == FILTERS && filters_are_fresh(&store) && nothing_is_there(&store))
+    Ok(is_before_all(&store))
 }
 
 /// `tools/refuse-allocations.sh tests flt_tests memory` refuses each request for memory in turn.

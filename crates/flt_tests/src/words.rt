@@ -2,8 +2,8 @@
 //! texts that are none stands in `examples/cases/texts.cases`.
 
 use flt_print::print;
-use flt_syntax::{Action, OperationVariable, ParseError, Statement, parse};
-use std::alloc::Global;
+use flt_syntax::{Action, OperationVariable, ParseError, Statement, Tree, parse};
+use std::alloc::{AllocError, Global};
 use std::test::Fail;
 
 /// A canonical text. It and the next one have all 90 words between them.
@@ -84,14 +84,16 @@ fn have_places(statements: &[Statement], places: &[(u8, usize)]) -> bool {
     statements.len() == places.len()
 }
 
-/// The canonical text of what a text spells.
-fn printed(alloc: Global, text: &[u8]) -> Result<Vec<u8>, ParseError> {
-    Ok(print(alloc, &parse(alloc, text)?)?)
+/// Whether this is the canonical text of a tree.
+fn is_canonical(alloc: Global, tree: &Tree, canonical: &[u8]) -> Result<bool, AllocError> {
+    let printed = print(alloc, tree)?;
+    Ok(printed.as_slice() == canonical)
 }
 
 /// Whether the text is printed as this one.
 fn is_printed(alloc: Global, text: &[u8], canonical: &[u8]) -> Result<bool, ParseError> {
-    Ok(printed(alloc, text)?.as_slice() == canonical)
+    let tree = parse(alloc, text)?;
+    Ok(is_canonical(alloc, &tree, canonical)?)
 }
 
 /// The first text that hasn't its canonical text, or whose canonical text hasn't itself.
@@ -104,13 +106,18 @@ fn wrong_layout(alloc: Global, rows: &[(&[u8], &[u8])]) -> Result<Option<usize>,
     Ok(None)
 }
 
+/// Whether a tree has one callback, and its statements assign the variables of these places.
+fn are_its_places(tree: &Tree, places: &[(u8, usize)]) -> bool {
+    match tree.filter.callbacks.as_slice() {
+        [callback] => have_places(callback.body.as_slice(), places),
+        _ => false,
+    }
+}
+
 /// Whether a text has one callback, and its statements assign the variables of these places.
 fn have_own_places(alloc: Global, text: &[u8], places: &[(u8, usize)]) -> Result<bool, ParseError> {
     let tree = parse(alloc, text)?;
-    match tree.filter.callbacks.as_slice() {
-        [callback] => Ok(have_places(callback.body.as_slice(), places)),
-        _ => Ok(false),
-    }
+    Ok(are_its_places(&tree, places))
 }
 
 /// `tools/refuse-allocations.sh tests flt_tests memory` refuses each request for memory in turn.
