@@ -1,4 +1,4 @@
-//! The most operations and the most entries that there may be.
+//! The most entries that there may be. The most operations stand in `examples/cases/runs.cases`.
 
 use crate::scene::{Answer, Scene, finding};
 use crate::texts;
@@ -14,70 +14,11 @@ const READ: Move = Move::Arrive {
     file: 0,
 };
 
-/// Create comes as an I/O request packet alone.
-const FAST_CREATE: Move = Move::Arrive {
-    operation: Operation::Create,
-    mode: Mode::Fast,
-    file: 0,
-};
-
-/// Reads arrive until there are 65,536 operations. Whether each of them goes, and is there from then on.
-fn all_arrive(scene: &mut Scene, alloc: Global) -> bool {
-    for serial in 0..65_536u32 {
-        if scene.next_move(serial).is_some()
-            || scene.apply(alloc, READ) != Answer::Went
-            || scene.next_move(serial) != Some(Move::Pre { serial })
-        {
-            return false;
-        }
-    }
-    true
-}
-
-/// Whether no operation arrives, and nothing changes thereby.
-fn none_arrives(scene: &mut Scene, alloc: Global) -> bool {
-    let before = scene.look();
-    scene.apply(alloc, READ) == Answer::Full
-        && scene.apply(alloc, FAST_CREATE) == Answer::NotEnabled
-        && scene.look() == before
-        && scene.next_move(65_536).is_none()
-}
-
 /// The monitor finds nothing of what was made.
 fn is_clean(rt: &impl Abort, alloc: Global, texts: &[&str], journal: &Journal) -> Result<(), Fail> {
     let found = finding(alloc, texts, journal)?;
     assert!(rt; found.is_none());
     Ok(())
-}
-
-/// The last of all operations goes on, and no other arrives.
-fn last_operation(rt: &impl Abort, scene: &mut Scene, alloc: Global) -> Result<(), Fail> {
-    assert!(rt; all_arrive(scene, alloc));
-    assert!(rt; none_arrives(scene, alloc));
-    assert!(rt; scene.apply(alloc, Move::Pre { serial: 65_535 }) == Answer::Went);
-    assert!(rt; scene.go(alloc, 0, Some(1), true) == Answer::Went);
-    assert!(rt; scene.apply(alloc, Move::Cancel { serial: 65_535 }) == Answer::Went);
-    assert!(rt; scene.apply(alloc, Move::Lower { serial: 65_535 }) == Answer::Went);
-    assert!(rt; none_arrives(scene, alloc));
-    is_clean(rt, alloc, &[texts::PASSES], scene.board().journal())
-}
-
-/// The same of a new board.
-fn operations_arrive(rt: &impl Abort, alloc: Global) -> Result<(), Fail> {
-    match Scene::new(alloc, &[texts::PASSES]) {
-        Ok(mut scene) => {
-            let fine = last_operation(rt, &mut scene, alloc);
-            scene.end();
-            fine
-        }
-        Err(fail) => Err(fail),
-    }
-}
-
-/// The 65,536th operation has the serial number 65,535. Other moves go on.
-#[test]
-fn the_last_operation_arrives_and_no_more(rt: HostRuntime) -> Result<(), Fail> {
-    operations_arrive(&rt, rt.alloc())
 }
 
 /// Lets an activation go on to its end, or to what stops it: how often it went, and the last answer.

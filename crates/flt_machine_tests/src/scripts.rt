@@ -72,6 +72,6 @@ fn wrong_case(alloc: Global, cases: &[Case]) -> Result<Option<usize>, Fail> {
 #[test]
 fn scripts_give_these_journals_within_memory(rt: HostRuntime) -> Result<(), Fail> {
     let wrong = wrong_case(rt.alloc(), &CASES)?;
-    assert_eq!(rt; wrong, None);
+    assert!(rt; wrong == None);
     Ok(())
 }

@@ -11,10 +11,6 @@ pub(crate) const UPPER: &str =
 pub(crate) const LOWER: &str =
     "filter a altitude 100\npre read {\nreturn WITH_CALLBACK\n}\npost read {\nif arg != NULL {\nFltReleaseContext arg\n}\nreturn FINISHED_PROCESSING\n}\n";
 
-/// Completes each read at once.
-pub(crate) const DENIES: &str =
-    "filter a altitude 100\npre read {\nreturn COMPLETE STATUS_ACCESS_DENIED\n}\n";
-
 /// Pends each read in its queue.
 pub(crate) const PENDS: &str =
     "filter q altitude 100\nqueue\npre read {\nif irp data {\nif FltCbdqInsertIo data {\nreturn PENDING\n}\n}\nreturn NO_CALLBACK\n}\ncanceled {\nif arg != NULL {\nFltReleaseContext arg\n}\nFltCompletePendedPreOperation data COMPLETE STATUS_CANCELLED\n}\n";
@@ -46,10 +42,6 @@ pub(crate) const QUEUES_AND_PASSES: &str =
 /// Takes a push lock beside others.
 pub(crate) const SHARES: &str =
     "filter a altitude 100\nlock push l\npre read {\nFltAcquirePushLockShared l\nn0 = file data\nFltReleasePushLock l\nreturn NO_CALLBACK\n}\n";
-
-/// Takes it alone.
-pub(crate) const EXCLUDES: &str =
-    "filter a altitude 100\nlock push l\npre read {\nFltAcquirePushLockExclusive l\nn0 = file data\nFltReleasePushLock l\nreturn NO_CALLBACK\n}\n";
 
 /// Asks 400,000 times for the file of a read.
 pub(crate) const GOES_ON: &str =

@@ -1,6 +1,11 @@
-//! Tests of the running stack: what scripts come to by one worker, and stacks that several threads share.
+//! Tests of what threads share: the running stack, by scripts of one worker and in threads of its own, the cancel pads, the exchange of
+//! tickets, and analyses side by side. They alone start threads.
 #![tactic(auto)]
 
+#[cfg(test)]
+mod analyses;
+#[cfg(test)]
+mod cancel_pads;
 #[cfg(test)]
 mod crowds;
 #[cfg(test)]
@@ -11,3 +16,5 @@ mod fixture;
 mod journals;
 #[cfg(test)]
 mod scripts;
+#[cfg(test)]
+mod tickets;

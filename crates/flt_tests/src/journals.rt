@@ -1,11 +1,7 @@
-//! Journals from their text and back, and streams that fail at each of their calls. Texts that are no journals stand in
-//! `examples/cases/journals.cases`.
+//! Streams of journals that fail at each of their calls. Texts that are no journals stand in `examples/cases/journals.cases`, and others
+//! with their verdicts in `examples/verdicts/`.
 
-use flt_model::{
-    Journal, JournalEntry, JournalFault, Key, Move, ReadFault, Sink, Source, WriteFault, read,
-    write,
-};
-use flt_rules::{Mode, Operation};
+use flt_model::{Journal, JournalFault, ReadFault, Sink, Source, WriteFault, read, write};
 use std::alloc::{AllocError, Global};
 use std::test::Fail;
 
@@ -102,188 +98,12 @@ impl Sink for Kept {
     }
 }
 
-const READ: Move = Move::Arrive {
-    operation: Operation::Read,
-    mode: Mode::Irp,
-    file: 0,
-};
-
-/// A read that is pended and cancelled before its callback returns.
-const CANCELLED: &str =
-    "fltjournal 1\narrive read irp 0\npre 0\ngo 0 1 yes\ngo 0 1 yes\ncancel 0\ncanceled 100 0\ngo 1 2 yes\ngo 1 1 yes\ngo 0 1 yes\nend\n";
-
-const CANCELLED_ENTRIES: [JournalEntry; 9] = [
-    JournalEntry::Move(READ),
-    JournalEntry::Move(Move::Pre { serial: 0 }),
-    JournalEntry::Go {
-        activation: 0,
-        steps: 1,
-        grant: true,
-    },
-    JournalEntry::Go {
-        activation: 0,
-        steps: 1,
-        grant: true,
-    },
-    JournalEntry::Move(Move::Cancel { serial: 0 }),
-    JournalEntry::Move(Move::Canceled {
-        altitude: 100,
-        serial: 0,
-    }),
-    JournalEntry::Go {
-        activation: 1,
-        steps: 2,
-        grant: true,
-    },
-    JournalEntry::Go {
-        activation: 1,
-        steps: 1,
-        grant: true,
-    },
-    JournalEntry::Go {
-        activation: 0,
-        steps: 1,
-        grant: true,
-    },
-];
-
 /// A line of each kind, with the least and the greatest number.
 const EACH_KIND: &str =
     "fltjournal 1\narrive create irp 0\narrive cleanup fast 4294967295\narrive write fast 10\npre 4294967295\nskip 1\nlower 2\npost 3\ncancel 4\ncanceled 5 6\nwork 7\ndetach 8\ndrain 9 10\nunlink 11 stream 12\nunlink 13 instance\ndetached 14\ngo 15 16 no\ngo 4294967295 4294967295 yes\nend\n";
 
-const EACH_KIND_ENTRIES: [JournalEntry; 17] = [
-    JournalEntry::Move(Move::Arrive {
-        operation: Operation::Create,
-        mode: Mode::Irp,
-        file: 0,
-    }),
-    JournalEntry::Move(Move::Arrive {
-        operation: Operation::Cleanup,
-        mode: Mode::Fast,
-        file: 4294967295,
-    }),
-    JournalEntry::Move(Move::Arrive {
-        operation: Operation::Write,
-        mode: Mode::Fast,
-        file: 10,
-    }),
-    JournalEntry::Move(Move::Pre { serial: 4294967295 }),
-    JournalEntry::Move(Move::Skip { serial: 1 }),
-    JournalEntry::Move(Move::Lower { serial: 2 }),
-    JournalEntry::Move(Move::Post { serial: 3 }),
-    JournalEntry::Move(Move::Cancel { serial: 4 }),
-    JournalEntry::Move(Move::Canceled {
-        altitude: 5,
-        serial: 6,
-    }),
-    JournalEntry::Move(Move::Work { item: 7 }),
-    JournalEntry::Move(Move::Detach { altitude: 8 }),
-    JournalEntry::Move(Move::Drain {
-        altitude: 9,
-        serial: 10,
-    }),
-    JournalEntry::Move(Move::Unlink {
-        altitude: 11,
-        key: Key::Stream(12),
-    }),
-    JournalEntry::Move(Move::Unlink {
-        altitude: 13,
-        key: Key::Instance,
-    }),
-    JournalEntry::Move(Move::Detached { altitude: 14 }),
-    JournalEntry::Go {
-        activation: 15,
-        steps: 16,
-        grant: false,
-    },
-    JournalEntry::Go {
-        activation: 4294967295,
-        steps: 4294967295,
-        grant: true,
-    },
-];
-
-/// Journals of whole runs: without an entry; a removal that finds no entry, and one that isn't cancelled in time; two
-/// first uses of a stream's context; a detach.
-const WORKED: [&str; 6] = [
-    "fltjournal 1\nend\n",
-    CANCELLED,
-    "fltjournal 1\narrive read irp 0\npre 0\ngo 0 1 yes\ngo 0 1 yes\ngo 0 1 yes\narrive write irp 0\npre 1\ncancel 0\ngo 1 1 yes\ncanceled 100 0\nend\n",
-    "fltjournal 1\narrive read irp 0\npre 0\ngo 0 1 yes\ngo 0 1 yes\ngo 0 1 yes\narrive write irp 0\npre 1\ncancel 0\ncanceled 100 0\ngo 1 1 yes\ngo 1 1 yes\ngo 2 2 yes\ngo 2 1 yes\nlower 1\nend\n",
-    "fltjournal 1\narrive read irp 0\narrive read irp 0\npre 0\npre 1\ngo 0 1 yes\ngo 1 1 yes\ngo 0 1 yes\ngo 1 1 yes\ngo 0 1 yes\ngo 1 1 yes\ngo 0 3 yes\ngo 1 2 yes\ngo 1 2 yes\ngo 0 1 yes\ngo 1 1 yes\nlower 0\nlower 1\nend\n",
-    "fltjournal 1\narrive read irp 0\npre 0\ngo 0 1 yes\ngo 0 1 yes\ngo 0 1 yes\narrive write irp 0\npre 1\ngo 1 1 yes\ngo 1 1 yes\ngo 1 1 yes\ndetach 100\ndrain 100 1\ngo 2 2 yes\ngo 2 1 yes\ncanceled 100 0\ngo 3 2 yes\ngo 3 1 yes\nunlink 100 stream 0\ndetached 100\nlower 1\nend\n",
-];
-
 fn read_text(alloc: Global, text: &[u8]) -> Result<Journal, JournalFault> {
     read(alloc, &mut Given::new(text, None))
-}
-
-/// Whether the journal is written as this text.
-fn is_written(alloc: Global, journal: &Journal, text: &str) -> bool {
-    let mut out = Kept::new(alloc, None);
-    write(journal, &mut out).is_ok() && out.bytes.as_slice() == text.as_bytes()
-}
-
-/// A journal of these entries.
-fn made_of(alloc: Global, entries: &[JournalEntry]) -> Result<Journal, JournalFault> {
-    let mut made = Journal::new(alloc);
-    for entry in entries {
-        made.push(*entry)?;
-    }
-    Ok(made)
-}
-
-/// Whether a journal has these entries and no more.
-fn has(journal: &Journal, entries: &[JournalEntry]) -> bool {
-    journal.len() == entries.len()
-        && journal.entries() == entries
-        && journal.entry(0) == entries.first().copied()
-        && journal.entry(entries.len()).is_none()
-}
-
-/// Whether all entries can be taken out of a journal, the last one first.
-fn gives_back(journal: &mut Journal, entries: &[JournalEntry]) -> bool {
-    for entry in entries.iter().rev() {
-        if journal.pop() != Some(*entry) {
-            return false;
-        }
-    }
-    journal.pop().is_none()
-}
-
-/// Whether the text reads as these entries, and they are written so.
-fn goes_both_ways(
-    alloc: Global,
-    text: &str,
-    entries: &[JournalEntry],
-) -> Result<bool, JournalFault> {
-    let journal = read_text(alloc, text.as_bytes())?;
-    let mut made = made_of(alloc, entries)?;
-    Ok(
-        has(&journal, entries)
-            && has(&made, entries)
-            && is_written(alloc, &made, text)
-            && gives_back(&mut made, entries),
-    )
-}
-
-/// The first of these texts that isn't written as it was read.
-fn wrong_run(alloc: Global, texts: &[&str]) -> Result<Option<usize>, JournalFault> {
-    for (row, text) in texts.iter().enumerate() {
-        let journal = read_text(alloc, text.as_bytes())?;
-        if !is_written(alloc, &journal, text) {
-            return Ok(Some(row));
-        }
-    }
-    Ok(None)
-}
-
-#[test]
-fn journals_both_ways(rt: HostRuntime) -> Result<(), Fail> {
-    assert!(rt; goes_both_ways(rt.alloc(), CANCELLED, &CANCELLED_ENTRIES)?);
-    assert!(rt; goes_both_ways(rt.alloc(), EACH_KIND, &EACH_KIND_ENTRIES)?);
-    assert!(rt; wrong_run(rt.alloc(), &WORKED)?.is_none());
-    Ok(())
 }
 
 /// Whether reading stops at the first malformed byte: a failure behind it doesn't come.

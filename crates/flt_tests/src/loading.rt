@@ -115,35 +115,6 @@ fn loads_what_is_accepted(rt: HostRuntime) -> Result<(), Fail> {
     Ok(())
 }
 
-/// Texts of so many filters, at the altitudes from 1 on.
-fn texts_of(alloc: Global, filters: u32) -> Result<Vec<String>, AllocError> {
-    let mut texts = Vec::new(alloc);
-    for altitude in 1..=filters {
-        texts.push(format!(in alloc;
-            "filter a altitude {altitude}\npre read {{\nreturn NO_CALLBACK\n}}\n"
-        )?)?;
-    }
-    Ok(texts)
-}
-
-/// What is answered of so many filters, each with its certificate.
-fn answer_of_many(alloc: Global, filters: u32) -> Result<Answer, AllocError> {
-    let texts = texts_of(alloc, filters)?;
-    let mut files = Vec::new(alloc);
-    for text in &texts {
-        files.push((text.as_bytes(), PASSES_CERTIFICATE))?;
-    }
-    answer(alloc, files.as_slice())
-}
-
-/// As many filters as there may be, and one more.
-#[test]
-fn loads_sixteen_and_not_seventeen(rt: HostRuntime) -> Result<(), Fail> {
-    assert!(rt; answer_of_many(rt.alloc(), 16)? == LOADED);
-    assert!(rt; answer_of_many(rt.alloc(), 17)? == COUNT);
-    Ok(())
-}
-
 /// `tools/refuse-allocations.sh tests flt_tests memory` refuses each request for memory in turn.
 #[test]
 fn loads_within_memory(rt: HostRuntime) -> Result<(), Fail> {

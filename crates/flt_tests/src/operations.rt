@@ -1,7 +1,7 @@
-//! Operations beside a plain program that scans rows, and the most operations that there may be.
+//! Operations beside a plain program that scans rows.
 
 use crate::dice::Dice;
-use flt_ops::{ArriveFault, Frame, Operations, Outcome, Position, Started, Way};
+use flt_ops::{Frame, Operations, Outcome, Position, Started, Way};
 use flt_rules::{FinalStatus, Mode, Operation, Stage};
 use std::alloc::{AllocError, Global};
 use std::test::Fail;
@@ -399,27 +399,7 @@ fn difference(alloc: Global) -> Result<Option<(usize, usize)>, Fail> {
 #[test]
 fn calls_do_what_the_plain_program_does(rt: HostRuntime) -> Result<(), Fail> {
     assert!(rt; difference(rt.alloc())?.is_none());
-    assert!(rt; no_more_arrive(rt.alloc())?);
     Ok(())
-}
-
-/// Whether as many operations arrive as there may be, and no more.
-fn no_more_arrive(alloc: Global) -> Result<bool, ArriveFault> {
-    let mut operations = Operations::new(alloc, FILTERS);
-    for serial in 0..65_536u32 {
-        if operations.arrive(Operation::Write, Mode::Irp, serial % 1024)? != serial {
-            return Ok(false);
-        }
-    }
-    for _ in 0..2 {
-        if operations.arrive(Operation::Write, Mode::Irp, 0) != Err(ArriveFault::Full)
-            || place(operations.position(65_535)) != 2
-            || place(operations.position(65_536)) != 0
-        {
-            return Ok(false);
-        }
-    }
-    Ok(true)
 }
 
 /// A call on the first operation.

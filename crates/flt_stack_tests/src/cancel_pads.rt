@@ -1,0 +1,139 @@
+//! Worked examples, and pads that ten threads share.
+ghost use Rattle.std.specs.Prelude.{◌≡◌, ◌<◌, All};
+ghost use Rattle.flt_cancel.specs.Seats.{IsSeatOf};
+
+use flt_cancel::{Pads, Seat};
+use std::alloc::AllocError;
+use std::sync::atomic::{AtomicU64, Ordering};
+use std::test::*;
+use std::thread;
+use std::thread::Threads;
+
+#[test]
+fn collects_what_was_asked(rt: HostRuntime) -> Result<(), Fail> {
+    let (pads, mut seats) = Pads::open(rt.alloc(), 3)?;
+    let Some(mut caller) = seats.pop() else {
+        panic!(rt; "a seat")
+    };
+    let Some(mut worker) = seats.pop() else {
+        panic!(rt; "a seat")
+    };
+    pads.ask(&mut caller, 63);
+    pads.ask(&mut caller, 64);
+    pads.ask(&mut caller, 63);
+    assert!(rt; pads.collect(&mut worker, 0) == 9223372036854775808);
+    assert!(rt; pads.collect(&mut worker, 1) == 1);
+    assert!(rt; pads.collect(&mut worker, 0) == 0);
+    pads.ask(&mut caller, 65535);
+    assert!(rt; pads.collect(&mut worker, 1023) == 9223372036854775808);
+    Ok(())
+}
+
+#[test]
+fn collects_again_what_is_asked_again(rt: HostRuntime) -> Result<(), Fail> {
+    let (pads, mut seats) = Pads::open(rt.alloc(), 1)?;
+    let Some(mut seat) = seats.pop() else {
+        panic!(rt; "a seat")
+    };
+    pads.ask(&mut seat, 5);
+    assert!(rt; pads.collect(&mut seat, 0) == 32);
+    pads.ask(&mut seat, 5);
+    assert!(rt; pads.collect(&mut seat, 0) == 32);
+    Ok(())
+}
+
+/// The words of the serials below 800, which eight threads ask for, 100 each.
+const ASKED_WORDS: usize = 13;
+
+/// What was collected: the bits of each word, and how many there were in all.
+#[derive(Drop)]
+struct Gathered {
+    words: [u64; ASKED_WORDS],
+    count: u64,
+}
+
+/// Every eighth serial below 800, from this one on.
+fn ask_hundred(pads: &Pads, seat: &mut Seat, first: u32)
+    requires first { first < 8 }
+    requires seat { IsSeatOf pads.now seat.old }
+    ensures { IsSeatOf pads.now seat.new }
+{
+    for k in 0..100u32 {
+        pads.ask(seat, 8 * k + first);
+    }
+}
+
+/// Goes over the words so many times.
+fn gather(pads: &Pads, seat: &mut Seat, rounds: u32) -> Gathered
+    requires { IsSeatOf pads.now seat.old }
+    ensures { IsSeatOf pads.now seat.new }
+{
+    let mut gathered = Gathered {
+        words: [0; ASKED_WORDS],
+        count: 0,
+    };
+    for _ in 0..rounds {
+        gather_once(pads, seat, &mut gathered);
+    }
+    gathered
+}
+
+fn gather_once(pads: &Pads, seat: &mut Seat, gathered: &mut Gathered)
+    requires { IsSeatOf pads.now seat.old }
+    ensures { IsSeatOf pads.now seat.new }
+{
+    for word in 0..ASKED_WORDS {
+        let found = pads.collect(seat, word);
+        gathered.words[word] |= found;
+        gathered.count = gathered.count.wrapping_add(u64::from(found.count_ones()));
+    }
+}
+
+/// The first eight to come ask, and the others collect.
+fn take_part(pads: &Pads, comers: &AtomicU64, mut seat: Seat) -> Gathered
+    requires { IsSeatOf pads.now seat }
+{
+    let place = comers.fetch_add(1, Ordering::SeqCst);
+    if place < 8 {
+        ask_hundred(pads, &mut seat, place as u32);
+        gather(pads, &mut seat, 0)
+    } else {
+        gather(pads, &mut seat, 5000)
+    }
+}
+
+fn share<R: Threads + Sync>(
+    rt: &R,
+    pads: &Pads,
+    seats: Vec<Seat>,
+) -> Result<Vec<Gathered>, AllocError>
+    requires { All (λ seat. IsSeatOf pads.now seat) seats.items }
+{
+    let comers = AtomicU64::new(0);
+    thread::map_vec(rt, seats, &|seat| take_part(pads, &comers, seat))
+}
+
+#[test]
+fn ten_threads_lose_and_invent_nothing(rt: HostRuntime) -> Result<(), Fail> {
+    let (pads, mut seats) = Pads::open(rt.alloc(), 11)?;
+    let Some(mut last) = seats.pop() else {
+        panic!(rt; "a seat")
+    };
+    let shares = share(&rt, &pads, seats)?;
+    let mut all = gather(&pads, &mut last, 1);
+    for gathered in shares {
+        for word in 0..ASKED_WORDS {
+            all.words[word] |= gathered.words[word];
+        }
+        all.count = all.count.wrapping_add(gathered.count);
+    }
+    for word in 0..12 {
+        assert!(rt; all.words[word] == u64::MAX);
+    }
+    assert!(rt; all.words[12] == 4294967295);
+    assert!(rt; all.count == 800);
+    for word in 13..1024 {
+        assert!(rt; pads.collect(&mut last, word) == 0);
+    }
+    Ok(())
+}
