@@ -1,6 +1,5 @@
 -- The entries of a journal, by who made them. This project's own rule.
-use Rattle.std.specs.Prelude.{ℕ, ◌+◌, Bool, true, false, if◌then◌else◌, List, [], ◌∷◌, Option}
-use Rattle.flt_core.specs.declared.receipts.Receipt.{Receipt}
+use Rattle.std.specs.Prelude.{ℕ, ◌+◌, Bool, true, false, if◌then◌else◌, List, [], ◌∷◌}
 use Rattle.flt_model.specs.declared.moves.JournalEntry.{JournalEntry}
 use Rattle.flt_model.specs.declared.moves.JournalEntry.TheVariants as journal_entry
 use Rattle.flt_model.specs.declared.moves.Move.{Move}
@@ -26,7 +25,3 @@ callers_in (e ∷ es) = (if is_callers e then 1 else 0) + callers_in es
 abbrev pub others_in : List JournalEntry → ℕ
 others_in [] = 0
 others_in (e ∷ es) = (if is_callers e then 0 else 1) + others_in es
-
--- what a caller keeps of an entry
-abbrev pub receipt : ℕ → Move → Option ℕ → Receipt
-receipt number entry answer = record { number = number; entry = entry; answer = answer }

@@ -1,6 +1,7 @@
 //! What stands behind the lock.
 ghost use Rattle.std.specs.Prelude.{◌≡◌, ◌↔◌, ◌⊎◌, ◌<◌, ◌+◌, ◌++◌, ◌∷◌, [], true, false, length, is_some, ◌≢◌, Err, Some, None, IfErr, IfOk, IfSome, IsTrue, OnOk, OnErr};
-ghost use Rattle.flt_core.specs.Counting.{callers_in, is_callers_move, others_in, receipt};
+ghost use Rattle.flt_core.specs.Counting.{callers_in, is_callers_move, others_in};
+ghost use Rattle.flt_receipts.specs.Receipts.{receipt};
 ghost use Rattle.flt_core.specs.Refusals as spec;
 ghost use Rattle.flt_core.specs.declared.fault.ArriveFault.TheVariants as arrive_fault;
 ghost use Rattle.flt_core.specs.declared.fault.DetachFault.TheVariants as detach_fault;
@@ -20,10 +21,11 @@ ghost use Rattle.flt_model.specs.declared.moves.Move.TheVariants as moves;
 
 use crate::fault::{ArriveFault, DetachFault};
 use crate::names::{CallerEntries, OtherEntries, StackName};
-use crate::receipts::{Receipt, Receipts};
+use crate::receipts::Receipts;
 use flt_machine::{Advanced, ApplyFault, Board, Commit, Events, Loaded, MAX_ENTRIES, OutOfMemory};
 use flt_model::{Journal, Move, Subject};
 use flt_ops::MAX_OPERATIONS;
+use flt_receipts::Receipt;
 use flt_rules::{Mode, Operation};
 use std::alloc::Global;
 use std::marker::Model;

@@ -13,6 +13,7 @@ mod turns;
 
 pub use board::Core;
 pub use fault::{ArriveFault, DetachFault};
+pub use flt_receipts::Receipt;
 pub use names::{CallerEntries, Counts, OtherEntries, StackName};
-pub use receipts::{Receipt, Receipts};
+pub use receipts::Receipts;
 pub use turns::{Locked, Turned};

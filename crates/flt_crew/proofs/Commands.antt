@@ -1,7 +1,7 @@
 -- The commands that were given, and the receipts of them.
 use Rattle.std.proofs.Common.{◌≡◌, ℕ, ◌+◌, ◌<◌, List, [], ◌∷◌, ◌++◌, length, get_or, take, drop, sym, subst}
 use Rattle.std.proofs.lemmas.List.{take-append-drop, take_more}
-use Rattle.flt_core.specs.declared.receipts.Receipt.{Receipt}
+use Rattle.flt_receipts.specs.declared.receipt.Receipt.{Receipt}
 use Rattle.flt_crew.specs.Giving.{AreGiven, AreMade, Makes, begun, one_more}
 use Rattle.flt_script.specs.ScriptText.{Commands}
 use Rattle.flt_script.specs.declared.command.Command.{Command}

@@ -1,8 +1,6 @@
 -- A run of a stack on what is loaded.
 use Rattle.std.proofs.Common.{◌≡◌, List, None, Result, Ok, Err, IfOk, sym, subst}
 use Rattle.std.specs.Prelude.{◌↔◌}
-use Rattle.flt_core.specs.declared.receipts.Receipt.{Receipt}
-use Rattle.flt_crew.specs.Giving.{AreGiven}
 use Rattle.flt_crew.specs.Running.{IsDriven, IsEnded}
 use Rattle.flt_crew.specs.declared.running.Driven.{Driven}
 use Rattle.flt_model.specs.Expansion.{IsCleanRun, verdict}
@@ -18,17 +16,16 @@ module _ (loaded trees : List Filter) (named : loaded ≡ trees) (ordered : by_a
     (unbroken : (transitions : List Transition) → breaks loaded transitions ≡ None)
     (law : (filters : List Filter) (entries : List JournalEntry) → (verdict filters entries ≡ Legal) ↔ IsCleanRun filters entries) where
   -- what ends as it should was driven on what is loaded, of which nothing is broken
-  pub driven : {E : Type 0} (commands : Commands) (receipts : List Receipt) → AreGiven commands receipts → (result : Result Driven E) →
-      IfOk result (λ d. IsCleanRun trees d.journal) →
-      IfOk result (λ d. (commands : Commands) → AreGiven commands receipts → IsEnded commands d.journal d.ending) →
+  pub driven : {E : Type 0} (commands : Commands) (result : Result Driven E) →
+      IfOk result (λ d. IsCleanRun trees d.journal) → IfOk result (λ d. IsEnded commands d.journal d.ending) →
       IfOk result (λ d. IsDriven loaded commands d.journal d.ending)
-  driven commands receipts given (Ok d) clean ended =
+  driven commands (Ok d) clean ended =
       let here : IsCleanRun loaded d.journal = subst (λ filters. IsCleanRun filters d.journal) (sym named) clean in
       record {
         ordered = ordered;
         unbroken = unbroken;
         clean = here;
         legal = (law loaded d.journal).1 here;
-        ended = ended commands given;
+        ended = ended;
       }
-  driven commands receipts given (Err e) clean ended = tt
+  driven commands (Err e) clean ended = tt

@@ -1,7 +1,7 @@
 -- How a run of one caller ends.
 use Rattle.std.proofs.Common.{◌≡◌, List, [], ◌∷◌, ◌++◌, IsPermutation, map, refl, sym, subst}
 use Rattle.std.proofs.lemmas.List.{append-nil}
-use Rattle.flt_core.specs.declared.receipts.Receipt.{Receipt}
+use Rattle.flt_receipts.specs.declared.receipt.Receipt.{Receipt}
 use Rattle.flt_crew.specs.Giving.{AreGiven}
 use Rattle.flt_crew.specs.Running.{IsEnded}
 use Rattle.flt_crew.specs.declared.ending.Ending.TheVariants.{Differ}

@@ -1,6 +1,6 @@
 -- What a script comes to on some texts. This project's own program.
 use Rattle.std.specs.Prelude.{◌≡◌, ◌≢◌, List, length, None, Result, Ok, Err, IsPermutation}
-use Rattle.flt_core.specs.declared.receipts.Receipt.{Receipt}
+use Rattle.flt_receipts.specs.declared.receipt.Receipt.{Receipt}
 use Rattle.flt_crew.specs.Bounds.{IsFull}
 use Rattle.flt_crew.specs.Giving.{AreGiven}
 use Rattle.flt_crew.specs.declared.ending.Ending.{Ending}

@@ -4,6 +4,7 @@ ghost use Rattle.std.specs.Prelude.{◌≡◌, ◌≤◌, ◌<◌, ◌∷◌, []
 ghost use Rattle.flt_crew.specs.Giving.{AreGiven};
 ghost use Rattle.flt_crew.specs.Running as spec;
 ghost use Rattle.flt_model.specs.Expansion.{IsCleanRun};
+ghost use Rattle.flt_model.specs.JournalText as journal;
 ghost use Rattle.flt_script.specs.ScriptText.{Commands};
 ghost use Rattle.flt_workers.specs.Places.{IsCallerOf, IsWorkerOf};
 
@@ -166,6 +167,27 @@ fn finish<N: StackName>(
     }
 }
 
+/// Has so many workers follow a script on a stack, and ends it.
+fn drive_on<N: StackName + Send + Sync, R: Threads + Wait + Sync, W: Watch>(
+    rt: &R,
+    alloc: Global,
+    stack: Stack<N>,
+    caller: CallerSeat<N>,
+    workers: Vec<WorkerSeat<N>>,
+    script: &Script,
+    watch: &mut W,
+) -> Result<Driven, AllocError>
+    requires caller { IsCallerOf stack.exchange caller.place }
+    requires fresh { caller.receipts.list.items ≡ [] }
+    requires workers { All (λ seat. IsWorkerOf stack.exchange seat.place) workers.items }
+    requires some { 0 < length workers.items }
+    ensures clean { IfOk result (λ driven. IsCleanRun N.trees driven.journal) }
+    ensures ended { IfOk result (λ driven. spec.IsEnded script.now driven.journal driven.ending) }
+{
+    let followed = follow(rt, alloc, &stack, caller, workers, script, watch)?;
+    finish(alloc, stack, followed)
+}
+
 /// Drives a new stack of what is loaded by a script, with one caller and so many workers.
 fn drive<N: StackName + Send + Sync, R: Threads + Wait + Sync, W: Watch>(
     rt: &R,
@@ -189,8 +211,7 @@ fn drive<N: StackName + Send + Sync, R: Threads + Wait + Sync, W: Watch>(
     legal_journals_are_clean_runs();
     let (stack, mut callers, seats) = Stack::<N>::open(alloc, loaded, blanks, 1, workers)?;
     let caller = callers.pop().unwrap();
-    let followed = follow(rt, alloc, &stack, caller, seats, script, watch)?;
-    finish(alloc, stack, followed)
+    drive_on(rt, alloc, stack, caller, seats, script, watch)
 }
 
 /// The same under a name that nobody else has.
@@ -207,6 +228,18 @@ fn drive_named<R: Threads + Wait + Sync, W: Watch>(
 {
     let blanks = (Blank::new(1), Blank::new(workers as u64));
     drive::<Brand, R, W>(rt, alloc, loaded, script, workers, blanks, watch)
+}
+
+/// What was driven, with its journal as it is written.
+fn written(alloc: Global, driven: Driven) -> Result<Ran, AllocError>
+    ensures journal { IfOk result (λ ran. ran.journal.items ≡ journal.spelling driven.journal) }
+    ensures ending { IfOk result (λ ran. ran.ending ≡ driven.ending) }
+{
+    let journal = journal_bytes(alloc, &driven.journal)?;
+    Ok(Ran {
+        journal,
+        ending: driven.ending,
+    })
 }
 
 // ---- all of it
@@ -234,9 +267,7 @@ pub fn run<R: Threads + Wait + Sync, W: Watch>(
         loaded,
         script: commands,
     } = prepare(rt, alloc, workers, script, texts)?;
-    let driven = drive_named(rt, alloc, loaded, &commands, workers, watch)?;
-    Ok(Ran {
-        journal: journal_bytes(alloc, &driven.journal)?,
-        ending: driven.ending,
-    })
+    let driven = drive_named(rt, alloc, loaded, &commands, workers, watch);
+    drop(commands);
+    Ok(written(alloc, driven?)?)
 }

@@ -1,6 +1,5 @@
-//! Tests of the board: journals that it makes are those that the machine can make, entry by entry and within memory, up to the limits.
-//! Each of them is replayed by the monitor. Two scripts of `flt_run` are driven. They stand apart from `flt_machine`, so that it is not
-//! proved twice.
+//! Tests of the board: journals that it makes are those that the machine can make, entry by entry and within memory, by turns, at random
+//! and up to the limits. Each of them is replayed by the monitor. They stand apart from `flt_machine`, so that it is not proved twice.
 #![tactic(auto)]
 
 #[cfg(test)]
@@ -8,11 +7,11 @@ mod dice;
 #[cfg(test)]
 mod limits;
 #[cfg(test)]
+mod moments;
+#[cfg(test)]
 mod random;
 #[cfg(test)]
 mod scene;
-#[cfg(test)]
-mod scripts;
 #[cfg(test)]
 mod texts;
 #[cfg(test)]

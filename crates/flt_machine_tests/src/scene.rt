@@ -11,9 +11,12 @@ use flt_machine::{Advanced, ApplyFault, Board, Commit, Loaded, advance};
 use flt_model::{Journal, JournalEntry, Move, Subject, Verdict, Violation, read};
 use flt_replay::replay;
 use flt_rules::FinalStatus;
+use flt_run::one::turn;
+use flt_run::{Choices, TurnFault};
 use flt_store::Outcome;
 use flt_syntax::{Tree, parse, spelled_is_well_formed};
 use std::alloc::Global;
+use std::collections::VecDeque;
 use std::marker::Model;
 use std::test::Fail;
 
@@ -164,6 +167,20 @@ fn commit_on(
     answer_of(board.commit(alloc, loaded, advanced, grant))
 }
 
+/// Takes a turn on a board. It is the loaded filters' own then as before.
+fn turn_on(
+    board: &mut Board,
+    alloc: Global,
+    loaded: &Loaded,
+    subjects: &mut VecDeque<Subject>,
+    choices: &mut Choices,
+) -> Result<bool, TurnFault>
+    requires own { IsOwn loaded.now board.old }
+    ensures own { IsOwn loaded.now board.new }
+{
+    turn(alloc, board, loaded, subjects, choices)
+}
+
 impl Scene {
     pub(crate) fn new(alloc: Global, texts: &[&str]) -> Result<Scene, Fail> {
         let loaded = Loaded::new(alloc, trees_of(alloc, texts)?)?;
@@ -240,7 +257,7 @@ impl Scene {
     }
 
     /// Makes a move: what gets a ticket by it.
-    fn tickets_of_move(&mut self, alloc: Global, step: Move) -> Option<Vec<Subject>> {
+    pub(crate) fn tickets_of_move(&mut self, alloc: Global, step: Move) -> Option<Vec<Subject>> {
         match self.board.apply(alloc, &self.loaded, step) {
             Ok(events) => Some(events.next),
             Err(_) => None,
@@ -264,6 +281,16 @@ impl Scene {
             Commit::Committed(events) => Some(events.next),
             _ => None,
         }
+    }
+
+    /// Takes a turn. It answers false where there is no ticket.
+    pub(crate) fn turn(
+        &mut self,
+        alloc: Global,
+        subjects: &mut VecDeque<Subject>,
+        choices: &mut Choices,
+    ) -> Result<bool, TurnFault> {
+        turn_on(&mut self.board, alloc, &self.loaded, subjects, choices)
     }
 
     /// What an entry says is done: what gets a ticket by it, where it goes.

@@ -27,10 +27,6 @@ pub(crate) const LINKS: &str =
 pub(crate) const MARKS: &str =
     "filter a altitude 100\npre read {\nif FltGetStreamContext c0 {\n} else {\nif FltAllocateContext c0 {\nif FltSetStreamContext KEEP_IF_EXISTS c0 old c1 {\n}\nif c1 != NULL {\nFltReleaseContext c1\n}\n}\n}\nif c0 != NULL {\nFltReleaseContext c0\n}\nreturn NO_CALLBACK\n}\n";
 
-/// Allocates a context twice, one after the other.
-pub(crate) const ALLOCATES_TWICE: &str =
-    "filter a altitude 100\npre read {\nif FltAllocateContext c0 {\nFltReleaseContext c0\n}\nif FltAllocateContext c0 {\n}\nif c0 != NULL {\nFltReleaseContext c0\n}\nreturn NO_CALLBACK\n}\n";
-
 /// Broken: it reads the value of the instance's context after its release.
 pub(crate) const READS_STALE: &str =
     "filter a altitude 100\npre read {\nif FltGetInstanceContext c0 {\nFltReleaseContext c0\nn0 = value c0\n}\nreturn NO_CALLBACK\n}\npre write {\nif FltAllocateContext c0 {\nif FltSetInstanceContext KEEP_IF_EXISTS c0 {\n}\nFltReleaseContext c0\n}\nreturn NO_CALLBACK\n}\npre cleanup {\nif FltDeleteInstanceContext {\n}\nreturn NO_CALLBACK\n}\n";

@@ -9,7 +9,7 @@ use Rattle.flt_model.specs.declared.moves.JournalEntry.{JournalEntry}
 use Rattle.flt_model.specs.declared.moves.JournalEntry.TheVariants as journal_entry
 use Rattle.flt_model.specs.declared.moves.Move.TheVariants as moves
 use Rattle.flt_receipts.specs.Receipts.{Misses, is_arrival, receipt_of, receipts_from, receipts_in}
-use Rattle.flt_core.specs.declared.receipts.Receipt.{Receipt}
+use Rattle.flt_receipts.specs.declared.receipt.Receipt.{Receipt}
 
 -- what a list contains stands between two parts of it
 record Stands (xs : List Receipt) (x : Receipt) : Type 0 where

@@ -5,7 +5,7 @@ use Rattle.std.proofs.lemmas.List.{append-nil, length-append, length-take-le, ta
 use Rattle.std.proofs.lemmas.List.Elements.{All-append, Contains-append_left, Contains-append_right}
 use Rattle.flt_model.specs.declared.moves.JournalEntry.{JournalEntry}
 use Rattle.flt_receipts.specs.Receipts.{is_arrival, receipt_of, receipts_from, receipts_in}
-use Rattle.flt_core.specs.declared.receipts.Receipt.{Receipt}
+use Rattle.flt_receipts.specs.declared.receipt.Receipt.{Receipt}
 
 -- how many operations arrived
 abbrev pub arrivals : List JournalEntry → ℕ

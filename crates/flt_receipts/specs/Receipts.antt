@@ -1,10 +1,14 @@
 -- The receipts of a journal, and those of seats. This project's own rule.
 use Rattle.std.specs.Prelude.{ℕ, ◌+◌, Bool, true, false, if◌then◌else◌, List, [], ◌∷◌, ◌++◌, Option, Some, None, Contains}
-use Rattle.flt_core.specs.Counting.{receipt}
-use Rattle.flt_core.specs.declared.receipts.Receipt.{Receipt}
+use Rattle.flt_receipts.specs.declared.receipt.Receipt.{Receipt}
 use Rattle.flt_model.specs.declared.moves.JournalEntry.{JournalEntry}
 use Rattle.flt_model.specs.declared.moves.JournalEntry.TheVariants as journal_entry
+use Rattle.flt_model.specs.declared.moves.Move.{Move}
 use Rattle.flt_model.specs.declared.moves.Move.TheVariants as moves
+
+-- what a caller keeps of an entry
+abbrev pub receipt : ℕ → Move → Option ℕ → Receipt
+receipt number entry answer = record { number = number; entry = entry; answer = answer }
 
 -- an operation arrived by the entry
 abbrev pub is_arrival : JournalEntry → Bool

@@ -1,8 +1,8 @@
 //! Whoever holds receipts.
 ghost use Rattle.std.specs.Prelude.{◌≡◌, List};
-ghost use Rattle.flt_core.specs.declared.receipts.Receipt.{Receipt};
+ghost use Rattle.flt_receipts.specs.declared.receipt.Receipt.{Receipt};
 
-use flt_core::Receipt;
+use crate::receipt::Receipt;
 
 /// Holds receipts, as a caller's seat does.
 pub trait HoldsReceipts {

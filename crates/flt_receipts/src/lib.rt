@@ -7,8 +7,10 @@
 
 mod agreeing;
 mod holds;
+mod receipt;
 mod search;
 mod sought;
 
 pub use agreeing::agree;
 pub use holds::HoldsReceipts;
+pub use receipt::Receipt;

@@ -1,11 +1,10 @@
 //! The search for a receipt among those that seats hold.
 ghost use Rattle.std.specs.Prelude.{◌≡◌, ◌↔◌, ◌≤◌, IsTrue, Contains, length, map};
-ghost use Rattle.flt_core.specs.Counting.{receipt};
-ghost use Rattle.flt_receipts.specs.Receipts.{together};
+ghost use Rattle.flt_receipts.specs.Receipts.{receipt, together};
 
 use crate::holds::HoldsReceipts;
+use crate::receipt::Receipt;
 use crate::sought::Sought;
-use flt_core::Receipt;
 
 /// Where a receipt with this number stands, if it is there and the numbers rise.
 fn place_of(held: &[Receipt], number: usize) -> usize

@@ -1,9 +1,9 @@
 //! The receipt that an entry of a journal must have.
 ghost use Rattle.std.specs.Prelude.{◌≡◌, ◌↔◌, [], ◌∷◌, IsTrue, MatchOption};
-ghost use Rattle.flt_core.specs.Counting.{receipt};
+ghost use Rattle.flt_receipts.specs.Receipts.{receipt};
 ghost use Rattle.flt_receipts.specs.Receipts as spec;
 
-use flt_core::Receipt;
+use crate::receipt::Receipt;
 use flt_model::{JournalEntry, Move};
 
 /// What is sought: a receipt as the journal gives it.

@@ -1,3 +1,2 @@
 mod Following
 mod Gone
-mod Own

@@ -1,7 +1,7 @@
 //! What a caller's call does while it holds the lock. The tickets are put first, so that a call that is refused adds nothing; a worker
 //! that takes one can make no move before the lock is free.
 ghost use Rattle.std.specs.Prelude.{◌≡◌, ◌⊎◌, ◌↔◌, ◌+◌, ◌<◌, ◌++◌, ◌∷◌, [], true, length, is_some, Err, IfErr, IfOk, IfSome, None, OnErr, OnOk, Some};
-ghost use Rattle.flt_core.specs.Counting.{receipt};
+ghost use Rattle.flt_receipts.specs.Receipts.{receipt};
 ghost use Rattle.flt_core.specs.Refusals as refusals;
 ghost use Rattle.flt_core.specs.declared.fault.ArriveFault.TheVariants as arrive_fault;
 ghost use Rattle.flt_core.specs.declared.fault.DetachFault.TheVariants as detach_fault;

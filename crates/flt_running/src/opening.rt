@@ -1,5 +1,6 @@
-//! The seats that a stack gives, each with one part of its ledger.
-ghost use Rattle.std.specs.Prelude.{◌≡◌, [], All, IfOk, OnOk, length, map};
+//! The seats that a stack gives, each with one part of its ledger, and the exchange where they meet.
+ghost use Rattle.std.specs.Prelude.{◌≡◌, ◌≤◌, [], All, IfOk, OnOk, length, map};
+ghost use Rattle.flt_workers.specs.Places.{IsCallerOf, IsFreshCaller, IsFreshWorker, IsWorkerOf};
 
 use crate::OutOfMemory;
 use crate::pace::Pace;
@@ -7,12 +8,12 @@ use crate::requests::Requests;
 use crate::seats::{CallerSeat, WorkerSeat};
 use crate::waiting::Waiting;
 use flt_core::{CallerEntries, OtherEntries, Receipts, StackName};
-use flt_workers::{CallerPlace, WorkerPlace};
+use flt_workers::{CallerPlace, Exchange, WorkerPlace};
 use std::alloc::Global;
 use std::sync::ledger::Share;
 
 /// A seat at each of these places, in their order, with no receipt.
-pub(crate) fn caller_seats<N: StackName>(
+fn caller_seats<N: StackName>(
     alloc: Global,
     places: Vec<CallerPlace>,
     all: &mut Share<CallerEntries<N>>,
@@ -33,7 +34,7 @@ pub(crate) fn caller_seats<N: StackName>(
 }
 
 /// A seat at each of these places, in their order, numbered from 0.
-pub(crate) fn worker_seats<N: StackName>(
+fn worker_seats<N: StackName>(
     alloc: Global,
     places: Vec<WorkerPlace>,
     all: &mut Share<OtherEntries<N>>,
@@ -56,4 +57,32 @@ pub(crate) fn worker_seats<N: StackName>(
         })?;
     }
     Ok(seats)
+}
+
+/// An exchange with a seat for each caller and one for each worker.
+pub(crate) fn seats<N: StackName>(
+    alloc: Global,
+    callers: usize,
+    workers: usize,
+    callers_share: &mut Share<CallerEntries<N>>,
+    others_share: &mut Share<OtherEntries<N>>,
+) -> Result<(Exchange, Vec<CallerSeat<N>>, Vec<WorkerSeat<N>>), OutOfMemory>
+    requires callers { (1 ≤ callers) × (callers ≤ 16) }
+    requires workers { (1 ≤ workers) × (workers ≤ 16) }
+    requires callers_parts { (callers_share.old.parts ≡ callers) × (callers_share.old.amount ≡ 0) }
+    requires others_parts { (others_share.old.parts ≡ workers) × (others_share.old.amount ≡ 0) }
+    ensures counts { IfOk result (λ made. (length made.1.items ≡ callers) × (length made.2.items ≡ workers)) }
+    ensures callers { IfOk result (λ made. All (λ seat. IsCallerOf made.0 seat.place × IsFreshCaller seat.place) made.1.items) }
+    ensures receipts { IfOk result (λ made. All (λ seat. seat.receipts.list.items ≡ []) made.1.items) }
+    ensures callers_shares { IfOk result (λ made. All (λ seat. (seat.receipts.share.parts ≡ 1) × (seat.receipts.share.amount ≡ 0))
+        made.1.items) }
+    ensures workers { IfOk result (λ made. All (λ seat. IsWorkerOf made.0 seat.place × IsFreshWorker seat.place) made.2.items) }
+    ensures others_shares { IfOk result (λ made. All (λ seat. (seat.share.parts ≡ 1) × (seat.share.amount ≡ 0)) made.2.items) }
+    ensures callers_left { OnOk result ((callers_share.new.parts ≡ 0) × (callers_share.new.amount ≡ 0)) }
+    ensures others_left { OnOk result ((others_share.new.parts ≡ 0) × (others_share.new.amount ≡ 0)) }
+{
+    let (exchange, caller_places, worker_places) = Exchange::open(alloc, callers, workers)?;
+    let caller_seats = caller_seats(alloc, caller_places, callers_share)?;
+    let worker_seats = worker_seats(alloc, worker_places, others_share)?;
+    Ok((exchange, caller_seats, worker_seats))
 }

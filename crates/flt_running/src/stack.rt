@@ -3,20 +3,20 @@ ghost use Rattle.std.specs.Prelude.{◌≡◌, ◌↔◌, ◌+◌, ◌<◌, ◌�
 ghost use Rattle.flt_cancel.specs.Serials.{IsPresent};
 ghost use Rattle.flt_cancel.specs.Steps.{IsNext, words_after};
 ghost use Rattle.flt_cancel.specs.declared.step.Step.TheVariants.{Ask};
-ghost use Rattle.flt_core.specs.Counting.{callers_in, others_in, receipt};
+ghost use Rattle.flt_core.specs.Counting.{callers_in, others_in};
 ghost use Rattle.flt_frame.specs.Loading.{AreLoaded};
 ghost use Rattle.flt_model.specs.Expansion.{IsCleanRun};
 ghost use Rattle.flt_model.specs.Moves.{fits_mode};
 ghost use Rattle.flt_model.specs.declared.moves.Move.TheVariants as moves;
 ghost use Rattle.flt_model.specs.declared.subject.Subject.TheVariants as ticket;
 ghost use Rattle.flt_pool.specs.Hands.{having_put};
-ghost use Rattle.flt_receipts.specs.Receipts.{receipts_in, together};
+ghost use Rattle.flt_receipts.specs.Receipts.{receipt, receipts_in, together};
 ghost use Rattle.flt_workers.specs.Places.{IsCallerOf, IsFreshCaller, IsFreshWorker, IsWorkerOf, asked_by, put_by};
 
 use crate::OutOfMemory;
 use crate::asking::{arrive_on, detach_on};
 use crate::ending::{Differ, agrees, merge_callers, merge_workers};
-use crate::opening::{caller_seats, worker_seats};
+use crate::opening::seats;
 use crate::seats::{CallerSeat, WorkerSeat};
 use flt_core::{ArriveFault, CallerEntries, Core, DetachFault, Locked, OtherEntries, StackName};
 use flt_model::Journal;
@@ -25,7 +25,7 @@ use flt_stack::Loaded;
 use flt_workers::Exchange;
 use std::alloc::Global;
 use std::sync::atomic::{AtomicBool, Ordering};
-use std::sync::ledger::{Blank, Share};
+use std::sync::ledger::{Blank, Book, Share};
 use std::sync::{Mutex, Wait};
 
 /// Shares without a part, to which the end adds those of all seats.
@@ -81,22 +81,50 @@ impl<N: StackName> Stack<N> {
     {
         let (callers_book, mut callers_share) = blanks.0.open::<CallerEntries<N>>();
         let (others_book, mut others_share) = blanks.1.open::<OtherEntries<N>>();
-        let (exchange, caller_places, worker_places) = Exchange::open(alloc, callers, workers)?;
-        let caller_seats = caller_seats(alloc, caller_places, &mut callers_share)?;
-        let worker_seats = worker_seats(alloc, worker_places, &mut others_share)?;
-        let core = Core::<N>::new(alloc, loaded.machine(), callers_book, others_book)?;
+        let (exchange, caller_seats, worker_seats) = seats(
+            alloc,
+            callers,
+            workers,
+            &mut callers_share,
+            &mut others_share,
+        )?;
         let spare = Spare {
             callers: callers_share,
             others: others_share,
         };
-        let stack = Stack {
+        let stack = Stack::on(
+            alloc,
+            loaded,
+            exchange,
+            callers_book,
+            others_book,
+            spare,
+        )?;
+        Ok((stack, caller_seats, worker_seats))
+    }
+
+    /// A stack on the loaded filters before the first move, with books that have counted nothing.
+    fn on(
+        alloc: Global,
+        loaded: Loaded,
+        exchange: Exchange,
+        callers: Book<CallerEntries<N>>,
+        others: Book<OtherEntries<N>>,
+        spare: Spare<N>,
+    ) -> Result<Stack<N>, OutOfMemory>
+        requires filters { loaded ≡ N.trees }
+        requires callers { callers.total ≡ 0 }
+        requires others { others.total ≡ 0 }
+        ensures exchange { IfOk result (λ stack. stack.exchange ≡ exchange) }
+    {
+        let core = Core::<N>::new(alloc, loaded.machine(), callers, others)?;
+        Ok(Stack {
             loaded,
             exchange,
             asked: AtomicBool::new(false),
             locked: Mutex::new(Locked::new(alloc, core)),
             spare: Mutex::new(spare),
-        };
-        Ok((stack, caller_seats, worker_seats))
+        })
     }
 
     /// What a board is lent.

@@ -18,6 +18,10 @@ IsCommand c app = (app_of c ≡ app) × ((fields_of c).has_globals ≡ false)
 abbrev pub text_rule : Rule
 text_rule = record (new_rule (codes "FILE")) { required = true }
 
+-- CERT
+abbrev pub cert_rule : Rule
+cert_rule = new_rule (codes "CERT")
+
 -- FILE.. of a command on several texts
 abbrev pub texts_rule : Rule
 texts_rule = record (new_rule (codes "FILE")) { required = true; range = Some (record { start_inclusive = 1; end_inclusive = usize_max }) }
@@ -66,9 +70,12 @@ picture_rule = record (new_rule (codes "svg")) { long = Some (codes "svg"); valu
 
 -- ---- commands
 
+abbrev pub bare_check_app : App
+bare_check_app = new_app (codes "check")
+
 -- `check FILE [CERT]`
 abbrev pub check_app : App
-check_app = with_rule (with_rule (new_app (codes "check")) text_rule) (new_rule (codes "CERT"))
+check_app = with_rule (with_rule bare_check_app text_rule) cert_rule
 
 -- `analyse FILE`
 abbrev pub analyse_app : App

@@ -1,8 +1,8 @@
 //! The program's commands with their arguments, as `clap` takes them.
 
 ghost use Rattle.std.specs.Prelude.{◌≡◌, false, IfOk};
-ghost use Rattle.clap.specs.Simple.{App, with_subcommand};
-ghost use Rattle.clap.specs.Walk.{rule_of};
+ghost use Rattle.clap.specs.Simple.{App, with_rule, with_subcommand};
+ghost use Rattle.clap.specs.Walk.{Rule, rule_of};
 ghost use Rattle.flt_words.specs.Program as spec;
 
 use clap::{Arg, ArgAction, Command, value_parser};
@@ -24,6 +24,16 @@ fn text_argument<'a>(alloc: Global) -> Arg<'a>
     Arg::new(alloc, "FILE")
         .required(true)
         .help("The filter's text; `-` is the standard input")
+}
+
+/// The argument CERT.
+fn cert_argument<'a>(alloc: Global) -> Arg<'a>
+    ensures rule { rule_of result ≡ spec.cert_rule }
+    ensures own { result.global ≡ false }
+{
+    Arg::new(alloc, "CERT").help(
+        "Its certificate; without it, FILE's first line `fltcert 1` begins it",
+    )
 }
 
 /// The argument FILE.. of a command on several texts, with what its help says.
@@ -139,20 +149,35 @@ fn picture_argument<'a>(alloc: Global) -> Arg<'a>
 
 // ---- commands
 
-fn check_command<'a>(alloc: Global) -> Result<Command<'a>, AllocError>
-    ensures { IfOk result (λ c. spec.IsCommand c spec.check_app) }
+/// A command with an argument more, if memory was there for both.
+#[tactic(auto, using(crate::proofs::Commands::with_last_argument))]
+fn with_argument<'a>(
+    command: Result<Command<'a>, AllocError>,
+    arg: Arg<'a>,
+) -> Result<Command<'a>, AllocError>
+    ensures { (a : App) (r : Rule) → IfOk command.entry (λ c. spec.IsCommand c a) → rule_of arg.entry ≡ r → arg.entry.global ≡ false
+        → IfOk result (λ c. spec.IsCommand c (with_rule a r)) }
 {
-    let cert = Arg::new(alloc, "CERT").help(
-        "Its certificate; without it, FILE's first line `fltcert 1` begins it",
-    );
+    command?.arg(arg)
+}
+
+/// The command `check` without its arguments.
+fn bare_check<'a>(alloc: Global) -> Command<'a>
+    ensures { spec.IsCommand result spec.bare_check_app }
+{
     Command::new(alloc, "check")
         .about("Says whether a certificate covers a filter's text")
         .override_usage("fltstack check <FILE> [CERT]")
         .after_help(
             "Prints `accepted` (exit 0), or the first point and rule that refuse it (exit 1).\nErrors go to the standard error with exit 2.\n\nExample: fltstack check examples/pass_through.flt examples/pass_through.cert",
         )
-        .arg(text_argument(alloc))?
-        .arg(cert)
+}
+
+fn check_command<'a>(alloc: Global) -> Result<Command<'a>, AllocError>
+    ensures { IfOk result (λ c. spec.IsCommand c spec.check_app) }
+{
+    let command = with_argument(Ok(bare_check(alloc)), text_argument(alloc));
+    with_argument(command, cert_argument(alloc))
 }
 
 fn analyse_command<'a>(alloc: Global) -> Result<Command<'a>, AllocError>
@@ -182,11 +207,10 @@ fn bare_run<'a>(alloc: Global) -> Command<'a>
 fn run_command<'a>(alloc: Global) -> Result<Command<'a>, AllocError>
     ensures { IfOk result (λ c. spec.IsCommand c spec.run_app) }
 {
-    bare_run(alloc)
-        .arg(workers_argument(alloc))?
-        .arg(quiet_argument(alloc))?
-        .arg(script_argument(alloc))?
-        .arg(texts_argument(alloc, STACK))
+    let command = with_argument(Ok(bare_run(alloc)), workers_argument(alloc));
+    let command = with_argument(command, quiet_argument(alloc));
+    let command = with_argument(command, script_argument(alloc));
+    with_argument(command, texts_argument(alloc, STACK))
 }
 
 /// The command `replay` without its arguments.
@@ -204,11 +228,10 @@ fn bare_replay<'a>(alloc: Global) -> Command<'a>
 fn replay_command<'a>(alloc: Global) -> Result<Command<'a>, AllocError>
     ensures { IfOk result (λ c. spec.IsCommand c spec.replay_app) }
 {
-    bare_replay(alloc)
-        .arg(timeline_argument(alloc))?
-        .arg(picture_argument(alloc))?
-        .arg(journal_argument(alloc))?
-        .arg(texts_argument(alloc, STACK))
+    let command = with_argument(Ok(bare_replay(alloc)), timeline_argument(alloc));
+    let command = with_argument(command, picture_argument(alloc));
+    let command = with_argument(command, journal_argument(alloc));
+    with_argument(command, texts_argument(alloc, STACK))
 }
 
 /// The command `explain` without its arguments.
@@ -230,14 +253,16 @@ fn bare_explain<'a>(alloc: Global) -> Command<'a>
 fn explain_command<'a>(alloc: Global) -> Result<Command<'a>, AllocError>
     ensures { IfOk result (λ c. spec.IsCommand c spec.explain_app) }
 {
-    bare_explain(alloc)
-        .arg(form_argument(alloc))?
-        .arg(states_argument(alloc))?
-        .arg(written_argument(alloc))?
-        .arg(texts_argument(
+    let command = with_argument(Ok(bare_explain(alloc)), form_argument(alloc));
+    let command = with_argument(command, states_argument(alloc));
+    let command = with_argument(command, written_argument(alloc));
+    with_argument(
+        command,
+        texts_argument(
             alloc,
             "The filters' texts; or the number of a rule, a violation or a fault of a text, alone",
-        ))
+        ),
+    )
 }
 
 // ---- the program

@@ -2,8 +2,7 @@ use Rattle.std.proofs.Common.{◌≡◌, ◌+◌, ◌≤◌, ℕ, Bool, [], ◌�
 use Rattle.std.proofs.lemmas.List.{take_all}
 use Rattle.std.proofs.lemmas.List.Elements.{All-push}
 use Rattle.std.specs.Prelude.{if◌then◌else◌}
-use Rattle.flt_core.specs.Counting.{receipt}
-use Rattle.flt_receipts.specs.Receipts.{receipts_in, together}
+use Rattle.flt_receipts.specs.Receipts.{receipt, receipts_in, together}
 use Rattle.flt_receipts.proofs.Agreement.{all_none}
 use Rattle.flt_receipts.proofs.Entries.{arrivals, count_more, held_more, is_of_journal, one_arrival_more}
 use Rattle.flt_receipts.proofs.agreeing.count_held.Goals as goal

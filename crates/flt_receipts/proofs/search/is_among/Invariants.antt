@@ -1,6 +1,6 @@
 use Rattle.std.proofs.Common.{◌≡◌, ◌<◌, ℕ, get_or}
-use Rattle.flt_core.specs.Counting.{receipt}
-use Rattle.flt_core.specs.declared.receipts.Receipt.{Receipt}
+use Rattle.flt_receipts.specs.Receipts.{receipt}
+use Rattle.flt_receipts.specs.declared.receipt.Receipt.{Receipt}
 use Rattle.flt_receipts.proofs.search.is_among.Given as goal
 
 abbrev pub invariant-loop-k : goal.invariant-loop-k

@@ -1,8 +1,8 @@
 use Rattle.std.proofs.Common.{◌≡◌, List, Contains, get_or, refl, ◌∙◌, subst, sym, arith}
 use borrow.Author.Count.{below_more}
 use Rattle.std.proofs.lemmas.List.{get_or_default}
-use Rattle.flt_core.specs.Counting.{receipt}
-use Rattle.flt_core.specs.declared.receipts.Receipt.{Receipt}
+use Rattle.flt_receipts.specs.Receipts.{receipt}
+use Rattle.flt_receipts.specs.declared.receipt.Receipt.{Receipt}
 use Rattle.flt_receipts.proofs.Holding.{held_by_none, held_by_one}
 use Rattle.flt_receipts.proofs.search.is_held_anywhere.Goals as goal
 

@@ -1,5 +1,5 @@
 use Rattle.std.proofs.Common.{◌<◌, ℕ, get_or, Contains}
-use Rattle.flt_core.specs.Counting.{receipt}
+use Rattle.flt_receipts.specs.Receipts.{receipt}
 use Rattle.flt_receipts.proofs.search.is_held_anywhere.Given as goal
 
 abbrev pub invariant-loop-k : goal.invariant-loop-k

@@ -1,6 +1,6 @@
 use Rattle.std.proofs.Common.{List, Contains, subst, arith}
-use Rattle.flt_core.specs.Counting.{receipt}
-use Rattle.flt_core.specs.declared.receipts.Receipt.{Receipt}
+use Rattle.flt_receipts.specs.Receipts.{receipt}
+use Rattle.flt_receipts.specs.declared.receipt.Receipt.{Receipt}
 use Rattle.flt_receipts.proofs.Holding.{held_by_one}
 use Rattle.flt_receipts.proofs.search.is_held_in_order.Goals as goal
 

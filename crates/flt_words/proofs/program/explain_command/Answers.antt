@@ -1,9 +1,8 @@
-use Rattle.flt_words.proofs.Commands.{with_argument, with_last_argument}
 use Rattle.flt_words.proofs.program.explain_command.Goals as goal
 
 pub returns : goal.returns
 returns c =
-    let one = with_argument _ _ _ _ c.bare_explain.ensures c.form_argument.ensures.rule c.form_argument.ensures.own _ c.in_ok-arg.ensures in
-    let two = with_argument _ _ _ _ one c.states_argument.ensures.rule c.states_argument.ensures.own _ c.in_ok-arg-2.ensures in
-    let three = with_argument _ _ _ _ two c.written_argument.ensures.rule c.written_argument.ensures.own _ c.in_ok-arg-3.ensures in
-    with_last_argument _ _ _ _ three c.texts_argument.ensures.rule c.texts_argument.ensures.own c.arg-4.result c.arg-4.ensures
+    let one = c.with_argument-command.ensures _ _ c.bare_explain.ensures c.form_argument.ensures.rule c.form_argument.ensures.own in
+    let two = c.with_argument-command-2.ensures _ _ one c.states_argument.ensures.rule c.states_argument.ensures.own in
+    let three = c.with_argument-command-3.ensures _ _ two c.written_argument.ensures.rule c.written_argument.ensures.own in
+    c.with_argument.ensures _ _ three c.texts_argument.ensures.rule c.texts_argument.ensures.own

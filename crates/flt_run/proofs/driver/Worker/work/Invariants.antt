@@ -1,5 +1,0 @@
-use Rattle.flt_run.specs.Turns.{RemainsBoard}
-use Rattle.flt_run.proofs.driver.Worker.work.Given as goal
-
-abbrev pub invariant-loop : goal.invariant-loop
-invariant-loop l = RemainsBoard l.loaded l.fn.self.board l.self.board
