@@ -92,14 +92,7 @@ impl<N: StackName> Stack<N> {
             callers: callers_share,
             others: others_share,
         };
-        let stack = Stack::on(
-            alloc,
-            loaded,
-            exchange,
-            callers_book,
-            others_book,
-            spare,
-        )?;
+        let stack = Stack::on(alloc, loaded, exchange, callers_book, others_book, spare)?;
         Ok((stack, caller_seats, worker_seats))
     }
 
