@@ -1,4 +1,5 @@
 //! The analyses of several texts on several threads, against what is worked out by hand.
+ghost use Rattle.std.specs.Prelude.{◌≤◌};
 
 use flt_analyse::{Start, analyse_all};
 use flt_cert::{Cert, write};
@@ -10,6 +11,7 @@ use std::alloc::Global;
 use std::sync::atomic::{AtomicBool, AtomicUsize, Ordering};
 use std::test::*;
 use std::thread;
+use std::thread::Threads;
 
 const SMALLEST: &str = "filter a altitude 100\npre read {\nreturn NO_CALLBACK\n}\n";
 
@@ -66,38 +68,77 @@ fn is_expected(
     }
 }
 
+/// The graph of a text.
+fn graph_of(alloc: Global, text: &str) -> Result<Graph, Fail> {
+    let tree = parse(alloc, text.as_bytes())?;
+    let graph = lower(alloc, &tree);
+    drop(tree);
+    Ok(graph?)
+}
+
 /// The graphs of texts.
 fn graphs_of(alloc: Global, texts: &[&str]) -> Result<Vec<Graph>, Fail> {
     let mut graphs = Vec::with_capacity(alloc, texts.len())?;
     for text in texts {
-        let tree = parse(alloc, text.as_bytes())?;
-        graphs.push(lower(alloc, &tree)?)?;
+        graphs.push(graph_of(alloc, text)?)?;
     }
     Ok(graphs)
 }
 
-/// Three graphs by 1, 2, 3 and 16 workers: each answer stands at its graph's place, and each analysis was announced.
+/// Whether answers are those that are expected, at the same places.
+fn are_expected(
+    alloc: Global,
+    answers: &[Result<Cert, Refusal>],
+    expected: &[Expected],
+) -> Result<bool, Fail> {
+    for (place, wanted) in expected.iter().enumerate() {
+        match answers.get(place) {
+            Some(answer) => {
+                if !is_expected(alloc, answer, wanted)? {
+                    return Ok(false);
+                }
+            }
+            None => return Ok(false),
+        }
+    }
+    Ok(answers.len() == expected.len())
+}
+
+/// Whether so many workers answer what is expected, and each analysis was announced.
+fn answer_so<R: Threads + Sync>(
+    rt: &R,
+    alloc: Global,
+    graphs: &[Graph],
+    expected: &[Expected],
+    workers: usize,
+) -> Result<bool, Fail>
+    requires some { 1 ≤ workers }
+    requires few { workers ≤ 16 }
+{
+    let begun = Begun {
+        count: AtomicUsize::new(0),
+    };
+    let answers = analyse_all(rt, alloc, graphs, workers, &begun)?;
+    let fine = are_expected(alloc, answers.as_slice(), expected);
+    drop(answers);
+    Ok(fine? && begun.count.load(Ordering::SeqCst) == expected.len())
+}
+
+static TEXTS: [&str; 3] = [SMALLEST, LEAKING, STREAM_CONTEXT];
+
+static EXPECTED: [Expected; 3] = [
+    Expected::Certificate(SMALLEST_CERTIFICATE),
+    Expected::Refused(0, 1, 4, 2),
+    Expected::Certificate(STREAM_CONTEXT_CERTIFICATE),
+];
+
+/// Three graphs, and none, by 1, 2, 3 and 16 workers: each answer stands at its graph's place.
 #[test]
 fn answers_stand_at_the_places_of_their_graphs(rt: HostRuntime) -> Result<(), Fail> {
-    let expected = [
-        Expected::Certificate(SMALLEST_CERTIFICATE),
-        Expected::Refused(0, 1, 4, 2),
-        Expected::Certificate(STREAM_CONTEXT_CERTIFICATE),
-    ];
-    let graphs = graphs_of(rt.alloc(), &[SMALLEST, LEAKING, STREAM_CONTEXT])?;
+    let graphs = graphs_of(rt.alloc(), &TEXTS)?;
     for workers in [1, 2, 3, 16] {
-        let begun = Begun {
-            count: AtomicUsize::new(0),
-        };
-        let answers = analyse_all(&rt, rt.alloc(), graphs.as_slice(), workers, &begun)?;
-        assert!(rt; answers.len() == 3);
-        for place in 0..3 {
-            assert!(rt; is_expected(rt.alloc(), &answers[place], &expected[place])?);
-        }
-        assert!(rt; begun.count.load(Ordering::SeqCst) == 3);
-        let none = analyse_all(&rt, rt.alloc(), &[], workers, &begun)?;
-        assert!(rt; none.len() == 0);
-        assert!(rt; begun.count.load(Ordering::SeqCst) == 3);
+        assert!(rt; answer_so(&rt, rt.alloc(), graphs.as_slice(), &EXPECTED, workers)?);
+        assert!(rt; answer_so(&rt, rt.alloc(), &[], &[], workers)?);
     }
     Ok(())
 }
@@ -141,7 +182,7 @@ fn two_analyses_at_once(rt: HostRuntime) -> Result<(), Fail> {
 /// With ample memory; tools/refuse-allocations.sh refuses each request in turn. One worker starts no thread.
 #[test]
 fn analyses_in_ample_memory(rt: HostRuntime) -> Result<(), Fail> {
-    let graphs = graphs_of(rt.alloc(), &[SMALLEST, LEAKING, STREAM_CONTEXT])?;
+    let graphs = graphs_of(rt.alloc(), &TEXTS)?;
     let begun = Begun {
         count: AtomicUsize::new(0),
     };

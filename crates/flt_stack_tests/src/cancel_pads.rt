@@ -9,6 +9,22 @@ use std::test::*;
 use std::thread;
 use std::thread::Threads;
 
+/// Whether what a caller asks for is what a worker collects.
+fn are_collected(pads: &Pads, caller: &mut Seat, worker: &mut Seat) -> bool
+    requires caller { IsSeatOf pads.now caller.old }
+    requires worker { IsSeatOf pads.now worker.old }
+{
+    pads.ask(caller, 63);
+    pads.ask(caller, 64);
+    pads.ask(caller, 63);
+    let first = pads.collect(worker, 0);
+    let second = pads.collect(worker, 1);
+    let again = pads.collect(worker, 0);
+    pads.ask(caller, 65535);
+    let last = pads.collect(worker, 1023);
+    first == 9223372036854775808 && second == 1 && again == 0 && last == 9223372036854775808
+}
+
 #[test]
 fn collects_what_was_asked(rt: HostRuntime) -> Result<(), Fail> {
     let (pads, mut seats) = Pads::open(rt.alloc(), 3)?;
@@ -18,14 +34,7 @@ fn collects_what_was_asked(rt: HostRuntime) -> Result<(), Fail> {
     let Some(mut worker) = seats.pop() else {
         panic!(rt; "a seat")
     };
-    pads.ask(&mut caller, 63);
-    pads.ask(&mut caller, 64);
-    pads.ask(&mut caller, 63);
-    assert!(rt; pads.collect(&mut worker, 0) == 9223372036854775808);
-    assert!(rt; pads.collect(&mut worker, 1) == 1);
-    assert!(rt; pads.collect(&mut worker, 0) == 0);
-    pads.ask(&mut caller, 65535);
-    assert!(rt; pads.collect(&mut worker, 1023) == 9223372036854775808);
+    assert!(rt; are_collected(&pads, &mut caller, &mut worker));
     Ok(())
 }
 
@@ -113,6 +122,37 @@ fn share<R: Threads + Sync>(
     thread::map_vec(rt, seats, &|seat| take_part(pads, &comers, seat))
 }
 
+fn add_up(shares: Vec<Gathered>, all: &mut Gathered) {
+    for gathered in shares {
+        for word in 0..ASKED_WORDS {
+            all.words[word] |= gathered.words[word];
+        }
+        all.count = all.count.wrapping_add(gathered.count);
+    }
+}
+
+/// Whether each of the 800 serials was collected once.
+fn is_each_once(all: &Gathered) -> bool {
+    for word in 0..12 {
+        if all.words[word] != u64::MAX {
+            return false;
+        }
+    }
+    all.words[12] == 4294967295 && all.count == 800
+}
+
+/// Whether no other word has anything to collect.
+fn is_nothing_left(pads: &Pads, seat: &mut Seat) -> bool
+    requires { IsSeatOf pads.now seat.old }
+{
+    for word in 13..1024 {
+        if pads.collect(seat, word) != 0 {
+            return false;
+        }
+    }
+    true
+}
+
 #[test]
 fn ten_threads_lose_and_invent_nothing(rt: HostRuntime) -> Result<(), Fail> {
     let (pads, mut seats) = Pads::open(rt.alloc(), 11)?;
@@ -121,19 +161,8 @@ fn ten_threads_lose_and_invent_nothing(rt: HostRuntime) -> Result<(), Fail> {
     };
     let shares = share(&rt, &pads, seats)?;
     let mut all = gather(&pads, &mut last, 1);
-    for gathered in shares {
-        for word in 0..ASKED_WORDS {
-            all.words[word] |= gathered.words[word];
-        }
-        all.count = all.count.wrapping_add(gathered.count);
-    }
-    for word in 0..12 {
-        assert!(rt; all.words[word] == u64::MAX);
-    }
-    assert!(rt; all.words[12] == 4294967295);
-    assert!(rt; all.count == 800);
-    for word in 13..1024 {
-        assert!(rt; pads.collect(&mut last, word) == 0);
-    }
+    add_up(shares, &mut all);
+    assert!(rt; is_each_once(&all));
+    assert!(rt; is_nothing_left(&pads, &mut last));
     Ok(())
 }

@@ -2,7 +2,7 @@
 ghost use Rattle.std.specs.Prelude.{◌≡◌, ◌<◌, ◌≤◌, All};
 ghost use Rattle.flt_workers.specs.Places.{IsCallerOf, IsFreshCaller, IsFreshWorker, IsWorkerOf};
 
-use crate::filters::{Filter, PASSES, PENDS, STREAMS, loaded};
+use crate::filters::{Filter, PASSES_ALONE, PENDS_ALONE, STREAMS_ALONE, loaded};
 use crate::fixture::{Ended, finished};
 use crate::journals::{is_legal, tally_of};
 use flt_core::{CallerEntries, Locked, OtherEntries};
@@ -303,6 +303,17 @@ fn follow<R: Threads + Wait + Sync>(
 
 // ---- tests
 
+/// Whether so many operations arrived and were lowered in a legal run, which the callers' receipts tell.
+fn are_lowered(alloc: Global, filters: &[Filter], ended: &Ended, count: u32) -> Result<bool, Fail> {
+    let tally = tally_of(&ended.journal);
+    Ok(
+        tally.arrived == count
+            && tally.lowered == count
+            && ended.agrees
+            && is_legal(alloc, filters, &ended.journal)?,
+    )
+}
+
 /// Two reads have arrived, and two workers are at work at once.
 #[test]
 fn two_workers_at_once(rt: HostRuntime) -> Result<(), Fail> {
@@ -313,14 +324,12 @@ fn two_workers_at_once(rt: HostRuntime) -> Result<(), Fail> {
         cancels: false,
         meets: true,
     });
-    let ended = follow(&rt, rt.alloc(), loaded(rt.alloc(), &[PASSES])?, &course)?;
-    let tally = tally_of(&ended.journal);
+    let ended = follow(&rt, rt.alloc(), loaded(rt.alloc(), &PASSES_ALONE)?, &course)?;
+    let fine = are_lowered(rt.alloc(), &PASSES_ALONE, &ended, 2);
+    drop(ended);
     assert!(rt; course.second_of_zero.load(Ordering::SeqCst));
     assert!(rt; !course.missed.load(Ordering::SeqCst));
-    assert!(rt; tally.arrived == 2);
-    assert!(rt; tally.lowered == 2);
-    assert!(rt; ended.agrees);
-    assert!(rt; is_legal(rt.alloc(), &[PASSES], &ended.journal)?);
+    assert!(rt; fine?);
     Ok(())
 }
 
@@ -334,13 +343,29 @@ fn four_workers_lower_what_arrives(rt: HostRuntime) -> Result<(), Fail> {
         cancels: false,
         meets: false,
     });
-    let ended = follow(&rt, rt.alloc(), loaded(rt.alloc(), &[STREAMS])?, &course)?;
-    let tally = tally_of(&ended.journal);
-    assert!(rt; tally.arrived == 200);
-    assert!(rt; tally.lowered == 200);
-    assert!(rt; ended.agrees);
-    assert!(rt; is_legal(rt.alloc(), &[STREAMS], &ended.journal)?);
+    let ended = follow(
+        &rt,
+        rt.alloc(),
+        loaded(rt.alloc(), &STREAMS_ALONE)?,
+        &course,
+    )?;
+    let fine = are_lowered(rt.alloc(), &STREAMS_ALONE, &ended, 200);
+    drop(ended);
+    assert!(rt; fine?);
     Ok(())
+}
+
+/// Whether 800 reads arrived in a legal run and 40 to 400 of them, all with odd numbers, were cancelled.
+fn are_cancelled(alloc: Global, ended: &Ended) -> Result<bool, Fail> {
+    let tally = tally_of(&ended.journal);
+    Ok(
+        tally.arrived == 800
+            && 40 <= tally.cancelled
+            && tally.cancelled <= 400
+            && tally.all_odd
+            && ended.agrees
+            && is_legal(alloc, &PENDS_ALONE, &ended.journal)?,
+    )
 }
 
 /// Eight callers let 100 reads each arrive, which a filter keeps in its queue, and ask for 100 cancels each. The last five of each have
@@ -354,13 +379,9 @@ fn eight_callers_beside_four_workers(rt: HostRuntime) -> Result<(), Fail> {
         cancels: true,
         meets: false,
     });
-    let ended = follow(&rt, rt.alloc(), loaded(rt.alloc(), &[PENDS])?, &course)?;
-    let tally = tally_of(&ended.journal);
-    assert!(rt; tally.arrived == 800);
-    assert!(rt; 40 <= tally.cancelled);
-    assert!(rt; tally.cancelled <= 400);
-    assert!(rt; tally.all_odd);
-    assert!(rt; ended.agrees);
-    assert!(rt; is_legal(rt.alloc(), &[PENDS], &ended.journal)?);
+    let ended = follow(&rt, rt.alloc(), loaded(rt.alloc(), &PENDS_ALONE)?, &course)?;
+    let fine = are_cancelled(rt.alloc(), &ended);
+    drop(ended);
+    assert!(rt; fine?);
     Ok(())
 }

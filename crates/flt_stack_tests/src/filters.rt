@@ -61,6 +61,15 @@ pub(crate) const ALLOCATES_TWICE: Filter = Filter {
     certificate: "fltcert 1\ncallback 0 7\n0 111111111 11112 3 1 -\n1 211111111 11112 3 1 -\n2 511111111 11112 3 1 -\n3 311111111 11112 3 1 -\n4 211111111 11112 3 1 -\n5 511111111 11112 3 1 -\n6 !\nend\n",
 };
 
+/// One that passes reads on, alone. A table weighs in each function that names it, so a static holds it.
+pub(crate) static PASSES_ALONE: [Filter; 1] = [PASSES];
+
+/// One that keeps reads in its queue, alone.
+pub(crate) static PENDS_ALONE: [Filter; 1] = [PENDS];
+
+/// One that keeps a context for each stream, alone.
+pub(crate) static STREAMS_ALONE: [Filter; 1] = [STREAMS];
+
 /// Loads filters, each by its certificate.
 pub(crate) fn loaded(alloc: Global, filters: &[Filter]) -> Result<Loaded, LoadFault> {
     let mut files = Vec::with_capacity(alloc, filters.len())?;

@@ -1,6 +1,8 @@
 //! Scripts by one caller and one worker. What is expected follows by hand from what the machine does and from which ticket comes next.
 
-use crate::filters::{ALLOCATES_TWICE, DENIES, Filter, HIGH, LOW, PASSES, PENDS, STREAMS, loaded};
+use crate::filters::{
+    ALLOCATES_TWICE, DENIES, Filter, HIGH, LOW, PASSES, PASSES_ALONE, PENDS, STREAMS, loaded,
+};
 use crate::fixture::{Answer, Step, Told, take_steps};
 use crate::journals::{has_entries, is_legal};
 use std::alloc::Global;
@@ -16,7 +18,7 @@ struct Case {
     entries: &'static str,
 }
 
-const CASES: [Case; 12] = [
+static CASES: [Case; 12] = [
     Case {
         filters: &[HIGH, LOW],
         steps: &[Step::Arrive, Step::Work],
@@ -155,7 +157,7 @@ const CASES: [Case; 12] = [
 ];
 
 /// Every call that takes memory, and a cancel.
-const EACH_CALL: Case = Case {
+static EACH_CALL: Case = Case {
     filters: &[PENDS],
     steps: &[
         Step::Refuse(1),
@@ -185,15 +187,25 @@ fn has_ended_so(alloc: Global, case: &Case, told: &Told) -> Result<bool, Fail> {
 /// Whether a case's steps answer so, and end with its journal.
 fn goes_so<R: Wait>(rt: &R, alloc: Global, case: &Case) -> Result<bool, Fail> {
     let told = take_steps(rt, alloc, loaded(alloc, case.filters)?, case.steps)?;
-    Ok(told.answers.as_slice() == case.answers && has_ended_so(alloc, case, &told)?)
+    let answers_so = told.answers.as_slice() == case.answers;
+    let ended_so = has_ended_so(alloc, case, &told);
+    drop(told);
+    Ok(ended_so? && answers_so)
+}
+
+/// The first of these cases whose steps answer otherwise, or end otherwise.
+fn wrong_case<R: Wait>(rt: &R, alloc: Global, cases: &[Case]) -> Result<Option<usize>, Fail> {
+    for (row, case) in cases.iter().enumerate() {
+        if !goes_so(rt, alloc, case)? {
+            return Ok(Some(row));
+        }
+    }
+    Ok(None)
 }
 
 #[test]
 fn scripts_give_these_answers_and_journals(rt: HostRuntime) -> Result<(), Fail> {
-    for case in CASES {
-        let fine = goes_so(&rt, rt.alloc(), &case)?;
-        assert!(rt; fine, "{}", case.entries);
-    }
+    assert!(rt; wrong_case(&rt, rt.alloc(), &CASES)?.is_none());
     Ok(())
 }
 
@@ -224,17 +236,26 @@ fn arrivals(alloc: Global, count: usize) -> Result<Vec<Step>, Fail> {
     Ok(steps)
 }
 
-/// The 65,536th operation is the last one, and its serial number is 65,535.
+/// Whether the 65,536th operation is the last one, and its serial number is 65,535.
+fn is_full(alloc: Global, told: &Told) -> Result<bool, Fail> {
+    let answers = told.answers.as_slice();
+    Ok(
+        answers.get(65_535) == Some(&Answer::Serial(65_535))
+            && answers.get(65_536) == Some(&Answer::Full)
+            && answers.get(65_537) == Some(&Answer::Full)
+            && told.ended.journal.len() == 65_536
+            && told.ended.agrees
+            && is_legal(alloc, &PASSES_ALONE, &told.ended.journal)?,
+    )
+}
+
 #[test]
 fn a_stack_is_full_of_operations(rt: HostRuntime) -> Result<(), Fail> {
     let alloc = rt.alloc();
     let steps = arrivals(alloc, 65_538)?;
-    let told = take_steps(&rt, alloc, loaded(alloc, &[PASSES])?, steps.as_slice())?;
-    assert!(rt; told.answers.as_slice().get(65_535) == Some(&Answer::Serial(65_535)));
-    assert!(rt; told.answers.as_slice().get(65_536) == Some(&Answer::Full));
-    assert!(rt; told.answers.as_slice().get(65_537) == Some(&Answer::Full));
-    assert!(rt; told.ended.journal.len() == 65_536);
-    assert!(rt; told.ended.agrees);
-    assert!(rt; is_legal(alloc, &[PASSES], &told.ended.journal)?);
+    let told = take_steps(&rt, alloc, loaded(alloc, &PASSES_ALONE)?, steps.as_slice())?;
+    let fine = is_full(alloc, &told);
+    drop(told);
+    assert!(rt; fine?);
     Ok(())
 }

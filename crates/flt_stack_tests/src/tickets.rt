@@ -9,41 +9,76 @@ use std::test::*;
 use std::thread;
 use std::thread::Threads;
 
+/// An entry's ticket.
+const ENTRY: Ticket = Ticket::Entry {
+    altitude: 100,
+    serial: 7,
+};
+
+/// What a worker takes whose own deque, the injector and another worker's deque have two tickets each.
+static TAKEN: [Ticket; 6] = [
+    Ticket::Activation(2),
+    Ticket::Operation(2),
+    Ticket::Operation(1),
+    ENTRY,
+    Ticket::Item(3),
+    Ticket::Detach(100),
+];
+
+/// Two tickets go into the injector. Whether they do.
+fn put_two<R: Wait>(rt: &R, pool: &Pool, caller: &mut PutSeat) -> bool
+    requires { IsPutSeatOf pool.now caller.old }
+{
+    pool.put(rt, caller, Ticket::Operation(1)).is_ok() && pool.put(rt, caller, ENTRY).is_ok()
+}
+
+/// Two tickets go into a worker's own deque. Whether they do.
+fn push_two(pool: &Pool, worker: &mut TakeSeat, first: Ticket, second: Ticket) -> bool
+    requires { IsTakeSeatOf pool.now worker.old }
+    ensures { IsTakeSeatOf pool.now worker.new }
+{
+    worker.push(first).is_ok() && worker.push(second).is_ok()
+}
+
+/// Whether a worker takes these tickets, one after the other, and then none.
+fn takes<R: Wait>(rt: &R, pool: &Pool, worker: &mut TakeSeat, tickets: &[Ticket]) -> bool
+    requires { IsTakeSeatOf pool.now worker.old }
+    ensures { IsTakeSeatOf pool.now worker.new }
+{
+    for ticket in tickets {
+        if pool.take(rt, worker) != Some(*ticket) {
+            return false;
+        }
+    }
+    pool.take(rt, worker).is_none()
+}
+
 /// Each kind of ticket goes in and comes out: of the own deque first, then of the injector, then of the other worker's deque, and of
 /// each in the order in which it went in.
 #[test]
 fn takes_the_own_deque_then_the_injector_then_steals(rt: HostRuntime) -> Result<(), Fail> {
     let (pool, mut callers, mut workers) = Pool::open(rt.alloc(), 1, 2)?;
-    let (Some(mut caller), Some(mut other), Some(mut worker)) = (
-        callers.pop(),
-        workers.pop(),
-        workers.pop(),
-    ) else {
-        panic!(rt; "the seats")
+    let Some(mut caller) = callers.pop() else {
+        panic!(rt; "a caller's seat")
     };
-    let entry = Ticket::Entry {
-        altitude: 100,
-        serial: 7,
+    let Some(mut other) = workers.pop() else {
+        panic!(rt; "a worker's seat")
     };
-    assert!(rt; other.push(Ticket::Item(3)).is_ok());
-    assert!(rt; other.push(Ticket::Detach(100)).is_ok());
-    assert!(rt; pool.put(&rt, &mut caller, Ticket::Operation(1)).is_ok());
-    assert!(rt; pool.put(&rt, &mut caller, entry).is_ok());
-    assert!(rt; worker.push(Ticket::Activation(2)).is_ok());
-    assert!(rt; worker.push(Ticket::Operation(2)).is_ok());
-    let expected = [
-        Ticket::Activation(2),
-        Ticket::Operation(2),
-        Ticket::Operation(1),
-        entry,
-        Ticket::Item(3),
-        Ticket::Detach(100),
-    ];
-    for ticket in expected {
-        assert!(rt; pool.take(&rt, &mut worker) == Some(ticket));
-    }
-    assert!(rt; pool.take(&rt, &mut worker).is_none());
-    assert!(rt; pool.take(&rt, &mut other).is_none());
+    let Some(mut worker) = workers.pop() else {
+        panic!(rt; "another worker's seat")
+    };
+    assert!(rt; push_two(&pool, &mut other, Ticket::Item(3), Ticket::Detach(100)));
+    assert!(rt; put_two(&rt, &pool, &mut caller));
+    assert!(rt;
+        push_two(
+            &pool,
+            &mut worker,
+            Ticket::Activation(2),
+            Ticket::Operation(2)
+        )
+    );
+    assert!(rt; takes(&rt, &pool, &mut worker, &TAKEN));
+    assert!(rt; takes(&rt, &pool, &mut other, &[]));
     Ok(())
 }
 
@@ -128,6 +163,16 @@ fn add_up(shares: Vec<Taken>, all: &mut Taken) {
     }
 }
 
+/// Whether each of the 2,000 operations was taken once.
+fn is_each_once(all: &Taken) -> bool {
+    for word in 0..31 {
+        if all.words[word] != u64::MAX {
+            return false;
+        }
+    }
+    all.words[31] == 65535 && all.count == 2000
+}
+
 /// Two workers take from the injector and from a third one's deque, and the third takes what they leave: 2,000 tickets, each once.
 #[test]
 fn workers_take_each_ticket_once(rt: HostRuntime) -> Result<(), Fail> {
@@ -143,10 +188,6 @@ fn workers_take_each_ticket_once(rt: HostRuntime) -> Result<(), Fail> {
     let shares = share(&rt, &pool, workers)?;
     let mut all = take_often(&rt, &pool, &mut last, 2001);
     add_up(shares, &mut all);
-    assert!(rt; all.count == 2000);
-    for word in 0..31 {
-        assert!(rt; all.words[word] == u64::MAX);
-    }
-    assert!(rt; all.words[31] == 65535);
+    assert!(rt; is_each_once(&all));
     Ok(())
 }

@@ -334,22 +334,39 @@ fn step(contexts: &mut Contexts, rows: &mut Rows, dice: &mut Dice) -> Result<boo
     }
 }
 
+/// The first turn at which the programs differ.
+fn first_unlike(
+    contexts: &mut Contexts,
+    rows: &mut Rows,
+    dice: &mut Dice,
+) -> Result<Option<usize>, AllocError> {
+    for turn in 0..40 {
+        let same = step(contexts, rows, dice)?
+            && same_contexts(contexts, rows)
+            && same_links(contexts, rows);
+        if !same {
+            return Ok(Some(turn));
+        }
+    }
+    Ok(None)
+}
+
+/// The same of two programs that begin anew.
+fn script_differs(alloc: Global, dice: &mut Dice) -> Result<Option<usize>, AllocError> {
+    let mut contexts = Contexts::new(alloc, FILTERS)?;
+    let mut rows = Rows {
+        rows: Vec::new(alloc),
+        closed: Vec::new(alloc),
+    };
+    first_unlike(&mut contexts, &mut rows, dice)
+}
+
 /// The first script and turn at which the programs differ.
 fn difference(alloc: Global) -> Result<Option<(usize, usize)>, AllocError> {
     let mut dice = Dice { state: 20261123 };
     for script in 0..300 {
-        let mut contexts = Contexts::new(alloc, FILTERS)?;
-        let mut rows = Rows {
-            rows: Vec::new(alloc),
-            closed: Vec::new(alloc),
-        };
-        for turn in 0..40 {
-            let same = step(&mut contexts, &mut rows, &mut dice)?
-                && same_contexts(&contexts, &rows)
-                && same_links(&contexts, &rows);
-            if !same {
-                return Ok(Some((script, turn)));
-            }
+        if let Some(turn) = script_differs(alloc, &mut dice)? {
+            return Ok(Some((script, turn)));
         }
     }
     Ok(None)
@@ -434,15 +451,20 @@ fn answers(contexts: &mut Contexts, call: Call) -> Result<bool, AllocError> {
     }
 }
 
-/// The first of these calls on the contexts of so many filters that doesn't answer what it should.
-fn wrong_call(alloc: Global, filters: usize, calls: &[Call]) -> Result<Option<usize>, AllocError> {
-    let mut contexts = Contexts::new(alloc, filters)?;
+/// The first of these calls that doesn't answer what it should.
+fn first_wrong(contexts: &mut Contexts, calls: &[Call]) -> Result<Option<usize>, AllocError> {
     for (at, call) in calls.iter().enumerate() {
-        if !answers(&mut contexts, *call)? {
+        if !answers(contexts, *call)? {
             return Ok(Some(at));
         }
     }
     Ok(None)
+}
+
+/// The same on the contexts of so many filters.
+fn wrong_call(alloc: Global, filters: usize, calls: &[Call]) -> Result<Option<usize>, AllocError> {
+    let mut contexts = Contexts::new(alloc, filters)?;
+    first_wrong(&mut contexts, calls)
 }
 
 /// Whether context 1 is set over context 0 as the row says.

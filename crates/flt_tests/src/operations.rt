@@ -378,19 +378,37 @@ fn step(
     }
 }
 
+/// The first turn at which the programs differ.
+fn first_unlike(
+    operations: &mut Operations,
+    plain: &mut Plain,
+    dice: &mut Dice,
+    alloc: Global,
+) -> Result<Option<usize>, Fail> {
+    for turn in 0..60 {
+        let same = step(operations, plain, dice, alloc)?
+            && agree(operations, plain)
+            && agree_on_visits(operations, plain);
+        if !same {
+            return Ok(Some(turn));
+        }
+    }
+    Ok(None)
+}
+
+/// The same of two programs that begin anew.
+fn script_differs(alloc: Global, dice: &mut Dice) -> Result<Option<usize>, Fail> {
+    let mut operations = Operations::new(alloc, FILTERS);
+    let mut plain = Plain::new(alloc);
+    first_unlike(&mut operations, &mut plain, dice, alloc)
+}
+
 /// The first script and turn at which the programs differ.
 fn difference(alloc: Global) -> Result<Option<(usize, usize)>, Fail> {
     let mut dice = Dice { state: 20240612 };
     for script in 0..400 {
-        let mut operations = Operations::new(alloc, FILTERS);
-        let mut plain = Plain::new(alloc);
-        for turn in 0..60 {
-            let same = step(&mut operations, &mut plain, &mut dice, alloc)?
-                && agree(&operations, &plain)
-                && agree_on_visits(&operations, &plain);
-            if !same {
-                return Ok(Some((script, turn)));
-            }
+        if let Some(turn) = script_differs(alloc, &mut dice)? {
+            return Ok(Some((script, turn)));
         }
     }
     Ok(None)
@@ -452,15 +470,14 @@ fn made(
 
 /// Whether the operation goes down and up by these calls.
 fn goes_down_and_up(
-    alloc: Global,
+    operations: &mut Operations,
     calls: &[(Call, Option<(usize, usize, Option<usize>)>)],
 ) -> Result<bool, Fail> {
-    let mut operations = Operations::new(alloc, FILTERS);
     if operations.arrive(Operation::Read, Mode::Irp, 7)? != 0 {
         return Ok(false);
     }
     for (call, wanted) in calls {
-        if operations.is_done(0) || made(&mut operations, *call)? != *wanted {
+        if operations.is_done(0) || made(operations, *call)? != *wanted {
             return Ok(false);
         }
     }
@@ -470,6 +487,9 @@ fn goes_down_and_up(
 /// `tools/refuse-allocations.sh tests flt_tests memory` refuses each request for memory in turn.
 #[test]
 fn an_operation_goes_down_and_up_within_memory(rt: HostRuntime) -> Result<(), Fail> {
-    assert!(rt; goes_down_and_up(rt.alloc(), &CALLS)?);
+    let mut operations = Operations::new(rt.alloc(), FILTERS);
+    let fine = goes_down_and_up(&mut operations, &CALLS);
+    drop(operations);
+    assert!(rt; fine?);
     Ok(())
 }

@@ -156,16 +156,33 @@ fn step(queues: &mut Queues, plain: &mut Plain, dice: &mut Dice) -> Result<bool,
     }
 }
 
+/// The first turn at which the programs differ.
+fn first_unlike(
+    queues: &mut Queues,
+    plain: &mut Plain,
+    dice: &mut Dice,
+) -> Result<Option<usize>, AllocError> {
+    for turn in 0..60 {
+        if !step(queues, plain, dice)? || !agree(queues, plain) {
+            return Ok(Some(turn));
+        }
+    }
+    Ok(None)
+}
+
+/// The same of two programs that begin anew.
+fn script_differs(alloc: Global, dice: &mut Dice) -> Result<Option<usize>, AllocError> {
+    let mut queues = Queues::new(alloc, FILTERS)?;
+    let mut plain = Plain::new(alloc)?;
+    first_unlike(&mut queues, &mut plain, dice)
+}
+
 /// The first script and turn at which the programs differ.
 fn difference(alloc: Global) -> Result<Option<(usize, usize)>, AllocError> {
     let mut dice = Dice { state: 20240708 };
     for script in 0..400 {
-        let mut queues = Queues::new(alloc, FILTERS)?;
-        let mut plain = Plain::new(alloc)?;
-        for turn in 0..60 {
-            if !step(&mut queues, &mut plain, &mut dice)? || !agree(&queues, &plain) {
-                return Ok(Some((script, turn)));
-            }
+        if let Some(turn) = script_differs(alloc, &mut dice)? {
+            return Ok(Some((script, turn)));
         }
     }
     Ok(None)
@@ -188,63 +205,68 @@ const SECOND: Entry = Entry {
 };
 
 /// Whether a queue that is disabled while an entry waits keeps it; each filter has a queue of its own.
-fn keeps_what_waits(alloc: Global) -> Result<bool, AllocError> {
-    let mut queues = Queues::new(alloc, 2)?;
+fn keeps_what_waits(queues: &mut Queues) -> bool {
     if queues.insert(0, FIRST).is_err()
         || queues.insert(0, SECOND).is_err()
         || queues.insert(1, SECOND).is_err()
     {
-        return Ok(false);
+        return false;
     }
     queues.disable(0);
-    Ok(
-        queues.insert(0, FIRST) == Err(InsertFault::Disabled(FIRST))
-            && queues.insert(2, FIRST) == Err(InsertFault::Disabled(FIRST))
-            && queues.insert(1, FIRST).is_ok()
-            && queues.first_of(0, &[9, 7]).copied() == Some(FIRST)
-            && queues.first_of(0, &[8, 9]).copied() == Some(SECOND)
-            && queues.first_of(0, &[8]).is_none()
-            && queues.remove(0, 9) == Some(SECOND)
-            && queues.remove(0, 9).is_none()
-            && queues.remove_next(0) == Some(FIRST)
-            && queues.remove_next(0).is_none()
-            && queues.entry(1, 0).copied() == Some(SECOND)
-            && queues.entry(1, 1).copied() == Some(FIRST),
-    )
+    queues.insert(0, FIRST) == Err(InsertFault::Disabled(FIRST))
+        && queues.insert(2, FIRST) == Err(InsertFault::Disabled(FIRST))
+        && queues.insert(1, FIRST).is_ok()
+        && queues.first_of(0, &[9, 7]).copied() == Some(FIRST)
+        && queues.first_of(0, &[8, 9]).copied() == Some(SECOND)
+        && queues.first_of(0, &[8]).is_none()
+        && queues.remove(0, 9) == Some(SECOND)
+        && queues.remove(0, 9).is_none()
+        && queues.remove_next(0) == Some(FIRST)
+        && queues.remove_next(0).is_none()
+        && queues.entry(1, 0).copied() == Some(SECOND)
+        && queues.entry(1, 1).copied() == Some(FIRST)
 }
 
 #[test]
 fn a_disabled_queue_keeps_what_waits(rt: HostRuntime) -> Result<(), Fail> {
-    assert!(rt; keeps_what_waits(rt.alloc())?);
+    let mut queues = Queues::new(rt.alloc(), 2)?;
+    let fine = keeps_what_waits(&mut queues);
+    drop(queues);
+    assert!(rt; fine);
     Ok(())
 }
 
 /// The first turn at which the programs differ, where entries are put in and taken out. A refused entry comes back, and the queues stay as
 /// they were.
-fn wrong_turn(alloc: Global) -> Result<Option<usize>, AllocError> {
-    let mut queues = Queues::new(alloc, FILTERS)?;
-    let mut plain = Plain::new(alloc)?;
+fn wrong_turn(queues: &mut Queues, plain: &mut Plain) -> Result<Option<usize>, AllocError> {
     for turn in 0..40 {
         let filter = turn % FILTERS;
         let entry = Entry {
             visit: turn % 11,
             context: None,
         };
-        let mut same = insert(&mut queues, &mut plain, filter, entry)?;
+        let mut same = insert(queues, plain, filter, entry)?;
         if turn % 5 == 4 {
             let place = plain.place_of(filter, &[turn % 7]);
             same = same && queues.remove(filter, turn % 7) == plain.take(filter, place);
         }
-        if !same || !agree(&queues, &plain) {
+        if !same || !agree(queues, plain) {
             return Ok(Some(turn));
         }
     }
     Ok(None)
 }
 
+/// The same of two programs that begin anew.
+fn turns_differ(alloc: Global) -> Result<Option<usize>, AllocError> {
+    let mut queues = Queues::new(alloc, FILTERS)?;
+    let mut plain = Plain::new(alloc)?;
+    wrong_turn(&mut queues, &mut plain)
+}
+
 /// `tools/refuse-allocations.sh tests flt_tests memory` refuses each request for memory in turn.
 #[test]
 fn queues_stay_as_they_were_without_memory(rt: HostRuntime) -> Result<(), Fail> {
-    assert!(rt; wrong_turn(rt.alloc())?.is_none());
+    assert!(rt; turns_differ(rt.alloc())?.is_none());
     Ok(())
 }
