@@ -149,7 +149,7 @@ impl Player {
 
     /// Makes a move, if it is enabled. What gets a ticket by it comes behind the others.
     fn make(&mut self, scene: &mut Scene, alloc: Global, step: Move) -> Result<bool, AllocError> {
-        let Some(next) = scene.tickets_of_move(alloc, step) else {
+        let Some(next) = scene.tickets_of_move(alloc, step)? else {
             return Ok(false);
         };
         for subject in next.as_slice() {

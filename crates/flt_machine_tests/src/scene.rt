@@ -15,7 +15,7 @@ use flt_run::one::turn;
 use flt_run::{Choices, TurnFault};
 use flt_store::Outcome;
 use flt_syntax::{Tree, parse, spelled_is_well_formed};
-use std::alloc::Global;
+use std::alloc::{AllocError, Global};
 use std::collections::VecDeque;
 use std::marker::Model;
 use std::test::Fail;
@@ -256,11 +256,16 @@ impl Scene {
         }
     }
 
-    /// Makes a move: what gets a ticket by it.
-    pub(crate) fn tickets_of_move(&mut self, alloc: Global, step: Move) -> Option<Vec<Subject>> {
+    /// Makes a move: what gets a ticket by it; none where it isn't made for another reason than memory.
+    pub(crate) fn tickets_of_move(
+        &mut self,
+        alloc: Global,
+        step: Move,
+    ) -> Result<Option<Vec<Subject>>, AllocError> {
         match self.board.apply(alloc, &self.loaded, step) {
-            Ok(events) => Some(events.next),
-            Err(_) => None,
+            Ok(events) => Ok(Some(events.next)),
+            Err(ApplyFault::OutOfMemory) => Err(AllocError),
+            Err(ApplyFault::NotEnabled | ApplyFault::Full) => Ok(None),
         }
     }
 
@@ -300,7 +305,7 @@ impl Scene {
         entry: JournalEntry,
     ) -> Option<Vec<Subject>> {
         match entry {
-            JournalEntry::Move(step) => self.tickets_of_move(alloc, step),
+            JournalEntry::Move(step) => self.tickets_of_move(alloc, step).unwrap_or(None),
             JournalEntry::Go {
                 activation,
                 steps,
