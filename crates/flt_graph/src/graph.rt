@@ -14,6 +14,12 @@ pub struct Point {
     pub instruction: Instruction,
 }
 
+/// An end that stands on no line.
+static NO_POINT: Point = Point {
+    line: 0,
+    instruction: Instruction::End,
+};
+
 /// A callback's place and its points, from 0. The last one is the end of the body.
 #[derive(Drop)]
 pub struct CallbackGraph {
@@ -60,19 +66,17 @@ impl Graph {
 
     /// A point of a callback; where it isn't there, an end that stands on no line.
     #[tactic(auto, using(crate::proofs::Reading::found, crate::proofs::Reading::missing))]
-    fn point(&self, callback: usize, point: usize) -> Point
-        ensures { result ≡ spec.point_at self.now callback point }
+    #[inline(always)]
+    fn point(&self, callback: usize, point: usize) -> &Point
+        ensures { result.now ≡ spec.point_at self.now callback point }
     {
         let found = match self.callbacks.get(callback) {
             Some(found) => found.points.get(point),
             None => None,
         };
         match found {
-            Some(found) => *found,
-            None => Point {
-                line: 0,
-                instruction: Instruction::End,
-            },
+            Some(found) => found,
+            None => &NO_POINT,
         }
     }
 
@@ -88,6 +92,13 @@ impl Graph {
     pub fn instruction(&self, callback: usize, point: usize) -> Instruction
         ensures { result ≡ spec.instruction_at self.now callback point }
     {
-        self.point(callback, point).instruction
+        *self.instruction_ref(callback, point)
+    }
+
+    /// What `instruction` answers, lent and not copied.
+    pub fn instruction_ref(&self, callback: usize, point: usize) -> &Instruction
+        ensures { result.now ≡ spec.instruction_at self.now callback point }
+    {
+        &self.point(callback, point).instruction
     }
 }

@@ -1,6 +1,6 @@
 //! From a tree to its points.
 
-ghost use Rattle.std.specs.Prelude.{◌≡◌, ◌≤◌, ◌+◌, ◌++◌, length, map, IsTrue, OnOk, IfOk};
+ghost use Rattle.std.specs.Prelude.{◌≡◌, ◌≤◌, ◌+◌, [], ◌∷◌, ◌++◌, length, map, IsTrue, OnOk, IfOk};
 ghost use Rattle.flt_tree.specs.Measures.{points_of, points, max_points, is_small};
 ghost use Rattle.flt_tree.specs.declared.filter.Statement.{out-Statement};
 ghost use Rattle.flt_graph.specs.Codes as code;
@@ -102,17 +102,31 @@ fn line(statement: &Statement) -> usize
     }
 }
 
+/// One more point. Room is made first: `push` would hand the point back where memory is refused, and takes longer for that.
+#[inline(always)]
+fn push_point(
+    found: &mut Vec<Point>,
+    line: usize,
+    instruction: Instruction,
+) -> Result<(), AllocError>
+    ensures { OnOk result (found.new.items ≡ found.old.items ++ record { line = line; instruction = instruction } ∷ []) }
+{
+    found.reserve(1)?;
+    found.push_reserved(Point { line, instruction });
+    Ok(())
+}
+
 /// Adds the points of a block, which ends where the point `after` stands.
 #[cycle(lower)]
 fn add_block(
     callbacks: &[Callback],
-    found: &mut Items<Point>,
+    found: &mut Vec<Point>,
     block: &[Statement],
     after: usize,
 ) -> Result<(), AllocError>
-    requires { length found.old + points block.now ≤ max_points }
-    ensures count { OnOk result (length found.new ≡ length found.old + points block.now) }
-    ensures points { OnOk result (found.new ≡ found.old ++ code.block_code callbacks.now block.now (length found.old) after) }
+    requires { length found.old.items + points block.now ≤ max_points }
+    ensures count { OnOk result (length found.new.items ≡ length found.old.items + points block.now) }
+    ensures points { OnOk result (found.new.items ≡ found.old.items ++ code.block_code callbacks.now block.now (length found.old.items) after) }
 {
     let mut left = block.len();
     for statement in block {
@@ -131,19 +145,17 @@ fn add_block(
 #[cycle(lower)]
 fn add_statement(
     callbacks: &[Callback],
-    found: &mut Items<Point>,
+    found: &mut Vec<Point>,
     statement: &Statement,
     after: usize,
 ) -> Result<(), AllocError>
-    requires { length found.old + points_of statement.now ≤ max_points }
-    ensures count { OnOk result (length found.new ≡ length found.old + points_of statement.now) }
-    ensures points { OnOk result (found.new ≡ found.old ++ code.statement_code callbacks.now statement.now (length found.old) after) }
+    requires { length found.old.items + points_of statement.now ≤ max_points }
+    ensures count { OnOk result (length found.new.items ≡ length found.old.items + points_of statement.now) }
+    ensures points { OnOk result (found.new.items ≡ found.old.items ++ code.statement_code callbacks.now statement.now (length found.old.items) after) }
 {
     let at = found.len();
-    found.push(Point {
-        line: line(statement),
-        instruction: instruction(callbacks, statement, at, after),
-    })?;
+    let instruction = instruction(callbacks, statement, at, after);
+    push_point(found, line(statement), instruction)?;
     match statement {
         Statement::If(_, _, granted, refused) => {
             add_block(callbacks, found, granted.as_slice(), after)?;
@@ -163,16 +175,15 @@ fn callback_graph(
     requires { IsTrue (is_small callback.now) }
     ensures { IfOk result (λ g. spec.IsGraphOf callbacks.now callback.now g) }
 {
-    let mut found = Items::new(alloc);
+    let mut found = Vec::new(alloc);
     let body = callback.body.as_slice();
-    add_block(callbacks, &mut found, body, total(body))?;
-    found.push(Point {
-        line: callback.end_line,
-        instruction: Instruction::End,
-    })?;
+    let len = total(body);
+    found.reserve(len + 1)?;
+    add_block(callbacks, &mut found, body, len)?;
+    push_point(&mut found, callback.end_line, Instruction::End)?;
     Ok(CallbackGraph {
         place: callback.head.place(),
-        points: found,
+        points: Items::from_vec(found),
     })
 }
 

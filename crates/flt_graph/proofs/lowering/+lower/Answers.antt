@@ -13,9 +13,9 @@ pub add_statement-returns-in_ok-add_block-in-If-clause-points :
 add_statement-returns-in_ok-add_block-in-If-clause-points t c =
     on_ok_weaker c.add_block-in-If.result
     (λ h. added_if c.args.callbacks.now c.args.statement.now c.in-If.field-0 c.in-If.field-1 c.in-If.granted c.in-If.refused
-    c.args.found.now c.push.new.self c.add_block.new.found c.add_block-in-If.new.found c.len-at.result c.args.after c.line.result
-    c.instruction.result
-    c.len-at.ensures c.in-If.is c.line.ensures c.instruction.ensures c.in_ok-push.ensures.ok
+    c.args.found.now.items c.push_point.new.found.items c.add_block.new.found.items c.add_block-in-If.new.found.items c.len-at.result c.args.after c.line.result
+    c.instruction-instruction.result
+    (omega arith) c.in-If.is c.line.ensures c.instruction-instruction.ensures c.in_ok-push_point.ensures
     (rw c.as_slice.ensures at c.in_ok-add_block-in-If.ensures.points) (rw c.as_slice-in-If.ensures at h))
     c.add_block-in-If.ensures.points
 
@@ -24,8 +24,8 @@ pub add_statement-returns-in-Repeat-clause-points :
 add_statement-returns-in-Repeat-clause-points t c =
     on_ok_weaker c.add_block-in-Repeat.result
     (λ h. added_repeat c.args.callbacks.now c.args.statement.now c.in-Repeat.field-0 c.in-Repeat.field-1 c.in-Repeat.body
-    c.args.found.now c.push.new.self c.add_block-in-Repeat.new.found c.len-at.result c.args.after c.line.result c.instruction.result
-    c.len-at.ensures c.in-Repeat.is c.line.ensures c.instruction.ensures c.in_ok-push.ensures.ok (rw c.as_slice-in-Repeat.ensures at h))
+    c.args.found.now.items c.push_point.new.found.items c.add_block-in-Repeat.new.found.items c.len-at.result c.args.after c.line.result c.instruction-instruction.result
+    (omega arith) c.in-Repeat.is c.line.ensures c.instruction-instruction.ensures c.in_ok-push_point.ensures (rw c.as_slice-in-Repeat.ensures at h))
     c.add_block-in-Repeat.ensures.points
 
 pub add_statement-returns-in-Repeat-clause-count :
@@ -35,7 +35,7 @@ add_statement-returns-in-Repeat-clause-count t c =
     (λ h. omega (
       arith,
       rw c.as_slice-in-Repeat.ensures at h,
-      ap length c.in_ok-push.ensures.ok,
+      ap length c.in_ok-push_point.ensures,
       length-append {A = Point},
       points_repeat c.args.statement.now c.in-Repeat.field-0 c.in-Repeat.field-1 c.in-Repeat.body c.in-Repeat.is,
     ))
@@ -44,29 +44,29 @@ add_statement-returns-in-Repeat-clause-count t c =
 pub add_statement-returns-in_default : goal.add_statement-returns-in_default
 add_statement-returns-in_default t c =
     let plain = is_plain c.args.callbacks.now c.args.statement.now
-    (length c.args.found.now) c.args.after c.in_default.not-If c.in_default.not-Repeat in
+    (length c.args.found.now.items) c.args.after c.in_default.not-If c.in_default.not-Repeat in
     record {
       count = omega (
         arith,
-        ap length c.in_ok-push.ensures.ok,
+        ap length c.in_ok-push_point.ensures,
         length-append {A = Point},
-        points_plain c.args.callbacks.now c.args.statement.now (length c.args.found.now) c.args.after plain,
+        points_plain c.args.callbacks.now c.args.statement.now (length c.args.found.now.items) c.args.after plain,
       );
-      points = added_plain c.args.callbacks.now c.args.statement.now c.args.found.now c.push.new.self c.len-at.result c.args.after
-          c.line.result c.instruction.result plain c.len-at.ensures c.line.ensures c.instruction.ensures c.in_ok-push.ensures.ok;
+      points = added_plain c.args.callbacks.now c.args.statement.now c.args.found.now.items c.push_point.new.found.items c.len-at.result c.args.after
+          c.line.result c.instruction-instruction.result plain (omega arith) c.line.ensures c.instruction-instruction.ensures c.in_ok-push_point.ensures;
     }
 
 pub add_block-loop-statement-preserved : goal.add_block-loop-statement-preserved
 add_block-loop-statement-preserved t c =
     let next : c.if-left-eq0.next ≡ entry (drop (c.loop-statement.statement-index + 1) c.args.block.now)
-    (length c.loop-statement.found + points_of c.statement-item.result) c.args.after =
+    (length c.loop-statement.found.items + points_of c.statement-item.result) c.args.after =
     elim c.if-left-eq0.branch [
       | add_block-then-left-eq0 w ↦ w.next-is
           ∙ sym (entry_last c.args.block.now c.loop-statement.statement-index
-          (length c.loop-statement.found + points_of c.statement-item.result) c.args.after (omega arith))
+          (length c.loop-statement.found.items + points_of c.statement-item.result) c.args.after (omega arith))
       | add_block-else-left-eq0 w ↦ w.next-is
           ∙ (omega arith ∙ sym (entry_next c.args.block.now c.loop-statement.statement-index
-          (length c.loop-statement.found + points_of c.statement-item.result) c.args.after (omega arith)))
+          (length c.loop-statement.found.items + points_of c.statement-item.result) c.args.after (omega arith)))
     ] in
     record {
       added = omega (
@@ -77,12 +77,12 @@ add_block-loop-statement-preserved t c =
       left = omega arith;
       points =
           added_more c.args.callbacks.now c.args.block.now c.loop-statement.statement-index c.statement-item.result
-          c.loop-statement.found c.add_statement.new.found c.if-left-eq0.next c.args.after
+          c.loop-statement.found.items c.add_statement.new.found.items c.if-left-eq0.next c.args.after
           (omega arith) c.statement-item.is next c.in_ok-add_statement.ensures.points
           ∙ c.loop-statement.invariant.points;
     }
 
 pub add_block-returns-clause-points : goal.add_block-returns-clause-points
 add_block-returns-clause-points t c =
-    added_all c.args.callbacks.now c.args.block.now c.loop-statement.statement-index c.args.found.now c.loop-statement.found
-    (length c.args.found.now) c.args.after (omega arith) c.loop-statement.invariant.points
+    added_all c.args.callbacks.now c.args.block.now c.loop-statement.statement-index c.args.found.now.items c.loop-statement.found.items
+    (length c.args.found.now.items) c.args.after (omega arith) c.loop-statement.invariant.points
