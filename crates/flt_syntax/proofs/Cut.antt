@@ -484,6 +484,18 @@ ends {text} {found} {line} {from} {end} r =
     (ap (λ p. record { word = word k.End; position = p; start = r.off; end = r.off } ∷ []) (end_is r)
     ∙ ap (λ n. record { word = word k.End; position = end_of line from end; start = n; end = n } ∷ []) e)
 
+-- over spaces, if there are some
+pub spaces : {text : Text} {found : Input} {line from : ℕ} {end : Position} (z : Text) → IsCut text found line from end z →
+    IsCut text found line from end (after_spaces z)
+spaces [] r = r
+spaces {text} {found} {line} {from} {end} (b ∷ z) r = by (b == 32) refl
+  where
+    by : (x : Bool) → (b == 32) ≡ x → IsCut text found line from end (after_spaces (b ∷ z))
+    by true e =
+        let s : b ≡ 32 = eqb-true b 32 e in
+        subst (IsCut text found line from end) (sym (space_more b z e)) (blanks b z r (no_other b 32 s refl) (rw s refl))
+    by false e = subst (IsCut text found line from end) (sym (space_none b z e)) r
+
 -- ---- the same of what the loop reads: the first byte of what is left, and the bytes behind it
 
 not_equal : (b a : ℕ) → b ≢ a → (b == a) ≡ false
@@ -516,6 +528,15 @@ feed_step text found line from end at (b ∷ z) r h e p =
     p ∙ ap (λ (y : Text). record { line = line; column = from - length y + 1 }) same in
     subst (λ (y : Text). IsCut text found (line + 1) (length y) at y) (sym same)
     (subst (λ (q : Position). IsCut text found (line + 1) (length z) q z) (sym place) (feeds b z r e))
+
+pub feed_spaces_step : (text : Text) (found : Input) (line from : ℕ) (end at : Position) (rest y : Text) → IsCut text found line from end rest →
+    1 ≤ length rest → slice_index rest 0 ≡ 10 →
+    at ≡ record { line = line; column = from - length (take (length rest - 1) (drop 1 rest)) + 1 } →
+    y ≡ after_spaces (take (length rest - 1) (drop 1 rest)) →
+    IsCut text found (line + 1) (length (take (length rest - 1) (drop 1 rest))) at y
+feed_spaces_step text found line from end at rest y r h e p s =
+    subst (IsCut text found (line + 1) (length (take (length rest - 1) (drop 1 rest))) at) (sym s)
+    (spaces (take (length rest - 1) (drop 1 rest)) (feed_step text found line from end at rest r h e p))
 
 pub blank_step : (text : Text) (found : Input) (line from : ℕ) (end : Position) (rest y : Text) → IsCut text found line from end rest →
     1 ≤ length rest → slice_index rest 0 ≢ 10 → is_blank (slice_index rest 0) ≡ true →
@@ -563,6 +584,28 @@ token_step text found more line from end at (b ∷ z) t r h e n p is fits good m
     (subst (λ (y : Text). IsCut text (found ++ token_here text line from (b ∷ z) ∷ []) line from end y)
     (sym (all_after (token (b ∷ z)).1 (b ∷ z)))
     (takes b z r e (not_equal b 35 n) f.0 f.1 g)))
+
+-- over the spaces behind a token too
+pub token_spaces_step : (text : Text) (found more : Input) (line from : ℕ) (end at : Position) (rest y : Text) (t : Token × ℕ) →
+    IsCut text found line from end rest → 1 ≤ length rest → is_blank (slice_index rest 0) ≡ false → slice_index rest 0 ≢ 35 →
+    at ≡ record { line = line; column = from - length rest + 1 } → t ≡ token_at at (length text - length rest) rest →
+    (1 ≤ t.1) × (t.1 ≤ length rest) → is_fault t.0.word.kind ≡ false → more ≡ found ++ t.0 ∷ [] →
+    y ≡ after_spaces (take (length rest - t.1) (drop t.1 rest)) →
+    IsCut text more line from end y
+token_spaces_step text found more line from end at rest y t r h e n p is fits good m s =
+    subst (IsCut text more line from end) (sym s)
+    (spaces (take (length rest - t.1) (drop t.1 rest)) (token_step text found more line from end at rest t r h e n p is fits good m))
+
+pub less_by_token : (rest y : Text) (len : ℕ) → 1 ≤ len → len ≤ length rest → y ≡ after_spaces (take (length rest - len) (drop len rest)) →
+    length y < length rest
+less_by_token rest y len some fits s =
+    let e : length y ≡ length (after_spaces (drop len rest)) = ap length (s ∙ ap after_spaces (all_after len rest)) in
+    omega (arith, e, shorter_spaces (drop len rest), length-drop len rest)
+
+-- a token by its kind and its value
+pub token_is : (at : Position) (start : ℕ) (z : Text) (w : Word) (len : ℕ) → (w, len) ≡ token z →
+    (record { word = w; position = at; start = start; end = start + len }, len) ≡ token_at at start z
+token_is at start z w len e = ap (λ (p : Word × ℕ). (record { word = p.0; position = at; start = start; end = start + p.1 }, p.1)) e
 
 pub fault_step : (text : Text) (found more : Input) (line from : ℕ) (end at : Position) (rest : Text) (t : Token × ℕ) →
     IsCut text found line from end rest → 1 ≤ length rest → is_blank (slice_index rest 0) ≡ false → slice_index rest 0 ≢ 35 →

@@ -22,6 +22,7 @@ impl<'a> Tokens<'a> {
         self.rest.len()
     }
 
+    #[inline(always)]
     pub fn front(&self) -> Token
         ensures { result ≡ spec.front self.now.rest.now }
     {
@@ -39,18 +40,21 @@ impl<'a> Tokens<'a> {
         }
     }
 
+    #[inline(always)]
     pub fn peek(&self) -> Kind
         ensures { result ≡ spec.kind self.now.rest.now }
     {
         self.front().word.kind
     }
 
+    #[inline(always)]
     pub fn position(&self) -> Position
         ensures { result ≡ spec.position self.now.rest.now }
     {
         self.front().position
     }
 
+    #[inline(always)]
     pub fn sees(&self, kind: Kind) -> bool
         ensures { result ≡ spec.sees kind self.now.rest.now }
     {
@@ -64,6 +68,7 @@ impl<'a> Tokens<'a> {
     }
 
     /// Why no production reads the next token.
+    #[cold]
     #[tactic(auto, unfolding(crate::specs::Cursor::refusal))]
     pub fn refuse(&self) -> ParseError
         ensures { result ≡ ParseError.Syntax (spec.refusal self.now.rest.now) }
@@ -76,6 +81,7 @@ impl<'a> Tokens<'a> {
     }
 
     /// Why the next token is no name of the kind that is asked.
+    #[cold]
     #[tactic(auto, unfolding(crate::specs::Cursor::unknown))]
     pub fn unknown(&self) -> ParseError
         ensures { result ≡ ParseError.Syntax (spec.unknown self.now.rest.now) }
@@ -99,6 +105,7 @@ impl<'a> Tokens<'a> {
         }
     }
 
+    #[inline(always)]
     pub fn take(&mut self) -> Token
         ensures token { result ≡ spec.front self.old.rest.now }
         ensures next { self.new.rest.now ≡ spec.next self.old.rest.now }
@@ -110,6 +117,7 @@ impl<'a> Tokens<'a> {
         token
     }
 
+    #[inline(always)]
     #[tactic(auto, unfolding(crate::specs::Cursor::eat))]
     pub fn eat(&mut self, kind: Kind) -> bool
         ensures { spec.eat kind self.old.rest.now ≡ Ok (result, self.new.rest.now) }
@@ -121,6 +129,7 @@ impl<'a> Tokens<'a> {
         found
     }
 
+    #[inline(always)]
     #[tactic(auto, unfolding(crate::specs::Cursor::expect))]
     pub fn expect(&mut self, kind: Kind) -> Result<(), ParseError>
         ensures { Reads (spec.expect kind self.old.rest.now) result self.new.rest.now }

@@ -1,6 +1,6 @@
 //! Cuts a text into tokens.
 
-ghost use Rattle.std.specs.Prelude.{◌≡◌, ◌≢◌, ◌<◌, ◌≤◌, ◌+◌, ◌-◌, ◌^◌, length, map, slice_index, IfOk, true, false};
+ghost use Rattle.std.specs.Prelude.{◌≡◌, ◌≢◌, ◌<◌, ◌≤◌, ◌+◌, ◌-◌, ◌^◌, ◌++◌, ◌∷◌, [], length, map, slice_index, IfOk, OnOk, true, false};
 ghost use Rattle.std.specs.List.{prefix_len};
 ghost use Rattle.std.specs.Str.{bytes_eq};
 ghost use Rattle.flt_syntax.specs.Lex as spec;
@@ -49,6 +49,7 @@ pub fn same_kind(a: Kind, b: Kind) -> bool
     a == b
 }
 
+#[inline(always)]
 fn word(kind: Kind) -> Word
     ensures { result ≡ spec.word kind }
 {
@@ -56,6 +57,7 @@ fn word(kind: Kind) -> Word
 }
 
 /// The place in a line at which so many bytes are left, of those that were left at its start.
+#[inline(always)]
 fn place(line: usize, from: usize, left: usize) -> Position
     requires within { left ≤ from }
     requires small { from < 2 ^ 32 }
@@ -81,6 +83,7 @@ fn is_blank(b: u8) -> bool
     b == b' ' || b == b'\t' || b == b'\n' || b == b'\r'
 }
 
+#[inline(always)]
 fn is_word(b: u8) -> bool
     ensures { result ≡ names.is_word b }
 {
@@ -88,6 +91,7 @@ fn is_word(b: u8) -> bool
 }
 
 /// Whether a name is a word: as long, and of the same bytes.
+#[inline(always)]
 #[tactic(auto, using(crate::proofs::FirstBytes::as_long))]
 fn is_spelled(name: &[u8], word: &[u8]) -> bool
     ensures { result ≡ bytes_eq name.now word.now }
@@ -95,6 +99,7 @@ fn is_spelled(name: &[u8], word: &[u8]) -> bool
     name.len() == word.len() && name == word
 }
 
+#[inline(always)]
 fn lookup(mut table: &[(&[u8], Kind)], name: &[u8]) -> Kind
     ensures { result ≡ spec.lookup (map (λ e. (e.0.now, e.1)) table.entry.now) name.now }
 {
@@ -108,6 +113,7 @@ fn lookup(mut table: &[(&[u8], Kind)], name: &[u8]) -> Kind
 }
 
 /// The kind of a word, looked for among those that begin as it does.
+#[inline(always)]
 #[tactic(auto, using(crate::proofs::FirstBytes::found_by_first))]
 fn kind_of(name: &[u8]) -> Kind
     ensures { result ≡ spec.lookup vocabulary name.now }
@@ -119,14 +125,15 @@ fn kind_of(name: &[u8]) -> Kind
     }
 }
 
+#[inline(always)]
 #[tactic(auto, unfolding(crate::specs::Lex::keyword))]
-fn keyword(name: &[u8]) -> Word
-    ensures { result ≡ spec.keyword name.now }
+fn keyword(name: &[u8]) -> Kind
+    ensures { spec.word result ≡ spec.keyword name.now }
 {
     if MAX_WORD < name.len() {
-        return word(Kind::Malformed);
+        return Kind::Malformed;
     }
-    word(kind_of(name))
+    kind_of(name)
 }
 
 fn value(mut digits: &[u8]) -> Option<u64>
@@ -148,22 +155,40 @@ fn value(mut digits: &[u8]) -> Option<u64>
 }
 
 #[tactic(auto, unfolding(crate::specs::Lex::number))]
-fn number(digits: &[u8]) -> Word
+fn number(digits: &[u8]) -> Option<u64>
     requires { 0 < length digits.now }
-    ensures { result ≡ spec.number digits.now }
+    ensures { spec.number_by result ≡ spec.number digits.now }
 {
     if digits[0] == b'0' && 1 < digits.len() {
-        return word(Kind::Malformed);
+        return None;
     }
-    match value(digits) {
-        None => word(Kind::Malformed),
-        Some(value) => Word {
-            kind: Kind::Number,
-            value,
-        },
+    value(digits)
+}
+
+/// A token of this kind without a value.
+#[inline(always)]
+fn set(word: &mut Word, kind: Kind)
+    ensures { word.new ≡ spec.word kind }
+{
+    word.kind = kind;
+    word.value = 0;
+}
+
+/// A number, or what is none.
+#[inline(always)]
+fn set_number(word: &mut Word, number: Option<u64>)
+    ensures { word.new ≡ spec.number_by number }
+{
+    match number {
+        Some(value) => {
+            word.kind = Kind::Number;
+            word.value = value;
+        }
+        None => set(word, Kind::Malformed),
     }
 }
 
+#[inline(always)]
 fn run_len(z: &[u8]) -> usize
     ensures value { result ≡ prefix_len names.is_word z.now }
     ensures within { result ≤ length z.now }
@@ -176,72 +201,75 @@ fn run_len(z: &[u8]) -> usize
     end
 }
 
-/// What `=` or `!` begins: a pair with the `=` behind it, or something of its own.
+/// A symbol of one byte, whose length comes back.
+#[inline(always)]
+fn symbol(kind: Kind, word: &mut Word) -> usize
+    ensures word { word.new ≡ spec.word kind }
+    ensures len { result ≡ 1 }
+{
+    set(word, kind);
+    1
+}
+
+/// What `=` or `!` begins: a pair with the `=` behind it, or something of its own. Its length comes back.
+#[inline(always)]
 #[tactic(auto, unfolding(crate::specs::Lex::pair_or))]
-fn pair_or(pair: Kind, alone: Kind, z: &[u8]) -> (Word, usize)
+fn pair_or(pair: Kind, alone: Kind, z: &[u8], word: &mut Word) -> usize
     requires { 0 < length z.now }
-    ensures value { result ≡ spec.pair_or pair alone z.now }
-    ensures within { (1 ≤ result.1) × (result.1 ≤ length z.now) }
+    ensures value { (word.new, result) ≡ spec.pair_or pair alone z.now }
+    ensures within { (1 ≤ result) × (result ≤ length z.now) }
 {
     if 1 < z.len() && z[1] == b'=' {
-        (word(pair), 2)
+        set(word, pair);
+        2
     } else {
-        (word(alone), 1)
+        set(word, alone);
+        1
     }
 }
 
+/// A number or a word, whose length comes back.
+#[inline(always)]
 #[tactic(auto, unfolding(crate::specs::Lex::run))]
-fn run(z: &[u8]) -> (Word, usize)
+fn run(z: &[u8], word: &mut Word) -> usize
     requires some { 0 < length z.now }
     requires begins { names.is_word (slice_index z.now 0) ≡ true }
-    ensures value { result ≡ spec.run z.now }
-    ensures within { (1 ≤ result.1) × (result.1 ≤ length z.now) }
+    ensures value { (word.new, result) ≡ spec.run z.now }
+    ensures within { (1 ≤ result) × (result ≤ length z.now) }
 {
     let end = run_len(z);
     let run = &z[..end];
     if z[0].is_ascii_digit() {
-        (number(run), end)
+        set_number(word, number(run));
     } else {
-        (keyword(run), end)
+        set(word, keyword(run));
     }
+    end
 }
 
+/// The token at the front of a text that begins with no blank or comment; its length comes back. It is set in place, since a token that
+/// is handed back is copied each time.
+#[inline(always)]
 #[tactic(auto, unfolding(crate::specs::Lex::token))]
-fn token(z: &[u8]) -> (Word, usize)
+fn token(z: &[u8], word: &mut Word) -> usize
     requires { 0 < length z.now }
-    ensures value { result ≡ spec.token z.now }
-    ensures within { (1 ≤ result.1) × (result.1 ≤ length z.now) }
+    ensures value { (word.new, result) ≡ spec.token z.now }
+    ensures within { (1 ≤ result) × (result ≤ length z.now) }
 {
     match z[0] {
-        b'{' => (word(Kind::OpenBrace), 1),
-        b'}' => (word(Kind::CloseBrace), 1),
-        b'<' => (word(Kind::Less), 1),
-        b'+' => (word(Kind::Plus), 1),
-        b'-' => (word(Kind::Minus), 1),
-        b'=' => pair_or(Kind::Equal, Kind::Assign, z),
-        b'!' => pair_or(Kind::NotEqual, Kind::Stray, z),
-        b if is_word(b) => run(z),
-        _ => (word(Kind::Stray), 1),
+        b'{' => symbol(Kind::OpenBrace, word),
+        b'}' => symbol(Kind::CloseBrace, word),
+        b'<' => symbol(Kind::Less, word),
+        b'+' => symbol(Kind::Plus, word),
+        b'-' => symbol(Kind::Minus, word),
+        b'=' => pair_or(Kind::Equal, Kind::Assign, z, word),
+        b'!' => pair_or(Kind::NotEqual, Kind::Stray, z, word),
+        b if is_word(b) => run(z, word),
+        _ => symbol(Kind::Stray, word),
     }
 }
 
-/// The token at the front of a text that stands at a place, behind so many bytes, and its length.
-fn token_at(at: Position, start: usize, z: &[u8]) -> (Token, usize)
-    requires some { 0 < length z.now }
-    requires small { start + length z.now < 2 ^ 32 }
-    ensures value { result ≡ spec.token_at at start z.now }
-    ensures within { (1 ≤ result.1) × (result.1 ≤ length z.now) }
-{
-    let (word, len) = token(z);
-    let token = Token {
-        word,
-        position: at,
-        start,
-        end: start + len,
-    };
-    (token, len)
-}
-
+#[inline(always)]
 fn is_fault(kind: Kind) -> bool
     ensures { result ≡ spec.is_fault kind }
 {
@@ -249,6 +277,7 @@ fn is_fault(kind: Kind) -> bool
 }
 
 /// What follows the spaces at the front of a text.
+#[inline(always)]
 fn after_spaces(mut rest: &[u8]) -> &[u8]
     ensures { result.now ≡ spec.after_spaces rest.entry.now }
 {
@@ -262,6 +291,12 @@ fn after_spaces(mut rest: &[u8]) -> &[u8]
 fn after_comment(mut rest: &[u8]) -> &[u8]
     ensures { result.now ≡ spec.after_comment rest.entry.now }
 {
+    while let [a, b, c, d, after @ ..] = rest {
+        if *a == b'\n' || *b == b'\n' || *c == b'\n' || *d == b'\n' {
+            break;
+        }
+        rest = after;
+    }
     while let [b, after @ ..] = rest {
         if *b == b'\n' {
             return rest;
@@ -271,12 +306,23 @@ fn after_comment(mut rest: &[u8]) -> &[u8]
     rest
 }
 
+/// One more token. Room is made first: `push` would hand the token back where memory is refused, and takes longer for that.
+#[inline(always)]
+fn push_token(found: &mut Vec<Token>, token: Token) -> Result<(), AllocError>
+    ensures { OnOk result (found.new.items ≡ found.old.items ++ token ∷ []) }
+{
+    found.reserve(1)?;
+    found.push_reserved(token);
+    Ok(())
+}
+
 /// The tokens up to the end or the first that is none.
 pub fn tokens(alloc: Global, text: &[u8]) -> Result<Items<Token>, AllocError>
     requires { length text.now < 2 ^ 32 }
     ensures { IfOk result (λ ts. ts ≡ spec.tokens text.now) }
 {
-    let mut found = Items::new(alloc);
+    let mut found = Vec::new(alloc);
+    found.reserve(text.len() / 6)?;
     let mut line = 1;
     // How many bytes were left at the start of the line, and where the text ends if it does there.
     let mut from = text.len();
@@ -287,7 +333,7 @@ pub fn tokens(alloc: Global, text: &[u8]) -> Result<Items<Token>, AllocError>
             end = place(line, from, after.len());
             line += 1;
             from = after.len();
-            rest = after;
+            rest = after_spaces(after);
             continue;
         }
         if is_blank(*b) {
@@ -298,21 +344,29 @@ pub fn tokens(alloc: Global, text: &[u8]) -> Result<Items<Token>, AllocError>
             rest = after_comment(after);
             continue;
         }
-        let at = place(line, from, rest.len());
-        let (token, len) = token_at(at, text.len() - rest.len(), rest);
-        found.push(token)?;
-        if is_fault(token.word.kind) {
-            return Ok(found);
+        let mut read = word(Kind::Stray);
+        let len = token(rest, &mut read);
+        let start = text.len() - rest.len();
+        let token = Token {
+            word: read,
+            position: place(line, from, rest.len()),
+            start,
+            end: start + len,
+        };
+        push_token(&mut found, token)?;
+        if is_fault(read.kind) {
+            return Ok(Items::from_vec(found));
         }
-        rest = &rest[len..];
+        rest = after_spaces(&rest[len..]);
     }
-    found.push(Token {
+    let last = Token {
         word: word(Kind::End),
         position: end_of(line, from, end),
         start: text.len(),
         end: text.len(),
-    })?;
-    Ok(found)
+    };
+    push_token(&mut found, last)?;
+    Ok(Items::from_vec(found))
 }
 
 /// A text of words with blanks and line feeds between them is read back word by word. It does nothing: its clause is the law.

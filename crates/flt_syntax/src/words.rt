@@ -193,6 +193,7 @@ pub(crate) fn words_from(first: u8) -> &'static [(&'static [u8], Kind)]
 }
 
 /// The words that begin with `c` and a digit; all with `c` where none begins so.
+#[inline(always)]
 fn contexts(digit: u8) -> &'static [(&'static [u8], Kind)]
     ensures { (rest : Text) → lookup (map (λ e. (e.0.now, e.1)) result.now) (99 ∷ (digit ∷ rest)) ≡ lookup vocabulary (99 ∷ (digit ∷ rest)) }
 {
@@ -210,6 +211,7 @@ fn contexts(digit: u8) -> &'static [(&'static [u8], Kind)]
 }
 
 /// The words that begin with `n` and a digit; all with `n` where none begins so.
+#[inline(always)]
 fn numbers(digit: u8) -> &'static [(&'static [u8], Kind)]
     ensures { (rest : Text) → lookup (map (λ e. (e.0.now, e.1)) result.now) (110 ∷ (digit ∷ rest)) ≡ lookup vocabulary (110 ∷ (digit ∷ rest)) }
 {
@@ -227,6 +229,7 @@ fn numbers(digit: u8) -> &'static [(&'static [u8], Kind)]
 }
 
 /// The words that begin with `o` and a digit; all with `o` where none begins so.
+#[inline(always)]
 fn operations(digit: u8) -> &'static [(&'static [u8], Kind)]
     ensures { (rest : Text) → lookup (map (λ e. (e.0.now, e.1)) result.now) (111 ∷ (digit ∷ rest)) ≡ lookup vocabulary (111 ∷ (digit ∷ rest)) }
 {
@@ -240,6 +243,7 @@ fn operations(digit: u8) -> &'static [(&'static [u8], Kind)]
 }
 
 /// The words that begin with two bytes: one for a variable's, and else those that begin with the first of them.
+#[inline(always)]
 pub(crate) fn variables(letter: u8, digit: u8) -> &'static [(&'static [u8], Kind)]
     ensures { (rest : Text) → lookup (map (λ e. (e.0.now, e.1)) result.now) (letter ∷ (digit ∷ rest)) ≡ lookup vocabulary (letter ∷ (digit ∷ rest)) }
 {
