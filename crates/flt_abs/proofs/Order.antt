@@ -1,5 +1,6 @@
 -- What the order and the join of states, as they are computed, say of the situations.
-use Rattle.std.proofs.Common.{◌≡◌, ◌↔◌, ◌<◌, ◌≤◌, ℕ, zero, suc, Bool, true, false, List, [], ◌∷◌, ◌++◌, length, map, take, drop, get_or, sym, ap, refl, arith, ◌∙◌}
+use Rattle.std.proofs.Common.{◌≡◌, ◌≢◌, ◌↔◌, ◌<◌, ℕ, zero, suc, Bool, true, false, List, [], ◌∷◌, ◌++◌, length, map, take, drop, get_or, sym, ap, refl, arith, ◌∙◌}
+use Rattle.std.proofs.Math.Bool.{and-false}
 use Rattle.std.proofs.Math.ListN.{set}
 use Rattle.std.specs.Prelude.{not, ◌||◌}
 use Rattle.std.specs.List.{list_all}
@@ -115,11 +116,13 @@ all_within_from (a ∷ xs) (b ∷ ys) p h =
     (all_within_from xs ys possible.1 (λ ts e.
     (and_parts (has_status b (some_status a)) _ (h (some_status a ∷ ts) (and_from _ _ (has_some_status a possible.0) e))).1))
 
--- a list is not within an empty one
-pub more_not_within : (xs ys : List StatusSet) → 1 ≤ length xs → length ys ≡ 0 → all_within xs ys ≡ false
-more_not_within [] ys h e = absurd (omega arith)
-more_not_within (x ∷ xs) [] h e = refl
-more_not_within (x ∷ xs) (y ∷ ys) h e = absurd (omega arith)
+-- lists of different lengths aren't within each other
+pub lengths_differ : (xs ys : List StatusSet) → length xs ≢ length ys → all_within xs ys ≡ false
+lengths_differ [] [] h = absurd (h refl)
+lengths_differ [] (y ∷ ys) h = refl
+lengths_differ (x ∷ xs) [] h = refl
+lengths_differ (x ∷ xs) (y ∷ ys) h =
+    rw (lengths_differ xs ys (λ e. h (ap suc e))) (and-false (statuses_within x y))
 
 -- ---- states
 

@@ -1,5 +1,6 @@
 -- What the operations on bits do to the sets that they stand for.
-use Rattle.std.proofs.Common.{◌≡◌, ◌<◌, ℕ, refl, lit<}
+use Rattle.std.proofs.Common.{◌≡◌, ◌<◌, ℕ, refl, lit<, arith}
+use Rattle.std.proofs.lemmas.Nat.{and_assoc, and_le_r}
 use Rattle.std.specs.Prelude.{bit_and, bit_or, ◌==◌}
 use Rattle.flt_abs.specs.Sets.{statuses, statuses_within, either_status, without_null, modes, modes_within, either_mode, draining, drainings_within, either_draining}
 use Rattle.flt_abs.specs.SetLaws.{below_eight, below_four}
@@ -53,6 +54,13 @@ without_null_bits = below_eight (λ n. statuses (bit_and n 6) ≡ without_null (
 
 pub and_below_eight : (n : ℕ) → n < 8 → bit_and n 6 < 8
 and_below_eight = below_eight (λ n. bit_and n 6 < 8) (lit< tt) (lit< tt) (lit< tt) (lit< tt) (lit< tt) (lit< tt) (lit< tt) (lit< tt)
+
+-- the three lowest bits of a number give the set that the number gives
+pub low_bits : (n : ℕ) → statuses (bit_and n 7) ≡ statuses n
+low_bits n = rw (and_assoc 1 n 7, and_assoc 2 n 7, and_assoc 4 n 7) refl
+
+pub low_bits_below_eight : (n : ℕ) → bit_and n 7 < 8
+low_bits_below_eight n = omega (arith, and_le_r n 7)
 
 pub modes_within_bits : (m n : ℕ) → m < 4 → n < 4 → (bit_and n m == m) ≡ modes_within (modes m) (modes n)
 modes_within_bits = below_four_twice (λ m n. (bit_and n m == m) ≡ modes_within (modes m) (modes n))

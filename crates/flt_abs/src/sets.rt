@@ -131,6 +131,16 @@ impl Statuses {
         }
     }
 
+    /// The set of a number's three lowest bits: NULL 1, held 2 and stale 4.
+    #[tactic(auto, using(crate::proofs::SetLemmas::low_bits, crate::proofs::SetLemmas::low_bits_below_eight))]
+    pub fn from_low_bits(number: u8) -> Statuses
+        ensures { result ≡ spec.statuses number }
+    {
+        Statuses {
+            bits: StatusBits(number & 7),
+        }
+    }
+
     /// The digit that a certificate writes for the set; 0 where it is empty.
     pub fn digit(self) -> u8
         ensures { result ≡ spec.status_bits self }

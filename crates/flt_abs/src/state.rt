@@ -39,6 +39,7 @@ impl Model for Abs {
 
 impl Abs {
     /// The state with these sets and locks; none where a set is empty.
+    #[inline(always)]
     pub fn new(
         contexts: [Statuses; CONTEXTS],
         operations: [Statuses; OPERATIONS],
@@ -98,6 +99,7 @@ impl Abs {
     }
 
     /// The same state.
+    #[inline(always)]
     pub(crate) fn copied(&self) -> Abs
         ensures { result ≡ self.now }
     {
@@ -111,27 +113,40 @@ impl Abs {
     }
 }
 
+/// Whether some status is in each set. It looks at all of them, since a branch for each set takes longer.
+#[inline(always)]
 fn are_possible(sets: &[Statuses]) -> bool
     ensures { result ≡ list_all is_possible sets.now }
 {
-    sets.iter().all(|set| set.is_possible())
+    let mut possible = true;
+    for index in 0..sets.len() {
+        possible &= sets[index].is_possible();
+    }
+    possible
 }
 
 /// The lock lists of two states are not the same, so they have no join.
 #[derive(Clone, Copy, Debug)]
 pub struct LocksDiffer;
 
-#[tactic(auto, using(crate::proofs::Order::more_not_within))]
+/// Whether each set of the first list is within its set of the second. It looks at all of them, since a branch for each
+/// set takes longer.
+#[tactic(auto, using(crate::proofs::Order::lengths_differ))]
+#[inline(always)]
 pub(crate) fn all_within(a: &[Statuses], b: &[Statuses]) -> bool
     ensures { result ≡ spec.all_within a.now b.now }
 {
-    match (a, b) {
-        ([], []) => true,
-        ([], [_, ..]) | ([_, ..], []) => false,
-        ([x, a @ ..], [y, b @ ..]) => x.is_within(*y) && all_within(a, b),
+    if a.len() != b.len() {
+        return false;
     }
+    let mut within = true;
+    for index in 0..a.len() {
+        within &= a[index].is_within(b[index]);
+    }
+    within
 }
 
+#[inline(always)]
 fn is_below(a: &Abs, b: &Abs) -> bool
     ensures { result ≡ spec.is_below a.now b.now }
 {

@@ -149,6 +149,7 @@ fn after_action(state: &Abs, action: Action) -> Abs
 }
 
 /// The state in which a test holds, if it can.
+#[inline(never)]
 fn where_true(state: &Abs, test: Test) -> Option<Abs>
     ensures { result ≡ spec.where_true state.now test }
 {
@@ -187,6 +188,7 @@ fn where_true(state: &Abs, test: Test) -> Option<Abs>
 }
 
 /// The state in which a test doesn't hold, if it can fail.
+#[inline(never)]
 fn where_false(state: &Abs, test: Test) -> Option<Abs>
     ensures { result ≡ spec.where_false state.now test }
 {
@@ -231,12 +233,16 @@ fn at(point: usize, state: Option<Abs>) -> Option<Successor>
     }
 }
 
+#[inline(always)]
 pub(crate) fn leads_to(state: &Abs, instruction: &Instruction) -> Successors
     ensures { result ≡ spec.leads_to state.now instruction.now }
 {
     match instruction {
         Instruction::Act(action, next) => Successors {
-            first: at(*next, Some(after_action(state, *action))),
+            first: Some(Successor {
+                point: *next,
+                state: after_action(state, *action),
+            }),
             second: None,
         },
         Instruction::Call(call, granted, failed) => call_successors(state, call, *granted, *failed),
@@ -245,8 +251,14 @@ pub(crate) fn leads_to(state: &Abs, instruction: &Instruction) -> Successors
             second: at(*no, where_false(state, *test)),
         },
         Instruction::Repeat(_, body, next) => Successors {
-            first: at(*body, Some(state.copied())),
-            second: at(*next, Some(state.copied())),
+            first: Some(Successor {
+                point: *body,
+                state: state.copied(),
+            }),
+            second: Some(Successor {
+                point: *next,
+                state: state.copied(),
+            }),
         },
         Instruction::Return(_) | Instruction::End => Successors {
             first: None,
@@ -257,6 +269,7 @@ pub(crate) fn leads_to(state: &Abs, instruction: &Instruction) -> Successors
 
 /// Where the point of a callback leads from a state, or the least rule that it breaks. Callbacks and points count
 /// from 0; a point that isn't there is an end, and a callback that isn't there a generic routine. It takes no memory.
+#[inline(always)]
 pub fn transfer(
     graph: &Graph,
     callback: usize,
@@ -265,10 +278,10 @@ pub fn transfer(
 ) -> Result<Successors, Rule>
     ensures { result ≡ spec.transfer graph.now callback point state.now }
 {
-    let instruction = graph.instruction(callback, point);
-    match first_broken(graph, callback, state, &instruction) {
+    let instruction = graph.instruction_ref(callback, point);
+    match first_broken(graph, callback, state, instruction) {
         Some(rule) => Err(rule),
-        None => Ok(leads_to(state, &instruction)),
+        None => Ok(leads_to(state, instruction)),
     }
 }
 
