@@ -1,6 +1,7 @@
 pub mod Certificates
 pub mod Complete
 pub mod FieldLaws
+pub mod FillLaws
 pub mod FirstFault
 pub mod LineLaws
 pub mod Once

@@ -36,6 +36,7 @@ fn after<'a>(front: &[u8], text: &'a [u8]) -> Option<&'a [u8]>
 }
 
 /// What follows a byte at the front of a text.
+#[inline(always)]
 fn after_byte(front: u8, text: &[u8]) -> Option<&[u8]>
     ensures { option_copied result ≡ text_spec.after (front ∷ []) text.now }
 {
@@ -62,37 +63,31 @@ fn after_number(number: usize, text: &[u8]) -> Option<&[u8]>
     after_byte(low, after_byte(middle, after_byte(high, text)?)?)
 }
 
+#[inline(always)]
 fn blank(text: &[u8]) -> Option<&[u8]>
     ensures { option_copied result ≡ spec.blank text.now }
 {
     after_byte(b' ', text)
 }
 
-fn status_of(digit: u8) -> Option<Statuses>
-    ensures { result ≡ spec.status_of digit }
-{
-    match digit {
-        b'1'..=b'7' => Statuses::from_digit(digit - b'0'),
-        _ => None,
-    }
-}
-
 /// Sets each of `sets` by its digit. Whether each is a digit of a set.
+#[inline(always)]
 fn fill(sets: &mut [Statuses], digits: &[u8]) -> bool
     requires { length sets.old ≡ length digits.now }
     ensures known { IsTrue result → spec.sets_from [] digits.now ≡ Some sets.new }
     ensures unknown { IsFalse result → spec.sets_from [] digits.now ≡ None }
 {
+    let mut known = true;
     for index in 0..sets.len() {
-        match status_of(digits[index]) {
-            Some(set) => sets[index] = set,
-            None => return false,
-        }
+        let digit = digits[index];
+        known &= b'1' <= digit && digit <= b'7';
+        sets[index] = Statuses::from_low_bits(digit);
     }
-    true
+    known
 }
 
 /// As many bytes, and what follows them.
+#[inline(always)]
 fn front_of(text: &[u8], len: usize) -> Option<(&[u8], &[u8])>
     ensures value { option_map (λ x. (x.0.now, x.1.now)) result ≡ spec.front_of len text.now }
     ensures front { IfSome result (λ x. length x.0.now ≡ len) }
@@ -104,6 +99,7 @@ fn front_of(text: &[u8], len: usize) -> Option<(&[u8], &[u8])>
     }
 }
 
+#[inline(always)]
 fn modes_of(digit: u8) -> Option<Modes>
     ensures { result ≡ spec.modes_of digit }
 {
@@ -113,6 +109,7 @@ fn modes_of(digit: u8) -> Option<Modes>
     }
 }
 
+#[inline(always)]
 fn draining_of(digit: u8) -> Option<Draining>
     ensures { result ≡ spec.draining_of digit }
 {
@@ -123,6 +120,7 @@ fn draining_of(digit: u8) -> Option<Draining>
 }
 
 /// One byte, and what follows it.
+#[inline(always)]
 fn byte_at(text: &[u8]) -> Option<(u8, &[u8])>
     ensures { option_map (λ x. (x.0, x.1.now)) result ≡ spec.byte_at text.now }
 {
@@ -147,6 +145,7 @@ fn lock_of(found: &LockList, digit: u8) -> Option<LockNumber>
 }
 
 /// How a lock is held, by what stands behind its digit, and what follows.
+#[inline(always)]
 fn access_at(text: &[u8]) -> (Access, &[u8])
     ensures { (result.0, result.1.now) ≡ spec.access_at text.now }
 {
@@ -186,6 +185,7 @@ fn locks_from(left: usize, found: LockList, text: &[u8]) -> Option<LockList>
     }
 }
 
+#[inline(always)]
 #[tactic(auto, unfolding(crate::specs::Reading::locks_of))]
 fn locks_of(alloc: Global, text: &[u8]) -> Option<LockList>
     ensures { result ≡ spec.locks_of text.now }
@@ -198,6 +198,7 @@ fn locks_of(alloc: Global, text: &[u8]) -> Option<LockList>
     }
 }
 
+#[inline(always)]
 fn made(
     contexts: [Statuses; CONTEXTS],
     operations: [Statuses; OPERATIONS],

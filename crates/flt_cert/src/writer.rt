@@ -1,6 +1,7 @@
 //! The text of certificates.
 
-ghost use Rattle.std.specs.Prelude.{◌≡◌, ◌<◌, ◌+◌, [], ◌∷◌, ◌++◌, length, IfOk, OnOk};
+ghost use Rattle.std.specs.Prelude.{◌≡◌, ◌<◌, ◌≤◌, ◌+◌, [], ◌∷◌, ◌++◌, length, IfOk, OnOk};
+ghost use Rattle.std.specs.Vec.{vec_len, vec_capacity};
 ghost use Rattle.flt_cert.specs.Format as format;
 ghost use Rattle.flt_cert.specs.Text.{decimal};
 
@@ -9,48 +10,68 @@ use flt_abs::{Abs, Statuses};
 use flt_rules::{Access, HeldLock};
 use std::alloc::{AllocError, Global};
 
+/// Adds a number, for whose digits there is room.
+#[inline(always)]
+fn put_number(out: &mut Vec<u8>, number: usize)
+    requires small { number < 1000 }
+    requires room { vec_len out.old + 3 ≤ vec_capacity out.old }
+    ensures items { out.new.items ≡ out.old.items ++ decimal number }
+    ensures len { vec_len out.new ≤ vec_len out.old + 3 }
+    ensures capacity { vec_capacity out.new ≡ vec_capacity out.old }
+{
+    let low = b'0' + (number % 10) as u8;
+    if number < 10 {
+        out.push_reserved(low);
+        return;
+    }
+    let middle = b'0' + (number / 10 % 10) as u8;
+    if number < 100 {
+        out.push_reserved(middle);
+        out.push_reserved(low);
+        return;
+    }
+    out.push_reserved(b'0' + (number / 100) as u8);
+    out.push_reserved(middle);
+    out.push_reserved(low);
+}
+
 fn push_number(out: &mut Vec<u8>, number: usize) -> Result<(), AllocError>
     requires { number < 1000 }
     ensures { OnOk result (out.new.items ≡ out.old.items ++ decimal number) }
 {
-    let low = b'0' + (number % 10) as u8;
-    if number < 10 {
-        return out.extend_from_slice(&[low]);
-    }
-    let middle = b'0' + (number / 10 % 10) as u8;
-    if number < 100 {
-        return out.extend_from_slice(&[middle, low]);
-    }
-    let high = b'0' + (number / 100) as u8;
-    out.extend_from_slice(&[high, middle, low])
+    out.reserve(3)?;
+    put_number(out, number);
+    Ok(())
 }
 
-fn push_digits(out: &mut Vec<u8>, sets: &[Statuses]) -> Result<(), AllocError>
-    ensures { OnOk result (out.new.items ≡ out.old.items ++ format.digits sets.now) }
+/// Adds a field of digits and a blank, for which there is room.
+#[inline(always)]
+fn put_field(out: &mut Vec<u8>, sets: &[Statuses])
+    requires { vec_len out.old + length sets.now < vec_capacity out.old }
+    ensures items { out.new.items ≡ out.old.items ++ (format.digits sets.now ++ 32 ∷ []) }
+    ensures len { vec_len out.new ≡ vec_len out.old + length sets.now + 1 }
+    ensures capacity { vec_capacity out.new ≡ vec_capacity out.old }
 {
     for set in sets {
-        out.push(b'0' + set.digit())?;
+        out.push_reserved(b'0' + set.digit());
     }
-    Ok(())
+    out.push_reserved(b' ');
 }
 
-fn push_field(out: &mut Vec<u8>, sets: &[Statuses]) -> Result<(), AllocError>
-    ensures { OnOk result (out.new.items ≡ out.old.items ++ (format.digits sets.now ++ 32 ∷ [])) }
+/// Adds a digit and a blank, for which there is room.
+#[inline(always)]
+fn put_digit(out: &mut Vec<u8>, digit: u8)
+    requires below { digit < 10 }
+    requires room { vec_len out.old + 1 < vec_capacity out.old }
+    ensures items { out.new.items ≡ out.old.items ++ (48 + digit) ∷ 32 ∷ [] }
+    ensures len { vec_len out.new ≡ vec_len out.old + 2 }
+    ensures capacity { vec_capacity out.new ≡ vec_capacity out.old }
 {
-    push_digits(out, sets)?;
-    out.push(b' ')?;
-    Ok(())
+    out.push_reserved(b'0' + digit);
+    out.push_reserved(b' ');
 }
 
-fn push_digit(out: &mut Vec<u8>, digit: u8) -> Result<(), AllocError>
-    requires { digit < 10 }
-    ensures { OnOk result (out.new.items ≡ out.old.items ++ (48 + digit) ∷ 32 ∷ []) }
-{
-    out.push(b'0' + digit)?;
-    out.push(b' ')?;
-    Ok(())
-}
-
+#[inline(always)]
 #[tactic(auto, using(flt_abs::specs::LockLaws::place_low))]
 fn push_lock(out: &mut Vec<u8>, held: HeldLock) -> Result<(), AllocError>
     ensures { OnOk result (out.new.items ≡ out.old.items ++ format.lock_text held) }
@@ -90,10 +111,13 @@ fn push_more_locks(out: &mut Vec<u8>, locks: &[HeldLock]) -> Result<(), AllocErr
 fn push_state(out: &mut Vec<u8>, state: &Abs) -> Result<(), AllocError>
     ensures { OnOk result (out.new.items ≡ out.old.items ++ format.state_text state.now) }
 {
-    push_field(out, state.contexts())?;
-    push_field(out, state.operations())?;
-    push_digit(out, state.modes().digit())?;
-    push_digit(out, state.draining().digit())?;
+    let contexts = state.contexts();
+    let operations = state.operations();
+    out.reserve(contexts.len() + operations.len() + 6)?;
+    put_field(out, contexts);
+    put_field(out, operations);
+    put_digit(out, state.modes().digit());
+    put_digit(out, state.draining().digit());
     push_locks(out, state.locks().as_slice())?;
     Ok(())
 }
@@ -102,8 +126,9 @@ fn push_point(out: &mut Vec<u8>, number: usize, point: &Option<Abs>) -> Result<(
     requires { number < 1000 }
     ensures { OnOk result (out.new.items ≡ out.old.items ++ format.point_line number point.now) }
 {
-    push_number(out, number)?;
-    out.push(b' ')?;
+    out.reserve(4)?;
+    put_number(out, number);
+    out.push_reserved(b' ');
     match point {
         None => out.push(b'!')?,
         Some(state) => push_state(out, state)?,
