@@ -603,9 +603,9 @@ less_by_token rest y len some fits s =
     omega (arith, e, shorter_spaces (drop len rest), length-drop len rest)
 
 -- a token by its kind and its value
-pub token_is : (at : Position) (start : ℕ) (z : Text) (w : Word) (len : ℕ) → (w, len) ≡ token z →
-    (record { word = w; position = at; start = start; end = start + len }, len) ≡ token_at at start z
-token_is at start z w len e = ap (λ (p : Word × ℕ). (record { word = p.0; position = at; start = start; end = start + p.1 }, p.1)) e
+pub token_is : (at : Position) (start : ℕ) (z : Text) (kind : Kind) (value len : ℕ) → (record { kind = kind; value = value }, len) ≡ token z →
+    (record { word = record { kind = kind; value = value }; position = at; start = start; end = start + len }, len) ≡ token_at at start z
+token_is at start z kind value len e = ap (λ (p : Word × ℕ). (record { word = p.0; position = at; start = start; end = start + p.1 }, p.1)) e
 
 pub fault_step : (text : Text) (found more : Input) (line from : ℕ) (end at : Position) (rest : Text) (t : Token × ℕ) →
     IsCut text found line from end rest → 1 ≤ length rest → is_blank (slice_index rest 0) ≡ false → slice_index rest 0 ≢ 35 →

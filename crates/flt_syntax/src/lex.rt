@@ -167,24 +167,24 @@ fn number(digits: &[u8]) -> Option<u64>
 
 /// A token of this kind without a value.
 #[inline(always)]
-fn set(word: &mut Word, kind: Kind)
-    ensures { word.new ≡ spec.word kind }
+fn set(kind: &mut Kind, value: &mut u64, to: Kind)
+    ensures { record { kind = kind.new; value = value.new } ≡ spec.word to }
 {
-    word.kind = kind;
-    word.value = 0;
+    *kind = to;
+    *value = 0;
 }
 
 /// A number, or what is none.
 #[inline(always)]
-fn set_number(word: &mut Word, number: Option<u64>)
-    ensures { word.new ≡ spec.number_by number }
+fn set_number(kind: &mut Kind, value: &mut u64, number: Option<u64>)
+    ensures { record { kind = kind.new; value = value.new } ≡ spec.number_by number }
 {
     match number {
-        Some(value) => {
-            word.kind = Kind::Number;
-            word.value = value;
+        Some(n) => {
+            *kind = Kind::Number;
+            *value = n;
         }
-        None => set(word, Kind::Malformed),
+        None => set(kind, value, Kind::Malformed),
     }
 }
 
@@ -203,27 +203,27 @@ fn run_len(z: &[u8]) -> usize
 
 /// A symbol of one byte, whose length comes back.
 #[inline(always)]
-fn symbol(kind: Kind, word: &mut Word) -> usize
-    ensures word { word.new ≡ spec.word kind }
+fn symbol(symbol: Kind, kind: &mut Kind, value: &mut u64) -> usize
+    ensures word { record { kind = kind.new; value = value.new } ≡ spec.word symbol }
     ensures len { result ≡ 1 }
 {
-    set(word, kind);
+    set(kind, value, symbol);
     1
 }
 
 /// What `=` or `!` begins: a pair with the `=` behind it, or something of its own. Its length comes back.
 #[inline(always)]
 #[tactic(auto, unfolding(crate::specs::Lex::pair_or))]
-fn pair_or(pair: Kind, alone: Kind, z: &[u8], word: &mut Word) -> usize
+fn pair_or(pair: Kind, alone: Kind, z: &[u8], kind: &mut Kind, value: &mut u64) -> usize
     requires { 0 < length z.now }
-    ensures value { (word.new, result) ≡ spec.pair_or pair alone z.now }
+    ensures value { (record { kind = kind.new; value = value.new }, result) ≡ spec.pair_or pair alone z.now }
     ensures within { (1 ≤ result) × (result ≤ length z.now) }
 {
     if 1 < z.len() && z[1] == b'=' {
-        set(word, pair);
+        set(kind, value, pair);
         2
     } else {
-        set(word, alone);
+        set(kind, value, alone);
         1
     }
 }
@@ -231,41 +231,41 @@ fn pair_or(pair: Kind, alone: Kind, z: &[u8], word: &mut Word) -> usize
 /// A number or a word, whose length comes back.
 #[inline(always)]
 #[tactic(auto, unfolding(crate::specs::Lex::run))]
-fn run(z: &[u8], word: &mut Word) -> usize
+fn run(z: &[u8], kind: &mut Kind, value: &mut u64) -> usize
     requires some { 0 < length z.now }
     requires begins { names.is_word (slice_index z.now 0) ≡ true }
-    ensures value { (word.new, result) ≡ spec.run z.now }
+    ensures value { (record { kind = kind.new; value = value.new }, result) ≡ spec.run z.now }
     ensures within { (1 ≤ result) × (result ≤ length z.now) }
 {
     let end = run_len(z);
     let run = &z[..end];
     if z[0].is_ascii_digit() {
-        set_number(word, number(run));
+        set_number(kind, value, number(run));
     } else {
-        set(word, keyword(run));
+        set(kind, value, keyword(run));
     }
     end
 }
 
-/// The token at the front of a text that begins with no blank or comment; its length comes back. It is set in place, since a token that
-/// is handed back is copied each time.
+/// The token at the front of a text that begins with no blank or comment; its length comes back. Its kind and its value are set
+/// apart and in place, since a `Word` is copied with its padding.
 #[inline(always)]
 #[tactic(auto, unfolding(crate::specs::Lex::token))]
-fn token(z: &[u8], word: &mut Word) -> usize
+fn token(z: &[u8], kind: &mut Kind, value: &mut u64) -> usize
     requires { 0 < length z.now }
-    ensures value { (word.new, result) ≡ spec.token z.now }
+    ensures value { (record { kind = kind.new; value = value.new }, result) ≡ spec.token z.now }
     ensures within { (1 ≤ result) × (result ≤ length z.now) }
 {
     match z[0] {
-        b'{' => symbol(Kind::OpenBrace, word),
-        b'}' => symbol(Kind::CloseBrace, word),
-        b'<' => symbol(Kind::Less, word),
-        b'+' => symbol(Kind::Plus, word),
-        b'-' => symbol(Kind::Minus, word),
-        b'=' => pair_or(Kind::Equal, Kind::Assign, z, word),
-        b'!' => pair_or(Kind::NotEqual, Kind::Stray, z, word),
-        b if is_word(b) => run(z, word),
-        _ => symbol(Kind::Stray, word),
+        b'{' => symbol(Kind::OpenBrace, kind, value),
+        b'}' => symbol(Kind::CloseBrace, kind, value),
+        b'<' => symbol(Kind::Less, kind, value),
+        b'+' => symbol(Kind::Plus, kind, value),
+        b'-' => symbol(Kind::Minus, kind, value),
+        b'=' => pair_or(Kind::Equal, Kind::Assign, z, kind, value),
+        b'!' => pair_or(Kind::NotEqual, Kind::Stray, z, kind, value),
+        b if is_word(b) => run(z, kind, value),
+        _ => symbol(Kind::Stray, kind, value),
     }
 }
 
@@ -344,17 +344,18 @@ pub fn tokens(alloc: Global, text: &[u8]) -> Result<Items<Token>, AllocError>
             rest = after_comment(after);
             continue;
         }
-        let mut read = word(Kind::Stray);
-        let len = token(rest, &mut read);
+        let mut kind = Kind::Stray;
+        let mut value = 0;
+        let len = token(rest, &mut kind, &mut value);
         let start = text.len() - rest.len();
         let token = Token {
-            word: read,
+            word: Word { kind, value },
             position: place(line, from, rest.len()),
             start,
             end: start + len,
         };
         push_token(&mut found, token)?;
-        if is_fault(read.kind) {
+        if is_fault(kind) {
             return Ok(Items::from_vec(found));
         }
         rest = after_spaces(&rest[len..]);

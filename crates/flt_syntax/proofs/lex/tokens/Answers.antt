@@ -45,7 +45,7 @@ returns-then-is_fault c =
     ∙ fault_step c.args.text.now c.loop-rest.found.items c.push_token.new.found.items c.loop-rest.line c.loop-rest.from c.loop-rest.end
     c.place.result rest (_, c.token-len.result) c.loop-rest.invariant c.in-len1-up.len_at_least
     (sym c.is_blank.ensures ∙ c.if-is_blank.false) c.if-b-eq35.false c.place.ensures
-    (token_is c.place.result (length c.args.text.now - length rest) rest c.token-len.new.word c.token-len.result c.token-len.ensures.value)
+    (token_is c.place.result (length c.args.text.now - length rest) rest c.token-len.new.kind c.token-len.new.value c.token-len.result c.token-len.ensures.value)
     (sym c.is_fault.ensures ∙ c.if-is_fault.true) c.in_ok-push_token.ensures
 
 pub loop-rest-smaller : goal.loop-rest-smaller
@@ -59,7 +59,7 @@ loop-rest-preserved c =
     token_spaces_step c.args.text.now c.loop-rest.found.items c.push_token.new.found.items c.loop-rest.line c.loop-rest.from c.loop-rest.end
     c.place.result rest c.after_spaces-rest-in-len1-up.result.now (_, c.token-len.result) c.loop-rest.invariant c.in-len1-up.len_at_least
     (sym c.is_blank.ensures ∙ c.if-is_blank.false) c.if-b-eq35.false c.place.ensures
-    (token_is c.place.result (length c.args.text.now - length rest) rest c.token-len.new.word c.token-len.result c.token-len.ensures.value)
+    (token_is c.place.result (length c.args.text.now - length rest) rest c.token-len.new.kind c.token-len.new.value c.token-len.result c.token-len.ensures.value)
     c.token-len.ensures.within (sym c.is_fault.ensures ∙ c.if-is_fault.false) c.in_ok-push_token.ensures
     c.after_spaces-rest-in-len1-up.ensures
 
