@@ -1,5 +1,6 @@
 pub mod Breaks
 pub mod Entry
+pub mod Leads
 pub mod LockLaws
 pub mod Locks
 pub mod Outcome

@@ -4,6 +4,7 @@
 
 mod breaks;
 mod entry;
+mod leads;
 mod locks;
 mod outcome;
 mod past;
@@ -14,6 +15,7 @@ mod step;
 mod variables;
 
 pub use entry::{entry_state, is_entry_below};
+pub use leads::Leads;
 pub use locks::LockList;
 pub use outcome::transfer_follows_situations;
 pub use past::{breaks_rule, leads_past};
@@ -23,4 +25,4 @@ pub use setting::{Setting, graphs_are_registered_alike};
 pub use state::{
     Abs, CONTEXTS, LocksDiffer, OPERATIONS, is_partial_order, join, joins_are_least, leq,
 };
-pub use step::{Successor, Successors, transfer, transfer_is_monotone};
+pub use step::{Successor, Successors, transfer, transfer_into, transfer_is_monotone};

@@ -85,6 +85,17 @@ impl LockList {
         same_locks(self.locks.as_slice(), other.locks.as_slice())
     }
 
+    /// Becomes the same as another list.
+    #[inline(always)]
+    pub(crate) fn set_to(&mut self, other: &LockList)
+        ensures { self.new ≡ other.now }
+    {
+        // Mostly no lock is held.
+        if !(self.is_empty() && other.is_empty()) {
+            *self = other.copied();
+        }
+    }
+
     /// The same list.
     #[tactic(auto, using(crate::specs::LockLaws::eight_at_most))]
     pub(crate) fn copied(&self) -> LockList

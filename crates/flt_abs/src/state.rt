@@ -98,9 +98,9 @@ impl Abs {
         &self.locks
     }
 
-    /// The same state.
+    /// The same state. It takes no memory.
     #[inline(always)]
-    pub(crate) fn copied(&self) -> Abs
+    pub fn copied(&self) -> Abs
         ensures { result ≡ self.now }
     {
         Abs {

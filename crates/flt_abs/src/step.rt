@@ -1,12 +1,13 @@
 //! What an instruction makes of a state.
 
-ghost use Rattle.std.specs.Prelude.{◌≡◌, ℕ, true, false, IfSome, IsTrue};
+ghost use Rattle.std.specs.Prelude.{◌≡◌, ℕ, true, false, None, Some, Ok, Err, IfSome, IfNone, IsTrue, IsFalse};
 ghost use Rattle.flt_abs.specs.Sets as sets;
 ghost use Rattle.flt_abs.specs.Step as spec;
 ghost use Rattle.flt_graph.specs.declared.graph.Graph.{Graph};
 ghost use Rattle.flt_abs.specs.State.{State, is_below, is_proper};
 
 use crate::breaks::first_broken;
+use crate::leads::Leads;
 use crate::locks::LockList;
 use crate::sets::{Draining, Modes, Statuses};
 use crate::state::Abs;
@@ -91,185 +92,190 @@ fn change_locks(state: &mut Abs, call: &Invocation, effects: &Effects)
     }
 }
 
-/// The state after a call that had these effects.
-fn after_call(state: &Abs, call: &Invocation, effects: &Effects) -> Abs
-    ensures { result ≡ spec.after_call call.now effects.now state.now }
+/// A call that had these effects.
+fn change_by(state: &mut Abs, call: &Invocation, effects: &Effects)
+    ensures { state.new ≡ spec.after_call call.now effects.now state.old }
 {
-    let mut next = state.copied();
-    change_context(&mut next, call, effects);
-    change_output(&mut next, call, effects);
-    change_operation(&mut next, call, effects);
-    change_locks(&mut next, call, effects);
-    next
+    change_context(state, call, effects);
+    change_output(state, call, effects);
+    change_operation(state, call, effects);
+    change_locks(state, call, effects);
 }
 
-fn after_failure(
-    state: &Abs,
-    call: &Invocation,
-    effects: Option<Effects>,
-    point: usize,
-) -> Option<Successor>
-    ensures { result ≡ spec.after_failure state.now call.now effects point }
+/// A statement that neither calls nor branches.
+fn act(state: &mut Abs, action: Action)
+    ensures { state.new ≡ spec.after_action state.old action }
 {
-    match effects {
-        Some(effects) => Some(Successor {
-            point,
-            state: after_call(state, call, &effects),
-        }),
-        None => None,
-    }
-}
-
-fn call_successors(state: &Abs, call: &Invocation, granted: usize, failed: usize) -> Successors
-    ensures { result ≡ spec.call_successors state.now call.now granted failed }
-{
-    let row = row(call.call);
-    Successors {
-        first: Some(Successor {
-            point: granted,
-            state: after_call(state, call, &row.on_ok),
-        }),
-        second: after_failure(state, call, row.on_fail, failed),
-    }
-}
-
-/// The state after a statement that neither calls nor branches.
-fn after_action(state: &Abs, action: Action) -> Abs
-    ensures { result ≡ spec.after_action state.now action }
-{
-    let mut next = state.copied();
     match action {
-        Action::ClearContext(c) => next.set_context(c, Statuses::null()),
+        Action::ClearContext(c) => state.set_context(c, Statuses::null()),
         Action::ClearOperation(o) => {
-            next.set_operation(OperationVariable::Removed(o), Statuses::null());
+            state.set_operation(OperationVariable::Removed(o), Statuses::null());
         }
         _ => {}
     }
-    next
 }
 
-/// The state in which a test holds, if it can.
-#[inline(never)]
-fn where_true(state: &Abs, test: Test) -> Option<Abs>
-    ensures { result ≡ spec.where_true state.now test }
+/// Makes the state one in which a test holds. Whether it can.
+fn hold(state: &mut Abs, test: Test) -> bool
+    ensures can { IsTrue result → spec.where_true state.old test ≡ Some state.new }
+    ensures cannot { IsFalse result → spec.where_true state.old test ≡ None }
 {
-    let mut next = state.copied();
     match test {
         Test::ContextIsSome(c) => {
             let some = state.context(c).without_null();
             if !some.is_possible() {
-                return None;
+                return false;
             }
-            next.set_context(c, some);
+            state.set_context(c, some);
         }
         Test::OperationIsSome(o) => {
             let variable = OperationVariable::Removed(o);
             let some = state.operation(variable).without_null();
             if !some.is_possible() {
-                return None;
+                return false;
             }
-            next.set_operation(variable, some);
+            state.set_operation(variable, some);
         }
         Test::IsIrp => {
             if !state.modes.has_irp() {
-                return None;
+                return false;
             }
-            next.modes = Modes::irp();
+            state.modes = Modes::irp();
         }
         Test::IsDraining => {
             if !state.draining.has_yes() {
-                return None;
+                return false;
             }
-            next.draining = Draining::yes();
+            state.draining = Draining::yes();
         }
         Test::Equal(_, _) | Test::Less(_, _) => {}
     }
-    Some(next)
+    true
 }
 
-/// The state in which a test doesn't hold, if it can fail.
-#[inline(never)]
-fn where_false(state: &Abs, test: Test) -> Option<Abs>
-    ensures { result ≡ spec.where_false state.now test }
+/// Makes the state one in which a test doesn't hold. Whether it can fail.
+fn fail(state: &mut Abs, test: Test) -> bool
+    ensures can { IsTrue result → spec.where_false state.old test ≡ Some state.new }
+    ensures cannot { IsFalse result → spec.where_false state.old test ≡ None }
 {
-    let mut next = state.copied();
     match test {
         Test::ContextIsSome(c) => {
             if !state.context(c).has_null() {
-                return None;
+                return false;
             }
-            next.set_context(c, Statuses::null());
+            state.set_context(c, Statuses::null());
         }
         Test::OperationIsSome(o) => {
             let variable = OperationVariable::Removed(o);
             if !state.operation(variable).has_null() {
-                return None;
+                return false;
             }
-            next.set_operation(variable, Statuses::null());
+            state.set_operation(variable, Statuses::null());
         }
         Test::IsIrp => {
             if !state.modes.has_fast() {
-                return None;
+                return false;
             }
-            next.modes = Modes::fast();
+            state.modes = Modes::fast();
         }
         Test::IsDraining => {
             if !state.draining.has_no() {
-                return None;
+                return false;
             }
-            next.draining = Draining::no();
+            state.draining = Draining::no();
         }
         Test::Equal(_, _) | Test::Less(_, _) => {}
     }
-    Some(next)
+    true
 }
 
-fn at(point: usize, state: Option<Abs>) -> Option<Successor>
-    ensures { result ≡ spec.at point state }
+/// Where a call leads.
+fn follow_call(leads: &mut Leads, state: &Abs, call: &Invocation, granted: usize, failed: usize)
+    ensures { leads.new ≡ spec.call_successors state.now call.now granted failed }
 {
-    match state {
-        Some(state) => Some(Successor { point, state }),
-        None => None,
+    let row = row(call.call);
+    leads.first.reach(granted, state);
+    change_by(&mut leads.first.state, call, &row.on_ok);
+    match row.on_fail {
+        Some(effects) => {
+            leads.second.reach(failed, state);
+            change_by(&mut leads.second.state, call, &effects);
+        }
+        None => leads.second.point = None,
     }
 }
 
-#[inline(always)]
+/// Where a test leads.
+fn follow_test(leads: &mut Leads, state: &Abs, test: Test, yes: usize, no: usize)
+    ensures { leads.new ≡ record { first = spec.at yes (spec.where_true state.now test); second = spec.at no (spec.where_false state.now test) } }
+{
+    leads.first.reach(yes, state);
+    if !hold(&mut leads.first.state, test) {
+        leads.first.point = None;
+    }
+    leads.second.reach(no, state);
+    if !fail(&mut leads.second.state, test) {
+        leads.second.point = None;
+    }
+}
+
+/// Where an instruction leads from a state.
+pub(crate) fn follow(leads: &mut Leads, state: &Abs, instruction: &Instruction)
+    ensures { leads.new ≡ spec.leads_to state.now instruction.now }
+{
+    match instruction {
+        Instruction::Act(action, next) => {
+            leads.first.reach(*next, state);
+            act(&mut leads.first.state, *action);
+            leads.second.point = None;
+        }
+        Instruction::Call(call, granted, failed) => {
+            follow_call(leads, state, call, *granted, *failed);
+        }
+        Instruction::Test(test, yes, no) => follow_test(leads, state, *test, *yes, *no),
+        Instruction::Repeat(_, body, next) => {
+            leads.first.reach(*body, state);
+            leads.second.reach(*next, state);
+        }
+        Instruction::Return(_) | Instruction::End => {
+            leads.first.point = None;
+            leads.second.point = None;
+        }
+    }
+}
+
+/// Where an instruction leads from a state, handed back.
 pub(crate) fn leads_to(state: &Abs, instruction: &Instruction) -> Successors
     ensures { result ≡ spec.leads_to state.now instruction.now }
 {
-    match instruction {
-        Instruction::Act(action, next) => Successors {
-            first: Some(Successor {
-                point: *next,
-                state: after_action(state, *action),
-            }),
-            second: None,
-        },
-        Instruction::Call(call, granted, failed) => call_successors(state, call, *granted, *failed),
-        Instruction::Test(test, yes, no) => Successors {
-            first: at(*yes, where_true(state, *test)),
-            second: at(*no, where_false(state, *test)),
-        },
-        Instruction::Repeat(_, body, next) => Successors {
-            first: Some(Successor {
-                point: *body,
-                state: state.copied(),
-            }),
-            second: Some(Successor {
-                point: *next,
-                state: state.copied(),
-            }),
-        },
-        Instruction::Return(_) | Instruction::End => Successors {
-            first: None,
-            second: None,
-        },
+    let mut leads = Leads::none(state);
+    follow(&mut leads, state, instruction);
+    leads.into_successors()
+}
+
+/// What `transfer` answers, written over what `leads` had: the least rule that is broken, or none, and then `leads` has where the point
+/// leads. Where a rule is broken, `leads` stays as it was. It takes no memory.
+pub fn transfer_into(
+    graph: &Graph,
+    callback: usize,
+    point: usize,
+    state: &Abs,
+    leads: &mut Leads,
+) -> Option<Rule>
+    ensures leads { IfNone result (spec.transfer graph.now callback point state.now ≡ Ok leads.new) }
+    ensures rule { IfSome result (λ rule. spec.transfer graph.now callback point state.now ≡ Err rule) }
+    ensures stays { IfSome result (λ _. leads.new ≡ leads.old) }
+{
+    let instruction = graph.instruction_ref(callback, point);
+    let rule = first_broken(graph, callback, state, instruction);
+    if rule.is_none() {
+        follow(leads, state, instruction);
     }
+    rule
 }
 
 /// Where the point of a callback leads from a state, or the least rule that it breaks. Callbacks and points count
 /// from 0; a point that isn't there is an end, and a callback that isn't there a generic routine. It takes no memory.
-#[inline(always)]
 pub fn transfer(
     graph: &Graph,
     callback: usize,
@@ -278,10 +284,10 @@ pub fn transfer(
 ) -> Result<Successors, Rule>
     ensures { result ≡ spec.transfer graph.now callback point state.now }
 {
-    let instruction = graph.instruction_ref(callback, point);
-    match first_broken(graph, callback, state, instruction) {
+    let mut leads = Leads::none(state);
+    match transfer_into(graph, callback, point, state, &mut leads) {
         Some(rule) => Err(rule),
-        None => Ok(leads_to(state, instruction)),
+        None => Ok(leads.into_successors()),
     }
 }
 

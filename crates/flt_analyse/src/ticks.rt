@@ -1,10 +1,10 @@
 //! A count of the transfers of a point.
 
-ghost use Rattle.std.specs.Prelude.{◌≡◌, ◌+◌, ◌<◌};
+ghost use Rattle.std.specs.Prelude.{◌≡◌, ◌+◌, ◌<◌, Ok, Err, IfSome, IfNone};
 ghost use Rattle.flt_abs.specs.Step as step;
 ghost use Rattle.flt_analyse.specs.Ticks as spec;
 
-use flt_abs::{Abs, Successors, transfer};
+use flt_abs::{Abs, Leads, transfer_into};
 use flt_graph::Graph;
 use flt_rules::Rule;
 use std::marker::Model;
@@ -40,20 +40,22 @@ impl<L: Ledger, const CALLBACK: usize, const POINT: usize> Ticks<L, CALLBACK, PO
         Ticks { book, share }
     }
 
-    /// `flt_abs::transfer`, counted where the point is the one that is watched.
-    pub fn transfer(
+    /// `flt_abs::transfer_into`, counted where the point is the one that is watched.
+    pub fn transfer_into(
         &mut self,
         graph: &Graph,
         callback: usize,
         point: usize,
         state: &Abs,
-    ) -> Result<Successors, Rule>
-        ensures value { result ≡ step.transfer graph.now callback point state.now }
+        leads: &mut Leads,
+    ) -> Option<Rule>
+        ensures leads { IfNone result (step.transfer graph.now callback point state.now ≡ Ok leads.new) }
+        ensures rule { IfSome result (λ rule. step.transfer graph.now callback point state.now ≡ Err rule) }
         ensures count { self.new ≡ self.old + spec.one_at CALLBACK POINT callback point }
     {
         if callback == CALLBACK && point == POINT {
             self.book.add(&mut self.share, 1);
         }
-        transfer(graph, callback, point, state)
+        transfer_into(graph, callback, point, state, leads)
     }
 }

@@ -1,6 +1,7 @@
 //! The walk over the points of one callback.
 
 ghost use Rattle.std.specs.Prelude.{◌≡◌, ◌≢◌, ◌<◌, ◌≤◌, ◌+◌, length, slice_index_or, None, Ok, Err, OnOk, IfOk, IfErr, IfSome, IfNone};
+ghost use Rattle.flt_abs.specs.Leads.{lent};
 ghost use Rattle.flt_graph.specs.Graph.{points_at};
 ghost use Rattle.flt_analyse.specs.Least as answer;
 ghost use Rattle.flt_analyse.specs.Columns.{Column, ProperNext, ProperSteps};
@@ -12,8 +13,7 @@ use crate::fault::AnalyseFault;
 use crate::pending::Pending;
 use crate::ticks::Ticks;
 use flt_abs::{
-    Abs, LocksDiffer, Successor, Successors, entry_state, join, joins_are_least, leq,
-    transfer_is_monotone,
+    Abs, Leads, LocksDiffer, entry_state, join, joins_are_least, leq, transfer_is_monotone,
 };
 use flt_check::Refusal;
 use flt_graph::Graph;
@@ -30,11 +30,11 @@ pub(crate) struct Walk {
 }
 
 /// A state has no empty set: it does nothing, and its clause is what the type keeps.
-fn is_proper(successor: &Option<Successor>)
-    ensures { ProperNext successor.now }
+fn is_proper(lead: Option<(usize, &Abs)>)
+    ensures { ProperNext (lent lead.entry) }
 {
-    if let Some(next) = successor {
-        let _sets = next.state.contexts();
+    if let Some((_point, state)) = lead {
+        let _sets = state.contexts();
     }
 }
 
@@ -80,21 +80,21 @@ impl Walk {
     ///
     /// The rule that this breaks: other locks were held there, or there is no such point.
     #[tactic(auto, using(flt_abs::specs::LockLaws::same_locks_decides))]
-    fn reach(&mut self, successor: Option<Successor>) -> Result<(), Rule>
+    fn reach(&mut self, lead: Option<(usize, &Abs)>) -> Result<(), Rule>
         requires few { length self.old.points ≤ 512 }
-        ensures ok { OnOk result (spec.reach self.old successor ≡ Ok self.new) }
-        ensures err { IfErr result (λ r. spec.reach self.old successor ≡ Err r) }
+        ensures ok { OnOk result (spec.reach self.old (lent lead.entry) ≡ Ok self.new) }
+        ensures err { IfErr result (λ r. spec.reach self.old (lent lead.entry) ≡ Err r) }
     {
-        let Some(Successor { point, state }) = successor else {
+        let Some((point, state)) = lead else {
             return Ok(());
         };
         if self.points.len() <= point {
             return Err(Rule::R14);
         }
         let joined = match &self.points.as_slice()[point] {
-            None => state,
-            Some(found) if leq(&state, found) => return Ok(()),
-            Some(found) => match join(found, &state) {
+            None => state.copied(),
+            Some(found) if leq(state, found) => return Ok(()),
+            Some(found) => match join(found, state) {
                 Ok(joined) => joined,
                 Err(LocksDiffer) => return Err(Rule::R12),
             },
@@ -103,33 +103,37 @@ impl Walk {
         Ok(())
     }
 
-    /// Where a point leads by what was found there, or the least rule that it breaks.
-    fn outcome<L: Ledger, const CALLBACK: usize, const POINT: usize>(
+    /// Where a point leads by what was found there.
+    ///
+    /// # Errors
+    ///
+    /// The least rule that it breaks.
+    fn follow<L: Ledger, const CALLBACK: usize, const POINT: usize>(
         &self,
         graph: &Graph,
         callback: usize,
         point: usize,
         ticks: &mut Ticks<L, CALLBACK, POINT>,
-    ) -> Result<Successors, Rule>
+        leads: &mut Leads,
+    ) -> Result<(), Rule>
         requires callback { callback < length graph.now.callbacks }
         requires point { point < points_at graph.now callback }
         requires count { length self.now.points ≡ points_at graph.now callback }
-        ensures value { result ≡ spec.outcome_at graph.now callback point (slice_index_or self.now.points point None) }
-        ensures proper { ProperSteps result }
+        ensures ok { OnOk result (spec.outcome_at graph.now callback point (slice_index_or self.now.points point None) ≡ Ok leads.new) }
+        ensures err { IfErr result (λ r. spec.outcome_at graph.now callback point (slice_index_or self.now.points point None) ≡ Err r) }
+        ensures proper { ProperSteps (spec.outcome_at graph.now callback point (slice_index_or self.now.points point None)) }
         ensures count { ticks.new ≤ ticks.old + one_at CALLBACK POINT callback point }
     {
-        match &self.points.as_slice()[point] {
-            Some(state) => {
-                let next = ticks.transfer(graph, callback, point, state)?;
-                is_proper(&next.first);
-                is_proper(&next.second);
-                Ok(next)
-            }
-            None => Ok(Successors {
-                first: None,
-                second: None,
-            }),
+        let Some(state) = &self.points.as_slice()[point] else {
+            leads.clear();
+            return Ok(());
+        };
+        if let Some(rule) = ticks.transfer_into(graph, callback, point, state, leads) {
+            return Err(rule);
         }
+        is_proper(leads.first());
+        is_proper(leads.second());
+        Ok(())
     }
 
     /// Looks at a point that was taken: its successors are reached, the one where a call succeeds or a test holds first.
@@ -143,6 +147,7 @@ impl Walk {
         callback: usize,
         point: usize,
         ticks: &mut Ticks<L, CALLBACK, POINT>,
+        leads: &mut Leads,
     ) -> Result<(), Rule>
         requires callback { callback < length graph.now.callbacks }
         requires point { point < points_at graph.now callback }
@@ -153,9 +158,9 @@ impl Walk {
         ensures proper { ProperSteps (spec.outcome_at graph.now callback point (slice_index_or self.old.points point None)) }
         ensures count { ticks.new ≤ ticks.old + one_at CALLBACK POINT callback point }
     {
-        let next = self.outcome(graph, callback, point, ticks)?;
-        self.reach(next.first)?;
-        self.reach(next.second)
+        self.follow(graph, callback, point, ticks, leads)?;
+        self.reach(leads.first())?;
+        self.reach(leads.second())
     }
 }
 
@@ -177,8 +182,9 @@ pub(crate) fn walk_callback<L: Ledger, const CALLBACK: usize, const POINT: usize
     joins_are_least();
     transfer_is_monotone();
     let mut walk = Walk::open(alloc, graph, callback)?;
+    let mut leads = Leads::none(&entry_state(alloc, graph.place(callback)));
     'looks: while let Some(point) = walk.take() {
-        if let Err(rule) = walk.look(graph, callback, point, ticks) {
+        if let Err(rule) = walk.look(graph, callback, point, ticks, &mut leads) {
             return Err(AnalyseFault::Refused(Refusal {
                 callback,
                 point,

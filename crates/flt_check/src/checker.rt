@@ -2,11 +2,12 @@
 
 ghost use Rattle.std.specs.Prelude.{◌≡◌, ◌<◌, ◌↔◌, length, IsOk, OnOk, IfErr, IfSome, IfNone};
 ghost use Rattle.std.specs.Option.{option_copied};
+ghost use Rattle.flt_abs.specs.Leads.{lent};
 ghost use Rattle.flt_check.specs.Checker as spec;
 ghost use Rattle.flt_check.specs.Covering.{Covers};
 ghost use Rattle.flt_graph.specs.Graph.{points_at, line_at};
 
-use flt_abs::{Abs, Successor, Successors, is_entry_below, leq, transfer};
+use flt_abs::{Abs, Leads, is_entry_below, leq, transfer_into};
 use flt_cert::Cert;
 use flt_graph::{Graph, Place};
 use flt_rules::Rule;
@@ -32,11 +33,11 @@ fn lead_fault(state: &Abs, at: Option<&Abs>) -> Option<Rule>
     }
 }
 
-fn successor_fault(cert: &Cert, callback: usize, successor: &Option<Successor>) -> Option<Rule>
-    ensures { result ≡ spec.successor_fault cert.now callback successor.now }
+fn successor_fault(cert: &Cert, callback: usize, lead: Option<(usize, &Abs)>) -> Option<Rule>
+    ensures { result ≡ spec.successor_fault cert.now callback (lent lead.entry) }
 {
-    match successor {
-        Some(next) => lead_fault(&next.state, cert.state(callback, next.point)),
+    match lead {
+        Some((point, state)) => lead_fault(state, cert.state(callback, point)),
         None => None,
     }
 }
@@ -58,11 +59,11 @@ fn lesser(a: Option<Rule>, b: Option<Rule>) -> Option<Rule>
     }
 }
 
-fn leads_fault(cert: &Cert, callback: usize, next: &Successors) -> Option<Rule>
-    ensures { result ≡ spec.leads_fault cert.now callback next.now }
+fn leads_fault(cert: &Cert, callback: usize, leads: &Leads) -> Option<Rule>
+    ensures { result ≡ spec.leads_fault cert.now callback leads.now }
 {
-    let first = successor_fault(cert, callback, &next.first);
-    let second = successor_fault(cert, callback, &next.second);
+    let first = successor_fault(cert, callback, leads.first());
+    let second = successor_fault(cert, callback, leads.second());
     lesser(first, second)
 }
 
@@ -73,14 +74,39 @@ fn state_fault(
     callback: usize,
     point: usize,
     state: &Abs,
+    leads: &mut Leads,
 ) -> Option<Rule>
     requires callback { callback < length graph.now.callbacks }
     requires point { point < points_at graph.now callback }
     ensures { result ≡ spec.state_fault graph.now cert.now callback point state.now }
 {
-    match transfer(graph, callback, point, state) {
-        Err(rule) => Some(rule),
-        Ok(next) => leads_fault(cert, callback, &next),
+    match transfer_into(graph, callback, point, state, leads) {
+        Some(rule) => Some(rule),
+        None => leads_fault(cert, callback, leads),
+    }
+}
+
+/// The same, with what was kept from the points before, if there is anything yet.
+fn reached_fault(
+    graph: &Graph,
+    cert: &Cert,
+    callback: usize,
+    point: usize,
+    state: &Abs,
+    kept: &mut Option<Leads>,
+) -> Option<Rule>
+    requires callback { callback < length graph.now.callbacks }
+    requires point { point < points_at graph.now callback }
+    ensures { result ≡ spec.state_fault graph.now cert.now callback point state.now }
+{
+    match kept {
+        Some(leads) => state_fault(graph, cert, callback, point, state, leads),
+        None => {
+            let mut leads = Leads::none(state);
+            let fault = state_fault(graph, cert, callback, point, state, &mut leads);
+            *kept = Some(leads);
+            fault
+        }
     }
 }
 
@@ -109,13 +135,19 @@ fn entry_fault(graph: &Graph, cert: &Cert, callback: usize) -> Option<Rule>
 }
 
 /// The least rule that is broken at a point. One that isn't reached breaks none of its own.
-fn point_fault(graph: &Graph, cert: &Cert, callback: usize, point: usize) -> Option<Rule>
+fn point_fault(
+    graph: &Graph,
+    cert: &Cert,
+    callback: usize,
+    point: usize,
+    kept: &mut Option<Leads>,
+) -> Option<Rule>
     requires callback { callback < length graph.now.callbacks }
     requires point { point < points_at graph.now callback }
     ensures { result ≡ spec.point_fault graph.now cert.now callback point }
 {
     let own = match cert.state(callback, point) {
-        Some(state) => state_fault(graph, cert, callback, point, state),
+        Some(state) => reached_fault(graph, cert, callback, point, state, kept),
         None => None,
     };
     if point == 0 {
@@ -131,8 +163,9 @@ fn callback_fault(graph: &Graph, cert: &Cert, callback: usize) -> Option<(usize,
     ensures none { IfNone result (spec.NoneBefore graph.now cert.now callback (points_at graph.now callback)) }
     ensures some { IfSome result (λ q. spec.IsFirstPoint graph.now cert.now callback q.0 q.1) }
 {
+    let mut kept = None;
     for point in 0..graph.points(callback) {
-        if let Some(rule) = point_fault(graph, cert, callback, point) {
+        if let Some(rule) = point_fault(graph, cert, callback, point, &mut kept) {
             return Some((point, rule));
         }
     }
