@@ -78,9 +78,9 @@ fn state_fault(
     requires point { point < points_at graph.now callback }
     ensures { result ≡ spec.state_fault graph.now cert.now callback point state.now }
 {
-    match transfer(graph, callback, point, state) {
-        Err(rule) => Some(rule),
-        Ok(next) => leads_fault(cert, callback, &next),
+    match &transfer(graph, callback, point, state) {
+        Err(rule) => Some(*rule),
+        Ok(next) => leads_fault(cert, callback, next),
     }
 }
 
