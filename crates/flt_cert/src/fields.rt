@@ -1,6 +1,6 @@
 //! What stands in one line.
 
-ghost use Rattle.std.specs.Prelude.{◌≡◌, ◌<◌, ◌≤◌, [], ◌∷◌, length, false, Some, None, IsTrue, IsFalse, IfSome};
+ghost use Rattle.std.specs.Prelude.{◌≡◌, ◌<◌, ◌≤◌, ◌&&◌, nat_lt, [], ◌∷◌, length, false, Some, None, IsTrue, IsFalse, IfSome};
 ghost use Rattle.std.specs.Option.{option_copied, option_map};
 ghost use Rattle.std.specs.Str.{bytes_eq};
 ghost use Rattle.flt_abs.specs.State.{state_of};
@@ -70,6 +70,14 @@ fn blank(text: &[u8]) -> Option<&[u8]>
     after_byte(b' ', text)
 }
 
+/// Whether a digit stands for a set: from 1 to 7.
+#[inline(always)]
+fn is_set(digit: u8) -> bool
+    ensures { result ≡ (nat_lt 48 digit && nat_lt digit 56) }
+{
+    b'1' <= digit && digit <= b'7'
+}
+
 /// Sets each of `sets` by its digit. Whether each is a digit of a set.
 #[inline(always)]
 fn fill(sets: &mut [Statuses], digits: &[u8]) -> bool
@@ -80,7 +88,7 @@ fn fill(sets: &mut [Statuses], digits: &[u8]) -> bool
     let mut known = true;
     for index in 0..sets.len() {
         let digit = digits[index];
-        known &= b'1' <= digit && digit <= b'7';
+        known &= is_set(digit);
         sets[index] = Statuses::from_low_bits(digit);
     }
     known

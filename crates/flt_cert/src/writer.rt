@@ -35,6 +35,7 @@ fn put_number(out: &mut Vec<u8>, number: usize)
     out.push_reserved(low);
 }
 
+#[inline(always)]
 fn push_number(out: &mut Vec<u8>, number: usize) -> Result<(), AllocError>
     requires { number < 1000 }
     ensures { OnOk result (out.new.items ≡ out.old.items ++ decimal number) }
