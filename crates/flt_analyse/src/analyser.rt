@@ -35,7 +35,7 @@ fn has_room(graph: &Graph) -> bool
     true
 }
 
-/// The least certificate that covers a text. Each point is transferred at most 31 times, by `Ticks::transfer` alone.
+/// The least certificate that covers a text. Each point is transferred at most 31 times, by `Ticks::transfer_into` alone.
 ///
 /// # Errors
 ///
