@@ -51,6 +51,7 @@ impl<L: Ledger, const CALLBACK: usize, const POINT: usize> Ticks<L, CALLBACK, PO
     ) -> Option<Rule>
         ensures leads { IfNone result (step.transfer graph.now callback point state.now ≡ Ok leads.new) }
         ensures rule { IfSome result (λ rule. step.transfer graph.now callback point state.now ≡ Err rule) }
+        ensures stays { IfSome result (λ _. leads.new ≡ leads.old) }
         ensures count { self.new ≡ self.old + spec.one_at CALLBACK POINT callback point }
     {
         if callback == CALLBACK && point == POINT {
