@@ -94,21 +94,20 @@ pub(crate) struct Replayed {
     pub(crate) verdict: Verdict,
 }
 
-/// The verdict about a journal on some texts, with what they spell. The journal's bytes are given back before it is judged.
+/// The verdict about a journal on some texts, with what they spell.
 pub(crate) fn replay_all<'a>(
     alloc: Global,
-    written: Vec<u8>,
+    written: &[u8],
     texts: &[Vec<u8>],
 ) -> Result<Replayed, Failure<'a>>
-    ensures ok { IfOk result (λ r. spec.IsVerdict written.items (map (λ text. text.items) texts.now) r.verdict) }
-    ensures err { IfErr result (spec.IsFailure written.items (map (λ text. text.items) texts.now)) }
+    ensures ok { IfOk result (λ r. spec.IsVerdict written.now (map (λ text. text.items) texts.now) r.verdict) }
+    ensures err { IfErr result (spec.IsFailure written.now (map (λ text. text.items) texts.now)) }
 {
     if MAX_FILTERS < texts.len() {
         return Err(Failure::TooManyFiles);
     }
     let trees = parse_all(alloc, texts)?;
-    let journal = read_journal(alloc, written.as_slice())?;
-    drop(written);
+    let journal = read_journal(alloc, written)?;
     match first_repeated(trees.as_slice()) {
         Some(number) => Err(Failure::Altitude(number)),
         None => {
@@ -123,12 +122,8 @@ pub(crate) fn replay_all<'a>(
 }
 
 /// The verdict about a journal on some texts.
-fn replay_texts<'a>(
-    alloc: Global,
-    written: Vec<u8>,
-    texts: &[Vec<u8>],
-) -> Result<Answer, Failure<'a>>
-    ensures { spec.Judges written.items (map (λ text. text.items) texts.now) result }
+fn replay_texts<'a>(alloc: Global, written: &[u8], texts: &[Vec<u8>]) -> Result<Answer, Failure<'a>>
+    ensures { spec.Judges written.now (map (λ text. text.items) texts.now) result }
 {
     let replayed = replay_all(alloc, written, texts)?;
     Ok(Answer::Judged(replayed.verdict))
@@ -146,7 +141,6 @@ pub fn replay_files<'a, I: Inputs>(
     let mut names = Vec::new(alloc);
     names.push(journal)?;
     names.extend_from_slice(files)?;
-    let mut texts = read_all(alloc, inputs, names.as_slice())?;
-    let written = texts.remove(0);
-    replay_texts(alloc, written, texts.as_slice())
+    let texts = read_all(alloc, inputs, names.as_slice())?;
+    replay_texts(alloc, texts[0].as_slice(), &texts[1..])
 }

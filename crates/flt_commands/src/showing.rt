@@ -63,11 +63,11 @@ fn show_texts<'a, P: Pictures>(
     alloc: Global,
     is_asked: bool,
     name: Option<&'a str>,
-    written: Vec<u8>,
+    written: &[u8],
     texts: &[Vec<u8>],
     pictures: &mut P,
 ) -> Result<Answer, Failure<'a>>
-    ensures { spec.ShownJudges is_asked (option_map (λ name. name.now) name.entry) written.items
+    ensures { spec.ShownJudges is_asked (option_map (λ name. name.now) name.entry) written.now
         (map (λ text. text.items) texts.now) result }
 {
     let replayed = replay_all(alloc, written, texts)?;
@@ -91,7 +91,13 @@ pub fn show_files<'a, I: Inputs, P: Pictures>(
     let mut names = Vec::new(alloc);
     names.push(journal)?;
     names.extend_from_slice(files)?;
-    let mut texts = read_all(alloc, inputs, names.as_slice())?;
-    let written = texts.remove(0);
-    show_texts(alloc, is_asked, name, written, texts.as_slice(), pictures)
+    let texts = read_all(alloc, inputs, names.as_slice())?;
+    show_texts(
+        alloc,
+        is_asked,
+        name,
+        texts[0].as_slice(),
+        &texts[1..],
+        pictures,
+    )
 }

@@ -1,4 +1,5 @@
-use Rattle.std.proofs.Common.{◌≡◌, Err, List, ◌∷◌, ℕ, Bor, map, refl, rules, ◌∙◌}
+use Rattle.std.proofs.Common.{◌≡◌, Err, List, ◌∷◌, ℕ, Bor, map, refl, rules}
+use Rattle.std.proofs.lemmas.List.{take_rest}
 use Rattle.flt_commands.specs.Inputs.{unread}
 use Rattle.flt_commands.proofs.Readings.{says_of_first}
 use Rattle.flt_commands.specs.Replay.{IsShown}
@@ -28,7 +29,6 @@ returns g c =
     let names : map (λ (n : Bor (List ℕ)). n.now) c.as_slice.result.now ≡ c.args.journal.now
     ∷ map (λ (n : Bor (List ℕ)). n.now) c.args.files.now =
     rw (c.as_slice.ensures.value, c.in_ok-extend_from_slice.ensures.items, c.in_ok-push.ensures.items, c.new-names.ensures.items) refl in
-    says_of_first _ (IsShown c.args.is_asked _) c.in_ok-texts.texts.items _ _ _ c.remove-written.result c.as_slice-2.result.now
-    c.remove-written.ensures.value
-    (c.as_slice-2.ensures.value ∙ c.remove-written.ensures.by_index.2)
-    (rw names at c.in_ok-texts.ensures.ok) c.show_texts.ensures
+    says_of_first _ (IsShown c.args.is_asked _) c.in_ok-texts.texts.items _ _ _ c.index.result.now _ c.index.ensures
+    (rw c.deref.ensures.value (take_rest c.in_ok-texts.texts.items 1))
+    (rw names at c.in_ok-texts.ensures.ok) (rw c.as_slice-2.ensures.value at c.show_texts.ensures)
