@@ -4,7 +4,6 @@ pub mod Concluding
 pub mod Events
 pub mod Following
 pub mod Holders
-pub mod InPlace
 pub mod Ledgers
 pub mod Noting
 pub mod Ones

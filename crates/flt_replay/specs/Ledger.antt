@@ -11,13 +11,13 @@ use Rattle.flt_model.specs.Violations.{in_queue, in_item, is_fresh, leaks_nothin
 use Rattle.flt_model.specs.World.{World, Store, Activation, is_settled}
 use Rattle.flt_replay.specs.Apart.{is_apart, are_apart, ends_in}
 use Rattle.flt_records.specs.Counts.{count, occurs}
-use Rattle.flt_replay.specs.Rows.{count_of}
+use Rattle.flt_replay.specs.Rows.{Counted, count_of}
 
 -- the counts: by activation, how often it holds each context and each visit; how often each context was freed and each visit
 -- settled; by activation, whether it goes on; and how many of those that go on hold each visit
 pub record Tally : Type 0 where
-  pub contexts : List (List (ℕ × ℕ))
-  pub visits : List (List (ℕ × ℕ))
+  pub contexts : Counted
+  pub visits : Counted
   pub freed : List ℕ
   pub settled : List ℕ
   pub running : List Bool

@@ -24,7 +24,7 @@ use flt_world::World;
 use std::alloc::{AllocError, Global};
 use std::marker::Model;
 
-mod row;
+mod others;
 pub(crate) mod rows;
 
 use rows::Rows;
@@ -125,6 +125,7 @@ impl Ledger {
     }
 
     /// Whether an activation may use or lose an object: it holds it, and nothing stale is touched.
+    #[inline(always)]
     fn may_use(&self, world: &World<'_>, a: usize, object: Object) -> bool
         ensures used { (t : List Event) → spec.Tells t self.now → result ≡ rules.is_fresh world.now t (Use a object) }
         ensures lost { (t : List Event) → spec.Tells t self.now → result ≡ rules.is_fresh world.now t (Lose a object) }

@@ -7,7 +7,7 @@ use Rattle.std.specs.Prelude.{◌==◌, ◌&&◌, if◌then◌else◌}
 use Rattle.flt_model.specs.Trace.{one_if, of_actor}
 use Rattle.flt_replay.proofs.Counting.Ones.{one_here, one_elsewhere, actor_here, actor_elsewhere}
 use Rattle.flt_records.specs.Counts.{count, occurs}
-use Rattle.flt_replay.specs.Rows.{count_of}
+use Rattle.flt_replay.specs.Rows.{Counted, count_of}
 use Rattle.flt_replay.specs.Ledger.{Tally, IsCounted, Turned, Stopped, Started, is_without, share, running_with}
 
 -- ---- a count of one activation changes
@@ -73,12 +73,12 @@ share_more false n =
 
 -- ---- an activation gains or loses a visit: the counts before and after it, the lesser first
 
-module _ (ons : List Bool) (a v : ℕ) (less more : List (List (ℕ × ℕ)))
+module _ (ons : List Bool) (a v : ℕ) (less more : Counted)
     (one : (b m : ℕ) → count_of more b m ≡ count_of less b m + of_actor a b (one_if v m)) where
   on : Bool
   on = get_or ons a false
 
-  of_visit : List (List (ℕ × ℕ)) → ℕ → ℕ → ℕ
+  of_visit : Counted → ℕ → ℕ → ℕ
   of_visit rows m b = count_of rows b m
 
   apart : (m b : ℕ) → a ≢ b → of_visit more m b ≡ of_visit less m b
@@ -127,7 +127,7 @@ when_false : (b : Bool) (n : ℕ) → b ≡ false → one_when b n ≡ 0
 unfolding one_when
 when_false b n e = ap (λ x. one_when x n) e
 
-module _ (c : Tally) (a v : ℕ) (rows : List (List (ℕ × ℕ))) where
+module _ (c : Tally) (a v : ℕ) (rows : Counted) where
   pub gained_first : (holders : List ℕ) → ((b m : ℕ) → count_of rows b m ≡ count_of c.visits b m + of_actor a b (one_if v m)) →
       is_without (get_or c.running a false) (count_of c.visits a v) ≡ true → ((m : ℕ) → count holders m ≡ count c.holders m + one_if v m) →
       Turned c (record c { visits = rows; holders = holders })

@@ -15,7 +15,7 @@ use Rattle.flt_replay.proofs.Counting.Ones.{actor_none}
 use Rattle.flt_replay.proofs.Counting.Tallies.{held_is}
 use Rattle.flt_replay.specs.Apart.{is_apart}
 use Rattle.flt_records.specs.Counts.{count, occurs}
-use Rattle.flt_replay.specs.Rows.{count_of}
+use Rattle.flt_replay.specs.Rows.{Counted, count_of}
 use Rattle.flt_replay.specs.Ledger.{Tally, Tells, IsCounted, Turned, Noted, held}
 
 module _ (t : List Event) (e : Event) where
@@ -52,14 +52,14 @@ apart_from_one u v h = grind (arith, nat_tests)
 -- ---- what is held, after one gain or one loss
 
 module _ (c : Tally) (a : ℕ) where
-  held_gained_context : (x : ℕ) (rows : List (List (ℕ × ℕ))) →
+  held_gained_context : (x : ℕ) (rows : Counted) →
       ((b n : ℕ) → count_of rows b n ≡ count_of c.contexts b n + of_actor a b (one_if x n)) →
       (b : ℕ) (o : Object) → held (record c { contexts = rows }) b o + lose b o (event.Gain a (Context x)) ≡ held c b o + gain b o
       (event.Gain a (Context x))
   held_gained_context x rows h b (Context n) = omega (arith, h b n)
   held_gained_context x rows h b (Visit u) = omega (arith, actor_none a b)
 
-  held_lost_context : (x : ℕ) (rows : List (List (ℕ × ℕ))) →
+  held_lost_context : (x : ℕ) (rows : Counted) →
       ((b n : ℕ) → count_of c.contexts b n ≡ count_of rows b n + of_actor a b (one_if x n)) →
       (b : ℕ) (o : Object) → held (record c { contexts = rows }) b o + lose b o (event.Lose a (Context x)) ≡ held c b o + gain b o
       (event.Lose a (Context x))
@@ -95,7 +95,7 @@ held_settled c counts v a (Visit u) = refl
 -- ---- each event
 
 module _ (t : List Event) (c : Tally) (was : List ℕ) (k : Tells t c) (counted : IsCounted c) where
-  pub gained_context : (a x : ℕ) (rows : List (List (ℕ × ℕ))) →
+  pub gained_context : (a x : ℕ) (rows : Counted) →
       ((b n : ℕ) → count_of rows b n ≡ count_of c.contexts b n + of_actor a b (one_if x n)) →
       Noted t (event.Gain a (Context x)) c (record c { contexts = rows }) was was
   gained_context a x rows h = record {
@@ -107,7 +107,7 @@ module _ (t : List Event) (c : Tally) (was : List ℕ) (k : Tells t c) (counted 
     apart = λ v z. refl;
   }
 
-  pub lost_context : (a x : ℕ) (rows : List (List (ℕ × ℕ))) →
+  pub lost_context : (a x : ℕ) (rows : Counted) →
       ((b n : ℕ) → count_of c.contexts b n ≡ count_of rows b n + of_actor a b (one_if x n)) →
       Noted t (event.Lose a (Context x)) c (record c { contexts = rows }) was was
   lost_context a x rows h = record {
