@@ -1,5 +1,5 @@
-//! How often each number was counted of each activation, beside the number that stands in place. Most activations have none of
-//! these, and take no memory here.
+//! How often each number was counted of each activation, beside the one that stands in place. Most activations have none of
+//! these and take no memory here, so what looks for them stays out of its callers' code.
 
 ghost use Rattle.std.specs.Prelude.{◌≡◌, ◌+◌, ℕ, ◌<◌, ◌≤◌, min, OnOk, ◌↔◌, IsTrue};
 ghost use Rattle.flt_model.specs.Trace.{one_if, of_actor};
