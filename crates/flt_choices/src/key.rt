@@ -246,7 +246,7 @@ fn put_rest(mix: &mut Mix, world: &mut World<'_>, activation: usize) {
         return;
     };
     for _ in 0..MAX_STATEMENTS {
-        match activation.rest.next() {
+        match activation.next() {
             Some(upcoming) => put_upcoming(mix, upcoming),
             None => return,
         }

@@ -47,7 +47,6 @@ fn go<'a>(
         return Ok(false);
     }
     let setup = Setup {
-        alloc,
         activation,
         grant,
         held: true,
@@ -141,7 +140,7 @@ fn upcoming<'a>(
     activation: usize,
 ) -> Result<Option<Upcoming<'a>>, AllocError> {
     match world.activations.get_mut(activation) {
-        Some(activation) => activation.rest.first(),
+        Some(activation) => activation.first(),
         None => Ok(None),
     }
 }

@@ -117,7 +117,7 @@ fn line_at(world: &mut World<'_>, callback: &Callback, step: Step) -> Result<usi
     let Some(activation) = world.activations.get_mut(step.activation) else {
         return Ok(0);
     };
-    match activation.rest.first()? {
+    match activation.first()? {
         Some(Upcoming::Statement(statement)) => Ok(line_of(statement)),
         Some(Upcoming::Repeat(line, _, _)) => Ok(line),
         None => Ok(callback.end_line),

@@ -29,16 +29,18 @@ fn go_unseen(world: &mut World<'_>, activation: usize, steps: u32) -> Result<boo
 /// Makes a step that others see. Whether the activation holds its operation changes no world.
 fn step_seen<'a>(
     world: &mut World<'a>,
+    alloc: Global,
     stack: &Stack<'a>,
     setup: Setup,
 ) -> Result<bool, AllocError> {
-    let mut events = Vec::new(setup.alloc);
+    let mut events = Vec::new(alloc);
     flt_steps::step_seen(world, stack, setup, &mut events)
 }
 
 /// Goes on by so many steps, of which the last is seen. False where one of them isn't enabled.
 fn go<'a>(
     world: &mut World<'a>,
+    alloc: Global,
     stack: &Stack<'a>,
     setup: Setup,
     steps: u32,
@@ -46,7 +48,7 @@ fn go<'a>(
     if steps == 0 || !go_unseen(world, setup.activation, steps - 1)? {
         return Ok(false);
     }
-    step_seen(world, stack, setup)
+    step_seen(world, alloc, stack, setup)
 }
 
 /// Makes a move. False where it isn't enabled.
@@ -75,12 +77,11 @@ fn make<'a>(
             grant,
         } => {
             let setup = Setup {
-                alloc,
                 activation: activation as usize,
                 grant,
                 held: true,
             };
-            go(world, stack, setup, steps)
+            go(world, alloc, stack, setup, steps)
         }
     }
 }

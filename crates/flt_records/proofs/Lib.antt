@@ -8,5 +8,4 @@ pub mod PlaceSets
 pub mod Queues
 pub mod Remaining
 pub mod SparseCounting
-pub mod Variables
 pub mod VisitLinks

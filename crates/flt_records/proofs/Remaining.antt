@@ -23,10 +23,6 @@ nothing : (l : List Statement) → length l < 1 → l ≡ []
 nothing [] h = refl
 nothing (x ∷ l) h = absurd (omega arith)
 
-no_part : (l : List Part) → length l < 1 → l ≡ []
-no_part [] h = refl
-no_part (x ∷ l) h = absurd (omega arith)
-
 -- ---- the last part is taken out, where nothing is left of the blocks
 
 module _ (here outer now : List Statement) (old new : List Part) (small : length here < 1) (none : length outer < 1)
@@ -47,10 +43,9 @@ module _ (here outer now : List Statement) (old new : List Part) (small : length
       taken_out p e ∙ ap (λ (l : List Statement). statements_of p ++ (l ++ before [] new)) (sym (nothing outer none))
       ∙ ap (λ (l : List Statement). statements_of p ++ (l ++ (outer ++ before [] new))) (sym (nothing here small))
 
-  pub none_left : length old < 1 → length new < 1 → (now ≡ []) × (remaining here outer new ≡ [])
+  pub none_left : old ≡ [] → new ≡ [] → (now ≡ []) × (remaining here outer new ≡ [])
   unfolding before
-  none_left o n =
-      (sym behind ∙ ap (before []) (no_part old o), rw (nothing here small, nothing outer none, no_part new n) refl)
+  none_left o n = (sym behind ∙ ap (before []) o, rw (nothing here small, nothing outer none, n) refl)
 
 -- ---- the first statement, which stays
 

@@ -3,6 +3,7 @@ pub mod Counts
 pub mod Links
 pub mod Parts
 pub mod Places
+pub mod Rare
 pub mod Rest
 pub mod Tickets
 pub mod Unsettled

@@ -1,31 +1,29 @@
 //! An activation: one run of a callback, with its variables and the locks that it holds.
 
-ghost use Rattle.std.specs.Prelude.{◌≡◌, ◌++◌, true, [], replicate, IfOk, OnOk, MatchOption};
+ghost use Rattle.std.specs.Prelude.{◌≡◌, ◌++◌, ◌∷◌, true, [], replicate, IfOk, OnOk, MatchOption};
+ghost use Rattle.flt_model.specs.LocalSteps.{turns_left};
 ghost use Rattle.flt_model.specs.Variables as spec;
-ghost use Rattle.flt_records.specs.Rest.{others};
+ghost use Rattle.flt_records.specs.Rest.{statement_of, others};
 ghost use Rattle.flt_records.specs.Writes.{written};
 
-use crate::numbers::Numbers;
-use crate::rest::Rest;
+use crate::rare::Rare;
+use crate::rest::{Rest, Upcoming};
 use crate::slot::Slot;
 use flt_rules::{HeldLock, LockNumber};
 use flt_tree::{
     Atom, ContextVariable, Expression, NumberVariable, OperationVariable, RemovedVariable,
     Statement,
 };
-use sqlite_items::Items;
 use std::alloc::{AllocError, Global};
 use std::marker::Model;
 
 /// How far a callback has come. A variable keeps its number when what it names is released or handed over.
 #[derive(Drop)]
 pub struct Activation<'a> {
-    pub rest: Rest<'a>,
-    numbers: Numbers,
+    rest: Rest<'a>,
+    pub(crate) rare: Rare<'a>,
     contexts: [Slot; 9],
     operations: [Slot; 5],
-    pub locks: Items<HeldLock>,
-    pub ended: bool,
 }
 
 impl<'a> Model for Activation<'a> {
@@ -37,13 +35,16 @@ impl<'a> Model for Activation<'a> {
 
     ghost coded = { activation_code };
 
+    ghost use Rattle.flt_records.specs.Rare.{contents};
+    ghost use Rattle.flt_records.specs.Rest.{remains};
+
     ghost view = { λ a. record {
-      rest = a.rest;
-      numbers = a.numbers;
+      rest = remains a.rest (contents a.rare).after;
+      numbers = (contents a.rare).numbers;
       contexts = a.contexts;
       operations = a.operations;
-      locks = a.locks;
-      ended = a.ended;
+      locks = (contents a.rare).locks;
+      ended = (contents a.rare).ended;
     } };
 }
 
@@ -73,8 +74,8 @@ impl<'a> Activation<'a> {
         ensures { IfOk result (λ act. act ≡ spec.starting body.now given arg) }
     {
         Ok(Activation {
-            rest: Rest::new(alloc, body),
-            numbers: Numbers::new(alloc),
+            rest: Rest::new(body),
+            rare: Rare::new(alloc),
             contexts: [
                 Slot::null(),
                 Slot::null(),
@@ -93,8 +94,6 @@ impl<'a> Activation<'a> {
                 Slot::null(),
                 Slot::naming(given)?,
             ],
-            locks: Items::new(alloc),
-            ended: false,
         })
     }
 
@@ -102,7 +101,7 @@ impl<'a> Activation<'a> {
     pub fn number(&self, variable: NumberVariable) -> u64
         ensures { result ≡ spec.number_in self.now variable }
     {
-        self.numbers.get(variable.place())
+        self.rare.number(variable.place())
     }
 
     /// The number of the context that a variable names; none where it is NULL.
@@ -125,7 +124,7 @@ impl<'a> Activation<'a> {
     pub fn set_number(&mut self, variable: NumberVariable, value: u64) -> Result<(), AllocError>
         ensures { OnOk result (self.new ≡ spec.with_number self.old variable value) }
     {
-        self.numbers.set(variable.place(), value)
+        self.rare.set_number(variable.place(), value)
     }
 
     /// Sets a context variable, or makes it NULL. It fails where the number is 2^32 - 1 or greater.
@@ -198,7 +197,7 @@ impl<'a> Activation<'a> {
                 self.set_operation(OperationVariable::Removed(removed), visit)?;
                 self.set_context(variable, context)?;
             }
-            Write::Lock(held) => self.locks.push(held)?,
+            Write::Lock(held) => self.rare.push_lock(held)?,
             Write::Unlock(lock) => self.remove_lock(lock),
         }
         Ok(())
@@ -208,7 +207,61 @@ impl<'a> Activation<'a> {
     pub fn go_on(&mut self, block: &'a [Statement], write: Write) -> Result<(), AllocError>
         ensures { OnOk result (self.new ≡ written write (record self.old { rest = block.now ++ others self.old.rest })) }
     {
-        self.rest.replace_first(block)?;
+        self.rest.replace_first(&mut self.rare, block)?;
         self.write(write)
+    }
+}
+
+// ---- what remains
+
+impl<'a> Activation<'a> {
+    /// Takes out the first statement that remains.
+    pub fn next(&mut self) -> Option<Upcoming<'a>>
+        ensures rest { MatchOption result ((self.old.rest ≡ []) × (self.new.rest ≡ [])) (λ u. self.old.rest ≡ statement_of u ∷ self.new.rest) }
+        ensures others { self.new ≡ record self.old { rest = self.new.rest } }
+    {
+        self.rest.next(&mut self.rare)
+    }
+
+    /// The first statement that remains, which stays. A `repeat` that was begun is taken out and put back.
+    pub fn first(&mut self) -> Result<Option<Upcoming<'a>>, AllocError>
+        ensures same { OnOk result (self.new ≡ self.old) }
+        ensures first { IfOk result (λ f. MatchOption f (self.old.rest ≡ []) (λ u. self.old.rest ≡ statement_of u ∷ others self.old.rest)) }
+    {
+        self.rest.first(&mut self.rare)
+    }
+
+    /// Goes into a block, after which it goes on here.
+    pub(crate) fn enter(&mut self, block: &'a [Statement]) -> Result<(), AllocError>
+        ensures { OnOk result (self.new ≡ record self.old { rest = block.now ++ self.old.rest }) }
+    {
+        self.rest.enter(&mut self.rare, block)
+    }
+
+    /// Goes through a turn of a `repeat`, if one is left.
+    pub(crate) fn turn(
+        &mut self,
+        line: usize,
+        turns: u64,
+        body: &'a [Statement],
+    ) -> Result<(), AllocError>
+        ensures { OnOk result (self.new ≡ record self.old { rest = turns_left line turns body.now self.old.rest }) }
+    {
+        self.rest.turn(&mut self.rare, line, turns, body)
+    }
+
+    /// Whether it ended.
+    pub fn has_ended(&self) -> bool
+        ensures { result ≡ self.now.ended }
+    {
+        self.rare.has_ended()
+    }
+
+    /// It ends, and nothing remains. A lock that it holds stays held.
+    pub fn end(&mut self)
+        ensures { self.new ≡ record self.old { rest = []; ended = true } }
+    {
+        self.rest = Rest::new(&[]);
+        self.rare.end();
     }
 }

@@ -1,7 +1,7 @@
 //! What the monitor's world is kept in: a struct for each record of the machine, and the lists of them, with indices beside them
 //! that save searches.
 //!
-//! `parts` and `route` are the records, `activation`, `rest` and `lock_list` one run of a callback, `slot` and `numbers` its variables,
+//! `parts` and `route` are the records, `activation`, `rest` and `lock_list` one run of a callback, `slot` its variables, `rare` what few have,
 //! and `local` its steps that nobody else sees. `linked` keeps contexts with their links, `visit_list` visits by operation, `holders` who holds a lock, and
 //! `waiting_list` queues and work items;
 //! `place_set` and `counts` are their indices, and `sparse_counts` counts what few count of. Contracts see each list as the machine's
@@ -16,10 +16,10 @@ mod linked;
 mod local;
 mod lock_list;
 mod number_map;
-mod numbers;
 mod parts;
 mod place_set;
 mod queue;
+mod rare;
 mod rest;
 mod route;
 mod slot;
@@ -37,7 +37,7 @@ pub use parts::{
     Actor, Arrival, Context, Entry, Frame, Holder, Item, Link, Outcome, Position, Presence, Route,
     Standing, Visit,
 };
-pub use rest::{Rest, Upcoming};
+pub use rest::Upcoming;
 pub use sparse_counts::SparseCounts;
 pub use visit_list::Visits;
 pub use waiting_list::Waiting;

@@ -75,18 +75,18 @@ impl<'a> Activation<'a> {
             Statement::If(_, condition, granted, refused) => {
                 match self.condition(draining, condition) {
                     Some(true) => {
-                        self.rest.enter(granted.as_slice())?;
+                        self.enter(granted.as_slice())?;
                         Ok(true)
                     }
                     Some(false) => {
-                        self.rest.enter(refused.as_slice())?;
+                        self.enter(refused.as_slice())?;
                         Ok(true)
                     }
                     None => Ok(false),
                 }
             }
             Statement::Repeat(line, turns, body) => {
-                self.rest.turn(*line, *turns, body.as_slice())?;
+                self.turn(*line, *turns, body.as_slice())?;
                 Ok(true)
             }
         }
@@ -97,10 +97,10 @@ impl<'a> Activation<'a> {
     pub fn step_locally(&mut self, draining: bool) -> Result<bool, AllocError>
         ensures { IfOk result (λ local. spec.local_step draining self.old self.old.rest ≡ (if local then Some self.new else None)) }
     {
-        match self.rest.next() {
+        match self.next() {
             Some(Upcoming::Statement(statement)) => self.statement(draining, statement),
             Some(Upcoming::Repeat(line, turns, body)) => {
-                self.rest.turn(line, turns, body)?;
+                self.turn(line, turns, body)?;
                 Ok(true)
             }
             None => Ok(false),

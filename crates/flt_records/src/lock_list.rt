@@ -31,19 +31,26 @@ fn last_place(lock: LockNumber, locks: &[HeldLock]) -> Option<usize>
 }
 
 impl<'a> Activation<'a> {
+    /// The locks that the activation holds.
+    pub fn locks(&self) -> &[HeldLock]
+        ensures { result.now ≡ self.now.locks }
+    {
+        self.rare.locks()
+    }
+
     /// Whether the activation took the lock and didn't give it up.
     pub fn holds_lock(&self, lock: LockNumber) -> bool
         ensures { result ≡ spec.holds_lock lock self.now.locks }
     {
-        holds_lock(lock, self.locks.as_slice())
+        holds_lock(lock, self.locks())
     }
 
     /// Takes the last entry of the lock out of the list, of either kind.
     pub fn remove_lock(&mut self, lock: LockNumber)
         ensures { self.new ≡ record self.old { locks = spec.without_last lock self.old.locks } }
     {
-        if let Some(place) = last_place(lock, self.locks.as_slice()) {
-            let _ = self.locks.remove(place);
+        if let Some(place) = last_place(lock, self.locks()) {
+            self.rare.remove_lock(place);
         }
     }
 }

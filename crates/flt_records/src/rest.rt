@@ -2,11 +2,12 @@
 
 ghost use Rattle.std.specs.Prelude.{◌≡◌, [], ◌∷◌, ◌++◌, MatchOption, OnOk, IfOk};
 ghost use Rattle.flt_model.specs.LocalSteps.{turns_left};
-ghost use Rattle.flt_records.specs.Rest.{statement_of, before, others};
+ghost use Rattle.flt_records.specs.Rare.{contents};
+ghost use Rattle.flt_records.specs.Rest.{statement_of, before, remains, others};
 
+use crate::rare::Rare;
 use flt_tree::Statement;
-use std::alloc::{AllocError, Global};
-use std::marker::Model;
+use std::alloc::AllocError;
 
 /// What is gone on with where a block ends.
 #[derive(Clone, Copy)]
@@ -25,48 +26,29 @@ pub enum Upcoming<'a> {
     Repeat(usize, u64, &'a [Statement]),
 }
 
-/// The statements that remain. Most callbacks stand in two blocks at most, and ask for no memory.
+/// The two blocks in which a callback stands. What is round these is kept with what few activations have, since most callbacks stand
+/// in two at most.
 #[derive(Drop)]
-pub struct Rest<'a> {
+pub(crate) struct Rest<'a> {
     block: &'a [Statement],
     /// What is left of the block round it. It is empty where there is none, or a `repeat` goes on there.
     outer: &'a [Statement],
-    /// What is round that one. The innermost is the last.
-    after: Vec<Part<'a>>,
-}
-
-impl<'a> Model for Rest<'a> {
-    ghost use Rattle.std.specs.Prelude.{List};
-    ghost use Rattle.flt_tree.specs.declared.filter.Statement.{Statement};
-
-    ghost Value = { List Statement };
-
-    ghost use Rattle.std.specs.Coded.{codes};
-    ghost use Rattle.flt_tree.specs.contracts.filter.Statement as tree;
-
-    ghost coded = { Prim.hlevel (codes, tree.the_row.coded) };
-
-    ghost use Rattle.flt_records.specs.Rest.{remaining};
-
-    ghost view = { λ r. remaining r.block.now r.outer.now r.after.items };
 }
 
 impl<'a> Rest<'a> {
     /// A block and nothing after it.
-    pub fn new(alloc: Global, block: &'a [Statement]) -> Rest<'a>
-        ensures { result ≡ block.now }
+    pub(crate) fn new(block: &'a [Statement]) -> Rest<'a>
+        ensures { remains result [] ≡ block.now }
     {
-        Rest {
-            block,
-            outer: &[],
-            after: Vec::new(alloc),
-        }
+        Rest { block, outer: &[] }
     }
 
     /// Takes out the first statement.
     #[tactic(auto, using(crate::proofs::Remaining::before_push))]
-    pub fn next(&mut self) -> Option<Upcoming<'a>>
-        ensures { MatchOption result ((self.old ≡ []) × (self.new ≡ [])) (λ u. self.old ≡ statement_of u ∷ self.new) }
+    pub(crate) fn next(&mut self, rare: &mut Rare<'a>) -> Option<Upcoming<'a>>
+        ensures rest { MatchOption result ((remains self.old (contents rare.old).after ≡ []) × (remains self.new (contents rare.new).after ≡ []))
+            (λ u. remains self.old (contents rare.old).after ≡ statement_of u ∷ remains self.new (contents rare.new).after) }
+        ensures others { contents rare.new ≡ record (contents rare.old) { after = (contents rare.new).after } }
     {
         loop {
             if let [first, others @ ..] = self.block {
@@ -78,7 +60,7 @@ impl<'a> Rest<'a> {
                 self.outer = &[];
                 return Some(Upcoming::Statement(first));
             }
-            match self.after.pop() {
+            match rare.resume() {
                 Some(Part::Block(block)) => self.block = block,
                 Some(Part::Repeat(line, turns, body)) => {
                     return Some(Upcoming::Repeat(line, turns, body));
@@ -89,9 +71,11 @@ impl<'a> Rest<'a> {
     }
 
     /// The first statement, which stays. A `repeat` that was begun is taken out and put back.
-    pub fn first(&mut self) -> Result<Option<Upcoming<'a>>, AllocError>
-        ensures same { OnOk result (self.new ≡ self.old) }
-        ensures first { IfOk result (λ f. MatchOption f (self.old ≡ []) (λ u. self.old ≡ statement_of u ∷ others self.old)) }
+    pub(crate) fn first(&mut self, rare: &mut Rare<'a>) -> Result<Option<Upcoming<'a>>, AllocError>
+        ensures same { OnOk result (remains self.new (contents rare.new).after ≡ remains self.old (contents rare.old).after) }
+        ensures first { IfOk result (λ f. MatchOption f (remains self.old (contents rare.old).after ≡ [])
+            (λ u. remains self.old (contents rare.old).after ≡ statement_of u ∷ others (remains self.old (contents rare.old).after))) }
+        ensures others { OnOk result (contents rare.new ≡ record (contents rare.old) { after = (contents rare.new).after }) }
     {
         loop {
             if let [first, ..] = self.block {
@@ -100,10 +84,10 @@ impl<'a> Rest<'a> {
             if let [first, ..] = self.outer {
                 return Ok(Some(Upcoming::Statement(first)));
             }
-            match self.after.pop() {
+            match rare.resume() {
                 Some(Part::Block(block)) => self.block = block,
                 Some(Part::Repeat(line, turns, body)) => {
-                    self.after.push(Part::Repeat(line, turns, body))?;
+                    rare.suspend(Part::Repeat(line, turns, body))?;
                     return Ok(Some(Upcoming::Repeat(line, turns, body)));
                 }
                 None => return Ok(None),
@@ -112,16 +96,26 @@ impl<'a> Rest<'a> {
     }
 
     /// Goes into a block in place of the first statement, after which it goes on with the others.
-    pub fn replace_first(&mut self, block: &'a [Statement]) -> Result<(), AllocError>
-        ensures { OnOk result (self.new ≡ block.now ++ others self.old) }
+    pub(crate) fn replace_first(
+        &mut self,
+        rare: &mut Rare<'a>,
+        block: &'a [Statement],
+    ) -> Result<(), AllocError>
+        ensures rest { OnOk result (remains self.new (contents rare.new).after ≡ block.now ++ others (remains self.old (contents rare.old).after)) }
+        ensures others { OnOk result (contents rare.new ≡ record (contents rare.old) { after = (contents rare.new).after }) }
     {
-        let _ = self.next();
-        self.enter(block)
+        let _ = self.next(rare);
+        self.enter(rare, block)
     }
 
     /// Goes into a block, after which it goes on here.
-    pub fn enter(&mut self, block: &'a [Statement]) -> Result<(), AllocError>
-        ensures { OnOk result (self.new ≡ block.now ++ self.old) }
+    pub(crate) fn enter(
+        &mut self,
+        rare: &mut Rare<'a>,
+        block: &'a [Statement],
+    ) -> Result<(), AllocError>
+        ensures rest { OnOk result (remains self.new (contents rare.new).after ≡ block.now ++ remains self.old (contents rare.old).after) }
+        ensures others { OnOk result (contents rare.new ≡ record (contents rare.old) { after = (contents rare.new).after }) }
     {
         if block.is_empty() {
             return Ok(());
@@ -132,25 +126,32 @@ impl<'a> Rest<'a> {
             return Ok(());
         }
         let outer = self.outer;
-        suspend(&mut self.after, outer)?;
+        suspend(rare, outer)?;
         self.outer = here;
         Ok(())
     }
 
     /// Goes through a turn of a `repeat`, if one is left.
     #[tactic(auto, using(crate::proofs::Remaining::before_push, crate::proofs::Remaining::turn_left))]
-    pub fn turn(&mut self, line: usize, turns: u64, body: &'a [Statement]) -> Result<(), AllocError>
-        ensures { OnOk result (self.new ≡ turns_left line turns body.now self.old) }
+    pub(crate) fn turn(
+        &mut self,
+        rare: &mut Rare<'a>,
+        line: usize,
+        turns: u64,
+        body: &'a [Statement],
+    ) -> Result<(), AllocError>
+        ensures rest { OnOk result (remains self.new (contents rare.new).after ≡ turns_left line turns body.now (remains self.old (contents rare.old).after)) }
+        ensures others { OnOk result (contents rare.new ≡ record (contents rare.old) { after = (contents rare.new).after }) }
     {
         if turns == 0 {
             return Ok(());
         }
         let here = self.block;
         let outer = self.outer;
-        suspend(&mut self.after, outer)?;
+        suspend(rare, outer)?;
         self.outer = &[];
-        suspend(&mut self.after, here)?;
-        self.after.push(Part::Repeat(line, turns - 1, body))?;
+        suspend(rare, here)?;
+        rare.suspend(Part::Repeat(line, turns - 1, body))?;
         self.block = body;
         Ok(())
     }
@@ -158,14 +159,12 @@ impl<'a> Rest<'a> {
 
 /// Puts off what is left of a block.
 #[tactic(auto, using(crate::proofs::Remaining::before_push))]
-fn suspend<'a>(after: &mut Vec<Part<'a>>, here: &'a [Statement]) -> Result<(), AllocError>
-    ensures { OnOk result (before [] after.new.items ≡ here.now ++ before [] after.old.items) }
+fn suspend<'a>(rare: &mut Rare<'a>, here: &'a [Statement]) -> Result<(), AllocError>
+    ensures rest { OnOk result (before [] (contents rare.new).after ≡ here.now ++ before [] (contents rare.old).after) }
+    ensures others { OnOk result (contents rare.new ≡ record (contents rare.old) { after = (contents rare.new).after }) }
 {
     match here {
         [] => Ok(()),
-        [_, ..] => {
-            after.push(Part::Block(here))?;
-            Ok(())
-        }
+        [_, ..] => rare.suspend(Part::Block(here)),
     }
 }

@@ -114,7 +114,6 @@ impl<'a> Monitor<'a> {
     {
         locks_stay_exclusive();
         let setup = Setup {
-            alloc,
             activation: a,
             grant,
             held: self.holds_given(a),

@@ -19,13 +19,12 @@ use flt_records::Upcoming;
 use flt_rules::Access;
 use flt_tree::{Action, Condition, FallibleCall, PlainCall, Routine, Statement, Test};
 use flt_world::{Stack, World};
-use std::alloc::{AllocError, Global};
+use std::alloc::AllocError;
 
 /// What a step is made from: its activation, the choice that it leaves to the system, and whether the activation holds the visit
 /// that it was given.
 #[derive(Clone, Copy)]
 pub struct Setup {
-    pub alloc: Global,
     pub activation: usize,
     pub grant: bool,
     pub held: bool,
@@ -226,7 +225,7 @@ fn statement_step<'a>(
             Ok(true)
         }
         Statement::Return(_, status) => {
-            ending::end(world, setup.alloc, stack, a, *status, setup.held, events)?;
+            ending::end(world, stack, a, *status, setup.held, events)?;
             Ok(true)
         }
         Statement::If(_, condition, granted, refused) => {
@@ -268,7 +267,7 @@ fn first<'a>(world: &mut World<'a>, a: usize) -> Result<Option<Upcoming<'a>>, Al
         (λ u. (spec.activation_at world.old a).rest ≡ statement_of u ∷ later world.old a)) }
 {
     match world.activations.get_mut(a) {
-        Some(activation) => activation.rest.first(),
+        Some(activation) => activation.first(),
         None => Ok(None),
     }
 }
@@ -291,15 +290,7 @@ fn list_step<'a>(
         }
         Some(Upcoming::Repeat(_, _, _)) => Ok(false),
         None if setup.grant => {
-            ending::end(
-                world,
-                setup.alloc,
-                stack,
-                setup.activation,
-                None,
-                setup.held,
-                events,
-            )?;
+            ending::end(world, stack, setup.activation, None, setup.held, events)?;
             Ok(true)
         }
         None => Ok(false),

@@ -14,10 +14,9 @@ ghost use Rattle.flt_tree.specs.Filter.{named_context};
 use crate::effects::{context, lose_context, need};
 use crate::settling::{Way, makes_frame, settled_by, settles_visit, way_of};
 use flt_model::{Answer, Event, Object};
-use flt_records::Rest;
 use flt_tree::{OperationVariable, Status, named_context};
 use flt_world::{Stack, World, push_event};
-use std::alloc::{AllocError, Global};
+use std::alloc::AllocError;
 
 /// The visit that an activation was given, and whether it holds it.
 #[derive(Clone, Copy)]
@@ -37,15 +36,14 @@ fn there(named: Option<Option<usize>>) -> Option<usize>
 }
 
 /// Nothing remains of an activation; a lock that it kept stays held.
-fn end_activation(world: &mut World<'_>, alloc: Global, a: usize)
+fn end_activation(world: &mut World<'_>, a: usize)
     ensures { world.new ≡ record world.old {
       activations =
           set world.old.activations a (record (machine.activation_at world.old a) { rest = []; ended = true });
     } }
 {
     if let Some(activation) = world.activations.get_mut(a) {
-        activation.rest = Rest::new(alloc, &[]);
-        activation.ended = true;
+        activation.end();
     }
 }
 
@@ -119,15 +117,10 @@ fn give_visit_back(
 }
 
 /// It ends, with its last event.
-fn ends(
-    world: &mut World<'_>,
-    alloc: Global,
-    a: usize,
-    events: &mut Vec<Event>,
-) -> Result<(), AllocError>
+fn ends(world: &mut World<'_>, a: usize, events: &mut Vec<Event>) -> Result<(), AllocError>
     ensures { OnOk result (Happened world.new events.old.items events.new.items (spec.ends [] [] world.old a world.old.store [])) }
 {
-    end_activation(world, alloc, a);
+    end_activation(world, a);
     push_event(events, Event::End(a))?;
     Ok(())
 }
@@ -135,7 +128,6 @@ fn ends(
 /// The visit is settled by the status.
 fn answered<'a>(
     world: &mut World<'a>,
-    alloc: Global,
     stack: &Stack<'a>,
     a: usize,
     status: Option<Status>,
@@ -152,13 +144,12 @@ fn answered<'a>(
     tell_status(world, a, status, events)?;
     give_visit_back(world, a, given, context, way, events)?;
     settled_by(world, given.visit, context, way)?;
-    ends(world, alloc, a, events)
+    ends(world, a, events)
 }
 
 /// Only a callback that answers for its operation settles a visit, held or not; what others return settles nothing.
 pub(crate) fn end<'a>(
     world: &mut World<'a>,
-    alloc: Global,
     stack: &Stack<'a>,
     a: usize,
     status: Option<Status>,
@@ -170,19 +161,11 @@ pub(crate) fn end<'a>(
 {
     match world.operation_in(a, OperationVariable::Data) {
         Some(visit) if world.place(a).answers() => {
-            answered(
-                world,
-                alloc,
-                stack,
-                a,
-                status,
-                Given { visit, held },
-                events,
-            )
+            answered(world, stack, a, status, Given { visit, held }, events)
         }
         _ => {
             tell_status(world, a, status, events)?;
-            ends(world, alloc, a, events)
+            ends(world, a, events)
         }
     }
 }

@@ -287,7 +287,7 @@ impl<'b, 'a> Teller<'b, 'a> {
         let Some(activation) = self.world.activations.get_mut(activation) else {
             return Ok(None);
         };
-        match activation.rest.first()? {
+        match activation.first()? {
             Some(Upcoming::Statement(statement)) => Ok(Some(statement)),
             _ => Ok(None),
         }
@@ -312,7 +312,6 @@ impl<'b, 'a> Teller<'b, 'a> {
     fn step_seen(&mut self, activation: usize, grant: bool) -> Result<bool, AllocError> {
         // Whether the activation holds its operation changes no world: only events, and those aren't read.
         let setup = Setup {
-            alloc: self.alloc,
             activation,
             grant,
             held: true,

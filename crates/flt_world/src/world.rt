@@ -401,7 +401,7 @@ impl<'a> World<'a> {
         ensures { result ≡ (spec.activation_at self.now activation).ended }
     {
         match self.activations.get(activation) {
-            Some(activation) => activation.ended,
+            Some(activation) => activation.has_ended(),
             None => true,
         }
     }
@@ -411,7 +411,7 @@ impl<'a> World<'a> {
         ensures { IfOk result (λ locks. locks ≡ (spec.activation_at self.now activation).locks) }
     {
         match self.activations.get(activation) {
-            Some(activation) => copy_of(alloc, activation.locks.as_slice()),
+            Some(activation) => copy_of(alloc, activation.locks()),
             None => Ok(Items::new(alloc)),
         }
     }

@@ -4,4 +4,4 @@ use Rattle.flt_records.proofs.rest.Rest.new.Goals as goal
 
 pub returns : goal.returns
 unfolding before
-returns c = rw c.new.ensures.items (append-nil c.args.block.now)
+returns c = append-nil c.args.block.now
