@@ -1,9 +1,9 @@
 pub mod Coded
 pub mod Counts
+pub mod Kept
 pub mod Links
 pub mod Parts
 pub mod Places
-pub mod Rare
 pub mod Rest
 pub mod Tickets
 pub mod Unsettled

@@ -6,9 +6,8 @@ ghost use Rattle.flt_model.specs.Variables as spec;
 ghost use Rattle.flt_records.specs.Rest.{statement_of, others};
 ghost use Rattle.flt_records.specs.Writes.{written};
 
-use crate::rare::Rare;
+use crate::kept::Kept;
 use crate::rest::{Rest, Upcoming};
-use crate::slot::Slot;
 use flt_rules::{HeldLock, LockNumber};
 use flt_tree::{
     Atom, ContextVariable, Expression, NumberVariable, OperationVariable, RemovedVariable,
@@ -21,9 +20,7 @@ use std::marker::Model;
 #[derive(Drop)]
 pub struct Activation<'a> {
     rest: Rest<'a>,
-    pub(crate) rare: Rare<'a>,
-    contexts: [Slot; 9],
-    operations: [Slot; 5],
+    pub(crate) kept: Kept<'a>,
 }
 
 impl<'a> Model for Activation<'a> {
@@ -35,16 +32,16 @@ impl<'a> Model for Activation<'a> {
 
     ghost coded = { activation_code };
 
-    ghost use Rattle.flt_records.specs.Rare.{contents};
+    ghost use Rattle.flt_records.specs.Kept.{contents};
     ghost use Rattle.flt_records.specs.Rest.{remains};
 
     ghost view = { λ a. record {
-      rest = remains a.rest (contents a.rare).after;
-      numbers = (contents a.rare).numbers;
-      contexts = a.contexts;
-      operations = a.operations;
-      locks = (contents a.rare).locks;
-      ended = (contents a.rare).ended;
+      rest = remains a.rest (contents a.kept).after;
+      numbers = (contents a.kept).numbers;
+      contexts = (contents a.kept).contexts;
+      operations = (contents a.kept).operations;
+      locks = (contents a.kept).locks;
+      ended = (contents a.kept).ended;
     } };
 }
 
@@ -75,25 +72,7 @@ impl<'a> Activation<'a> {
     {
         Ok(Activation {
             rest: Rest::new(body),
-            rare: Rare::new(alloc),
-            contexts: [
-                Slot::null(),
-                Slot::null(),
-                Slot::null(),
-                Slot::null(),
-                Slot::null(),
-                Slot::null(),
-                Slot::null(),
-                Slot::null(),
-                Slot::naming(arg)?,
-            ],
-            operations: [
-                Slot::null(),
-                Slot::null(),
-                Slot::null(),
-                Slot::null(),
-                Slot::naming(given)?,
-            ],
+            kept: Kept::starting(alloc, given, arg)?,
         })
     }
 
@@ -101,33 +80,31 @@ impl<'a> Activation<'a> {
     pub fn number(&self, variable: NumberVariable) -> u64
         ensures { result ≡ spec.number_in self.now variable }
     {
-        self.rare.number(variable.place())
+        self.kept.number(variable.place())
     }
 
     /// The number of the context that a variable names; none where it is NULL.
     pub fn context(&self, variable: ContextVariable) -> Option<usize>
         ensures { result ≡ spec.context_in self.now variable }
     {
-        let contexts = &self.contexts;
-        contexts[variable.place()].get()
+        self.kept.context(variable.place())
     }
 
     /// The number of the visit that a variable names; none where it is NULL.
     pub fn operation(&self, variable: OperationVariable) -> Option<usize>
         ensures { result ≡ spec.operation_in self.now variable }
     {
-        let operations = &self.operations;
-        operations[variable.place()].get()
+        self.kept.operation(variable.place())
     }
 
     /// Sets a number variable.
     pub fn set_number(&mut self, variable: NumberVariable, value: u64) -> Result<(), AllocError>
         ensures { OnOk result (self.new ≡ spec.with_number self.old variable value) }
     {
-        self.rare.set_number(variable.place(), value)
+        self.kept.set_number(variable.place(), value)
     }
 
-    /// Sets a context variable, or makes it NULL. It fails where the number is 2^32 - 1 or greater.
+    /// Sets a context variable, or makes it NULL. It fails where the number is 2^32 - 1 or greater, or where memory is refused.
     pub fn set_context(
         &mut self,
         variable: ContextVariable,
@@ -135,11 +112,10 @@ impl<'a> Activation<'a> {
     ) -> Result<(), AllocError>
         ensures { OnOk result (self.new ≡ spec.with_context_in self.old variable context) }
     {
-        let contexts = &mut self.contexts;
-        contexts[variable.place()].set(context)
+        self.kept.set_context(variable.place(), context)
     }
 
-    /// Sets an operation variable, or makes it NULL. It fails where the number is 2^32 - 1 or greater.
+    /// Sets an operation variable, or makes it NULL. It fails where the number is 2^32 - 1 or greater, or where memory is refused.
     pub fn set_operation(
         &mut self,
         variable: OperationVariable,
@@ -147,11 +123,10 @@ impl<'a> Activation<'a> {
     ) -> Result<(), AllocError>
         ensures { OnOk result (self.new ≡ spec.with_operation_in self.old variable visit) }
     {
-        let operations = &mut self.operations;
-        operations[variable.place()].set(visit)
+        self.kept.set_operation(variable.place(), visit)
     }
 
-    /// Sets a variable that a call need not have. It fails where the number is 2^32 - 1 or greater.
+    /// Sets a variable that a call need not have. It fails where the number is 2^32 - 1 or greater, or where memory is refused.
     pub fn set_old(
         &mut self,
         variable: Option<ContextVariable>,
@@ -197,7 +172,7 @@ impl<'a> Activation<'a> {
                 self.set_operation(OperationVariable::Removed(removed), visit)?;
                 self.set_context(variable, context)?;
             }
-            Write::Lock(held) => self.rare.push_lock(held)?,
+            Write::Lock(held) => self.kept.push_lock(held)?,
             Write::Unlock(lock) => self.remove_lock(lock),
         }
         Ok(())
@@ -207,7 +182,7 @@ impl<'a> Activation<'a> {
     pub fn go_on(&mut self, block: &'a [Statement], write: Write) -> Result<(), AllocError>
         ensures { OnOk result (self.new ≡ written write (record self.old { rest = block.now ++ others self.old.rest })) }
     {
-        self.rest.replace_first(&mut self.rare, block)?;
+        self.rest.replace_first(&mut self.kept, block)?;
         self.write(write)
     }
 }
@@ -220,7 +195,7 @@ impl<'a> Activation<'a> {
         ensures rest { MatchOption result ((self.old.rest ≡ []) × (self.new.rest ≡ [])) (λ u. self.old.rest ≡ statement_of u ∷ self.new.rest) }
         ensures others { self.new ≡ record self.old { rest = self.new.rest } }
     {
-        self.rest.next(&mut self.rare)
+        self.rest.next(&mut self.kept)
     }
 
     /// The first statement that remains, which stays. A `repeat` that was begun is taken out and put back.
@@ -228,14 +203,14 @@ impl<'a> Activation<'a> {
         ensures same { OnOk result (self.new ≡ self.old) }
         ensures first { IfOk result (λ f. MatchOption f (self.old.rest ≡ []) (λ u. self.old.rest ≡ statement_of u ∷ others self.old.rest)) }
     {
-        self.rest.first(&mut self.rare)
+        self.rest.first(&mut self.kept)
     }
 
     /// Goes into a block, after which it goes on here.
     pub(crate) fn enter(&mut self, block: &'a [Statement]) -> Result<(), AllocError>
         ensures { OnOk result (self.new ≡ record self.old { rest = block.now ++ self.old.rest }) }
     {
-        self.rest.enter(&mut self.rare, block)
+        self.rest.enter(&mut self.kept, block)
     }
 
     /// Goes through a turn of a `repeat`, if one is left.
@@ -247,14 +222,14 @@ impl<'a> Activation<'a> {
     ) -> Result<(), AllocError>
         ensures { OnOk result (self.new ≡ record self.old { rest = turns_left line turns body.now self.old.rest }) }
     {
-        self.rest.turn(&mut self.rare, line, turns, body)
+        self.rest.turn(&mut self.kept, line, turns, body)
     }
 
     /// Whether it ended.
     pub fn has_ended(&self) -> bool
         ensures { result ≡ self.now.ended }
     {
-        self.rare.has_ended()
+        self.kept.has_ended()
     }
 
     /// It ends, and nothing remains. A lock that it holds stays held.
@@ -262,6 +237,6 @@ impl<'a> Activation<'a> {
         ensures { self.new ≡ record self.old { rest = []; ended = true } }
     {
         self.rest = Rest::new(&[]);
-        self.rare.end();
+        self.kept.end();
     }
 }

@@ -1,7 +1,7 @@
 //! What the monitor's world is kept in: a struct for each record of the machine, and the lists of them, with indices beside them
 //! that save searches.
 //!
-//! `parts` and `route` are the records, `activation`, `rest` and `lock_list` one run of a callback, `slot` its variables, `rare` what few have,
+//! `parts` and `route` are the records, `activation`, `rest` and `lock_list` one run of a callback, `kept` and `slot` its variables,
 //! and `local` its steps that nobody else sees. `linked` keeps contexts with their links, `visit_list` visits by operation, `holders` who holds a lock, and
 //! `waiting_list` queues and work items;
 //! `place_set` and `counts` are their indices, and `sparse_counts` counts what few count of. Contracts see each list as the machine's
@@ -11,6 +11,7 @@
 mod activation;
 mod counts;
 mod holders;
+mod kept;
 mod laws;
 mod linked;
 mod local;
@@ -19,7 +20,6 @@ mod number_map;
 mod parts;
 mod place_set;
 mod queue;
-mod rare;
 mod rest;
 mod route;
 mod slot;

@@ -35,7 +35,7 @@ impl<'a> Activation<'a> {
     pub fn locks(&self) -> &[HeldLock]
         ensures { result.now ≡ self.now.locks }
     {
-        self.rare.locks()
+        self.kept.locks()
     }
 
     /// Whether the activation took the lock and didn't give it up.
@@ -50,7 +50,7 @@ impl<'a> Activation<'a> {
         ensures { self.new ≡ record self.old { locks = spec.without_last lock self.old.locks } }
     {
         if let Some(place) = last_place(lock, self.locks()) {
-            self.rare.remove_lock(place);
+            self.kept.remove_lock(place);
         }
     }
 }

@@ -2,10 +2,10 @@
 
 ghost use Rattle.std.specs.Prelude.{◌≡◌, [], ◌∷◌, ◌++◌, MatchOption, OnOk, IfOk};
 ghost use Rattle.flt_model.specs.LocalSteps.{turns_left};
-ghost use Rattle.flt_records.specs.Rare.{contents};
+ghost use Rattle.flt_records.specs.Kept.{contents};
 ghost use Rattle.flt_records.specs.Rest.{statement_of, before, remains, others};
 
-use crate::rare::Rare;
+use crate::kept::Kept;
 use flt_tree::Statement;
 use std::alloc::AllocError;
 
@@ -26,8 +26,7 @@ pub enum Upcoming<'a> {
     Repeat(usize, u64, &'a [Statement]),
 }
 
-/// The two blocks in which a callback stands. What is round these is kept with what few activations have, since most callbacks stand
-/// in two at most.
+/// The two blocks in which a callback stands. What is round these is kept apart, since most callbacks stand in two at most.
 #[derive(Drop)]
 pub(crate) struct Rest<'a> {
     block: &'a [Statement],
@@ -45,10 +44,10 @@ impl<'a> Rest<'a> {
 
     /// Takes out the first statement.
     #[tactic(auto, using(crate::proofs::Remaining::before_push))]
-    pub(crate) fn next(&mut self, rare: &mut Rare<'a>) -> Option<Upcoming<'a>>
-        ensures rest { MatchOption result ((remains self.old (contents rare.old).after ≡ []) × (remains self.new (contents rare.new).after ≡ []))
-            (λ u. remains self.old (contents rare.old).after ≡ statement_of u ∷ remains self.new (contents rare.new).after) }
-        ensures others { contents rare.new ≡ record (contents rare.old) { after = (contents rare.new).after } }
+    pub(crate) fn next(&mut self, kept: &mut Kept<'a>) -> Option<Upcoming<'a>>
+        ensures rest { MatchOption result ((remains self.old (contents kept.old).after ≡ []) × (remains self.new (contents kept.new).after ≡ []))
+            (λ u. remains self.old (contents kept.old).after ≡ statement_of u ∷ remains self.new (contents kept.new).after) }
+        ensures others { contents kept.new ≡ record (contents kept.old) { after = (contents kept.new).after } }
     {
         loop {
             if let [first, others @ ..] = self.block {
@@ -60,7 +59,7 @@ impl<'a> Rest<'a> {
                 self.outer = &[];
                 return Some(Upcoming::Statement(first));
             }
-            match rare.resume() {
+            match kept.resume() {
                 Some(Part::Block(block)) => self.block = block,
                 Some(Part::Repeat(line, turns, body)) => {
                     return Some(Upcoming::Repeat(line, turns, body));
@@ -71,11 +70,11 @@ impl<'a> Rest<'a> {
     }
 
     /// The first statement, which stays. A `repeat` that was begun is taken out and put back.
-    pub(crate) fn first(&mut self, rare: &mut Rare<'a>) -> Result<Option<Upcoming<'a>>, AllocError>
-        ensures same { OnOk result (remains self.new (contents rare.new).after ≡ remains self.old (contents rare.old).after) }
-        ensures first { IfOk result (λ f. MatchOption f (remains self.old (contents rare.old).after ≡ [])
-            (λ u. remains self.old (contents rare.old).after ≡ statement_of u ∷ others (remains self.old (contents rare.old).after))) }
-        ensures others { OnOk result (contents rare.new ≡ record (contents rare.old) { after = (contents rare.new).after }) }
+    pub(crate) fn first(&mut self, kept: &mut Kept<'a>) -> Result<Option<Upcoming<'a>>, AllocError>
+        ensures same { OnOk result (remains self.new (contents kept.new).after ≡ remains self.old (contents kept.old).after) }
+        ensures first { IfOk result (λ f. MatchOption f (remains self.old (contents kept.old).after ≡ [])
+            (λ u. remains self.old (contents kept.old).after ≡ statement_of u ∷ others (remains self.old (contents kept.old).after))) }
+        ensures others { OnOk result (contents kept.new ≡ record (contents kept.old) { after = (contents kept.new).after }) }
     {
         loop {
             if let [first, ..] = self.block {
@@ -84,10 +83,10 @@ impl<'a> Rest<'a> {
             if let [first, ..] = self.outer {
                 return Ok(Some(Upcoming::Statement(first)));
             }
-            match rare.resume() {
+            match kept.resume() {
                 Some(Part::Block(block)) => self.block = block,
                 Some(Part::Repeat(line, turns, body)) => {
-                    rare.suspend(Part::Repeat(line, turns, body))?;
+                    kept.suspend(Part::Repeat(line, turns, body))?;
                     return Ok(Some(Upcoming::Repeat(line, turns, body)));
                 }
                 None => return Ok(None),
@@ -98,24 +97,24 @@ impl<'a> Rest<'a> {
     /// Goes into a block in place of the first statement, after which it goes on with the others.
     pub(crate) fn replace_first(
         &mut self,
-        rare: &mut Rare<'a>,
+        kept: &mut Kept<'a>,
         block: &'a [Statement],
     ) -> Result<(), AllocError>
-        ensures rest { OnOk result (remains self.new (contents rare.new).after ≡ block.now ++ others (remains self.old (contents rare.old).after)) }
-        ensures others { OnOk result (contents rare.new ≡ record (contents rare.old) { after = (contents rare.new).after }) }
+        ensures rest { OnOk result (remains self.new (contents kept.new).after ≡ block.now ++ others (remains self.old (contents kept.old).after)) }
+        ensures others { OnOk result (contents kept.new ≡ record (contents kept.old) { after = (contents kept.new).after }) }
     {
-        let _ = self.next(rare);
-        self.enter(rare, block)
+        let _ = self.next(kept);
+        self.enter(kept, block)
     }
 
     /// Goes into a block, after which it goes on here.
     pub(crate) fn enter(
         &mut self,
-        rare: &mut Rare<'a>,
+        kept: &mut Kept<'a>,
         block: &'a [Statement],
     ) -> Result<(), AllocError>
-        ensures rest { OnOk result (remains self.new (contents rare.new).after ≡ block.now ++ remains self.old (contents rare.old).after) }
-        ensures others { OnOk result (contents rare.new ≡ record (contents rare.old) { after = (contents rare.new).after }) }
+        ensures rest { OnOk result (remains self.new (contents kept.new).after ≡ block.now ++ remains self.old (contents kept.old).after) }
+        ensures others { OnOk result (contents kept.new ≡ record (contents kept.old) { after = (contents kept.new).after }) }
     {
         if block.is_empty() {
             return Ok(());
@@ -126,7 +125,7 @@ impl<'a> Rest<'a> {
             return Ok(());
         }
         let outer = self.outer;
-        suspend(rare, outer)?;
+        suspend(kept, outer)?;
         self.outer = here;
         Ok(())
     }
@@ -135,23 +134,23 @@ impl<'a> Rest<'a> {
     #[tactic(auto, using(crate::proofs::Remaining::before_push, crate::proofs::Remaining::turn_left))]
     pub(crate) fn turn(
         &mut self,
-        rare: &mut Rare<'a>,
+        kept: &mut Kept<'a>,
         line: usize,
         turns: u64,
         body: &'a [Statement],
     ) -> Result<(), AllocError>
-        ensures rest { OnOk result (remains self.new (contents rare.new).after ≡ turns_left line turns body.now (remains self.old (contents rare.old).after)) }
-        ensures others { OnOk result (contents rare.new ≡ record (contents rare.old) { after = (contents rare.new).after }) }
+        ensures rest { OnOk result (remains self.new (contents kept.new).after ≡ turns_left line turns body.now (remains self.old (contents kept.old).after)) }
+        ensures others { OnOk result (contents kept.new ≡ record (contents kept.old) { after = (contents kept.new).after }) }
     {
         if turns == 0 {
             return Ok(());
         }
         let here = self.block;
         let outer = self.outer;
-        suspend(rare, outer)?;
+        suspend(kept, outer)?;
         self.outer = &[];
-        suspend(rare, here)?;
-        rare.suspend(Part::Repeat(line, turns - 1, body))?;
+        suspend(kept, here)?;
+        kept.suspend(Part::Repeat(line, turns - 1, body))?;
         self.block = body;
         Ok(())
     }
@@ -159,12 +158,12 @@ impl<'a> Rest<'a> {
 
 /// Puts off what is left of a block.
 #[tactic(auto, using(crate::proofs::Remaining::before_push))]
-fn suspend<'a>(rare: &mut Rare<'a>, here: &'a [Statement]) -> Result<(), AllocError>
-    ensures rest { OnOk result (before [] (contents rare.new).after ≡ here.now ++ before [] (contents rare.old).after) }
-    ensures others { OnOk result (contents rare.new ≡ record (contents rare.old) { after = (contents rare.new).after }) }
+fn suspend<'a>(kept: &mut Kept<'a>, here: &'a [Statement]) -> Result<(), AllocError>
+    ensures rest { OnOk result (before [] (contents kept.new).after ≡ here.now ++ before [] (contents kept.old).after) }
+    ensures others { OnOk result (contents kept.new ≡ record (contents kept.old) { after = (contents kept.new).after }) }
 {
     match here {
         [] => Ok(()),
-        [_, ..] => rare.suspend(Part::Block(here)),
+        [_, ..] => kept.suspend(Part::Block(here)),
     }
 }

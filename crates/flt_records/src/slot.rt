@@ -51,6 +51,13 @@ impl Slot {
         })
     }
 
+    /// One that names the same.
+    pub(crate) fn copied(&self) -> Slot
+        ensures { result ≡ self.now }
+    {
+        Slot { code: self.code }
+    }
+
     /// What the variable names.
     pub(crate) fn get(&self) -> Option<usize>
         ensures { result ≡ self.now }

@@ -1,0 +1,355 @@
+//! What an activation keeps beside the blocks in which it stands. Most use few variables, which stand in place; the others ask for
+//! memory of their own, once.
+
+ghost use Rattle.std.specs.Prelude.{◌≡◌, ◌<◌, ◌++◌, ◌∷◌, [], true, false, None, length, get_or, set, remove, replicate, IfOk, OnOk, MatchOption};
+ghost use Rattle.flt_records.specs.Kept.{contents, contents_of, few_contexts, few_operations, IsAll};
+
+use crate::rest::Part;
+use crate::slot::Slot;
+use flt_rules::HeldLock;
+use sqlite_items::Items;
+use std::alloc::{AllocError, Global};
+
+/// The variables that stand in place; the others are NULL or 0.
+#[derive(Drop)]
+struct Few {
+    c0: Slot,
+    c1: Slot,
+    arg: Slot,
+    o0: Slot,
+    data: Slot,
+}
+
+/// All that an activation may keep.
+#[derive(Drop)]
+struct All<'a> {
+    /// What is gone on with behind two blocks; the innermost is the last.
+    after: Vec<Part<'a>>,
+    numbers: [u64; 8],
+    contexts: [Slot; 9],
+    operations: [Slot; 5],
+    locks: Items<HeldLock>,
+}
+
+/// There is room beside the tag for whether the activation ended.
+#[derive(Drop)]
+enum Form<'a> {
+    Few(bool, Few),
+    All(bool, Box<All<'a>>),
+}
+
+/// Further blocks, variables and locks, and whether the activation ended.
+#[derive(Drop)]
+pub(crate) struct Kept<'a> {
+    alloc: Global,
+    form: Form<'a>,
+}
+
+impl Few {
+    fn context(&self, place: usize) -> Option<usize>
+        requires { place < 9 }
+        ensures { result ≡ get_or (few_contexts self.now) place None }
+    {
+        match place {
+            0 => self.c0.get(),
+            1 => self.c1.get(),
+            8 => self.arg.get(),
+            _ => None,
+        }
+    }
+
+    fn operation(&self, place: usize) -> Option<usize>
+        requires { place < 5 }
+        ensures { result ≡ get_or (few_operations self.now) place None }
+    {
+        match place {
+            0 => self.o0.get(),
+            4 => self.data.get(),
+            _ => None,
+        }
+    }
+
+    /// Sets a context variable. False where it doesn't stand in place, and would not be NULL.
+    fn put_context(&mut self, place: usize, context: Option<usize>) -> Result<bool, AllocError>
+        requires { place < 9 }
+        ensures put { IfOk result (λ put. put ≡ true → few_contexts self.new ≡ set (few_contexts self.old) place context) }
+        ensures same { IfOk result (λ put. put ≡ false → self.new ≡ self.old) }
+        ensures others { few_operations self.new ≡ few_operations self.old }
+    {
+        match place {
+            0 => self.c0.set(context)?,
+            1 => self.c1.set(context)?,
+            8 => self.arg.set(context)?,
+            _ => return Ok(context.is_none()),
+        }
+        Ok(true)
+    }
+
+    /// Sets an operation variable. False where it doesn't stand in place, and would not be NULL.
+    fn put_operation(&mut self, place: usize, visit: Option<usize>) -> Result<bool, AllocError>
+        requires { place < 5 }
+        ensures put { IfOk result (λ put. put ≡ true → few_operations self.new ≡ set (few_operations self.old) place visit) }
+        ensures same { IfOk result (λ put. put ≡ false → self.new ≡ self.old) }
+        ensures others { few_contexts self.new ≡ few_contexts self.old }
+    {
+        match place {
+            0 => self.o0.set(visit)?,
+            4 => self.data.set(visit)?,
+            _ => return Ok(visit.is_none()),
+        }
+        Ok(true)
+    }
+
+    /// All that there is, where no more is used than these.
+    fn all<'a>(&self, alloc: Global) -> All<'a>
+        ensures lists { (result.after.items ≡ []) × (result.locks ≡ []) }
+        ensures variables { (result.numbers ≡ replicate 8 0) × ((result.contexts ≡ few_contexts self.now) × (result.operations ≡ few_operations self.now)) }
+    {
+        All {
+            after: Vec::new(alloc),
+            numbers: [0; 8],
+            contexts: [
+                self.c0.copied(),
+                self.c1.copied(),
+                Slot::null(),
+                Slot::null(),
+                Slot::null(),
+                Slot::null(),
+                Slot::null(),
+                Slot::null(),
+                self.arg.copied(),
+            ],
+            operations: [
+                self.o0.copied(),
+                Slot::null(),
+                Slot::null(),
+                Slot::null(),
+                self.data.copied(),
+            ],
+            locks: Items::new(alloc),
+        }
+    }
+}
+
+/// Asks for memory, where there is none yet.
+#[cold]
+fn make(form: &mut Form<'_>, alloc: Global) -> Result<(), AllocError>
+    ensures same { OnOk result (contents_of form.new ≡ contents_of form.old) }
+    ensures made { OnOk result (IsAll form.new) }
+{
+    let Form::Few(ended, few) = &*form else {
+        return Ok(());
+    };
+    let ended = *ended;
+    let all = Box::new(alloc, few.all(alloc))?;
+    *form = Form::All(ended, all);
+    Ok(())
+}
+
+impl<'a> Kept<'a> {
+    /// All is 0 or NULL but the given operation and the given context. It fails where a number is 2^32 - 1 or greater.
+    pub(crate) fn starting(
+        alloc: Global,
+        given: Option<usize>,
+        arg: Option<usize>,
+    ) -> Result<Kept<'a>, AllocError>
+        ensures { IfOk result (λ kept. contents kept ≡ record {
+          after = [];
+          numbers = replicate 8 0;
+          contexts = replicate 8 None ++ arg ∷ [];
+          operations = replicate 4 None ++ given ∷ [];
+          locks = [];
+          ended = false;
+        }) }
+    {
+        let few = Few {
+            c0: Slot::null(),
+            c1: Slot::null(),
+            arg: Slot::naming(arg)?,
+            o0: Slot::null(),
+            data: Slot::naming(given)?,
+        };
+        Ok(Kept {
+            alloc,
+            form: Form::Few(false, few),
+        })
+    }
+
+    /// Whether the activation ended.
+    #[inline(always)]
+    pub(crate) fn has_ended(&self) -> bool
+        ensures { result ≡ (contents self.now).ended }
+    {
+        match &self.form {
+            Form::Few(ended, _) => *ended,
+            Form::All(ended, _) => *ended,
+        }
+    }
+
+    /// The activation ends, and goes on with nothing.
+    #[inline(always)]
+    pub(crate) fn end(&mut self)
+        ensures { contents self.new ≡ record (contents self.old) { after = []; ended = true } }
+    {
+        if let Form::All(_, all) = &mut self.form {
+            all.after = Vec::new(self.alloc);
+        }
+        match &mut self.form {
+            Form::Few(ended, _) => *ended = true,
+            Form::All(ended, _) => *ended = true,
+        }
+    }
+
+    /// What is gone on with is taken out.
+    pub(crate) fn resume(&mut self) -> Option<Part<'a>>
+        ensures { MatchOption result (((contents self.old).after ≡ []) × (contents self.new ≡ contents self.old))
+            (λ part. ((contents self.old).after ≡ (contents self.new).after ++ part ∷ [])
+            × (contents self.new ≡ record (contents self.old) { after = (contents self.new).after })) }
+    {
+        match &mut self.form {
+            Form::Few(_, _) => None,
+            Form::All(_, all) => all.after.pop(),
+        }
+    }
+
+    /// A part will be gone on with before the others.
+    pub(crate) fn suspend(&mut self, part: Part<'a>) -> Result<(), AllocError>
+        ensures { OnOk result (contents self.new ≡ record (contents self.old) { after = (contents self.old).after ++ part.entry ∷ [] }) }
+    {
+        make(&mut self.form, self.alloc)?;
+        if let Form::All(_, all) = &mut self.form {
+            all.after.push(part)?;
+        }
+        Ok(())
+    }
+
+    /// The number at a place.
+    #[inline(always)]
+    pub(crate) fn number(&self, place: usize) -> u64
+        requires { place < 8 }
+        ensures { result ≡ get_or (contents self.now).numbers place 0 }
+    {
+        match &self.form {
+            Form::Few(_, _) => 0,
+            Form::All(_, all) => all.numbers[place],
+        }
+    }
+
+    /// Sets the number at a place.
+    pub(crate) fn set_number(&mut self, place: usize, value: u64) -> Result<(), AllocError>
+        requires { place < 8 }
+        ensures { OnOk result (contents self.new ≡ record (contents self.old) { numbers = set (contents self.old).numbers place value }) }
+    {
+        make(&mut self.form, self.alloc)?;
+        if let Form::All(_, all) = &mut self.form {
+            all.numbers[place] = value;
+        }
+        Ok(())
+    }
+
+    /// What the context variable at a place names.
+    #[inline(always)]
+    pub(crate) fn context(&self, place: usize) -> Option<usize>
+        requires { place < 9 }
+        ensures { result ≡ get_or (contents self.now).contexts place None }
+    {
+        match &self.form {
+            Form::Few(_, few) => few.context(place),
+            Form::All(_, all) => {
+                let contexts = &all.contexts;
+                contexts[place].get()
+            }
+        }
+    }
+
+    /// What the operation variable at a place names.
+    #[inline(always)]
+    pub(crate) fn operation(&self, place: usize) -> Option<usize>
+        requires { place < 5 }
+        ensures { result ≡ get_or (contents self.now).operations place None }
+    {
+        match &self.form {
+            Form::Few(_, few) => few.operation(place),
+            Form::All(_, all) => {
+                let operations = &all.operations;
+                operations[place].get()
+            }
+        }
+    }
+
+    /// Sets the context variable at a place. It fails where the number is 2^32 - 1 or greater, or where memory is refused.
+    pub(crate) fn set_context(
+        &mut self,
+        place: usize,
+        context: Option<usize>,
+    ) -> Result<(), AllocError>
+        requires { place < 9 }
+        ensures { OnOk result (contents self.new ≡ record (contents self.old) { contexts = set (contents self.old).contexts place context }) }
+    {
+        if let Form::Few(_, few) = &mut self.form {
+            if few.put_context(place, context)? {
+                return Ok(());
+            }
+        }
+        make(&mut self.form, self.alloc)?;
+        if let Form::All(_, all) = &mut self.form {
+            let contexts = &mut all.contexts;
+            contexts[place].set(context)?;
+        }
+        Ok(())
+    }
+
+    /// Sets the operation variable at a place. It fails where the number is 2^32 - 1 or greater, or where memory is refused.
+    pub(crate) fn set_operation(
+        &mut self,
+        place: usize,
+        visit: Option<usize>,
+    ) -> Result<(), AllocError>
+        requires { place < 5 }
+        ensures { OnOk result (contents self.new ≡ record (contents self.old) { operations = set (contents self.old).operations place visit }) }
+    {
+        if let Form::Few(_, few) = &mut self.form {
+            if few.put_operation(place, visit)? {
+                return Ok(());
+            }
+        }
+        make(&mut self.form, self.alloc)?;
+        if let Form::All(_, all) = &mut self.form {
+            let operations = &mut all.operations;
+            operations[place].set(visit)?;
+        }
+        Ok(())
+    }
+
+    /// The locks that are held, the oldest first.
+    #[inline(always)]
+    pub(crate) fn locks(&self) -> &[HeldLock]
+        ensures { result.now ≡ (contents self.now).locks }
+    {
+        match &self.form {
+            Form::Few(_, _) => &[],
+            Form::All(_, all) => all.locks.as_slice(),
+        }
+    }
+
+    /// One lock more.
+    pub(crate) fn push_lock(&mut self, held: HeldLock) -> Result<(), AllocError>
+        ensures { OnOk result (contents self.new ≡ record (contents self.old) { locks = (contents self.old).locks ++ held ∷ [] }) }
+    {
+        make(&mut self.form, self.alloc)?;
+        if let Form::All(_, all) = &mut self.form {
+            all.locks.push(held)?;
+        }
+        Ok(())
+    }
+
+    /// The lock at a place is taken out.
+    pub(crate) fn remove_lock(&mut self, place: usize)
+        requires { place < length (contents self.old).locks }
+        ensures { contents self.new ≡ record (contents self.old) { locks = remove (contents self.old).locks place } }
+    {
+        if let Form::All(_, all) = &mut self.form {
+            let _ = all.locks.remove(place);
+        }
+    }
+}
