@@ -1,5 +1,6 @@
 -- The first of several: what holds of those before it, and where it stands.
-use Rattle.std.proofs.Common.{◌≡◌, ℕ, ◌+◌, ◌<◌, ◌≤◌, Bool, true, false, ◌&&◌, ◌||◌, List, [], ◌∷◌, ◌++◌, Some, Err, Bor, Vec, Global, length, get_or, take, drop, map, refl, sym, ap, ◌∙◌, arith, count_by, cond}
+use Rattle.std.proofs.Common.{◌≡◌, ◌⊎◌, inr, ℕ, ◌+◌, ◌<◌, ◌≤◌, Bool, true, false, ◌&&◌, ◌||◌, List, [], ◌∷◌, ◌++◌, None, Some, Err, Bor, Vec, Global, length, get_or, take, drop, map, refl, sym, ap, ◌∙◌, arith, count_by, cond, append_assoc}
+use Rattle.std.proofs.Math.Bool.{or_assoc}
 use Rattle.std.proofs.lemmas.List.{take-append-drop, drop_more, map-append, map_more, map_push, length-take-le, length-map}
 use Rattle.std.proofs.lemmas.List.Folds.{list_any-append}
 use Rattle.std.proofs.lemmas.List.Sums.{sum_by-cons, sum_by_push}
@@ -11,8 +12,9 @@ use Rattle.flt_syntax.specs.Spelling.{Spells}
 use Rattle.flt_syntax.specs.declared.fault.SyntaxFault.{SyntaxFault}
 use Rattle.flt_tree.specs.declared.filter.Filter.{Filter}
 use Rattle.flt_tree.specs.declared.tree.Tree.{Tree}
-use Rattle.flt_commands.specs.Inputs.{Giving, Text, AreGiven, IsMissing, IsUnreadable, is_standard}
+use Rattle.flt_commands.specs.Inputs.{Giving, Text, AreGiven, AreGivenBehind, IsUnreadable, NamesFail, NamesFailBehind, is_standard}
 use Rattle.flt_commands.specs.Replay.{AreSpelled, IsSyntaxFault}
+use Rattle.flt_commands.specs.declared.failure.Failure.{Failure}
 use Rattle.flt_commands.specs.declared.failure.Failure.TheVariants.{CannotRead}
 
 -- ---- the parts of a list at a place
@@ -65,46 +67,109 @@ module _ {X : Type 0} (p : X → Bool) where
       or_none true = refl
       or_none false = refl
 
-module _ (gives : Giving) (names : List (Bor Text)) (i : ℕ) (name d : Bor Text) (h : i < length names) (at : name ≡ get_or names i d) where
+-- a name more, and what it gives
+given_one : (gives : Giving) (names texts : List Text) (name text : Text) → AreGiven gives names texts → gives name (Some text) →
+    is_standard name && list_any is_standard names ≡ false → AreGiven gives (names ++ name ∷ []) (texts ++ text ∷ [])
+given_one gives names texts name text given one other = record {
+  each = all_zipped_more _ _ _ name text given.each one;
+  once = once_more is_standard names name given.once other;
+}
+
+module _ (gives : Giving) (is_used : Bool) (names : List (Bor Text)) (i : ℕ) (name d : Bor Text) (h : i < length names)
+    (at : name ≡ get_or names i d) (used : Bool)
+    (is : used ≡ (is_used || list_any is_standard (map (λ n. n.now) (take i names)))) where
+  -- whether the standard input is used, behind others too
+  used_behind : (before : List Text) → list_any is_standard before ≡ is_used →
+      used ≡ list_any is_standard (before ++ map (λ n. n.now) (take i names))
+  used_behind before same =
+      let ns = map (λ (n : Bor Text). n.now) (take i names) in
+      is ∙ sym (list_any-append is_standard before ns ∙ ap (λ b. b || list_any is_standard ns) same)
+
   pub given_more : (texts more : List (Vec ℕ Global)) (text : Vec ℕ Global) →
-      AreGiven gives (map (λ n. n.now) (take i names)) (map (λ t. t.items) texts) →
-      gives name.now (Some text.items) → is_standard name.now && list_any is_standard (map (λ n. n.now) (take i names)) ≡ false →
-      more ≡ texts ++ text ∷ [] → AreGiven gives (map (λ n. n.now) (take (i + 1) names)) (map (λ t. t.items) more)
-  given_more texts more text given one other pushed =
+      AreGivenBehind gives is_used (map (λ n. n.now) (take i names)) (map (λ t. t.items) texts) →
+      gives name.now (Some text.items) → is_standard name.now && used ≡ false →
+      more ≡ texts ++ text ∷ [] → AreGivenBehind gives is_used (map (λ n. n.now) (take (i + 1) names)) (map (λ t. t.items) more)
+  given_more texts more text behind one other pushed before found are same =
       let named : map (λ (n : Bor Text). n.now) (take (i + 1) names) ≡ map (λ (n : Bor Text). n.now) (take i names) ++ name.now
       ∷ [] = one_more (λ n. n.now) names i name d h at in
       let read : map (λ (t : Vec ℕ Global). t.items) more ≡ map (λ (t : Vec ℕ Global). t.items) texts ++ text.items ∷ [] =
       ap (map (λ (t : Vec ℕ Global). t.items)) pushed ∙ map_push (λ t. t.items) texts text in
-      rw (named, read) (record {
-        each = all_zipped_more _ _ _ name.now text.items given.each one;
-        once = once_more is_standard (map (λ n. n.now) (take i names)) name.now given.once other;
-      })
+      rw (
+        named,
+        read,
+        ← append_assoc before (map (λ n. n.now) (take i names)) (name.now ∷ []),
+        ← append_assoc found (map (λ t. t.items) texts) (text.items ∷ []),
+      )
+      (given_one gives _ _ name.now text.items (behind before found are same) one (rw (used_behind before same) at other))
 
   -- the name at a place is the first for which nothing is given
-  pub unreadable : (texts : List Text) → AreGiven gives (map (λ n. n.now) (take i names)) texts →
-      IsMissing gives (map (λ n. n.now) (take i names)) name.now →
-      IsUnreadable gives (map (λ n. n.now) names) (CannotRead name)
-  unreadable texts given missing = record {
-    before = map (λ n. n.now) (take i names);
+  pub unreadable : (texts : List Text) → AreGivenBehind gives is_used (map (λ n. n.now) (take i names)) texts →
+      (is_standard name.now && used ≡ true) ⊎ gives name.now None →
+      NamesFailBehind gives is_used (map (λ n. n.now) names) (CannotRead name)
+  unreadable texts behind missing before found are same = record {
+    before = before ++ map (λ n. n.now) (take i names);
     name = name.now;
     after = map (λ n. n.now) (drop (i + 1) names);
-    parts = parted (λ n. n.now) names i name d h at;
-    texts = texts;
-    given = given;
-    missing = missing;
+    parts = ap (λ ns. before ++ ns) (parted (λ n. n.now) names i name d h at)
+        ∙ sym (append_assoc before (map (λ n. n.now) (take i names)) (name.now ∷ map (λ n. n.now) (drop (i + 1) names)));
+    texts = found ++ texts;
+    given = behind before found are same;
+    missing = rw (used_behind before same) at missing;
     told = refl;
   }
 
-  pub used_more : (used more : Bool) → used ≡ list_any is_standard (map (λ n. n.now) (take i names)) →
-      more ≡ (used || is_standard name.now) →
-      more ≡ list_any is_standard (map (λ n. n.now) (take (i + 1) names))
-  used_more used more is now =
-      let named : map (λ (n : Bor Text). n.now) (take (i + 1) names) ≡ map (λ (n : Bor Text). n.now) (take i names) ++ name.now
-      ∷ [] = one_more (λ n. n.now) names i name d h at in
-      let any : list_any is_standard (map (λ n. n.now) (take (i + 1) names)) ≡
-      (list_any is_standard (map (λ n. n.now) (take i names)) || is_standard name.now) =
-      ap (list_any is_standard) named ∙ any_more is_standard (map (λ n. n.now) (take i names)) name.now in
-      now ∙ ap (λ b. b || is_standard name.now) is ∙ sym any
+  pub used_more : (more : Bool) → more ≡ (used || is_standard name.now) →
+      more ≡ (is_used || list_any is_standard (map (λ n. n.now) (take (i + 1) names)))
+  used_more more now =
+      let ns = map (λ (n : Bor Text). n.now) (take i names) in
+      let named : map (λ (n : Bor Text). n.now) (take (i + 1) names) ≡ ns ++ name.now ∷ [] = one_more (λ n. n.now) names i name d h at in
+      let any : list_any is_standard (map (λ n. n.now) (take (i + 1) names)) ≡ (list_any is_standard ns || is_standard name.now) =
+      ap (list_any is_standard) named ∙ any_more is_standard ns name.now in
+      now ∙ ap (λ b. b || is_standard name.now) is ∙ or_assoc is_used (list_any is_standard ns) (is_standard name.now)
+      ∙ ap (λ b. is_used || b) (sym any)
+
+-- ---- behind no name, and behind one
+
+module _ (gives : Giving) where
+  -- no names are given no bytes
+  none_given : AreGiven gives [] []
+  none_given = record { each = tt; once = omega arith }
+
+  -- what is given behind no name is given
+  pub given_behind_none : (names texts : List Text) → AreGivenBehind gives false names texts → AreGiven gives names texts
+  given_behind_none names texts behind = behind [] [] none_given refl
+
+  pub fail_behind_none : (names : List Text) (f : Failure) → NamesFailBehind gives false names f → NamesFail gives names f
+  fail_behind_none names f behind = behind [] [] none_given refl
+
+  module _ (first text : Text) (is : gives first (Some text)) (used : Bool) (same : used ≡ is_standard first) where
+    one_given : AreGiven gives (first ∷ []) (text ∷ [])
+    one_given = given_one gives [] [] first text none_given is (and_false (is_standard first))
+
+    one_used : list_any is_standard (first ∷ []) ≡ used
+    one_used = any_more is_standard [] first ∙ sym same
+
+    -- the same behind one name
+    pub given_behind_one : (names texts : List Text) → AreGivenBehind gives used names texts →
+        AreGiven gives (first ∷ names) (text ∷ texts)
+    given_behind_one names texts behind = behind (first ∷ []) (text ∷ []) one_given one_used
+
+    pub fail_behind_one : (names : List Text) (f : Failure) → NamesFailBehind gives used names f → NamesFail gives (first ∷ names) f
+    fail_behind_one names f behind = behind (first ∷ []) (text ∷ []) one_given one_used
+
+  -- nothing is given for a first name
+  pub unreadable_first : (first : Bor Text) (names : List Text) → gives first.now None →
+      IsUnreadable gives (first.now ∷ names) (CannotRead first)
+  unreadable_first first names none = record {
+    before = [];
+    name = first.now;
+    after = names;
+    parts = refl;
+    texts = [];
+    given = none_given;
+    missing = inr none;
+    told = refl;
+  }
 
 -- ---- the texts
 

@@ -47,6 +47,16 @@ abbrev pub NamesFail : Giving → List Text → Failure → Type 0
 NamesFail gives names OutOfMemory = Unit {0}
 NamesFail gives names f = IsUnreadable gives names f
 
+-- whatever names are given before these, each of these is given too, and the standard input once; `is_used` says whether it is one of those before
+abbrev pub AreGivenBehind : Giving → Bool → List Text → List Text → Type 0
+AreGivenBehind gives is_used names texts = (before found : List Text) → AreGiven gives before found →
+    list_any is_standard before ≡ is_used → AreGiven gives (before ++ names) (found ++ texts)
+
+-- memory ran out, or the names have this failure, whatever names are given before them
+abbrev pub NamesFailBehind : Giving → Bool → List Text → Failure → Type 0
+NamesFailBehind gives is_used names f = (before found : List Text) → AreGiven gives before found →
+    list_any is_standard before ≡ is_used → NamesFail gives (before ++ names) f
+
 -- what is said where these names are read: how that fails, or what is said of the bytes that they give
 pub data Says (gives : Giving) (names : List Text)
     (IsSaidOf : List Text → Result Answer Failure → Type 0) : Result Answer Failure → Type 0 where

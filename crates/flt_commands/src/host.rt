@@ -1,7 +1,8 @@
 //! The files and the streams of the system.
 
 use crate::commands::{CommandFault, command};
-use crate::inputs::{Inputs, MAX_INPUT, Pictures, read_within};
+use crate::inputs::{Inputs, MAX_INPUT, Pictures, read_pieces_within, read_within};
+use crate::pieces::Pieces;
 use flt_crew::Watch;
 use flt_model::{Sink, WriteFault};
 use flt_reasons::Unread;
@@ -29,6 +30,16 @@ impl Inputs for Files<'_> {
         }
         match fs::open(self.rt, name) {
             Ok(mut file) => read_within(alloc, &mut file),
+            Err(_) => Ok(None),
+        }
+    }
+
+    fn read_pieces(&self, alloc: Global, name: &str) -> Result<Option<Pieces>, AllocError> {
+        if name == "-" {
+            return read_pieces_within(alloc, &mut self.rt.stdin());
+        }
+        match fs::open(self.rt, name) {
+            Ok(mut file) => read_pieces_within(alloc, &mut file),
             Err(_) => Ok(None),
         }
     }

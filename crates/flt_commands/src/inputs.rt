@@ -1,12 +1,14 @@
 //! What a command reads.
 
 ghost use Rattle.std.specs.Io.KnownBytes.{Consumes, IsAtEnd};
-ghost use Rattle.std.specs.Prelude.{◌≡◌, ◌≤◌, ℕ, List, Option, IfOk, IfErr, IfSome, IsTrue, length, map, option_map};
+ghost use Rattle.std.specs.Prelude.{◌≡◌, ◌≤◌, ◌<◌, ◌∷◌, ℕ, List, Option, IfOk, IfErr, IfSome, IsTrue, length, map, option_map};
 ghost use Rattle.flt_commands.specs.Inputs as spec;
 
 use crate::failure::Failure;
+use crate::pieces::Pieces;
 use flt_reasons::Unread;
 use std::alloc::{AllocError, Global};
+use std::cmp::min;
 use std::io::Read;
 
 /// The bytes behind names. A name is a file's, or `-` for the standard input.
@@ -17,6 +19,10 @@ pub trait Inputs {
     /// The bytes of a name; none if it can't be read or has more than `MAX_INPUT`.
     fn read(&self, alloc: Global, name: &str) -> Result<Option<Vec<u8>>, AllocError>
         ensures { IfOk result (λ found. gives self.now name.now (option_map (λ v. v.items) found)) };
+
+    /// The same in pieces, which can be given back one by one.
+    fn read_pieces(&self, alloc: Global, name: &str) -> Result<Option<Pieces>, AllocError>
+        ensures { IfOk result (λ found. gives self.now name.now found) };
 
     /// Why nothing was given for a name, as far as can be said.
     fn why(&self, _name: &str) -> Unread {
@@ -58,10 +64,89 @@ pub fn read_within<R: Read>(alloc: Global, reader: &mut R) -> Result<Option<Vec<
     Ok(None)
 }
 
+/// How many bytes a piece has at most. The C library maps a block of this size by itself, so its memory goes back to the system with the piece.
+/// After a much greater block was given back, lists as long as that one would be copied where they grow.
+const PIECE: usize = 131_072;
+
+/// The next bytes that a reader has, `PIECE` of them or all that are left; none if a read fails.
+fn read_piece<R: Read>(alloc: Global, reader: &mut R) -> Result<Option<Vec<u8>>, AllocError>
+    ensures bytes { IfOk result (λ found. IfSome found (λ v. Consumes (R.remaining reader.old) (R.remaining reader.new) v.items)) }
+    ensures end { IfOk result (λ found. IfSome found (λ v. length v.items < 131072 → IsAtEnd (R.remaining reader.new))) }
+    ensures few { IfOk result (λ found. IfSome found (λ v. length v.items ≤ 131072)) }
+{
+    let mut piece = Vec::with_capacity(alloc, PIECE)?;
+    let mut buffer = [0u8; 4096];
+    while piece.len() < PIECE {
+        let room = min(PIECE - piece.len(), buffer.len());
+        match reader.read(&mut buffer[..room]) {
+            Err(_) => return Ok(None),
+            Ok(0) => break,
+            Ok(n) => piece.extend_from_slice(&buffer[..n])?,
+        }
+    }
+    Ok(Some(piece))
+}
+
+/// The same as `read_within`, in pieces.
+pub fn read_pieces_within<R: Read>(
+    alloc: Global,
+    reader: &mut R,
+) -> Result<Option<Pieces>, AllocError>
+    ensures all { IfOk result (λ found. IfSome found
+        (λ p. Consumes (R.remaining reader.old) (R.remaining reader.new) p × IsAtEnd (R.remaining reader.new))) }
+    ensures few { IfOk result (λ found. IfSome found (λ p. length p ≤ 67108864)) }
+{
+    let mut pieces = Pieces::new(alloc);
+    let mut length = 0;
+    for _ in 0..u64::MAX {
+        let piece = match read_piece(alloc, reader)? {
+            Some(piece) => piece,
+            None => return Ok(None),
+        };
+        length += piece.len();
+        if MAX_INPUT < length {
+            return Ok(None);
+        }
+        let is_last = piece.len() < PIECE;
+        pieces.push(piece)?;
+        if is_last {
+            return Ok(Some(pieces));
+        }
+    }
+    Ok(None)
+}
+
 pub(crate) fn is_standard(name: &str) -> bool
     ensures { result ≡ spec.is_standard name.now }
 {
     name == "-"
+}
+
+/// The bytes of each name behind others, in order. The standard input is there once, and `is_used` says whether it is among the others.
+fn read_behind<'a, I: Inputs>(
+    alloc: Global,
+    inputs: &I,
+    is_used: bool,
+    names: &[&'a str],
+) -> Result<Vec<Vec<u8>>, Failure<'a>>
+    ensures ok { IfOk result (λ texts. spec.AreGivenBehind (I.gives inputs.now) is_used (map (λ name. name.now) names.now)
+        (map (λ text. text.items) texts.items)) }
+    ensures each { IfOk result (λ texts. length texts.items ≡ length names.now) }
+    ensures err { IfErr result (spec.NamesFailBehind (I.gives inputs.now) is_used (map (λ name. name.now) names.now)) }
+{
+    let mut texts = Vec::new(alloc);
+    let mut is_used = is_used;
+    for name in names {
+        if is_used && is_standard(name) {
+            return Err(Failure::CannotRead(name));
+        }
+        match inputs.read(alloc, name)? {
+            Some(text) => texts.push(text)?,
+            None => return Err(Failure::CannotRead(name)),
+        }
+        is_used = is_used || is_standard(name);
+    }
+    Ok(texts)
 }
 
 /// The bytes of each name, in order. The standard input is there once.
@@ -75,17 +160,23 @@ pub fn read_all<'a, I: Inputs>(
     ensures each { IfOk result (λ texts. length texts.items ≡ length names.now) }
     ensures err { IfErr result (spec.NamesFail (I.gives inputs.now) (map (λ name. name.now) names.now)) }
 {
-    let mut texts = Vec::new(alloc);
-    let mut is_used = false;
-    for name in names {
-        if is_used && is_standard(name) {
-            return Err(Failure::CannotRead(name));
-        }
-        match inputs.read(alloc, name)? {
-            Some(text) => texts.push(text)?,
-            None => return Err(Failure::CannotRead(name)),
-        }
-        is_used = is_used || is_standard(name);
-    }
-    Ok(texts)
+    read_behind(alloc, inputs, false, names)
+}
+
+/// The same of a journal and the files behind it. The journal's bytes come in pieces.
+pub fn read_with_journal<'a, I: Inputs>(
+    alloc: Global,
+    inputs: &I,
+    journal: &'a str,
+    files: &[&'a str],
+) -> Result<(Pieces, Vec<Vec<u8>>), Failure<'a>>
+    ensures ok { IfOk result (λ found. spec.AreGiven (I.gives inputs.now) (journal.entry.now ∷ map (λ name. name.now) files.now)
+        (found.0 ∷ map (λ text. text.items) found.1.items)) }
+    ensures err { IfErr result (spec.NamesFail (I.gives inputs.now) (journal.entry.now ∷ map (λ name. name.now) files.now)) }
+{
+    let Some(written) = inputs.read_pieces(alloc, journal)? else {
+        return Err(Failure::CannotRead(journal));
+    };
+    let texts = read_behind(alloc, inputs, is_standard(journal), files)?;
+    Ok((written, texts))
 }

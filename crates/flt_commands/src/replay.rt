@@ -9,8 +9,9 @@ ghost use Rattle.flt_words.specs.Request.{Replay};
 
 use crate::answer::Answer;
 use crate::failure::Failure;
-use crate::inputs::{Inputs, read_all};
-use flt_model::{Journal, JournalFault, ReadFault, Source, Verdict, first_repeated, read};
+use crate::inputs::{Inputs, read_with_journal};
+use crate::pieces::{PieceReader, Pieces};
+use flt_model::{Journal, JournalFault, Verdict, first_repeated, read};
 use flt_replay::replay;
 use flt_syntax::{ParseError, Tree, parse};
 use std::alloc::Global;
@@ -38,46 +39,12 @@ fn parse_all<'a>(alloc: Global, texts: &[Vec<u8>]) -> Result<Vec<Tree>, Failure<
 
 // ---- the journal
 
-/// Bytes that are all there, from which a journal is read. No read fails.
-#[derive(Drop)]
-struct Bytes<'a> {
-    left: &'a [u8],
-}
-
-impl Source for Bytes<'_> {
-    ghost coming = { λ s. s.left.now };
-
-    ghost at_hand = { λ s. s.left.now };
-
-    ghost failures = { λ _. 0 };
-
-    ghost reads = { λ _. 0 };
-
-    fn next(&mut self) -> Result<Option<u8>, ReadFault> {
-        match self.left {
-            [first, others @ ..] => {
-                self.left = others;
-                Ok(Some(*first))
-            }
-            [] => Ok(None),
-        }
-    }
-
-    fn ready(&self) -> &[u8] {
-        self.left
-    }
-
-    fn pass(&mut self, count: usize) {
-        self.left = &self.left[count..];
-    }
-}
-
-/// The journal that some bytes spell.
-fn read_journal<'a>(alloc: Global, written: &[u8]) -> Result<Journal, Failure<'a>>
-    ensures ok { IfOk result (λ entries. IsJournal entries × (written.now ≡ spelling entries)) }
-    ensures err { IfErr result (spec.JournalFails written.now) }
+/// The journal that some bytes spell. Each piece of them is given back once it is read through.
+fn read_journal<'a>(alloc: Global, written: Pieces) -> Result<Journal, Failure<'a>>
+    ensures ok { IfOk result (λ entries. IsJournal entries × (written ≡ spelling entries)) }
+    ensures err { IfErr result (spec.JournalFails written) }
 {
-    match read(alloc, &mut Bytes { left: written }) {
+    match read(alloc, &mut PieceReader::new(alloc, written)) {
         Ok(journal) => Ok(journal),
         Err(JournalFault::Line(line)) => Err(Failure::JournalLine(line)),
         Err(JournalFault::Read | JournalFault::OutOfMemory) => Err(Failure::OutOfMemory),
@@ -97,11 +64,11 @@ pub(crate) struct Replayed {
 /// The verdict about a journal on some texts, with what they spell.
 pub(crate) fn replay_all<'a>(
     alloc: Global,
-    written: &[u8],
+    written: Pieces,
     texts: &[Vec<u8>],
 ) -> Result<Replayed, Failure<'a>>
-    ensures ok { IfOk result (λ r. spec.IsVerdict written.now (map (λ text. text.items) texts.now) r.verdict) }
-    ensures err { IfErr result (spec.IsFailure written.now (map (λ text. text.items) texts.now)) }
+    ensures ok { IfOk result (λ r. spec.IsVerdict written (map (λ text. text.items) texts.now) r.verdict) }
+    ensures err { IfErr result (spec.IsFailure written (map (λ text. text.items) texts.now)) }
 {
     if MAX_FILTERS < texts.len() {
         return Err(Failure::TooManyFiles);
@@ -122,8 +89,12 @@ pub(crate) fn replay_all<'a>(
 }
 
 /// The verdict about a journal on some texts.
-fn replay_texts<'a>(alloc: Global, written: &[u8], texts: &[Vec<u8>]) -> Result<Answer, Failure<'a>>
-    ensures { spec.Judges written.now (map (λ text. text.items) texts.now) result }
+fn replay_texts<'a>(
+    alloc: Global,
+    written: Pieces,
+    texts: &[Vec<u8>],
+) -> Result<Answer, Failure<'a>>
+    ensures { spec.Judges written (map (λ text. text.items) texts.now) result }
 {
     let replayed = replay_all(alloc, written, texts)?;
     Ok(Answer::Judged(replayed.verdict))
@@ -138,9 +109,6 @@ pub fn replay_files<'a, I: Inputs>(
 ) -> Result<Answer, Failure<'a>>
     ensures { IsSaid (I.gives inputs.now) (Replay journal.entry.now (map (λ name. name.now) files.now)) result }
 {
-    let mut names = Vec::new(alloc);
-    names.push(journal)?;
-    names.extend_from_slice(files)?;
-    let texts = read_all(alloc, inputs, names.as_slice())?;
-    replay_texts(alloc, texts[0].as_slice(), &texts[1..])
+    let (written, texts) = read_with_journal(alloc, inputs, journal, files)?;
+    replay_texts(alloc, written, texts.as_slice())
 }

@@ -6,7 +6,8 @@ ghost use Rattle.flt_commands.specs.Replay as spec;
 
 use crate::answer::Answer;
 use crate::failure::Failure;
-use crate::inputs::{Inputs, Pictures, read_all};
+use crate::inputs::{Inputs, Pictures, read_with_journal};
+use crate::pieces::Pieces;
 use crate::replay::{Replayed, replay_all};
 use flt_model::{Journal, Verdict};
 use flt_picture::picture;
@@ -63,11 +64,11 @@ fn show_texts<'a, P: Pictures>(
     alloc: Global,
     is_asked: bool,
     name: Option<&'a str>,
-    written: &[u8],
+    written: Pieces,
     texts: &[Vec<u8>],
     pictures: &mut P,
 ) -> Result<Answer, Failure<'a>>
-    ensures { spec.ShownJudges is_asked (option_map (λ name. name.now) name.entry) written.now
+    ensures { spec.ShownJudges is_asked (option_map (λ name. name.now) name.entry) written
         (map (λ text. text.items) texts.now) result }
 {
     let replayed = replay_all(alloc, written, texts)?;
@@ -88,16 +89,6 @@ pub fn show_files<'a, I: Inputs, P: Pictures>(
     ensures { Says (I.gives inputs.now) (journal.entry.now ∷ map (λ name. name.now) files.now)
         (spec.IsShown is_asked (option_map (λ name. name.now) name.entry)) result }
 {
-    let mut names = Vec::new(alloc);
-    names.push(journal)?;
-    names.extend_from_slice(files)?;
-    let texts = read_all(alloc, inputs, names.as_slice())?;
-    show_texts(
-        alloc,
-        is_asked,
-        name,
-        texts[0].as_slice(),
-        &texts[1..],
-        pictures,
-    )
+    let (written, texts) = read_with_journal(alloc, inputs, journal, files)?;
+    show_texts(alloc, is_asked, name, written, texts.as_slice(), pictures)
 }

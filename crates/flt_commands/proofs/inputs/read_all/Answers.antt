@@ -1,41 +1,9 @@
-use Rattle.std.proofs.Common.{◌≡◌, ◌+◌, ◌∙◌, ap, [], inl, inr, refl, get_or, take, map, Bor, false, ◌&&◌, ◌||◌}
-use Rattle.std.proofs.lemmas.List.{length_push}
-use Rattle.std.specs.List.{list_any}
-use Rattle.flt_commands.proofs.Firsts.{and_false, unreadable, given_more, used_more}
-use Rattle.flt_commands.specs.Inputs.{Text, is_standard}
+use Rattle.std.proofs.lemmas.Result.{IfOk-weaker, IfErr-weaker}
+use Rattle.flt_commands.proofs.Firsts.{given_behind_none, fail_behind_none}
 use Rattle.flt_commands.proofs.inputs.read_all.Goals as goal
-use Rattle.flt_commands.proofs.inputs.read_all.Goals.{else-is_used-via-then-is_used+else-is_standard, else-is_used-via-else-is_used, then-is_used-2, else-is_used-2}
 
-pub returns-then-is_standard-clause-err : goal.returns-then-is_standard-clause-err
-returns-then-is_standard-clause-err g c =
-    unreadable _ c.args.names.now c.loop-name.name-index _ _ c.loop-name-test.true refl _ c.loop-name.invariant.given
-    (inl (rw (← c.is_standard.ensures, c.if-is_standard.true, ← c.loop-name.invariant.used, c.if-is_used.true) refl))
+pub returns-clause-ok : goal.returns-clause-ok
+returns-clause-ok g c = IfOk-weaker c.read_behind.result _ _ (λ texts behind. given_behind_none _ _ _ behind) c.read_behind.ensures.ok
 
-pub returns-in-None-clause-err : goal.returns-in-None-clause-err
-returns-in-None-clause-err g c =
-    unreadable _ c.args.names.now c.loop-name.name-index _ _ c.loop-name-test.true refl _ c.loop-name.invariant.given
-    (inr (rw c.in-None.is at c.in_ok-text.ensures))
-
-pub loop-name-preserved : goal.loop-name-preserved
-loop-name-preserved g c =
-    let name : Bor Text = get_or c.args.names.now c.loop-name.name-index (record { ref_ptr = (0, 0); now = [] }) in
-    let other : is_standard name.now && list_any is_standard
-    (map (λ (n : Bor Text). n.now) (take c.loop-name.name-index c.args.names.now)) ≡ false =
-    elim c.else-is_used.branch [
-      | else-is_used-via-then-is_used+else-is_standard w ↦ rw (← w.is_standard.ensures, w.if-is_standard.false) refl
-      | else-is_used-via-else-is_used w ↦ rw (← c.loop-name.invariant.used, w.if-is_used.false) (and_false _)
-    ] in
-    let used : c.if-is_used-2.is_used ≡ (c.loop-name.is_used || is_standard name.now) =
-    elim c.if-is_used-2.branch [
-      | then-is_used-2 w ↦ rw (w.is_used-is, w.if-is_used-2.true) refl
-      | else-is_used-2 w ↦ rw (w.is_used-is, w.if-is_used-2.false) w.is_standard-is_used.ensures
-    ] in
-    record {
-      given = given_more _ c.args.names.now c.loop-name.name-index name _ c.loop-name-test.true refl c.loop-name.texts.items _
-          c.in-Some.text
-          c.loop-name.invariant.given (rw c.in-Some.is at c.in_ok-text.ensures) other c.in_ok-push-in-Some.ensures.items;
-      many = rw c.in_ok-push-in-Some.ensures.items
-          (length_push c.loop-name.texts.items c.in-Some.text ∙ ap (λ n. n + 1) c.loop-name.invariant.many);
-      used = used_more (g.I.Inputs.gives c.args.inputs.now) c.args.names.now c.loop-name.name-index name _ c.loop-name-test.true
-          refl _ _ c.loop-name.invariant.used used;
-    }
+pub returns-clause-err : goal.returns-clause-err
+returns-clause-err g c = IfErr-weaker c.read_behind.result _ _ (λ f behind. fail_behind_none _ _ f behind) c.read_behind.ensures.err

@@ -1,0 +1,136 @@
+//! Bytes in pieces, each of which is given back once it is read through.
+
+ghost use Rattle.flt_model.specs.Streams.{Gives};
+ghost use Rattle.std.specs.Prelude.{◌≡◌, ◌≢◌, [], ◌++◌, IfSome, IfNone, OnOk, OnErr};
+
+use flt_model::{ReadFault, Source};
+use std::alloc::{AllocError, Global};
+use std::collections::VecDeque;
+use std::marker::Model;
+
+/// Bytes in pieces, in order. An empty piece is none.
+#[derive(Drop)]
+pub struct Pieces {
+    pieces: VecDeque<Vec<u8>>,
+}
+
+impl Model for Pieces {
+    ghost use Rattle.std.specs.Prelude.{ℕ, List};
+    ghost use Rattle.std.specs.List.{flat_map};
+
+    ghost Value = { List ℕ };
+
+    ghost view = { λ p. flat_map (λ piece. piece.items) p.pieces.items };
+}
+
+impl Pieces {
+    /// No bytes.
+    pub fn new(alloc: Global) -> Pieces
+        ensures { result ≡ [] }
+    {
+        Pieces {
+            pieces: VecDeque::new(alloc),
+        }
+    }
+
+    /// Puts a piece behind all others.
+    pub fn push(&mut self, piece: Vec<u8>) -> Result<(), AllocError>
+        ensures ok { OnOk result (self.new ≡ self.old ++ piece.items) }
+        ensures err { OnErr result (self.new ≡ self.old) }
+    {
+        self.pieces.push_back(piece)?;
+        Ok(())
+    }
+
+    /// Takes out the first piece that has bytes; none where there are no bytes.
+    pub fn pop(&mut self) -> Option<Vec<u8>>
+        ensures first { IfSome result (λ piece. self.old ≡ piece.items ++ self.new) }
+        ensures bytes { IfSome result (λ piece. piece.items ≢ []) }
+        ensures none { IfNone result ((self.old ≡ []) × (self.new ≡ [])) }
+    {
+        while let Some(piece) = self.pieces.pop_front() {
+            if !piece.is_empty() {
+                return Some(piece);
+            }
+        }
+        None
+    }
+}
+
+/// Reads pieces in order, and gives each back once it is read through. No read fails.
+#[derive(Drop)]
+pub(crate) struct PieceReader {
+    /// The piece that is read.
+    piece: Vec<u8>,
+    /// How many of its bytes were read.
+    at: usize,
+    /// Those behind it.
+    others: Pieces,
+}
+
+impl Model for PieceReader {
+    ghost use Rattle.std.specs.Prelude.{ℕ, List, drop, length, ◌≤◌};
+
+    // What is left of the piece, and what stands behind it.
+    ghost Value = { List ℕ × List ℕ };
+
+    ghost view = { λ r. (drop r.at r.piece.items, r.others) };
+
+    ghost invariant = { λ r. r.at ≤ length r.piece.items };
+}
+
+impl PieceReader {
+    /// A reader of these pieces.
+    pub(crate) fn new(alloc: Global, pieces: Pieces) -> PieceReader
+        ensures { result.0 ++ result.1 ≡ pieces }
+    {
+        PieceReader {
+            piece: Vec::new(alloc),
+            at: 0,
+            others: pieces,
+        }
+    }
+
+    /// The first byte of the next piece; none if there is no other. The piece before is given back.
+    #[cold]
+    #[inline(never)]
+    fn go_on(&mut self) -> Option<u8>
+        requires { self.old.0 ≡ [] }
+        ensures { Gives self.old.1 result (self.new.0 ++ self.new.1) }
+    {
+        let piece = self.others.pop()?;
+        let first = piece[0];
+        self.piece = piece;
+        self.at = 1;
+        Some(first)
+    }
+}
+
+impl Source for PieceReader {
+    ghost use Rattle.std.specs.Prelude.{◌++◌};
+
+    ghost coming = { λ s. s.0 ++ s.1 };
+
+    ghost at_hand = { λ s. s.0 };
+
+    ghost failures = { λ _. 0 };
+
+    ghost reads = { λ _. 0 };
+
+    fn next(&mut self) -> Result<Option<u8>, ReadFault> {
+        if self.at == self.piece.len() {
+            return Ok(self.go_on());
+        }
+        let byte = self.piece[self.at];
+        self.at += 1;
+        Ok(Some(byte))
+    }
+
+    fn ready(&self) -> &[u8] {
+        &self.piece[self.at..]
+    }
+
+    fn pass(&mut self, count: usize) {
+        self.at += count;
+    }
+}
