@@ -1,7 +1,6 @@
 //! Bytes in pieces, each of which is given back once it is read through.
 
-ghost use Rattle.flt_model.specs.Streams.{Gives};
-ghost use Rattle.std.specs.Prelude.{◌≡◌, ◌≢◌, [], ◌++◌, IfSome, IfNone, OnOk, OnErr};
+ghost use Rattle.std.specs.Prelude.{◌≡◌, ◌<◌, false, IsTrue, [], ◌++◌, length, IfSome, IfNone, OnOk, OnErr};
 
 use flt_model::{ReadFault, Source};
 use std::alloc::{AllocError, Global};
@@ -45,7 +44,7 @@ impl Pieces {
     /// Takes out the first piece that has bytes; none where there are no bytes.
     pub fn pop(&mut self) -> Option<Vec<u8>>
         ensures first { IfSome result (λ piece. self.old ≡ piece.items ++ self.new) }
-        ensures bytes { IfSome result (λ piece. piece.items ≢ []) }
+        ensures bytes { IfSome result (λ piece. 0 < length piece.items) }
         ensures none { IfNone result ((self.old ≡ []) × (self.new ≡ [])) }
     {
         while let Some(piece) = self.pieces.pop_front() {
@@ -91,18 +90,36 @@ impl PieceReader {
         }
     }
 
-    /// The first byte of the next piece; none if there is no other. The piece before is given back.
+    /// Goes on to the next piece, and gives the one before back. Whether there is one.
     #[cold]
     #[inline(never)]
-    fn go_on(&mut self) -> Option<u8>
+    fn go_on(&mut self) -> bool
         requires { self.old.0 ≡ [] }
-        ensures { Gives self.old.1 result (self.new.0 ++ self.new.1) }
+        ensures coming { self.new.0 ++ self.new.1 ≡ self.old.1 }
+        ensures some { IsTrue result → 0 < length self.new.0 }
+        ensures none { result ≡ false → self.old.1 ≡ [] }
     {
-        let piece = self.others.pop()?;
-        let first = piece[0];
-        self.piece = piece;
-        self.at = 1;
-        Some(first)
+        match self.others.pop() {
+            Some(piece) => {
+                self.piece = piece;
+                self.at = 0;
+                true
+            }
+            None => false,
+        }
+    }
+
+    /// Whether a byte is left, which is at hand then.
+    #[inline(always)]
+    fn has_byte(&mut self) -> bool
+        ensures coming { self.new.0 ++ self.new.1 ≡ self.old.0 ++ self.old.1 }
+        ensures some { IsTrue result → 0 < length self.new.0 }
+        ensures none { result ≡ false → self.old.0 ++ self.old.1 ≡ [] }
+    {
+        if self.at < self.piece.len() {
+            return true;
+        }
+        self.go_on()
     }
 }
 
@@ -118,8 +135,8 @@ impl Source for PieceReader {
     ghost reads = { λ _. 0 };
 
     fn next(&mut self) -> Result<Option<u8>, ReadFault> {
-        if self.at == self.piece.len() {
-            return Ok(self.go_on());
+        if !self.has_byte() {
+            return Ok(None);
         }
         let byte = self.piece[self.at];
         self.at += 1;
