@@ -10,7 +10,7 @@ use Rattle.flt_rules.specs.declared.held.Access.{Access}
 use Rattle.flt_rules.specs.declared.held.Access.TheVariants.{Exclusive, Shared}
 use Rattle.flt_rules.specs.declared.held.HeldLock.{HeldLock}
 use Rattle.flt_abs.specs.Sets.{StatusSet, status_bits, mode_bits, draining_bits}
-use Rattle.flt_abs.specs.State.{State}
+use Rattle.flt_abs.specs.State.{State, is_proper}
 use Rattle.flt_cert.specs.Text.{Text, lines_of, decimal}
 use Rattle.flt_cert.specs.Format.{Point, Certificate, is_point, is_callback, is_certificate, digits, access_text, lock_text, more_locks, locks_text, state_text, point_text, point_line, callback_line, last_line, point_lines, one_callback, callback_lines, lines_for, joined, spelling}
 use Rattle.flt_cert.specs.Reading.{Place, and_then, line, point, points_from, points, callback, callbacks_from, closed, is_last, first, certificate, start}
@@ -142,6 +142,17 @@ point_read : (p : ℕ) (x : Point) (n : ℕ) (lines : List Text) → is_point x 
     point p (record { number = n; lines = point_line p x ∷ lines }) ≡ Ok (x, record { number = n + 1; lines = lines })
 unfolding point line
 point_read p x n lines h = rw (point_again p x h) refl
+
+-- so is the line of a state at the front of a text
+pub state_read : (p : ℕ) (s : State) (n : ℕ) (text rest : Text) → is_proper s ≡ true → text ≡ point_line p (Some s) ++ rest →
+    point p (record { number = n; lines = lines_of text }) ≡ Ok (Some s, record { number = n + 1; lines = lines_of rest })
+unfolding Ended
+state_read p s n text rest h e =
+    let line = point_ended p (Some s) in
+    let grouped : text ≡ line.0 ++ 10 ∷ rest = e ∙ ap (λ z. z ++ rest) line.2 ∙ append_assoc line.0 (10 ∷ []) rest in
+    let lines : lines_of text ≡ point_line p (Some s) ∷ lines_of rest = ap lines_of grouped ∙ ended line.0 rest line.1
+    ∙ ap (λ z. z ∷ lines_of rest) (sym line.2) in
+    rw lines (point_read p (Some s) n (lines_of rest) h)
 
 points_read : (more found : List Point) (n : ℕ) (lines : List Text) → list_all is_point more ≡ true →
     (m : ℕ) × (points_from (length more) found (record { number = n; lines = point_lines (length found) more ++ lines }) ≡ Ok

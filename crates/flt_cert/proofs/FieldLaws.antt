@@ -27,13 +27,13 @@ some_bind : {A B : Type 0} {y : B} (o : Option A) (f : A → Option B) → (o >>
 some_bind None f h = cc
 some_bind (Some x) f h = (x, refl, h)
 
-some_inside : {A : Type 0} {x y : A} → Some x ≡ Some y → x ≡ y
+pub some_inside : {A : Type 0} {x y : A} → Some x ≡ Some y → x ≡ y
 some_inside h = cc
 
 bind_again : {A B : Type 0} {r : Option B} (o : Option A) (f : A → Option B) (x : A) → o ≡ Some x → f x ≡ r → (o >>= f) ≡ r
 bind_again o f x e h = rw e h
 
-chosen : {A : Type 0} {x y : A} (b : Bool) → (if b then Some x else None) ≡ Some y → (b ≡ true) × (x ≡ y)
+pub chosen : {A : Type 0} {x y : A} (b : Bool) → (if b then Some x else None) ≡ Some y → (b ≡ true) × (x ≡ y)
 chosen true h = (refl, cc)
 chosen false h = cc
 
@@ -60,7 +60,7 @@ otherwise : {A : Type 0} {x y : A} (b : Bool) → (if b then None else Some x) �
 otherwise true h = cc
 otherwise false h = cc
 
-front_takes : (n : ℕ) (text front rest : Text) → front_of n text ≡ Some (front, rest) → text ≡ front ++ rest
+pub front_takes : (n : ℕ) (text front rest : Text) → front_of n text ≡ Some (front, rest) → text ≡ front ++ rest
 front_takes n text front rest h =
     let pair = otherwise (nat_lt (length text) n) h in
     let left : take n text ≡ front = ap (λ (p : Text × Text). p.0) pair in
@@ -117,7 +117,7 @@ set_again false false false h = cc
 status_again : (s : StatusSet) → is_possible s ≡ true → status_of (48 + status_bits s) ≡ Some s
 status_again s h = set_again s.null s.held s.stale h
 
-sets_take : (text : Text) (found sets : List StatusSet) → sets_from found text ≡ Some sets → (more : List StatusSet)
+pub sets_take : (text : Text) (found sets : List StatusSet) → sets_from found text ≡ Some sets → (more : List StatusSet)
     × (sets ≡ found ++ more) × (text ≡ digits more)
 sets_take [] found sets h = ([], (let same : found ≡ sets = cc in sym same ∙ sym (append-nil found)), refl)
 sets_take (b ∷ text) found sets h =
@@ -134,7 +134,7 @@ sets_again found (s ∷ more) h =
     bind_again (status_of (48 + status_bits s)) (λ t. sets_from (found ++ t ∷ []) (digits more)) s (status_again s both.0)
     (sets_again (found ++ s ∷ []) more both.1 ∙ ap (λ z. Some z) (append_assoc found (s ∷ []) more))
 
-modes_take : (b : ℕ) (s : ModeSet) → modes_of b ≡ Some s → b ≡ 48 + mode_bits s
+pub modes_take : (b : ℕ) (s : ModeSet) → modes_of b ≡ Some s → b ≡ 48 + mode_bits s
 modes_take b s h =
     let both = chosen _ h in
     let range = and_parts (nat_lt 48 b) (nat_lt b 52) both.0 in
@@ -153,7 +153,7 @@ modes_again s h = go s.irp s.fast h
     go false true h = refl
     go false false h = cc
 
-draining_takes : (b : ℕ) (s : DrainingSet) → draining_of b ≡ Some s → b ≡ 48 + draining_bits s
+pub draining_takes : (b : ℕ) (s : DrainingSet) → draining_of b ≡ Some s → b ≡ 48 + draining_bits s
 draining_takes b s h =
     let both = chosen _ h in
     let range = and_parts (nat_lt 48 b) (nat_lt b 52) both.0 in

@@ -3,6 +3,7 @@ pub mod Complete
 pub mod FieldLaws
 pub mod FillLaws
 pub mod FirstFault
+pub mod FixedWidthLaws
 pub mod LineLaws
 pub mod Once
 pub mod ReadLaws

@@ -1,3 +1,4 @@
+pub mod FixedWidth
 pub mod Format
 pub mod Reading
 pub mod Text

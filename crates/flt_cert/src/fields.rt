@@ -47,10 +47,13 @@ fn after_byte(front: u8, text: &[u8]) -> Option<&[u8]>
 }
 
 /// What follows a number in decimal.
-fn after_number(number: usize, text: &[u8]) -> Option<&[u8]>
+#[inline(always)]
+pub(crate) fn after_number(number: usize, text: &[u8]) -> Option<&[u8]>
     requires { number < 1000 }
     ensures { option_copied result ≡ text_spec.after (text_spec.decimal number) text.now }
 {
+    // Its digits are computed in few instructions as those of a small number.
+    let number = number as u16;
     let low = b'0' + (number % 10) as u8;
     if number < 10 {
         return after_byte(low, text);
@@ -80,7 +83,7 @@ fn is_set(digit: u8) -> bool
 
 /// Sets each of `sets` by its digit. Whether each is a digit of a set.
 #[inline(always)]
-fn fill(sets: &mut [Statuses], digits: &[u8]) -> bool
+pub(crate) fn fill(sets: &mut [Statuses], digits: &[u8]) -> bool
     requires { length sets.old ≡ length digits.now }
     ensures known { IsTrue result → spec.sets_from [] digits.now ≡ Some sets.new }
     ensures unknown { IsFalse result → spec.sets_from [] digits.now ≡ None }
@@ -96,7 +99,7 @@ fn fill(sets: &mut [Statuses], digits: &[u8]) -> bool
 
 /// As many bytes, and what follows them.
 #[inline(always)]
-fn front_of(text: &[u8], len: usize) -> Option<(&[u8], &[u8])>
+pub(crate) fn front_of(text: &[u8], len: usize) -> Option<(&[u8], &[u8])>
     ensures value { option_map (λ x. (x.0.now, x.1.now)) result ≡ spec.front_of len text.now }
     ensures front { IfSome result (λ x. length x.0.now ≡ len) }
 {
@@ -108,7 +111,7 @@ fn front_of(text: &[u8], len: usize) -> Option<(&[u8], &[u8])>
 }
 
 #[inline(always)]
-fn modes_of(digit: u8) -> Option<Modes>
+pub(crate) fn modes_of(digit: u8) -> Option<Modes>
     ensures { result ≡ spec.modes_of digit }
 {
     match digit {
@@ -118,7 +121,7 @@ fn modes_of(digit: u8) -> Option<Modes>
 }
 
 #[inline(always)]
-fn draining_of(digit: u8) -> Option<Draining>
+pub(crate) fn draining_of(digit: u8) -> Option<Draining>
     ensures { result ≡ spec.draining_of digit }
 {
     match digit {

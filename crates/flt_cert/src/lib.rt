@@ -4,6 +4,7 @@
 mod cert;
 mod fault;
 mod fields;
+mod fixed_width;
 mod laws;
 mod lines;
 mod reader;

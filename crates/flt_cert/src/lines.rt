@@ -1,11 +1,14 @@
 //! The lines of a text, one after the other, with their numbers.
 
-ghost use Rattle.std.specs.Prelude.{◌≡◌, ◌==◌, ◌<◌, ◌≤◌, ◌∷◌, length, take, drop, IfOk};
+ghost use Rattle.std.specs.Prelude.{◌≡◌, ◌==◌, ◌<◌, ◌≤◌, ◌∷◌, length, take, drop, Some, Ok, IsNone, IfSome, IfOk};
 ghost use Rattle.flt_cert.specs.Reading as spec;
 ghost use Rattle.std.specs.List.{position_or_len};
 ghost use Rattle.flt_cert.specs.Text.{lines_of};
 
 use crate::fault::CertFault;
+use crate::fixed_width::fixed_state;
+use flt_abs::Abs;
+use std::alloc::Global;
 use std::marker::Model;
 
 /// What is left of a text, and how many lines were taken from it.
@@ -50,6 +53,20 @@ impl<'a> Lines<'a> {
         self.number += 1;
         self.rest = rest;
         Ok(line)
+    }
+
+    /// The state of the point with this number, where the next line has the fixed width. Otherwise no line is taken.
+    #[inline(always)]
+    #[tactic(auto, using(crate::proofs::Complete::state_read))]
+    pub(crate) fn state(&mut self, alloc: Global, number: usize) -> Option<Abs>
+        requires { number < 1000 }
+        ensures read { IfSome result (λ state. spec.point number self.old ≡ Ok (Some state, self.new)) }
+        ensures left { IsNone result → self.new ≡ self.old }
+    {
+        let (state, rest) = fixed_state(alloc, number, self.rest)?;
+        self.number += 1;
+        self.rest = rest;
+        Some(state)
     }
 
     /// What the latest line says, or that it is malformed.

@@ -20,6 +20,7 @@ fn first(lines: &mut Lines) -> Result<(), CertFault>
     lines.asked(is_first(line))
 }
 
+#[inline(never)]
 #[tactic(auto, unfolding(crate::specs::Reading::point))]
 fn point(alloc: Global, lines: &mut Lines, number: usize) -> Result<Option<Abs>, CertFault>
     requires { number < 1000 }
@@ -36,6 +37,11 @@ fn points(alloc: Global, lines: &mut Lines, count: usize) -> Result<Items<Option
 {
     let mut found = Items::new(alloc);
     for number in 0..count {
+        // At most points no lock is held.
+        if let Some(state) = lines.state(alloc, number) {
+            found.push(Some(state))?;
+            continue;
+        }
         let point = point(alloc, lines, number)?;
         found.push(point)?;
     }
