@@ -10,6 +10,9 @@ use flt_abs::{Abs, Statuses};
 use flt_rules::{Access, HeldLock};
 use std::alloc::{AllocError, Global};
 
+/// How long the line of a point is at most, where no lock is held. At most points none is.
+const POINT_LINE: usize = 26;
+
 /// Adds a number, for whose digits there is room.
 #[inline(always)]
 fn put_number(out: &mut Vec<u8>, number: usize)
@@ -19,6 +22,8 @@ fn put_number(out: &mut Vec<u8>, number: usize)
     ensures len { vec_len out.new ≤ vec_len out.old + 3 }
     ensures capacity { vec_capacity out.new ≡ vec_capacity out.old }
 {
+    // Its digits are computed in few instructions as those of a small number.
+    let number = number as u16;
     let low = b'0' + (number % 10) as u8;
     if number < 10 {
         out.push_reserved(low);
@@ -87,11 +92,13 @@ fn push_lock(out: &mut Vec<u8>, held: HeldLock) -> Result<(), AllocError>
     }
 }
 
+/// Adds the last field of a state, for whose first byte there is room.
 fn push_locks(out: &mut Vec<u8>, locks: &[HeldLock]) -> Result<(), AllocError>
+    requires { vec_len out.old < vec_capacity out.old }
     ensures { OnOk result (out.new.items ≡ out.old.items ++ format.locks_text locks.now) }
 {
     let [oldest, others @ ..] = locks else {
-        out.push(b'-')?;
+        out.push_reserved(b'-');
         return Ok(());
     };
     push_lock(out, *oldest)?;
@@ -109,14 +116,13 @@ fn push_more_locks(out: &mut Vec<u8>, locks: &[HeldLock]) -> Result<(), AllocErr
     Ok(())
 }
 
+/// Adds the fields of a state. There is room for all of them where it holds no lock.
 fn push_state(out: &mut Vec<u8>, state: &Abs) -> Result<(), AllocError>
+    requires { vec_len out.old + 21 ≤ vec_capacity out.old }
     ensures { OnOk result (out.new.items ≡ out.old.items ++ format.state_text state.now) }
 {
-    let contexts = state.contexts();
-    let operations = state.operations();
-    out.reserve(contexts.len() + operations.len() + 6)?;
-    put_field(out, contexts);
-    put_field(out, operations);
+    put_field(out, state.contexts());
+    put_field(out, state.operations());
     put_digit(out, state.modes().digit());
     put_digit(out, state.draining().digit());
     push_locks(out, state.locks().as_slice())?;
@@ -127,7 +133,7 @@ fn push_point(out: &mut Vec<u8>, number: usize, point: &Option<Abs>) -> Result<(
     requires { number < 1000 }
     ensures { OnOk result (out.new.items ≡ out.old.items ++ format.point_line number point.now) }
 {
-    out.reserve(4)?;
+    out.reserve(POINT_LINE)?;
     put_number(out, number);
     out.push_reserved(b' ');
     match point {
