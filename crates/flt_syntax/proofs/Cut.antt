@@ -7,7 +7,7 @@ use Rattle.std.proofs.Math.Seq.{take-length}
 use Rattle.std.specs.List.{prefix_len}
 use Rattle.std.specs.Prelude.{◌==◌, ◌&&◌, not, nat_lt, slice_index, if◌then◌else◌}
 use Rattle.flt_syntax.specs.Cursor.{Input}
-use Rattle.flt_syntax.specs.Lex.{past, one_column_on, end_of, word, is_blank, is_fault, after_spaces, after_comment, run, pair_or, token, token_at, tokens_from, tokens}
+use Rattle.flt_syntax.specs.Lex.{past, one_column_on, end_of, word, is_blank, is_fault, after_spaces, after_comment, run, pair_or, token, IsWithin, token_of, step_of, tokens_from, tokens}
 use Rattle.flt_syntax.specs.declared.token.Kind.{Kind}
 use Rattle.flt_syntax.specs.declared.token.Kind.TheVariants as k
 use Rattle.flt_syntax.specs.declared.token.Token.{Token}
@@ -390,7 +390,7 @@ comments {text} {found} {line} {from} {end} b z r e =
 
 -- the token at the front, where it stands
 abbrev pub token_here : Text → ℕ → ℕ → Text → Token
-token_here text line from z = (token_at (record { line = line; column = from - length z + 1 }) (length text - length z) z).0
+token_here text line from z = token_of (record { number = line; from = from; total = length text }) z (token z)
 
 token_first : (b last : ℕ) (at : Position) (off : ℕ) (z : Text) → is_blank b ≡ false → (b == 35) ≡ false →
     tokens_from zero false last at off (b ∷ z)
@@ -566,59 +566,61 @@ less_by_comment (b ∷ z) y h s =
     let e : length y ≡ length (after_comment z) = ap length (s ∙ ap after_comment (after_first b z)) in
     omega (arith, e, shorter_comment z)
 
-pub token_step : (text : Text) (found more : Input) (line from : ℕ) (end at : Position) (rest : Text) (t : Token × ℕ) →
-    IsCut text found line from end rest → 1 ≤ length rest → is_blank (slice_index rest 0) ≡ false → slice_index rest 0 ≢ 35 →
-    at ≡ record { line = line; column = from - length rest + 1 } → t ≡ token_at at (length text - length rest) rest →
-    (1 ≤ t.1) × (t.1 ≤ length rest) → is_fault t.0.word.kind ≡ false → more ≡ found ++ t.0 ∷ [] →
-    IsCut text more line from end (take (length rest - t.1) (drop t.1 rest))
-token_step text found more line from end at [] t r h e n p is fits good m = absurd (omega arith)
-token_step text found more line from end at (b ∷ z) t r h e n p is fits good m =
-    let here : Position = record { line = line; column = from - length (b ∷ z) + 1 } in
-    let same : t ≡ token_at here (length text - length (b ∷ z)) (b ∷ z) =
-    is ∙ ap (λ (q : Position). token_at q (length text - length (b ∷ z)) (b ∷ z)) p in
-    let f : (1 ≤ (token (b ∷ z)).1) × ((token (b ∷ z)).1 ≤ length (b ∷ z)) =
-    subst (λ (u : Token × ℕ). (1 ≤ u.1) × (u.1 ≤ length (b ∷ z))) same fits in
-    let g : is_fault (token (b ∷ z)).0.kind ≡ false = subst (λ (u : Token × ℕ). is_fault u.0.word.kind ≡ false) same good in
-    subst (λ (i : Input). IsCut text i line from end (take (length (b ∷ z) - t.1) (drop t.1 (b ∷ z)))) (sym m)
-    (subst (λ (u : Token × ℕ). IsCut text (found ++ u.0 ∷ []) line from end (take (length (b ∷ z) - u.1) (drop u.1 (b ∷ z)))) (sym same)
-    (subst (λ (y : Text). IsCut text (found ++ token_here text line from (b ∷ z) ∷ []) line from end y)
-    (sym (all_after (token (b ∷ z)).1 (b ∷ z)))
-    (takes b z r e (not_equal b 35 n) f.0 f.1 g)))
+is_one : (t : Word × ℕ) (len : ℕ) → len ≡ step_of t → len ≢ 0 → is_fault t.0.kind ≡ false
+is_one t len e some = by (is_fault t.0.kind) refl
+  where
+    by : (x : Bool) → is_fault t.0.kind ≡ x → x ≡ false
+    by true h = absurd (some (e ∙ ap (λ x. if x then 0 else t.1) h))
+    by false h = refl
 
--- over the spaces behind a token too
-pub token_spaces_step : (text : Text) (found more : Input) (line from : ℕ) (end at : Position) (rest y : Text) (t : Token × ℕ) →
+is_none : (t : Word × ℕ) (len : ℕ) → len ≡ step_of t → len ≡ 0 → 1 ≤ t.1 → is_fault t.0.kind ≡ true
+is_none t len e none some = by (is_fault t.0.kind) refl
+  where
+    by : (x : Bool) → is_fault t.0.kind ≡ x → x ≡ true
+    by true h = refl
+    by false h = let same : len ≡ t.1 = e ∙ ap (λ x. if x then 0 else t.1) h in absurd (omega (arith, same, none, some))
+
+leads : (t : Word × ℕ) (len : ℕ) → len ≡ step_of t → len ≢ 0 → len ≡ t.1
+leads t len e some = e ∙ ap (λ x. if x then 0 else t.1) (is_one t len e some)
+
+-- over a token, by the length that is told of it
+token_step : (text : Text) (found more : Input) (line from : ℕ) (end : Position) (rest : Text) (len : ℕ) →
     IsCut text found line from end rest → 1 ≤ length rest → is_blank (slice_index rest 0) ≡ false → slice_index rest 0 ≢ 35 →
-    at ≡ record { line = line; column = from - length rest + 1 } → t ≡ token_at at (length text - length rest) rest →
-    (1 ≤ t.1) × (t.1 ≤ length rest) → is_fault t.0.word.kind ≡ false → more ≡ found ++ t.0 ∷ [] →
-    y ≡ after_spaces (take (length rest - t.1) (drop t.1 rest)) →
+    more ≡ found ++ token_here text line from rest ∷ [] → len ≡ step_of (token rest) → len ≢ 0 → IsWithin rest (token rest) →
+    IsCut text more line from end (take (length rest - len) (drop len rest))
+token_step text found more line from end [] len r h e n m is some fits = absurd (omega arith)
+token_step text found more line from end (b ∷ z) len r h e n m is some fits =
+    let t = token (b ∷ z) in
+    subst (λ (i : Input). IsCut text i line from end (take (length (b ∷ z) - len) (drop len (b ∷ z)))) (sym m)
+    (subst (λ (n : ℕ). IsCut text (found ++ token_here text line from (b ∷ z) ∷ []) line from end (take (length (b ∷ z) - n) (drop n (b ∷ z))))
+    (sym (leads t len is some))
+    (subst (λ (y : Text). IsCut text (found ++ token_here text line from (b ∷ z) ∷ []) line from end y) (sym (all_after t.1 (b ∷ z)))
+    (takes b z r e (not_equal b 35 n) fits.0 fits.1 (is_one t len is some))))
+
+-- and over the spaces behind it
+pub token_spaces_step : (text : Text) (found more : Input) (line from : ℕ) (end : Position) (rest y : Text) (len : ℕ) →
+    IsCut text found line from end rest → 1 ≤ length rest → is_blank (slice_index rest 0) ≡ false → slice_index rest 0 ≢ 35 →
+    more ≡ found ++ token_here text line from rest ∷ [] → len ≡ step_of (token rest) → len ≢ 0 → IsWithin rest (token rest) →
+    y ≡ after_spaces (take (length rest - len) (drop len rest)) →
     IsCut text more line from end y
-token_spaces_step text found more line from end at rest y t r h e n p is fits good m s =
+token_spaces_step text found more line from end rest y len r h e n m is some fits s =
     subst (IsCut text more line from end) (sym s)
-    (spaces (take (length rest - t.1) (drop t.1 rest)) (token_step text found more line from end at rest t r h e n p is fits good m))
+    (spaces (take (length rest - len) (drop len rest)) (token_step text found more line from end rest len r h e n m is some fits))
 
-pub less_by_token : (rest y : Text) (len : ℕ) → 1 ≤ len → len ≤ length rest → y ≡ after_spaces (take (length rest - len) (drop len rest)) →
-    length y < length rest
-less_by_token rest y len some fits s =
+pub less_by_token : (rest y : Text) (len : ℕ) → len ≡ step_of (token rest) → len ≢ 0 → IsWithin rest (token rest) →
+    y ≡ after_spaces (take (length rest - len) (drop len rest)) → length y < length rest
+less_by_token rest y len is some fits s =
     let e : length y ≡ length (after_spaces (drop len rest)) = ap length (s ∙ ap after_spaces (all_after len rest)) in
-    omega (arith, e, shorter_spaces (drop len rest), length-drop len rest)
+    let n : len ≡ (token rest).1 = leads (token rest) len is some in
+    omega (arith, e, n, fits.0, fits.1, shorter_spaces (drop len rest), length-drop len rest)
 
--- a token by its kind and its value
-pub token_is : (at : Position) (start : ℕ) (z : Text) (kind : Kind) (value len : ℕ) → (record { kind = kind; value = value }, len) ≡ token z →
-    (record { word = record { kind = kind; value = value }; position = at; start = start; end = start + len }, len) ≡ token_at at start z
-token_is at start z kind value len e = ap (λ (p : Word × ℕ). (record { word = p.0; position = at; start = start; end = start + p.1 }, p.1)) e
-
-pub fault_step : (text : Text) (found more : Input) (line from : ℕ) (end at : Position) (rest : Text) (t : Token × ℕ) →
+pub fault_step : (text : Text) (found more : Input) (line from : ℕ) (end : Position) (rest : Text) (len : ℕ) →
     IsCut text found line from end rest → 1 ≤ length rest → is_blank (slice_index rest 0) ≡ false → slice_index rest 0 ≢ 35 →
-    at ≡ record { line = line; column = from - length rest + 1 } → t ≡ token_at at (length text - length rest) rest →
-    is_fault t.0.word.kind ≡ true → more ≡ found ++ t.0 ∷ [] →
+    more ≡ found ++ token_here text line from rest ∷ [] → len ≡ step_of (token rest) → len ≡ 0 → IsWithin rest (token rest) →
     more ≡ tokens text
-fault_step text found more line from end at [] t r h e n p is bad m = absurd (omega arith)
-fault_step text found more line from end at (b ∷ z) t r h e n p is bad m =
-    let here : Position = record { line = line; column = from - length (b ∷ z) + 1 } in
-    let same : t ≡ token_at here (length text - length (b ∷ z)) (b ∷ z) =
-    is ∙ ap (λ (q : Position). token_at q (length text - length (b ∷ z)) (b ∷ z)) p in
-    let g : is_fault (token (b ∷ z)).0.kind ≡ true = subst (λ (u : Token × ℕ). is_fault u.0.word.kind ≡ true) same bad in
-    m ∙ (ap (λ (u : Token × ℕ). found ++ u.0 ∷ []) same ∙ sym (faults b z r e (not_equal b 35 n) g))
+fault_step text found more line from end [] len r h e n m is none fits = absurd (omega arith)
+fault_step text found more line from end (b ∷ z) len r h e n m is none fits =
+    m ∙ sym (faults b z r e (not_equal b 35 n) (is_none (token (b ∷ z)) len is none fits.0))
 
 pub end_step : (text : Text) (found more : Input) (line from : ℕ) (end at : Position) (rest : Text) (w : Word) →
     IsCut text found line from end rest → length rest < 1 → w ≡ word k.End → at ≡ end_of line from end →

@@ -1,10 +1,11 @@
 -- The tokens of a text. Each stands at a line and a column; only a line feed ends a line.
-use Rattle.std.specs.Prelude.{ℕ, zero, suc, ◌+◌, ◌-◌, ◌*◌, ◌^◌, Bool, true, false, not, ◌&&◌, ◌||◌, if◌then◌else◌, ◌==◌, nat_lt, List, [], ◌∷◌, length, take, slice_index, Option, Some, None}
+use Rattle.std.specs.Prelude.{◌≡◌, ℕ, zero, suc, ◌+◌, ◌-◌, ◌*◌, ◌^◌, ◌<◌, ◌≤◌, Bool, true, false, not, ◌&&◌, ◌||◌, if◌then◌else◌, ◌==◌, nat_lt, List, [], ◌∷◌, length, take, slice_index, Option, Some, None}
 use Rattle.std.specs.Char.{is_ascii_digit}
 use Rattle.std.specs.List.{prefix_len}
 use Rattle.std.specs.Str.{bytes_eq}
 use Rattle.flt_tree.specs.Names.{Text, is_word}
 use Rattle.flt_tree.specs.declared.filter.Position.{Position}
+use Rattle.flt_syntax.specs.declared.lex.Line.{Line}
 use Rattle.flt_syntax.specs.declared.token.Kind.{Kind}
 use Rattle.flt_syntax.specs.declared.token.Kind.TheVariants as k
 use Rattle.flt_syntax.specs.declared.token.Token.{Token}
@@ -65,6 +66,11 @@ number_by (Some n) = record { kind = k.Number; value = n }
 unfoldable pub number : Text → Word
 number digits = if slice_index digits 0 == 48 && nat_lt 1 (length digits) then word k.Malformed else number_by (value_from 0 digits)
 
+-- a letter and a byte of words spell a word of the language
+abbrev pub IsVariable : ℕ → ℕ → Kind → Type 0
+IsVariable letter b kind =
+    (is_ascii_digit letter ≡ false) × ((is_word letter && is_word b) ≡ true) × (lookup vocabulary (letter ∷ (b ∷ [])) ≡ kind)
+
 -- the run of letters, digits and `_` at the front of a text, and its length: what begins with a digit is a number
 unfoldable pub run : Text → Word × ℕ
 run z = let end = prefix_len is_word z in (if is_ascii_digit (slice_index z 0) then number (take end z) else keyword (take end z), end)
@@ -84,10 +90,6 @@ token z =
     else (if b == 61 then pair_or k.Equal k.Assign z else (if b == 33 then pair_or k.NotEqual k.Stray z
     else (if is_word b then run z else (word k.Stray, 1))))))))
 
--- the token at the front of a text that stands at a place, behind so many bytes, and its length
-abbrev pub token_at : Position → ℕ → Text → Token × ℕ
-token_at at start z = let t = token z in (record { word = t.0; position = at; start = start; end = start + t.1 }, t.1)
-
 -- what follows the spaces at the front of a text
 abbrev pub after_spaces : Text → Text
 after_spaces [] = []
@@ -103,6 +105,24 @@ abbrev pub is_fault : Kind → Bool
 is_fault k.Stray = true
 is_fault k.Malformed = true
 is_fault _ = false
+
+-- what is left of a text stands in a line of it
+abbrev pub StandsIn : Line → Text → Type 0
+StandsIn line z = (length z ≤ line.from) × ((line.from ≤ line.total) × (line.total < 2 ^ 32))
+
+-- the token of a word and its length at the front of what is left, in a line of a text
+abbrev pub token_of : Line → Text → Word × ℕ → Token
+token_of line z t =
+    let start = line.total - length z in
+    record { word = t.0; position = record { line = line.number; column = line.from - length z + 1 }; start = start; end = start + t.1 }
+
+-- how far a word leads, by its length: nowhere if it is no token
+abbrev pub step_of : Word × ℕ → ℕ
+step_of t = if is_fault t.0.kind then 0 else t.1
+
+-- a word has a byte and no more than there are
+abbrev pub IsWithin : Text → Word × ℕ → Type 0
+IsWithin z t = (1 ≤ t.1) × (t.1 ≤ length z)
 
 -- The tokens of the text after `last`, which stands at a place. The first number counts the bytes that are left of a
 -- token, the other the bytes before. A comment ends before its line feed. After a fault nothing is read.

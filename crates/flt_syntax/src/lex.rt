@@ -1,15 +1,16 @@
 //! Cuts a text into tokens.
 
-ghost use Rattle.std.specs.Prelude.{◌≡◌, ◌≢◌, ◌<◌, ◌≤◌, ◌+◌, ◌-◌, ◌^◌, ◌++◌, ◌∷◌, [], length, map, slice_index, IfOk, OnOk, true, false};
+ghost use Rattle.std.specs.Prelude.{◌≡◌, ◌≢◌, ◌<◌, ◌≤◌, ◌+◌, ◌-◌, ◌^◌, ◌++◌, ◌∷◌, [], length, map, slice_index, IfOk, IfSome, OnOk, true, false};
 ghost use Rattle.std.specs.List.{prefix_len};
 ghost use Rattle.std.specs.Str.{bytes_eq};
+ghost use Rattle.std.specs.Vec.{vec_len, vec_capacity};
 ghost use Rattle.flt_syntax.specs.Lex as spec;
 ghost use Rattle.flt_syntax.specs.Vocabulary.{vocabulary};
 ghost use Rattle.flt_syntax.specs.Written.{ReadsBackWords};
 ghost use Rattle.flt_tree.specs.Names as names;
 
 use crate::token::{Kind, Token, Word};
-use crate::words::{variables, words_from};
+use crate::words::{variable, words_from};
 use flt_tree::Position;
 use sqlite_items::Items;
 use std::alloc::{AllocError, Global};
@@ -38,6 +39,14 @@ const WORD_BYTES: [bool; 256] = [
     false, false, false, false, false, false, false, false, false, false, false, false, false,
     false, false, false, false, false, false, false, false, false, false,
 ];
+
+/// Where reading stands in a text: the number of the line, how many bytes were left at its start, and how many the text has.
+#[derive(Clone, Copy)]
+struct Line {
+    number: usize,
+    from: usize,
+    total: usize,
+}
 
 /// Whether both are one kind.
 #[tactic(auto, unfolding(crate::specs::Lex::same_kind))]
@@ -90,13 +99,36 @@ fn is_word(b: u8) -> bool
     WORD_BYTES[b as usize]
 }
 
+/// Whether texts of one length are the same. Four bytes are compared at a time.
+#[inline(always)]
+fn are_same(mut a: &[u8], mut b: &[u8]) -> bool
+    requires { length a.now ≡ length b.now }
+    ensures { result ≡ bytes_eq a.entry.now b.entry.now }
+{
+    while let ([a0, a1, a2, a3, after_a @ ..], [b0, b1, b2, b3, after_b @ ..]) = (a, b) {
+        if (*a0 != *b0) | (*a1 != *b1) | (*a2 != *b2) | (*a3 != *b3) {
+            return false;
+        }
+        a = after_a;
+        b = after_b;
+    }
+    while let ([a0, after_a @ ..], [b0, after_b @ ..]) = (a, b) {
+        if *a0 != *b0 {
+            return false;
+        }
+        a = after_a;
+        b = after_b;
+    }
+    true
+}
+
 /// Whether a name is a word: as long, and of the same bytes.
 #[inline(always)]
 #[tactic(auto, using(crate::proofs::FirstBytes::as_long))]
 fn is_spelled(name: &[u8], word: &[u8]) -> bool
     ensures { result ≡ bytes_eq name.now word.now }
 {
-    name.len() == word.len() && name == word
+    name.len() == word.len() && are_same(name, word)
 }
 
 #[inline(always)]
@@ -119,21 +151,9 @@ fn kind_of(name: &[u8]) -> Kind
     ensures { result ≡ spec.lookup vocabulary name.now }
 {
     match name {
-        [letter, digit] => lookup(variables(*letter, *digit), name),
         [first, ..] => lookup(words_from(*first), name),
         [] => Kind::Name,
     }
-}
-
-#[inline(always)]
-#[tactic(auto, unfolding(crate::specs::Lex::keyword))]
-fn keyword(name: &[u8]) -> Kind
-    ensures { spec.word result ≡ spec.keyword name.now }
-{
-    if MAX_WORD < name.len() {
-        return Kind::Malformed;
-    }
-    kind_of(name)
 }
 
 fn value(mut digits: &[u8]) -> Option<u64>
@@ -165,108 +185,26 @@ fn number(digits: &[u8]) -> Option<u64>
     value(digits)
 }
 
-/// A token of this kind without a value.
-#[inline(always)]
-fn set(kind: &mut Kind, value: &mut u64, to: Kind)
-    ensures { record { kind = kind.new; value = value.new } ≡ spec.word to }
-{
-    *kind = to;
-    *value = 0;
-}
-
-/// A number, or what is none.
-#[inline(always)]
-fn set_number(kind: &mut Kind, value: &mut u64, number: Option<u64>)
-    ensures { record { kind = kind.new; value = value.new } ≡ spec.number_by number }
-{
-    match number {
-        Some(n) => {
-            *kind = Kind::Number;
-            *value = n;
-        }
-        None => set(kind, value, Kind::Malformed),
-    }
-}
-
 #[inline(always)]
 fn run_len(z: &[u8]) -> usize
     ensures value { result ≡ prefix_len names.is_word z.now }
     ensures within { result ≤ length z.now }
     ensures moves { 0 < length z.now → names.is_word (slice_index z.now 0) ≡ true → 0 < result }
 {
-    let mut end = 0;
-    while end < z.len() && is_word(z[end]) {
-        end += 1;
+    let mut rest = z;
+    while let [a, b, c, d, after @ ..] = rest {
+        if !is_word(*a) || !is_word(*b) || !is_word(*c) || !is_word(*d) {
+            break;
+        }
+        rest = after;
     }
-    end
-}
-
-/// A symbol of one byte, whose length comes back.
-#[inline(always)]
-fn symbol(symbol: Kind, kind: &mut Kind, value: &mut u64) -> usize
-    ensures word { record { kind = kind.new; value = value.new } ≡ spec.word symbol }
-    ensures len { result ≡ 1 }
-{
-    set(kind, value, symbol);
-    1
-}
-
-/// What `=` or `!` begins: a pair with the `=` behind it, or something of its own. Its length comes back.
-#[inline(always)]
-#[tactic(auto, unfolding(crate::specs::Lex::pair_or))]
-fn pair_or(pair: Kind, alone: Kind, z: &[u8], kind: &mut Kind, value: &mut u64) -> usize
-    requires { 0 < length z.now }
-    ensures value { (record { kind = kind.new; value = value.new }, result) ≡ spec.pair_or pair alone z.now }
-    ensures within { (1 ≤ result) × (result ≤ length z.now) }
-{
-    if 1 < z.len() && z[1] == b'=' {
-        set(kind, value, pair);
-        2
-    } else {
-        set(kind, value, alone);
-        1
+    while let [b, after @ ..] = rest {
+        if !is_word(*b) {
+            break;
+        }
+        rest = after;
     }
-}
-
-/// A number or a word, whose length comes back.
-#[inline(always)]
-#[tactic(auto, unfolding(crate::specs::Lex::run))]
-fn run(z: &[u8], kind: &mut Kind, value: &mut u64) -> usize
-    requires some { 0 < length z.now }
-    requires begins { names.is_word (slice_index z.now 0) ≡ true }
-    ensures value { (record { kind = kind.new; value = value.new }, result) ≡ spec.run z.now }
-    ensures within { (1 ≤ result) × (result ≤ length z.now) }
-{
-    let end = run_len(z);
-    let run = &z[..end];
-    if z[0].is_ascii_digit() {
-        set_number(kind, value, number(run));
-    } else {
-        set(kind, value, keyword(run));
-    }
-    end
-}
-
-/// The token at the front of a text that begins with no blank or comment; its length comes back. Its kind and its value are set
-/// apart and in place, since a `Word` is copied with its padding.
-#[inline(always)]
-#[tactic(auto, unfolding(crate::specs::Lex::token))]
-fn token(z: &[u8], kind: &mut Kind, value: &mut u64) -> usize
-    requires { 0 < length z.now }
-    ensures value { (record { kind = kind.new; value = value.new }, result) ≡ spec.token z.now }
-    ensures within { (1 ≤ result) × (result ≤ length z.now) }
-{
-    match z[0] {
-        b'{' => symbol(Kind::OpenBrace, kind, value),
-        b'}' => symbol(Kind::CloseBrace, kind, value),
-        b'<' => symbol(Kind::Less, kind, value),
-        b'+' => symbol(Kind::Plus, kind, value),
-        b'-' => symbol(Kind::Minus, kind, value),
-        b'=' => pair_or(Kind::Equal, Kind::Assign, z, kind, value),
-        b'!' => pair_or(Kind::NotEqual, Kind::Stray, z, kind, value),
-        b if is_word(b) => run(z, kind, value),
-        _ => symbol(Kind::Stray, kind, value),
-    }
+    z.len() - rest.len()
 }
 
 #[inline(always)]
@@ -274,6 +212,135 @@ fn is_fault(kind: Kind) -> bool
     ensures { result ≡ spec.is_fault kind }
 {
     matches!(kind, Kind::Stray | Kind::Malformed)
+}
+
+/// One more token, at the front of `z`, for which there is room. Its length comes back, or 0 where it is none. Each kind of token is
+/// added where it is found: a token that is handed on is copied with its padding.
+#[inline(always)]
+fn add(found: &mut Vec<Token>, line: Line, z: &[u8], kind: Kind, value: u64, len: usize) -> usize
+    requires room { vec_len found.old < vec_capacity found.old }
+    requires stands { spec.StandsIn line z.now }
+    requires within { len ≤ length z.now }
+    ensures found { found.new.items ≡ found.old.items ++ spec.token_of line z.now (record { kind = kind; value = value }, len) ∷ [] }
+    ensures step { result ≡ spec.step_of (record { kind = kind; value = value }, len) }
+{
+    let start = line.total - z.len();
+    found.push_reserved(Token {
+        word: Word { kind, value },
+        position: place(line.number, line.from, z.len()),
+        start,
+        end: start + len,
+    });
+    if is_fault(kind) { 0 } else { len }
+}
+
+/// A symbol.
+#[inline(always)]
+fn symbol(found: &mut Vec<Token>, line: Line, z: &[u8], symbol: Kind) -> usize
+    requires room { vec_len found.old < vec_capacity found.old }
+    requires stands { spec.StandsIn line z.now }
+    requires some { 0 < length z.now }
+    ensures found { found.new.items ≡ found.old.items ++ spec.token_of line z.now (spec.word symbol, 1) ∷ [] }
+    ensures step { result ≡ spec.step_of (spec.word symbol, 1) }
+{
+    add(found, line, z, symbol, 0, 1)
+}
+
+/// What `=` or `!` begins: a pair with the `=` behind it, or something of its own.
+#[inline(always)]
+#[tactic(auto, unfolding(crate::specs::Lex::pair_or))]
+fn pair_or(found: &mut Vec<Token>, line: Line, z: &[u8], pair: Kind, alone: Kind) -> usize
+    requires room { vec_len found.old < vec_capacity found.old }
+    requires stands { spec.StandsIn line z.now }
+    requires some { 0 < length z.now }
+    ensures found { found.new.items ≡ found.old.items ++ spec.token_of line z.now (spec.pair_or pair alone z.now) ∷ [] }
+    ensures step { result ≡ spec.step_of (spec.pair_or pair alone z.now) }
+    ensures within { spec.IsWithin z.now (spec.pair_or pair alone z.now) }
+{
+    if 1 < z.len() && z[1] == b'=' {
+        add(found, line, z, pair, 0, 2)
+    } else {
+        add(found, line, z, alone, 0, 1)
+    }
+}
+
+/// A number or a word.
+#[inline(always)]
+#[tactic(auto, unfolding(crate::specs::Lex::run, crate::specs::Lex::keyword))]
+fn run(found: &mut Vec<Token>, line: Line, z: &[u8]) -> usize
+    requires room { vec_len found.old < vec_capacity found.old }
+    requires stands { spec.StandsIn line z.now }
+    requires some { 0 < length z.now }
+    requires begins { names.is_word (slice_index z.now 0) ≡ true }
+    ensures found { found.new.items ≡ found.old.items ++ spec.token_of line z.now (spec.run z.now) ∷ [] }
+    ensures step { result ≡ spec.step_of (spec.run z.now) }
+    ensures within { spec.IsWithin z.now (spec.run z.now) }
+{
+    let end = run_len(z);
+    let run = &z[..end];
+    if z[0].is_ascii_digit() {
+        return match number(run) {
+            Some(n) => add(found, line, z, Kind::Number, n, end),
+            None => add(found, line, z, Kind::Malformed, 0, end),
+        };
+    }
+    if MAX_WORD < end {
+        return add(found, line, z, Kind::Malformed, 0, end);
+    }
+    add(found, line, z, kind_of(run), 0, end)
+}
+
+/// The variable at the front of a text, if it has two bytes and no more of a word stands behind it.
+#[inline(always)]
+fn variable_at(z: &[u8]) -> Option<Kind>
+    ensures { IfSome result (λ kind. (spec.run z.now ≡ (spec.word kind, 2)) × (2 ≤ length z.now)) }
+{
+    match z {
+        [letter, digit, next, ..] if !is_word(*next) => variable(*letter, *digit),
+        _ => None,
+    }
+}
+
+/// The same of what begins as a variable does, which needs no table.
+#[inline(always)]
+fn variable_or_run(found: &mut Vec<Token>, line: Line, z: &[u8]) -> usize
+    requires room { vec_len found.old < vec_capacity found.old }
+    requires stands { spec.StandsIn line z.now }
+    requires some { 0 < length z.now }
+    requires begins { names.is_word (slice_index z.now 0) ≡ true }
+    ensures found { found.new.items ≡ found.old.items ++ spec.token_of line z.now (spec.run z.now) ∷ [] }
+    ensures step { result ≡ spec.step_of (spec.run z.now) }
+    ensures within { spec.IsWithin z.now (spec.run z.now) }
+{
+    match variable_at(z) {
+        Some(kind) => add(found, line, z, kind, 0, 2),
+        None => run(found, line, z),
+    }
+}
+
+/// The token at the front of a text that begins with no blank or comment.
+#[inline(always)]
+#[tactic(auto, unfolding(crate::specs::Lex::token))]
+fn token(found: &mut Vec<Token>, line: Line, z: &[u8]) -> usize
+    requires room { vec_len found.old < vec_capacity found.old }
+    requires stands { spec.StandsIn line z.now }
+    requires some { 0 < length z.now }
+    ensures found { found.new.items ≡ found.old.items ++ spec.token_of line z.now (spec.token z.now) ∷ [] }
+    ensures step { result ≡ spec.step_of (spec.token z.now) }
+    ensures within { spec.IsWithin z.now (spec.token z.now) }
+{
+    match z[0] {
+        b'{' => symbol(found, line, z, Kind::OpenBrace),
+        b'}' => symbol(found, line, z, Kind::CloseBrace),
+        b'<' => symbol(found, line, z, Kind::Less),
+        b'+' => symbol(found, line, z, Kind::Plus),
+        b'-' => symbol(found, line, z, Kind::Minus),
+        b'=' => pair_or(found, line, z, Kind::Equal, Kind::Assign),
+        b'!' => pair_or(found, line, z, Kind::NotEqual, Kind::Stray),
+        b'c' | b'n' | b'o' => variable_or_run(found, line, z),
+        b if is_word(b) => run(found, line, z),
+        _ => symbol(found, line, z, Kind::Stray),
+    }
 }
 
 /// What follows the spaces at the front of a text.
@@ -306,16 +373,6 @@ fn after_comment(mut rest: &[u8]) -> &[u8]
     rest
 }
 
-/// One more token. Room is made first: `push` would hand the token back where memory is refused, and takes longer for that.
-#[inline(always)]
-fn push_token(found: &mut Vec<Token>, token: Token) -> Result<(), AllocError>
-    ensures { OnOk result (found.new.items ≡ found.old.items ++ token ∷ []) }
-{
-    found.reserve(1)?;
-    found.push_reserved(token);
-    Ok(())
-}
-
 /// The tokens up to the end or the first that is none.
 pub fn tokens(alloc: Global, text: &[u8]) -> Result<Items<Token>, AllocError>
     requires { length text.now < 2 ^ 32 }
@@ -323,15 +380,15 @@ pub fn tokens(alloc: Global, text: &[u8]) -> Result<Items<Token>, AllocError>
 {
     let mut found = Vec::new(alloc);
     found.reserve(text.len() / 6)?;
-    let mut line = 1;
+    let mut number = 1;
     // How many bytes were left at the start of the line, and where the text ends if it does there.
     let mut from = text.len();
     let mut end = place(1, 0, 0);
     let mut rest = text;
     while let [b, after @ ..] = rest {
         if *b == b'\n' {
-            end = place(line, from, after.len());
-            line += 1;
+            end = place(number, from, after.len());
+            number += 1;
             from = after.len();
             rest = after_spaces(after);
             continue;
@@ -344,29 +401,25 @@ pub fn tokens(alloc: Global, text: &[u8]) -> Result<Items<Token>, AllocError>
             rest = after_comment(after);
             continue;
         }
-        let mut kind = Kind::Stray;
-        let mut value = 0;
-        let len = token(rest, &mut kind, &mut value);
-        let start = text.len() - rest.len();
-        let token = Token {
-            word: Word { kind, value },
-            position: place(line, from, rest.len()),
-            start,
-            end: start + len,
+        found.reserve(1)?;
+        let line = Line {
+            number,
+            from,
+            total: text.len(),
         };
-        push_token(&mut found, token)?;
-        if is_fault(kind) {
+        let len = token(&mut found, line, rest);
+        if len == 0 {
             return Ok(Items::from_vec(found));
         }
         rest = after_spaces(&rest[len..]);
     }
-    let last = Token {
+    found.reserve(1)?;
+    found.push_reserved(Token {
         word: word(Kind::End),
-        position: end_of(line, from, end),
+        position: end_of(number, from, end),
         start: text.len(),
         end: text.len(),
-    };
-    push_token(&mut found, last)?;
+    });
     Ok(Items::from_vec(found))
 }
 

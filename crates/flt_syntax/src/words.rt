@@ -1,8 +1,8 @@
 //! The words of the language by their first byte, so that a word of a text is compared with few of them.
 
-ghost use Rattle.std.specs.Prelude.{◌≡◌, ◌∷◌, map};
+ghost use Rattle.std.specs.Prelude.{◌≡◌, ◌∷◌, map, IfSome};
 ghost use Rattle.flt_tree.specs.Names.{Text};
-ghost use Rattle.flt_syntax.specs.Lex.{lookup};
+ghost use Rattle.flt_syntax.specs.Lex.{lookup, IsVariable};
 ghost use Rattle.flt_syntax.specs.Vocabulary.{vocabulary};
 
 use crate::token::Kind;
@@ -192,65 +192,65 @@ pub(crate) fn words_from(first: u8) -> &'static [(&'static [u8], Kind)]
     }
 }
 
-/// The words that begin with `c` and a digit; all with `c` where none begins so.
+/// The variable of contexts with a digit.
 #[inline(always)]
-fn contexts(digit: u8) -> &'static [(&'static [u8], Kind)]
-    ensures { (rest : Text) → lookup (map (λ e. (e.0.now, e.1)) result.now) (99 ∷ (digit ∷ rest)) ≡ lookup vocabulary (99 ∷ (digit ∷ rest)) }
+fn context(digit: u8) -> Option<Kind>
+    ensures { IfSome result (IsVariable 99 digit) }
 {
     match digit {
-        b'0' => &LOWER_C[4..5],
-        b'1' => &LOWER_C[5..6],
-        b'2' => &LOWER_C[6..7],
-        b'3' => &LOWER_C[7..8],
-        b'4' => &LOWER_C[8..9],
-        b'5' => &LOWER_C[9..10],
-        b'6' => &LOWER_C[10..11],
-        b'7' => &LOWER_C[11..12],
-        _ => words_from(b'c'),
+        b'0' => Some(Kind::C0),
+        b'1' => Some(Kind::C1),
+        b'2' => Some(Kind::C2),
+        b'3' => Some(Kind::C3),
+        b'4' => Some(Kind::C4),
+        b'5' => Some(Kind::C5),
+        b'6' => Some(Kind::C6),
+        b'7' => Some(Kind::C7),
+        _ => None,
     }
 }
 
-/// The words that begin with `n` and a digit; all with `n` where none begins so.
+/// The variable of numbers with a digit.
 #[inline(always)]
-fn numbers(digit: u8) -> &'static [(&'static [u8], Kind)]
-    ensures { (rest : Text) → lookup (map (λ e. (e.0.now, e.1)) result.now) (110 ∷ (digit ∷ rest)) ≡ lookup vocabulary (110 ∷ (digit ∷ rest)) }
+fn number(digit: u8) -> Option<Kind>
+    ensures { IfSome result (IsVariable 110 digit) }
 {
     match digit {
-        b'0' => &LOWER_N[0..1],
-        b'1' => &LOWER_N[1..2],
-        b'2' => &LOWER_N[2..3],
-        b'3' => &LOWER_N[3..4],
-        b'4' => &LOWER_N[4..5],
-        b'5' => &LOWER_N[5..6],
-        b'6' => &LOWER_N[6..7],
-        b'7' => &LOWER_N[7..8],
-        _ => words_from(b'n'),
+        b'0' => Some(Kind::N0),
+        b'1' => Some(Kind::N1),
+        b'2' => Some(Kind::N2),
+        b'3' => Some(Kind::N3),
+        b'4' => Some(Kind::N4),
+        b'5' => Some(Kind::N5),
+        b'6' => Some(Kind::N6),
+        b'7' => Some(Kind::N7),
+        _ => None,
     }
 }
 
-/// The words that begin with `o` and a digit; all with `o` where none begins so.
+/// The variable of removed operations with a digit.
 #[inline(always)]
-fn operations(digit: u8) -> &'static [(&'static [u8], Kind)]
-    ensures { (rest : Text) → lookup (map (λ e. (e.0.now, e.1)) result.now) (111 ∷ (digit ∷ rest)) ≡ lookup vocabulary (111 ∷ (digit ∷ rest)) }
+fn operation(digit: u8) -> Option<Kind>
+    ensures { IfSome result (IsVariable 111 digit) }
 {
     match digit {
-        b'0' => &LOWER_O[1..2],
-        b'1' => &LOWER_O[2..3],
-        b'2' => &LOWER_O[3..4],
-        b'3' => &LOWER_O[4..5],
-        _ => words_from(b'o'),
+        b'0' => Some(Kind::O0),
+        b'1' => Some(Kind::O1),
+        b'2' => Some(Kind::O2),
+        b'3' => Some(Kind::O3),
+        _ => None,
     }
 }
 
-/// The words that begin with two bytes: one for a variable's, and else those that begin with the first of them.
+/// The variable that two bytes spell, if they spell one.
 #[inline(always)]
-pub(crate) fn variables(letter: u8, digit: u8) -> &'static [(&'static [u8], Kind)]
-    ensures { (rest : Text) → lookup (map (λ e. (e.0.now, e.1)) result.now) (letter ∷ (digit ∷ rest)) ≡ lookup vocabulary (letter ∷ (digit ∷ rest)) }
+pub(crate) fn variable(letter: u8, digit: u8) -> Option<Kind>
+    ensures { IfSome result (IsVariable letter digit) }
 {
     match letter {
-        b'c' => contexts(digit),
-        b'n' => numbers(digit),
-        b'o' => operations(digit),
-        _ => words_from(letter),
+        b'c' => context(digit),
+        b'n' => number(digit),
+        b'o' => operation(digit),
+        _ => None,
     }
 }

@@ -1,10 +1,18 @@
-use Rattle.std.proofs.Common.{◌≡◌, ◌-◌, ◌+◌, ◌≤◌, length, drop}
+use Rattle.std.proofs.Common.{◌≡◌, ◌-◌, ◌+◌, ◌≤◌, length}
 use Rattle.std.specs.List.{prefix_len}
 use Rattle.flt_tree.specs.Names.{is_word}
 use Rattle.flt_syntax.proofs.lex.run_len.Given as goal
 
-abbrev pub invariant-loop-end : goal.invariant-loop-end
-invariant-loop-end l = (prefix_len is_word l.z ≡ l.end + prefix_len is_word (drop l.end l.z)) × (l.end ≤ length l.z)
+abbrev pub invariant-loop-rest : goal.invariant-loop-rest
+invariant-loop-rest l =
+    (prefix_len is_word l.z ≡ length l.z - length l.rest + prefix_len is_word l.rest) × (length l.rest ≤ length l.z)
 
-abbrev pub decreases-loop-end : goal.decreases-loop-end
-decreases-loop-end l = length l.z - l.end
+abbrev pub decreases-loop-rest : goal.decreases-loop-rest
+decreases-loop-rest l = length l.rest
+
+abbrev pub invariant-loop-rest-2 : goal.invariant-loop-rest-2
+invariant-loop-rest-2 l =
+    (prefix_len is_word l.z ≡ length l.z - length l.rest + prefix_len is_word l.rest) × (length l.rest ≤ length l.z)
+
+abbrev pub decreases-loop-rest-2 : goal.decreases-loop-rest-2
+decreases-loop-rest-2 l = length l.rest

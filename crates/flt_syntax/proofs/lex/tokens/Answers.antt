@@ -1,5 +1,6 @@
-use Rattle.std.proofs.Common.{length, ◌-◌, sym, ◌∙◌}
-use Rattle.flt_syntax.proofs.Cut.{init_step, feed_spaces_step, blank_step, less_by_spaces, comment_step, less_by_comment, token_is, token_spaces_step, less_by_token, fault_step, end_step}
+use Rattle.std.proofs.Common.{[], ◌∷◌, ◌++◌, length, sym, ap, ◌∙◌}
+use Rattle.flt_syntax.specs.Cursor.{Input}
+use Rattle.flt_syntax.proofs.Cut.{init_step, feed_spaces_step, blank_step, less_by_spaces, comment_step, less_by_comment, token_here, token_spaces_step, less_by_token, fault_step, end_step}
 use Rattle.flt_syntax.proofs.lex.tokens.Goals as goal
 
 pub loop-rest-init : goal.loop-rest-init
@@ -13,7 +14,7 @@ loop-rest-smaller-then-b-eq10 c =
 
 pub loop-rest-preserved-then-b-eq10 : goal.loop-rest-preserved-then-b-eq10
 loop-rest-preserved-then-b-eq10 c =
-    feed_spaces_step c.args.text.now c.loop-rest.found.items c.loop-rest.line c.loop-rest.from c.loop-rest.end c.place-end-then-b-eq10.result
+    feed_spaces_step c.args.text.now c.loop-rest.found.items c.loop-rest.number c.loop-rest.from c.loop-rest.end c.place-end-then-b-eq10.result
     c.loop-rest.rest.now c.after_spaces-rest.result.now c.loop-rest.invariant c.in-len1-up.len_at_least c.if-b-eq10.true
     c.place-end-then-b-eq10.ensures c.after_spaces-rest.ensures
 
@@ -24,7 +25,7 @@ loop-rest-smaller-then-is_blank c =
 
 pub loop-rest-preserved-then-is_blank : goal.loop-rest-preserved-then-is_blank
 loop-rest-preserved-then-is_blank c =
-    blank_step c.args.text.now c.loop-rest.found.items c.loop-rest.line c.loop-rest.from c.loop-rest.end
+    blank_step c.args.text.now c.loop-rest.found.items c.loop-rest.number c.loop-rest.from c.loop-rest.end
     c.loop-rest.rest.now c.after_spaces-rest-then-is_blank.result.now c.loop-rest.invariant c.in-len1-up.len_at_least c.if-b-eq10.false
     (sym c.is_blank.ensures ∙ c.if-is_blank.true) c.after_spaces-rest-then-is_blank.ensures
 
@@ -34,39 +35,40 @@ loop-rest-smaller-then-b-eq35 c =
 
 pub loop-rest-preserved-then-b-eq35 : goal.loop-rest-preserved-then-b-eq35
 loop-rest-preserved-then-b-eq35 c =
-    comment_step c.args.text.now c.loop-rest.found.items c.loop-rest.line c.loop-rest.from c.loop-rest.end
+    comment_step c.args.text.now c.loop-rest.found.items c.loop-rest.number c.loop-rest.from c.loop-rest.end
     c.loop-rest.rest.now c.after_comment-rest.result.now c.loop-rest.invariant c.in-len1-up.len_at_least c.if-b-eq35.true
     c.after_comment-rest.ensures
 
-pub returns-then-is_fault : goal.returns-then-is_fault
-returns-then-is_fault c =
-    let rest = c.loop-rest.rest.now in
+pub returns-then-len-eq0 : goal.returns-then-len-eq0
+returns-then-len-eq0 c =
     c.from_vec.ensures
-    ∙ fault_step c.args.text.now c.loop-rest.found.items c.push_token.new.found.items c.loop-rest.line c.loop-rest.from c.loop-rest.end
-    c.place.result rest (_, c.token-len.result) c.loop-rest.invariant c.in-len1-up.len_at_least
-    (sym c.is_blank.ensures ∙ c.if-is_blank.false) c.if-b-eq35.false c.place.ensures
-    (token_is c.place.result (length c.args.text.now - length rest) rest c.token-len.new.kind c.token-len.new.value c.token-len.result c.token-len.ensures.value)
-    (sym c.is_fault.ensures ∙ c.if-is_fault.true) c.in_ok-push_token.ensures
+    ∙ fault_step c.args.text.now c.loop-rest.found.items c.token-len.new.found.items c.loop-rest.number c.loop-rest.from c.loop-rest.end
+    c.loop-rest.rest.now c.token-len.result c.loop-rest.invariant c.in-len1-up.len_at_least
+    (sym c.is_blank.ensures ∙ c.if-is_blank.false) c.if-b-eq35.false
+    (c.token-len.ensures.found
+    ∙ ap (λ i. i ++ token_here c.args.text.now c.loop-rest.number c.loop-rest.from c.loop-rest.rest.now ∷ []) c.in_ok-reserve-2.ensures.items)
+    c.token-len.ensures.step c.if-len-eq0.true c.token-len.ensures.within
 
 pub loop-rest-smaller : goal.loop-rest-smaller
 loop-rest-smaller c =
-    less_by_token c.loop-rest.rest.now c.after_spaces-rest-in-len1-up.result.now c.token-len.result c.token-len.ensures.within.0
-    c.token-len.ensures.within.1 c.after_spaces-rest-in-len1-up.ensures
+    less_by_token c.loop-rest.rest.now c.after_spaces-rest-in-len1-up.result.now c.token-len.result c.token-len.ensures.step
+    c.if-len-eq0.false c.token-len.ensures.within c.after_spaces-rest-in-len1-up.ensures
 
 pub loop-rest-preserved : goal.loop-rest-preserved
 loop-rest-preserved c =
-    let rest = c.loop-rest.rest.now in
-    token_spaces_step c.args.text.now c.loop-rest.found.items c.push_token.new.found.items c.loop-rest.line c.loop-rest.from c.loop-rest.end
-    c.place.result rest c.after_spaces-rest-in-len1-up.result.now (_, c.token-len.result) c.loop-rest.invariant c.in-len1-up.len_at_least
-    (sym c.is_blank.ensures ∙ c.if-is_blank.false) c.if-b-eq35.false c.place.ensures
-    (token_is c.place.result (length c.args.text.now - length rest) rest c.token-len.new.kind c.token-len.new.value c.token-len.result c.token-len.ensures.value)
-    c.token-len.ensures.within (sym c.is_fault.ensures ∙ c.if-is_fault.false) c.in_ok-push_token.ensures
-    c.after_spaces-rest-in-len1-up.ensures
+    token_spaces_step c.args.text.now c.loop-rest.found.items c.token-len.new.found.items c.loop-rest.number c.loop-rest.from c.loop-rest.end
+    c.loop-rest.rest.now c.after_spaces-rest-in-len1-up.result.now c.token-len.result c.loop-rest.invariant c.in-len1-up.len_at_least
+    (sym c.is_blank.ensures ∙ c.if-is_blank.false) c.if-b-eq35.false
+    (c.token-len.ensures.found
+    ∙ ap (λ i. i ++ token_here c.args.text.now c.loop-rest.number c.loop-rest.from c.loop-rest.rest.now ∷ []) c.in_ok-reserve-2.ensures.items)
+    c.token-len.ensures.step c.if-len-eq0.false c.token-len.ensures.within c.after_spaces-rest-in-len1-up.ensures
 
 pub returns : goal.returns
 returns c =
     c.from_vec-2.ensures
-    ∙ end_step c.args.text.now c.loop-rest.found.items c.push_token-2.new.found.items c.loop-rest.line c.loop-rest.from c.loop-rest.end
+    ∙ end_step c.args.text.now c.loop-rest.found.items c.push_reserved.new.self.items c.loop-rest.number c.loop-rest.from c.loop-rest.end
     c.end_of.result
     c.loop-rest.rest.now c.word.result c.loop-rest.invariant c.in_default.len_below c.word.ensures c.end_of.ensures
-    c.in_ok-push_token-2.ensures
+    (c.push_reserved.ensures.items
+    ∙ ap (λ (i : Input). i ++ record { word = c.word.result; position = c.end_of.result; start = length c.args.text.now; end = length c.args.text.now } ∷ [])
+    c.in_ok-reserve-3.ensures.items)
