@@ -10,6 +10,7 @@ pub mod Laws
 pub mod Lexed
 pub mod Limits
 pub mod Numbers
+pub mod Onto
 pub mod Routines
 pub mod Sound
 pub mod SoundCalls

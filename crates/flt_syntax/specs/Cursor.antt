@@ -1,5 +1,5 @@
 -- How the tokens of a text are read, from left to right, up to the first fault that is met.
-use Rattle.std.specs.Prelude.{◌≡◌, ℕ, Bool, true, false, not, ◌&&◌, if◌then◌else◌, List, [], ◌∷◌, length, min, slice_range, nat_le, Option, Some, None, Result, Ok, Err}
+use Rattle.std.specs.Prelude.{◌≡◌, ℕ, Bool, true, false, not, ◌&&◌, if◌then◌else◌, List, [], ◌∷◌, ◌++◌, length, min, slice_range, nat_le, Option, Some, None, Result, Ok, Err}
 use Rattle.flt_rules.specs.Parsing as parsing
 pub use Rattle.flt_rules.specs.Parsing.{and_then, ◌>>=◌, ◌>>◌, pure}
 use Rattle.flt_tree.specs.Names.{Text}
@@ -80,6 +80,10 @@ infixr 11 ◌<$>◌
 -- makes something of what is read
 abbrev pub ◌<$>◌ : {A B : Type 0} → (A → B) → Parser A → Parser B
 f <$> p = p >>= (λ x. pure (f x))
+
+-- what is read, behind what was read before
+abbrev pub onto : {A : Type 0} → List A → Parser A → Parser (List A)
+onto found p = p >>= (λ x. pure (found ++ x ∷ []))
 
 -- ---- faults
 
@@ -180,3 +184,9 @@ abbrev pub Reads : {A : Type 0} → Outcome A → Result A ParseError → Input 
 Reads outcome (Ok a) new = outcome ≡ Ok (a, new)
 Reads outcome (Err OutOfMemory) new = Unit {0}
 Reads outcome (Err (Syntax f)) new = outcome ≡ Err f
+
+-- The same of what a function puts behind a list: `more` is the list as it is then.
+abbrev pub ReadsOnto : {A : Type 0} → Outcome (List A) → Result (Unit {0}) ParseError → List A → Input → Type 0
+ReadsOnto outcome (Ok u) more new = outcome ≡ Ok (more, new)
+ReadsOnto outcome (Err OutOfMemory) more new = Unit {0}
+ReadsOnto outcome (Err (Syntax f)) more new = outcome ≡ Err f

@@ -1,8 +1,10 @@
 //! Reads statements without blocks.
 
 ghost use Rattle.flt_syntax.specs.Action as spec;
-ghost use Rattle.flt_syntax.specs.Cursor.{Reads};
+ghost use Rattle.flt_syntax.specs.Cursor.{Reads, ReadsOnto, onto};
 ghost use Rattle.flt_syntax.specs.Scope.{scope_of};
+ghost use Rattle.std.specs.Prelude.{◌<◌};
+ghost use Rattle.std.specs.Vec.{vec_len, vec_capacity};
 
 use crate::call::plain_call;
 use crate::cursor::Tokens;
@@ -84,43 +86,53 @@ fn write_value(tokens: &mut Tokens<'_>) -> Result<Action, ParseError>
     Ok(Action::WriteValue(context, atom(tokens)?))
 }
 
-/// A statement without blocks that begins with a word of its own, on a line.
+/// A statement without blocks that begins with a word of its own, on a line. There is room for it.
 #[tactic(auto, unfolding(crate::specs::Action::word_statement))]
 fn word_statement(
     scope: &Scope<'_>,
     tokens: &mut Tokens<'_>,
     line: usize,
-) -> Result<Statement, ParseError>
-    ensures { Reads (spec.word_statement (scope_of scope.now) line tokens.old.rest.now) result tokens.new.rest.now }
+    stack: &mut Vec<Statement>,
+) -> Result<(), ParseError>
+    requires { vec_len stack.old < vec_capacity stack.old }
+    ensures { ReadsOnto (onto stack.old.items (spec.word_statement (scope_of scope.now) line) tokens.old.rest.now) result
+        stack.new.items tokens.new.rest.now }
 {
     match tokens.peek() {
-        Kind::Value => Ok(Statement::Act(line, write_value(tokens)?)),
+        Kind::Value => stack.push_reserved(Statement::Act(line, write_value(tokens)?)),
         Kind::Return => {
             tokens.take();
-            Ok(Statement::Return(line, optional_status(tokens)?))
+            stack.push_reserved(Statement::Return(line, optional_status(tokens)?));
         }
-        _ => Ok(Statement::Call(line, plain_call(scope, tokens)?)),
+        _ => stack.push_reserved(Statement::Call(line, plain_call(scope, tokens)?)),
     }
+    Ok(())
 }
 
-/// A statement without blocks, on a line.
+/// A statement without blocks, on a line. It goes onto the stack from where it is made, since a statement is large.
 #[tactic(auto, unfolding(crate::specs::Action::simple_statement))]
 pub fn simple_statement(
     scope: &Scope<'_>,
     tokens: &mut Tokens<'_>,
     line: usize,
-) -> Result<Statement, ParseError>
-    ensures { Reads (spec.simple_statement (scope_of scope.now) line tokens.old.rest.now) result tokens.new.rest.now }
+    stack: &mut Vec<Statement>,
+) -> Result<(), ParseError>
+    ensures { ReadsOnto (onto stack.old.items (spec.simple_statement (scope_of scope.now) line) tokens.old.rest.now) result
+        stack.new.items tokens.new.rest.now }
 {
+    stack.reserve(1)?;
     let kind = tokens.peek();
     if let Some(n) = number_variable_of(kind) {
-        return Ok(Statement::Act(line, set_number(tokens, n)?));
+        stack.push_reserved(Statement::Act(line, set_number(tokens, n)?));
+        return Ok(());
     }
     if let Some(c) = context_variable_of(kind) {
-        return Ok(Statement::Act(line, clear_context(tokens, c)?));
+        stack.push_reserved(Statement::Act(line, clear_context(tokens, c)?));
+        return Ok(());
     }
     if let Some(o) = removed_variable_of(kind) {
-        return Ok(Statement::Act(line, clear_operation(tokens, o)?));
+        stack.push_reserved(Statement::Act(line, clear_operation(tokens, o)?));
+        return Ok(());
     }
-    word_statement(scope, tokens, line)
+    word_statement(scope, tokens, line, stack)
 }

@@ -21,7 +21,7 @@ use crate::statement::statements;
 use crate::token::Kind;
 use crate::whole::whole_fault;
 use flt_rules::LockKind;
-use flt_tree::{Callback, Filter, Lock, Position, Tree, is_small};
+use flt_tree::{Callback, Filter, Lock, Position, Statement, Tree, is_small};
 use sqlite_items::Items;
 use std::alloc::Global;
 
@@ -132,6 +132,7 @@ fn callback<'a>(
     tokens: &mut Tokens<'_>,
     found: &[Callback],
     routines: &mut Names<'a>,
+    stack: &mut Vec<Statement>,
 ) -> Result<Callback, ParseError>
     requires { routines.old ≡ routine_names found.now }
     ensures reads { Reads (spec.callback (scope_of scope.now) found.now tokens.old.rest.now) result tokens.new.rest.now }
@@ -142,7 +143,7 @@ fn callback<'a>(
     let limit = tokens.fault(FaultKind::E06);
     let head = head(alloc, scope.text, tokens, found, routines)?;
     tokens.expect(Kind::OpenBrace)?;
-    let body = statements(alloc, scope, tokens, MAX_DEPTH - 1, MAX_REPEATS)?;
+    let body = statements(alloc, scope, tokens, MAX_DEPTH - 1, MAX_REPEATS, stack)?;
     let end_line = tokens.position().line;
     tokens.expect(Kind::CloseBrace)?;
     let callback = Callback {
@@ -169,8 +170,16 @@ fn callbacks(
 {
     let mut found = Items::new(alloc);
     let mut routines = Names::new(alloc);
+    let mut stack = Vec::new(alloc);
     for _turn in 0..tokens.left() {
-        let next = callback(alloc, scope, tokens, found.as_slice(), &mut routines)?;
+        let next = callback(
+            alloc,
+            scope,
+            tokens,
+            found.as_slice(),
+            &mut routines,
+            &mut stack,
+        )?;
         found.push(next)?;
         if tokens.sees(Kind::End) {
             return Ok(found);

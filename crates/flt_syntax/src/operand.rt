@@ -9,6 +9,7 @@ use crate::fault::{FaultKind, ParseError};
 use crate::token::Kind;
 use flt_tree::{Atom, ContextVariable, NumberVariable, OperationVariable, RemovedVariable};
 
+#[inline(always)]
 pub fn number_variable_of(kind: Kind) -> Option<NumberVariable>
     ensures { result ≡ spec.number_variable_of kind }
 {
@@ -25,6 +26,7 @@ pub fn number_variable_of(kind: Kind) -> Option<NumberVariable>
     }
 }
 
+#[inline(always)]
 pub fn context_variable_of(kind: Kind) -> Option<ContextVariable>
     ensures { result ≡ spec.context_variable_of kind }
 {
@@ -42,6 +44,7 @@ pub fn context_variable_of(kind: Kind) -> Option<ContextVariable>
     }
 }
 
+#[inline(always)]
 pub fn removed_variable_of(kind: Kind) -> Option<RemovedVariable>
     ensures { result ≡ spec.removed_variable_of kind }
 {
@@ -67,6 +70,7 @@ pub fn operation_variable_of(kind: Kind) -> Option<OperationVariable>
     }
 }
 
+#[inline(always)]
 #[tactic(auto, unfolding(crate::specs::Operand::context_variable))]
 pub fn context_variable(tokens: &mut Tokens<'_>) -> Result<ContextVariable, ParseError>
     ensures { Reads (spec.context_variable tokens.old.rest.now) result tokens.new.rest.now }

@@ -1,8 +1,11 @@
-//! Reads statements and blocks.
+//! Reads statements and blocks. The statements of the blocks that are being read stand on a stack, from which each block takes its
+//! own at its end, in as much memory as they need.
 
-ghost use Rattle.flt_syntax.specs.Cursor.{Reads};
+ghost use Rattle.flt_syntax.specs.Cursor.{Reads, ReadsOnto, onto};
 ghost use Rattle.flt_syntax.specs.Scope.{scope_of};
 ghost use Rattle.flt_syntax.specs.Statement as spec;
+ghost use Rattle.std.specs.Prelude.{◌≡◌, ◌≤◌, drop, take, IfOk};
+ghost use Rattle.std.specs.Vec.{vec_len};
 
 use crate::action::simple_statement;
 use crate::condition::condition;
@@ -12,9 +15,19 @@ use crate::scope::Scope;
 use crate::token::Kind;
 use flt_tree::Statement;
 use sqlite_items::Items;
-use std::alloc::Global;
+use std::alloc::{AllocError, Global};
 
 const MAX_TURNS: u64 = 1000;
+
+/// The statements from a place on, which leave the stack.
+fn taken_from(stack: &mut Vec<Statement>, start: usize) -> Result<Items<Statement>, AllocError>
+    requires { start ≤ vec_len stack.old }
+    ensures taken { IfOk result (λ ss. ss ≡ drop start stack.old.items) }
+    ensures stack { IfOk result (λ _. stack.new.items ≡ take start stack.old.items) }
+{
+    let taken = stack.split_off(start)?;
+    Ok(Items::from_vec(taken))
+}
 
 #[tactic(auto, unfolding(crate::specs::Statement::otherwise))]
 #[cycle(parser)]
@@ -24,12 +37,14 @@ fn otherwise(
     tokens: &mut Tokens<'_>,
     depth: usize,
     repeats: usize,
+    stack: &mut Vec<Statement>,
 ) -> Result<Items<Statement>, ParseError>
-    ensures { Reads (spec.otherwise (scope_of scope.now) (spec.block (scope_of scope.now) depth) repeats tokens.old.rest.now)
+    ensures reads { Reads (spec.otherwise (scope_of scope.now) (spec.block (scope_of scope.now) depth) repeats tokens.old.rest.now)
         result tokens.new.rest.now }
+    ensures stack { IfOk result (λ _. stack.new.items ≡ stack.old.items) }
 {
     if tokens.eat(Kind::Else) {
-        block(alloc, scope, tokens, depth, repeats)
+        block(alloc, scope, tokens, depth, repeats, stack)
     } else {
         Ok(Items::new(alloc))
     }
@@ -43,16 +58,19 @@ fn choice(
     tokens: &mut Tokens<'_>,
     depth: usize,
     repeats: usize,
-) -> Result<Statement, ParseError>
-    ensures { Reads (spec.choice (scope_of scope.now) (spec.block (scope_of scope.now) depth) repeats tokens.old.rest.now) result
-        tokens.new.rest.now }
+    stack: &mut Vec<Statement>,
+) -> Result<(), ParseError>
+    ensures { ReadsOnto (onto stack.old.items (spec.choice (scope_of scope.now) (spec.block (scope_of scope.now) depth) repeats)
+        tokens.old.rest.now) result stack.new.items tokens.new.rest.now }
 {
     let line = tokens.position().line;
     tokens.take();
     let condition = condition(alloc, scope, tokens)?;
-    let granted = block(alloc, scope, tokens, depth, repeats)?;
-    let refused = otherwise(alloc, scope, tokens, depth, repeats)?;
-    Ok(Statement::If(line, condition, granted, refused))
+    let granted = block(alloc, scope, tokens, depth, repeats, stack)?;
+    let refused = otherwise(alloc, scope, tokens, depth, repeats, stack)?;
+    stack.reserve(1)?;
+    stack.push_reserved(Statement::If(line, condition, granted, refused));
+    Ok(())
 }
 
 /// `repeats` counts how many may still stand in one another.
@@ -64,9 +82,10 @@ fn repetition(
     tokens: &mut Tokens<'_>,
     depth: usize,
     repeats: usize,
-) -> Result<Statement, ParseError>
-    ensures { Reads (spec.repetition (scope_of scope.now) (spec.block (scope_of scope.now) depth) repeats tokens.old.rest.now)
-        result tokens.new.rest.now }
+    stack: &mut Vec<Statement>,
+) -> Result<(), ParseError>
+    ensures { ReadsOnto (onto stack.old.items (spec.repetition (scope_of scope.now) (spec.block (scope_of scope.now) depth) repeats)
+        tokens.old.rest.now) result stack.new.items tokens.new.rest.now }
 {
     if repeats == 0 {
         return Err(tokens.fault(FaultKind::E06));
@@ -74,8 +93,10 @@ fn repetition(
     let line = tokens.position().line;
     tokens.take();
     let turns = tokens.number_within(0, MAX_TURNS)?;
-    let body = block(alloc, scope, tokens, depth, repeats - 1)?;
-    Ok(Statement::Repeat(line, turns, body))
+    let body = block(alloc, scope, tokens, depth, repeats - 1, stack)?;
+    stack.reserve(1)?;
+    stack.push_reserved(Statement::Repeat(line, turns, body));
+    Ok(())
 }
 
 #[tactic(auto, unfolding(crate::specs::Statement::statement))]
@@ -86,16 +107,17 @@ fn statement(
     tokens: &mut Tokens<'_>,
     depth: usize,
     repeats: usize,
-) -> Result<Statement, ParseError>
-    ensures { Reads (spec.statement (scope_of scope.now) (spec.block (scope_of scope.now) depth) repeats tokens.old.rest.now)
-        result tokens.new.rest.now }
+    stack: &mut Vec<Statement>,
+) -> Result<(), ParseError>
+    ensures { ReadsOnto (onto stack.old.items (spec.statement (scope_of scope.now) (spec.block (scope_of scope.now) depth) repeats)
+        tokens.old.rest.now) result stack.new.items tokens.new.rest.now }
 {
     match tokens.peek() {
-        Kind::If => choice(alloc, scope, tokens, depth, repeats),
-        Kind::Repeat => repetition(alloc, scope, tokens, depth, repeats),
+        Kind::If => choice(alloc, scope, tokens, depth, repeats, stack),
+        Kind::Repeat => repetition(alloc, scope, tokens, depth, repeats, stack),
         _ => {
             let line = tokens.position().line;
-            simple_statement(scope, tokens, line)
+            simple_statement(scope, tokens, line, stack)
         }
     }
 }
@@ -109,16 +131,18 @@ pub fn statements(
     tokens: &mut Tokens<'_>,
     depth: usize,
     repeats: usize,
+    stack: &mut Vec<Statement>,
 ) -> Result<Items<Statement>, ParseError>
-    ensures { Reads (spec.statements (scope_of scope.now) (spec.block (scope_of scope.now) depth) repeats tokens.old.rest.now)
+    ensures reads { Reads (spec.statements (scope_of scope.now) (spec.block (scope_of scope.now) depth) repeats tokens.old.rest.now)
         result tokens.new.rest.now }
+    ensures stack { IfOk result (λ _. stack.new.items ≡ stack.old.items) }
 {
-    let mut found = Items::new(alloc);
+    let start = stack.len();
     for _turn in 0..tokens.left() {
         if tokens.sees(Kind::CloseBrace) {
-            return Ok(found);
+            return Ok(taken_from(stack, start)?);
         }
-        found.push(statement(alloc, scope, tokens, depth, repeats)?)?;
+        statement(alloc, scope, tokens, depth, repeats, stack)?;
     }
     Err(tokens.refuse())
 }
@@ -132,14 +156,16 @@ fn block(
     tokens: &mut Tokens<'_>,
     depth: usize,
     repeats: usize,
+    stack: &mut Vec<Statement>,
 ) -> Result<Items<Statement>, ParseError>
-    ensures { Reads (spec.block (scope_of scope.now) depth repeats tokens.old.rest.now) result tokens.new.rest.now }
+    ensures reads { Reads (spec.block (scope_of scope.now) depth repeats tokens.old.rest.now) result tokens.new.rest.now }
+    ensures stack { IfOk result (λ _. stack.new.items ≡ stack.old.items) }
 {
     if depth == 0 {
         return Err(tokens.too_deep());
     }
     tokens.expect(Kind::OpenBrace)?;
-    let body = statements(alloc, scope, tokens, depth - 1, repeats)?;
+    let body = statements(alloc, scope, tokens, depth - 1, repeats, stack)?;
     tokens.expect(Kind::CloseBrace)?;
     Ok(body)
 }

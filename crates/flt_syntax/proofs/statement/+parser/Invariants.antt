@@ -1,4 +1,4 @@
-use Rattle.std.proofs.Common.{◌≡◌, ◌+◌, ◌-◌, ◌*◌}
+use Rattle.std.proofs.Common.{◌≡◌, ◌+◌, ◌-◌, ◌*◌, ◌≤◌, drop, take, length}
 use Rattle.flt_syntax.specs.Scope.{scope_of}
 use Rattle.flt_syntax.specs.Statement.{block, statements, statements_from}
 use Rattle.flt_syntax.proofs.statement.+parser.Given as goal
@@ -24,5 +24,9 @@ decreases-statements l = 5 * l.depth + 4
 abbrev pub invariant-statements-loop-turn : goal.invariant-statements-loop-turn
 invariant-statements-loop-turn l =
     let scope = scope_of l.scope in
-    statements scope (block scope l.depth) l.repeats l.fn.tokens.rest.now
-    ≡ statements_from scope (block scope l.depth) (l._turn-end - l._turn) l.repeats l.found l.tokens.rest.now
+    record {
+      same : statements scope (block scope l.depth) l.repeats l.fn.tokens.rest.now
+          ≡ statements_from scope (block scope l.depth) (l._turn-end - l._turn) l.repeats (drop l.start l.stack.items) l.tokens.rest.now;
+      below : take l.start l.stack.items ≡ l.fn.stack.items;
+      fits : l.start ≤ length l.stack.items;
+    }
