@@ -91,6 +91,9 @@ fn missing_of(callbacks: &[Callback], from: &Head, statement: &Statement) -> Opt
             if let Some(at) = missing(callbacks, from, granted.as_slice()) {
                 return Some(at);
             }
+            if refused.is_empty() {
+                return None;
+            }
             missing(callbacks, from, refused.as_slice())
         }
         Statement::Repeat(_, _, body) => missing(callbacks, from, body.as_slice()),

@@ -157,6 +157,7 @@ const LOWER_N: [(&[u8], Kind); 8] = [
 ];
 
 /// The words that begin with a byte, in the order of `keywords`; all of them where none begins so.
+#[inline(always)]
 pub(crate) fn words_from(first: u8) -> &'static [(&'static [u8], Kind)]
     ensures { (rest : Text) → lookup (map (λ e. (e.0.now, e.1)) result.now) (first ∷ rest) ≡ lookup vocabulary (first ∷ rest) }
 {
