@@ -11,53 +11,43 @@ use Rattle.flt_tree.specs.declared.filter.Statement.TheViews.{outs-If, outs-Repe
 use Rattle.flt_tree.specs.declared.filter.Statement.TheFolds.{map-Statement}
 use Rattle.flt_graph.proofs.Codes.{block_nil, block_cons, inner_code, out_code, code_length, block_length, points_cons, out_points}
 use Rattle.flt_graph.specs.Codes.{statement_code, block_code}
-use Rattle.flt_graph.specs.Points.{entry, line_of, instruction_of, point_of}
+use Rattle.flt_graph.specs.Points.{entry, point_of}
 use Rattle.flt_graph.specs.declared.graph.Point.{Point}
-use Rattle.flt_graph.specs.declared.instruction.Instruction.{Instruction}
 
 -- a statement's own point and then those of its blocks
-added_layer : (all : List Callback) (s : Statement) (layer : Statement-F Statement) (f0 f1 f3 : List Point) (at after line : ℕ)
-    (i : Instruction) →
-    at ≡ length f0 → out-Statement s ≡ layer → line ≡ line_of (out-Statement s) → i ≡ instruction_of all (out-Statement s) at after →
-    f1 ≡ f0 ++ record { line = line; instruction = i } ∷ [] → f3 ≡ f1 ++ inner_code all layer (length f0) after →
-    f3 ≡ f0 ++ statement_code all s (length f0) after
-added_layer all s layer f0 f1 f3 at after line i hat o hline hi h1 h3 =
-    let first : f1 ≡ f0 ++ point_of all (out-Statement s) (length f0) after ∷ [] = h1
-    ∙ (ap (λ (x : Point). f0 ++ x ∷ [])
-    (ap (λ (n : ℕ). record { line = n; instruction = i }) hline
-    ∙ ap (λ (x : Instruction). record { line = line_of (out-Statement s); instruction = x })
-    (hi ∙ ap (λ (n : ℕ). instruction_of all (out-Statement s) n after) hat))) in
-    h3 ∙ (ap (λ (l : List Point). l ++ inner_code all layer (length f0) after) first ∙
+added_layer : (all : List Callback) (s : Statement) (layer : Statement-F Statement) (f0 f1 f3 : List Point) (after : ℕ) →
+    out-Statement s ≡ layer → f1 ≡ f0 ++ point_of all (out-Statement s) (length f0) after ∷ [] →
+    f3 ≡ f1 ++ inner_code all layer (length f0) after → f3 ≡ f0 ++ statement_code all s (length f0) after
+added_layer all s layer f0 f1 f3 after o h1 h3 =
+    h3 ∙ (ap (λ (l : List Point). l ++ inner_code all layer (length f0) after) h1 ∙
     (append_assoc f0 (point_of all (out-Statement s) (length f0) after ∷ []) (inner_code all layer (length f0) after)
     ∙ (ap (λ (l : Statement-F Statement). f0
     ++ (point_of all (out-Statement s) (length f0) after ∷ inner_code all l (length f0) after)) (sym o) ∙
     ap (λ (l : List Point). f0 ++ l) (sym (out_code all s (length f0) after)))))
 
 pub added_if : (all : List Callback) (s : Statement) (l : ℕ) (a : Condition) (g r : List Statement) (f0 f1 f2 f3 : List Point)
-    (at after line : ℕ) (i : Instruction) →
-    at ≡ length f0 → s ≡ tree.If l a g r → line ≡ line_of (out-Statement s) → i ≡ instruction_of all (out-Statement s) at after →
-    f1 ≡ f0 ++ record { line = line; instruction = i } ∷ [] → f2 ≡ f1 ++ block_code all g (length f1) after →
-    f3 ≡ f2 ++ block_code all r (length f2) after →
+    (after : ℕ) → s ≡ tree.If l a g r → f1 ≡ f0 ++ point_of all (out-Statement s) (length f0) after ∷ [] →
+    f2 ≡ f1 ++ block_code all g (length f1) after → f3 ≡ f2 ++ block_code all r (length f2) after →
     f3 ≡ f0 ++ statement_code all s (length f0) after
-added_if all s l a g r f0 f1 f2 f3 at after line i hat is hline hi h1 h2 h3 =
-    let e1 : length f1 ≡ length f0 + 1 = omega (arith, ap length h1, length-append f0 (record { line = line; instruction = i } ∷ [])) in
+added_if all s l a g r f0 f1 f2 f3 after is h1 h2 h3 =
+    let e1 : length f1 ≡ length f0 + 1 =
+    omega (arith, ap length h1, length-append f0 (point_of all (out-Statement s) (length f0) after ∷ [])) in
     let e2 : length f2 ≡ length f0 + 1 + points g =
     omega (arith, ap length h2, length-append f1 (block_code all g (length f1) after), block_length all g (length f1) after) in
     let k2 = rw e1 at h2 in
     let k3 = rw e2 at h3 in
-    added_layer all s (Statement-F.If l a g r) f0 f1 f3 at after line i hat (ap out-Statement is ∙ outs-If l a g r) hline hi h1
+    added_layer all s (Statement-F.If l a g r) f0 f1 f3 after (ap out-Statement is ∙ outs-If l a g r) h1
     (k3 ∙ (ap (λ (x : List Point). x ++ block_code all r (length f0 + 1 + points g) after) k2
     ∙ append_assoc f1 (block_code all g (length f0 + 1) after) (block_code all r (length f0 + 1 + points g) after)))
 
-pub added_repeat : (all : List Callback) (s : Statement) (l k : ℕ) (b : List Statement) (f0 f1 f3 : List Point)
-    (at after line : ℕ) (i : Instruction) →
-    at ≡ length f0 → s ≡ tree.Repeat l k b → line ≡ line_of (out-Statement s) → i ≡ instruction_of all (out-Statement s) at after →
-    f1 ≡ f0 ++ record { line = line; instruction = i } ∷ [] → f3 ≡ f1 ++ block_code all b (length f1) at →
-    f3 ≡ f0 ++ statement_code all s (length f0) after
-added_repeat all s l k b f0 f1 f3 at after line i hat is hline hi h1 h3 =
-    let e1 : length f1 ≡ length f0 + 1 = omega (arith, ap length h1, length-append f0 (record { line = line; instruction = i } ∷ [])) in
+pub added_repeat : (all : List Callback) (s : Statement) (l k : ℕ) (b : List Statement) (f0 f1 f3 : List Point) (at after : ℕ) →
+    at ≡ length f0 → s ≡ tree.Repeat l k b → f1 ≡ f0 ++ point_of all (out-Statement s) (length f0) after ∷ [] →
+    f3 ≡ f1 ++ block_code all b (length f1) at → f3 ≡ f0 ++ statement_code all s (length f0) after
+added_repeat all s l k b f0 f1 f3 at after hat is h1 h3 =
+    let e1 : length f1 ≡ length f0 + 1 =
+    omega (arith, ap length h1, length-append f0 (point_of all (out-Statement s) (length f0) after ∷ [])) in
     let k3 = rw (e1, hat) at h3 in
-    added_layer all s (Statement-F.Repeat l k b) f0 f1 f3 at after line i hat (ap out-Statement is ∙ outs-Repeat l k b) hline hi h1 k3
+    added_layer all s (Statement-F.Repeat l k b) f0 f1 f3 after (ap out-Statement is ∙ outs-Repeat l k b) h1 k3
 
 -- one statement of a block more
 pub added_more : (all : List Callback) (block : List Statement) (i : ℕ) (s : Statement) (f0 f1 : List Point) (next after : ℕ) →
@@ -135,10 +125,9 @@ is_plain all s at after hi hr =
 pub points_plain : (all : List Callback) (s : Statement) (at after : ℕ) → IsPlain all (out-Statement s) at after → points_of s ≡ 1
 points_plain all s at after h = out_points s ∙ h.one
 
-pub added_plain : (all : List Callback) (s : Statement) (f0 f1 : List Point) (at after line : ℕ) (i : Instruction) →
-    IsPlain all (out-Statement s) (length f0) after →
-    at ≡ length f0 → line ≡ line_of (out-Statement s) → i ≡ instruction_of all (out-Statement s) at after →
-    f1 ≡ f0 ++ record { line = line; instruction = i } ∷ [] → f1 ≡ f0 ++ statement_code all s (length f0) after
-added_plain all s f0 f1 at after line i plain hat hline hi h1 =
-    added_layer all s (out-Statement s) f0 f1 f1 at after line i hat refl hline hi h1
+pub added_plain : (all : List Callback) (s : Statement) (f0 f1 : List Point) (after : ℕ) →
+    IsPlain all (out-Statement s) (length f0) after → f1 ≡ f0 ++ point_of all (out-Statement s) (length f0) after ∷ [] →
+    f1 ≡ f0 ++ statement_code all s (length f0) after
+added_plain all s f0 f1 after plain h1 =
+    added_layer all s (out-Statement s) f0 f1 f1 after refl h1
     (sym (append-nil f1) ∙ ap (λ (l : List Point). f1 ++ l) (sym plain.inner))

@@ -5,7 +5,7 @@ ghost use Rattle.flt_tree.specs.Measures.{points_of, points, max_points, is_smal
 ghost use Rattle.flt_tree.specs.declared.filter.Statement.{out-Statement};
 ghost use Rattle.flt_graph.specs.Codes as code;
 ghost use Rattle.flt_graph.specs.Lowering as spec;
-ghost use Rattle.flt_graph.specs.Points.{entry as entry_of, line_of, instruction_of};
+ghost use Rattle.flt_graph.specs.Points.{entry as entry_of, point_of};
 
 use crate::graph::{CallbackGraph, Graph, Point};
 use crate::instruction::{Instruction, fallible, plain};
@@ -28,6 +28,7 @@ fn total(body: &[Statement]) -> usize
 
 /// How many points a statement has.
 #[cycle(size)]
+#[inline(always)]
 fn size(statement: &Statement) -> usize
     requires { points_of statement.now ≤ max_points }
     ensures { result ≡ points_of statement.now }
@@ -60,48 +61,6 @@ fn entry_behind(before: &[Statement], block: &[Statement], at: usize, after: usi
     }
 }
 
-/// What is done at the point of a statement, where it stands at a point and the next one at another.
-fn instruction(
-    callbacks: &[Callback],
-    statement: &Statement,
-    at: usize,
-    after: usize,
-) -> Instruction
-    requires { at + points_of statement.now ≤ max_points }
-    ensures { result ≡ instruction_of callbacks.now (out-Statement statement.now) at after }
-{
-    match statement {
-        Statement::Act(_, action) => Instruction::Act(*action, after),
-        Statement::Call(_, call) => Instruction::Call(plain(*call), after, after),
-        Statement::Return(_, status) => Instruction::Return(*status),
-        Statement::If(_, condition, granted, refused) => {
-            let (granted, refused) = (granted.as_slice(), refused.as_slice());
-            let yes = entry(granted, at + 1, after);
-            let no = entry_behind(granted, refused, at + 1, after);
-            match condition {
-                Condition::Test(test) => Instruction::Test(*test, yes, no),
-                Condition::Succeeds(call) => Instruction::Call(fallible(callbacks, call), yes, no),
-            }
-        }
-        Statement::Repeat(_, turns, body) => {
-            Instruction::Repeat(*turns, entry(body.as_slice(), at + 1, at), after)
-        }
-    }
-}
-
-/// The line of a statement's first token.
-fn line(statement: &Statement) -> usize
-    ensures { result ≡ line_of (out-Statement statement.now) }
-{
-    match statement {
-        Statement::Act(line, _)
-        | Statement::Call(line, _)
-        | Statement::Return(line, _)
-        | Statement::If(line, _, _, _)
-        | Statement::Repeat(line, _, _) => *line,
-    }
-}
-
 /// One more point. Room is made first: `push` would hand the point back where memory is refused, and takes longer for that.
 #[inline(always)]
 fn push_point(
@@ -114,6 +73,47 @@ fn push_point(
     found.reserve(1)?;
     found.push_reserved(Point { line, instruction });
     Ok(())
+}
+
+/// Adds the point of a statement, behind which the point `after` stands. Each kind of statement adds its own: an instruction that is
+/// handed on is taken apart and put together again.
+#[inline(always)]
+fn push_statement(
+    callbacks: &[Callback],
+    found: &mut Vec<Point>,
+    statement: &Statement,
+    after: usize,
+) -> Result<(), AllocError>
+    requires { length found.old.items + points_of statement.now ≤ max_points }
+    ensures { OnOk result (found.new.items ≡ found.old.items
+        ++ point_of callbacks.now (out-Statement statement.now) (length found.old.items) after ∷ []) }
+{
+    let at = found.len();
+    match statement {
+        Statement::Act(line, action) => push_point(found, *line, Instruction::Act(*action, after)),
+        Statement::Call(line, call) => {
+            push_point(found, *line, Instruction::Call(plain(*call), after, after))
+        }
+        Statement::Return(line, status) => push_point(found, *line, Instruction::Return(*status)),
+        Statement::If(line, condition, granted, refused) => {
+            let (granted, refused) = (granted.as_slice(), refused.as_slice());
+            let yes = entry(granted, at + 1, after);
+            let no = entry_behind(granted, refused, at + 1, after);
+            match condition {
+                Condition::Test(test) => {
+                    push_point(found, *line, Instruction::Test(*test, yes, no))
+                }
+                Condition::Succeeds(call) => {
+                    let call = fallible(callbacks, call);
+                    push_point(found, *line, Instruction::Call(call, yes, no))
+                }
+            }
+        }
+        Statement::Repeat(line, turns, body) => {
+            let inside = entry(body.as_slice(), at + 1, at);
+            push_point(found, *line, Instruction::Repeat(*turns, inside, after))
+        }
+    }
 }
 
 /// Adds the points of a block, which ends where the point `after` stands.
@@ -154,8 +154,7 @@ fn add_statement(
     ensures points { OnOk result (found.new.items ≡ found.old.items ++ code.statement_code callbacks.now statement.now (length found.old.items) after) }
 {
     let at = found.len();
-    let instruction = instruction(callbacks, statement, at, after);
-    push_point(found, line(statement), instruction)?;
+    push_statement(callbacks, found, statement, after)?;
     match statement {
         Statement::If(_, _, granted, refused) => {
             add_block(callbacks, found, granted.as_slice(), after)?;

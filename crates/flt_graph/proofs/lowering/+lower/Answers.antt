@@ -13,9 +13,8 @@ pub add_statement-returns-in_ok-add_block-in-If-clause-points :
 add_statement-returns-in_ok-add_block-in-If-clause-points t c =
     on_ok_weaker c.add_block-in-If.result
     (λ h. added_if c.args.callbacks.now c.args.statement.now c.in-If.field-0 c.in-If.field-1 c.in-If.granted c.in-If.refused
-    c.args.found.now.items c.push_point.new.found.items c.add_block.new.found.items c.add_block-in-If.new.found.items c.len-at.result c.args.after c.line.result
-    c.instruction-instruction.result
-    (omega arith) c.in-If.is c.line.ensures c.instruction-instruction.ensures c.in_ok-push_point.ensures
+    c.args.found.now.items c.push_statement.new.found.items c.add_block.new.found.items c.add_block-in-If.new.found.items c.args.after
+    c.in-If.is c.in_ok-push_statement.ensures
     (rw c.as_slice.ensures at c.in_ok-add_block-in-If.ensures.points) (rw c.as_slice-in-If.ensures at h))
     c.add_block-in-If.ensures.points
 
@@ -24,8 +23,8 @@ pub add_statement-returns-in-Repeat-clause-points :
 add_statement-returns-in-Repeat-clause-points t c =
     on_ok_weaker c.add_block-in-Repeat.result
     (λ h. added_repeat c.args.callbacks.now c.args.statement.now c.in-Repeat.field-0 c.in-Repeat.field-1 c.in-Repeat.body
-    c.args.found.now.items c.push_point.new.found.items c.add_block-in-Repeat.new.found.items c.len-at.result c.args.after c.line.result c.instruction-instruction.result
-    (omega arith) c.in-Repeat.is c.line.ensures c.instruction-instruction.ensures c.in_ok-push_point.ensures (rw c.as_slice-in-Repeat.ensures at h))
+    c.args.found.now.items c.push_statement.new.found.items c.add_block-in-Repeat.new.found.items c.len-at.result c.args.after
+    (omega arith) c.in-Repeat.is c.in_ok-push_statement.ensures (rw c.as_slice-in-Repeat.ensures at h))
     c.add_block-in-Repeat.ensures.points
 
 pub add_statement-returns-in-Repeat-clause-count :
@@ -35,7 +34,7 @@ add_statement-returns-in-Repeat-clause-count t c =
     (λ h. omega (
       arith,
       rw c.as_slice-in-Repeat.ensures at h,
-      ap length c.in_ok-push_point.ensures,
+      ap length c.in_ok-push_statement.ensures,
       length-append {A = Point},
       points_repeat c.args.statement.now c.in-Repeat.field-0 c.in-Repeat.field-1 c.in-Repeat.body c.in-Repeat.is,
     ))
@@ -48,12 +47,12 @@ add_statement-returns-in_default t c =
     record {
       count = omega (
         arith,
-        ap length c.in_ok-push_point.ensures,
+        ap length c.in_ok-push_statement.ensures,
         length-append {A = Point},
         points_plain c.args.callbacks.now c.args.statement.now (length c.args.found.now.items) c.args.after plain,
       );
-      points = added_plain c.args.callbacks.now c.args.statement.now c.args.found.now.items c.push_point.new.found.items c.len-at.result c.args.after
-          c.line.result c.instruction-instruction.result plain (omega arith) c.line.ensures c.instruction-instruction.ensures c.in_ok-push_point.ensures;
+      points = added_plain c.args.callbacks.now c.args.statement.now c.args.found.now.items c.push_statement.new.found.items c.args.after plain
+          c.in_ok-push_statement.ensures;
     }
 
 pub add_block-loop-statement-preserved : goal.add_block-loop-statement-preserved
