@@ -5,3 +5,4 @@ pub mod Outcomes
 pub mod Registrations
 pub mod SetLemmas
 pub mod Stays
+pub mod Unasked

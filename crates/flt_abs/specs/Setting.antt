@@ -56,3 +56,7 @@ setting_of g callback x =
       registered = is_registered g.callbacks here;
       all_registered = are_paired g.callbacks;
     }
+
+-- the same setting, as if no callback were registered
+abbrev pub unregistered : Setting → Setting
+unregistered s = record s { registered = false; all_registered = false }

@@ -27,6 +27,7 @@ use Rattle.flt_abs.specs.Sets.{StatusSet, null_alone, held_alone, stale_alone, n
 use Rattle.flt_abs.specs.Setting.{setting_of}
 use Rattle.flt_abs.specs.State.{State, is_below}
 use Rattle.flt_abs.specs.Variables.{context_in, operation_in, with_context, with_operation}
+use Rattle.flt_abs.specs.declared.setting.Setting.{Setting}
 use Rattle.flt_abs.specs.declared.step.Successor.{Successor}
 use Rattle.flt_abs.specs.declared.step.Successors.{Successors}
 
@@ -131,9 +132,11 @@ abbrev pub unless_broken : Option Rule → Successors → Result Successors Rule
 unless_broken (Some r) next = Err r
 unless_broken None next = Ok next
 
+abbrev pub outcome : Setting → State → Instruction → Result Successors Rule
+outcome s x i = unless_broken (first_broken s x i) (leads_to x i)
+
 abbrev pub transfer : Graph → ℕ → ℕ → State → Result Successors Rule
-transfer g callback point x =
-    let i = instruction_at g callback point in unless_broken (first_broken (setting_of g callback x) x i) (leads_to x i)
+transfer g callback point x = outcome (setting_of g callback x) x (instruction_at g callback point)
 
 -- ---- the order of where it leads
 

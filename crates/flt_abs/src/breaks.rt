@@ -5,7 +5,7 @@ ghost use Rattle.flt_abs.specs.Breaks as spec;
 ghost use Rattle.flt_abs.specs.Setting.{setting_of};
 
 use crate::sets::{Modes, Statuses};
-use crate::setting::{Setting, setting_of};
+use crate::setting::{Setting, setting_of, standing_of};
 use crate::state::Abs;
 use flt_graph::{
     Action, ContextVariable, Graph, Instruction, Invocation, LockNumber, OperationVariable, Place,
@@ -301,7 +301,8 @@ pub(crate) fn breaks(setting: &Setting, state: &Abs, instruction: &Instruction, 
 }
 
 /// The least rule that a statement breaks that neither calls nor branches.
-fn first_of_action(state: &Abs, action: Action) -> Option<Rule>
+#[inline(always)]
+pub(crate) fn first_of_action(state: &Abs, action: Action) -> Option<Rule>
     ensures { result ≡ find (spec.action_breaks state.now action) spec.rules }
 {
     if action_breaks(state, action, Rule::R01) {
@@ -316,12 +317,14 @@ fn first_of_action(state: &Abs, action: Action) -> Option<Rule>
 }
 
 /// The least rule that a test breaks.
-fn first_of_test(setting: &Setting, state: &Abs, test: Test) -> Option<Rule>
-    ensures { result ≡ find (spec.test_breaks setting.now state.now test) spec.rules }
+#[inline(always)]
+pub(crate) fn first_of_test(graph: &Graph, callback: usize, state: &Abs, test: Test) -> Option<Rule>
+    ensures { result ≡ find (spec.test_breaks (setting_of graph.now callback state.now) state.now test) spec.rules }
 {
-    if test_breaks(setting, state, test, Rule::R04) {
+    let setting = setting_of(graph, callback, state);
+    if test_breaks(&setting, state, test, Rule::R04) {
         Some(Rule::R04)
-    } else if test_breaks(setting, state, test, Rule::R08) {
+    } else if test_breaks(&setting, state, test, Rule::R08) {
         Some(Rule::R08)
     } else {
         None
@@ -329,6 +332,7 @@ fn first_of_test(setting: &Setting, state: &Abs, test: Test) -> Option<Rule>
 }
 
 /// The least rule that a call breaks, by its row of the call table.
+#[inline(always)]
 fn first_of_row(row: &Row, setting: &Setting, state: &Abs, call: &Invocation) -> Option<Rule>
     ensures { result ≡ find (spec.row_breaks row.now setting.now state.now call.now) spec.rules }
 {
@@ -355,49 +359,51 @@ fn first_of_row(row: &Row, setting: &Setting, state: &Abs, call: &Invocation) ->
     }
 }
 
-/// The least rule that a return, or the end of the body, breaks.
-fn first_of_return(setting: &Setting, state: &Abs, status: Option<Status>) -> Option<Rule>
-    ensures { result ≡ find (spec.return_breaks setting.now state.now status) spec.rules }
-{
-    if return_breaks(setting, state, status, Rule::R02) {
-        Some(Rule::R02)
-    } else if return_breaks(setting, state, status, Rule::R05) {
-        Some(Rule::R05)
-    } else if return_breaks(setting, state, status, Rule::R06) {
-        Some(Rule::R06)
-    } else if return_breaks(setting, state, status, Rule::R10) {
-        Some(Rule::R10)
-    } else if return_breaks(setting, state, status, Rule::R13) {
-        Some(Rule::R13)
-    } else if return_breaks(setting, state, status, Rule::R15) {
-        Some(Rule::R15)
-    } else {
-        None
-    }
-}
-
-/// The least rule that an instruction breaks in a state. The setting is read where a rule of the instruction speaks of it.
-pub(crate) fn first_broken(
+/// The least rule that a call of this row breaks. Which callbacks are registered is looked up for a call alone that hands over a
+/// status.
+#[tactic(auto, using(crate::proofs::Unasked::same_least))]
+#[inline(always)]
+pub(crate) fn first_of_call(
     graph: &Graph,
     callback: usize,
     state: &Abs,
-    instruction: &Instruction,
+    call: &Invocation,
+    row: &Row,
 ) -> Option<Rule>
-    ensures { result ≡ spec.first_broken (setting_of graph.now callback state.now) state.now instruction.now }
+    ensures { result ≡ find (spec.row_breaks row.now (setting_of graph.now callback state.now) state.now call.now) spec.rules }
 {
-    match instruction {
-        Instruction::Act(action, _) => first_of_action(state, *action),
-        Instruction::Call(call, _, _) => {
-            let setting = setting_of(graph, callback, state);
-            first_of_row(&row(call.call), &setting, state, call)
-        }
-        Instruction::Test(test, _, _) => {
-            first_of_test(&setting_of(graph, callback, state), state, *test)
-        }
-        Instruction::Repeat(_, _, _) => None,
-        Instruction::Return(status) => {
-            first_of_return(&setting_of(graph, callback, state), state, *status)
-        }
-        Instruction::End => first_of_return(&setting_of(graph, callback, state), state, None),
+    let setting = if row.needs.status {
+        setting_of(graph, callback, state)
+    } else {
+        standing_of(graph, callback, state)
+    };
+    first_of_row(row, &setting, state, call)
+}
+
+/// The least rule that a return, or the end of the body, breaks.
+#[inline(always)]
+pub(crate) fn first_of_return(
+    graph: &Graph,
+    callback: usize,
+    state: &Abs,
+    status: Option<Status>,
+) -> Option<Rule>
+    ensures { result ≡ find (spec.return_breaks (setting_of graph.now callback state.now) state.now status) spec.rules }
+{
+    let setting = setting_of(graph, callback, state);
+    if return_breaks(&setting, state, status, Rule::R02) {
+        Some(Rule::R02)
+    } else if return_breaks(&setting, state, status, Rule::R05) {
+        Some(Rule::R05)
+    } else if return_breaks(&setting, state, status, Rule::R06) {
+        Some(Rule::R06)
+    } else if return_breaks(&setting, state, status, Rule::R10) {
+        Some(Rule::R10)
+    } else if return_breaks(&setting, state, status, Rule::R13) {
+        Some(Rule::R13)
+    } else if return_breaks(&setting, state, status, Rule::R15) {
+        Some(Rule::R15)
+    } else {
+        None
     }
 }

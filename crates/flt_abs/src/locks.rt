@@ -92,8 +92,15 @@ impl LockList {
     {
         // Mostly no lock is held.
         if !(self.is_empty() && other.is_empty()) {
-            *self = other.copied();
+            self.copy_from(other);
         }
+    }
+
+    #[inline(never)]
+    fn copy_from(&mut self, other: &LockList)
+        ensures { self.new ≡ other.now }
+    {
+        *self = other.copied();
     }
 
     /// The same list.

@@ -100,6 +100,24 @@ pub(crate) fn setting_of(graph: &Graph, callback: usize, state: &Abs) -> Setting
     }
 }
 
+/// The same setting for one who doesn't ask which callbacks are registered.
+pub(crate) fn standing_of(graph: &Graph, callback: usize, state: &Abs) -> Setting
+    ensures { result ≡ spec.unregistered (spec.setting_of graph.now callback state.now) }
+{
+    let place = graph.place(callback);
+    let level = level_with(
+        graph.locks.as_slice(),
+        state.locks.as_slice(),
+        entry_level(place),
+    );
+    Setting {
+        place,
+        level,
+        registered: false,
+        all_registered: false,
+    }
+}
+
 /// A filter's graphs are registered as its callbacks are. It does nothing: its clauses are the law.
 #[tactic(auto, using(crate::proofs::Registrations::posts_agree, crate::proofs::Registrations::pairs_agree))]
 pub fn graphs_are_registered_alike()

@@ -1,18 +1,23 @@
 //! What an instruction makes of a state.
 
 ghost use Rattle.std.specs.Prelude.{◌≡◌, ℕ, true, false, None, Some, Ok, Err, IfSome, IfNone, IsTrue, IsFalse};
+ghost use Rattle.flt_abs.specs.Setting.{setting_of};
 ghost use Rattle.flt_abs.specs.Sets as sets;
 ghost use Rattle.flt_abs.specs.Step as spec;
 ghost use Rattle.flt_graph.specs.declared.graph.Graph.{Graph};
+ghost use Rattle.flt_graph.specs.declared.instruction.Instruction.TheVariants as variant;
+ghost use Rattle.flt_rules.specs.Table.{row as row_of};
 ghost use Rattle.flt_abs.specs.State.{State, is_below, is_proper};
 
-use crate::breaks::first_broken;
+use crate::breaks::{first_of_action, first_of_call, first_of_return, first_of_test};
 use crate::leads::Leads;
 use crate::locks::LockList;
 use crate::sets::{Draining, Modes, Statuses};
 use crate::state::Abs;
-use flt_graph::{Action, Graph, Instruction, Invocation, LockNumber, OperationVariable, Test};
-use flt_rules::{Change, Effects, LockChange, Rule, row};
+use flt_graph::{
+    Action, Graph, Instruction, Invocation, LockNumber, OperationVariable, Status, Test,
+};
+use flt_rules::{Change, Effects, LockChange, Row, Rule, row};
 
 /// A point that follows, from 0, and the state with which it is reached.
 #[derive(Drop)]
@@ -189,11 +194,31 @@ fn fail(state: &mut Abs, test: Test) -> bool
     true
 }
 
-/// Where a call leads.
-fn follow_call(leads: &mut Leads, state: &Abs, call: &Invocation, granted: usize, failed: usize)
+// ---- where an instruction leads, written over where the one before led
+
+/// Where a statement leads that neither calls nor branches.
+#[inline(always)]
+fn follow_action(leads: &mut Leads, state: &Abs, action: Action, next: usize)
+    ensures { leads.new ≡ record { first = spec.at next (Some (spec.after_action state.now action)); second = None } }
+{
+    leads.first.reach(next, state);
+    act(&mut leads.first.state, action);
+    leads.second.point = None;
+}
+
+/// Where a call of this row leads.
+#[inline(always)]
+fn follow_call(
+    leads: &mut Leads,
+    state: &Abs,
+    call: &Invocation,
+    row: &Row,
+    granted: usize,
+    failed: usize,
+)
+    requires { row.now ≡ row_of call.now.call }
     ensures { leads.new ≡ spec.call_successors state.now call.now granted failed }
 {
-    let row = row(call.call);
     leads.first.reach(granted, state);
     change_by(&mut leads.first.state, call, &row.on_ok);
     match row.on_fail {
@@ -206,6 +231,7 @@ fn follow_call(leads: &mut Leads, state: &Abs, call: &Invocation, granted: usize
 }
 
 /// Where a test leads.
+#[inline(always)]
 fn follow_test(leads: &mut Leads, state: &Abs, test: Test, yes: usize, no: usize)
     ensures { leads.new ≡ record { first = spec.at yes (spec.where_true state.now test); second = spec.at no (spec.where_false state.now test) } }
 {
@@ -220,27 +246,20 @@ fn follow_test(leads: &mut Leads, state: &Abs, test: Test, yes: usize, no: usize
 }
 
 /// Where an instruction leads from a state.
-pub(crate) fn follow(leads: &mut Leads, state: &Abs, instruction: &Instruction)
+fn follow(leads: &mut Leads, state: &Abs, instruction: &Instruction)
     ensures { leads.new ≡ spec.leads_to state.now instruction.now }
 {
     match instruction {
-        Instruction::Act(action, next) => {
-            leads.first.reach(*next, state);
-            act(&mut leads.first.state, *action);
-            leads.second.point = None;
-        }
+        Instruction::Act(action, next) => follow_action(leads, state, *action, *next),
         Instruction::Call(call, granted, failed) => {
-            follow_call(leads, state, call, *granted, *failed);
+            follow_call(leads, state, call, &row(call.call), *granted, *failed);
         }
         Instruction::Test(test, yes, no) => follow_test(leads, state, *test, *yes, *no),
         Instruction::Repeat(_, body, next) => {
             leads.first.reach(*body, state);
             leads.second.reach(*next, state);
         }
-        Instruction::Return(_) | Instruction::End => {
-            leads.first.point = None;
-            leads.second.point = None;
-        }
+        Instruction::Return(_) | Instruction::End => leads.clear(),
     }
 }
 
@@ -251,6 +270,73 @@ pub(crate) fn leads_to(state: &Abs, instruction: &Instruction) -> Successors
     let mut leads = Leads::none(state);
     follow(&mut leads, state, instruction);
     leads.into_successors()
+}
+
+// ---- the same, unless a rule is broken
+
+/// A call. Its row is looked up once.
+#[inline(never)]
+fn transfer_call(
+    graph: &Graph,
+    callback: usize,
+    state: &Abs,
+    leads: &mut Leads,
+    call: &Invocation,
+    granted: usize,
+    failed: usize,
+) -> Option<Rule>
+    ensures leads { IfNone result (spec.outcome (setting_of graph.now callback state.now) state.now (variant.Call call.now granted failed) ≡ Ok leads.new) }
+    ensures rule { IfSome result (λ rule. spec.outcome (setting_of graph.now callback state.now) state.now (variant.Call call.now granted failed) ≡ Err rule) }
+    ensures stays { IfSome result (λ _. leads.new ≡ leads.old) }
+{
+    let row = row(call.call);
+    let rule = first_of_call(graph, callback, state, call, &row);
+    if rule.is_none() {
+        follow_call(leads, state, call, &row, granted, failed);
+    }
+    rule
+}
+
+/// A test.
+#[inline(never)]
+fn transfer_test(
+    graph: &Graph,
+    callback: usize,
+    state: &Abs,
+    leads: &mut Leads,
+    test: Test,
+    yes: usize,
+    no: usize,
+) -> Option<Rule>
+    ensures leads { IfNone result (spec.outcome (setting_of graph.now callback state.now) state.now (variant.Test test yes no) ≡ Ok leads.new) }
+    ensures rule { IfSome result (λ rule. spec.outcome (setting_of graph.now callback state.now) state.now (variant.Test test yes no) ≡ Err rule) }
+    ensures stays { IfSome result (λ _. leads.new ≡ leads.old) }
+{
+    let rule = first_of_test(graph, callback, state, test);
+    if rule.is_none() {
+        follow_test(leads, state, test, yes, no);
+    }
+    rule
+}
+
+/// A return, or the end of the body.
+#[inline(never)]
+fn transfer_return(
+    graph: &Graph,
+    callback: usize,
+    state: &Abs,
+    leads: &mut Leads,
+    status: Option<Status>,
+) -> Option<Rule>
+    ensures leads { IfNone result (spec.outcome (setting_of graph.now callback state.now) state.now (variant.Return status) ≡ Ok leads.new) }
+    ensures rule { IfSome result (λ rule. spec.outcome (setting_of graph.now callback state.now) state.now (variant.Return status) ≡ Err rule) }
+    ensures stays { IfSome result (λ _. leads.new ≡ leads.old) }
+{
+    let rule = first_of_return(graph, callback, state, status);
+    if rule.is_none() {
+        leads.clear();
+    }
+    rule
 }
 
 /// What `transfer` answers, written over what `leads` had: the least rule that is broken, or none, and then `leads` has where the point
@@ -266,12 +352,28 @@ pub fn transfer_into(
     ensures rule { IfSome result (λ rule. spec.transfer graph.now callback point state.now ≡ Err rule) }
     ensures stays { IfSome result (λ _. leads.new ≡ leads.old) }
 {
-    let instruction = graph.instruction_ref(callback, point);
-    let rule = first_broken(graph, callback, state, instruction);
-    if rule.is_none() {
-        follow(leads, state, instruction);
+    match graph.instruction_ref(callback, point) {
+        Instruction::Act(action, next) => {
+            let rule = first_of_action(state, *action);
+            if rule.is_none() {
+                follow_action(leads, state, *action, *next);
+            }
+            rule
+        }
+        Instruction::Call(call, granted, failed) => {
+            transfer_call(graph, callback, state, leads, call, *granted, *failed)
+        }
+        Instruction::Test(test, yes, no) => {
+            transfer_test(graph, callback, state, leads, *test, *yes, *no)
+        }
+        Instruction::Repeat(_, body, next) => {
+            leads.first.reach(*body, state);
+            leads.second.reach(*next, state);
+            None
+        }
+        Instruction::Return(status) => transfer_return(graph, callback, state, leads, *status),
+        Instruction::End => transfer_return(graph, callback, state, leads, None),
     }
-    rule
 }
 
 /// Where the point of a callback leads from a state, or the least rule that it breaks. Callbacks and points count
