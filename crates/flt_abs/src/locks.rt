@@ -96,6 +96,7 @@ impl LockList {
         }
     }
 
+    /// The same, where a list isn't empty.
     #[inline(never)]
     fn copy_from(&mut self, other: &LockList)
         ensures { self.new ≡ other.now }

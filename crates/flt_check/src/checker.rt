@@ -26,13 +26,13 @@ fn lead_fault(state: &Abs, at: Option<&Abs>) -> Option<Rule>
     ensures { result ≡ spec.lead_fault state.now (option_copied at.entry) }
 {
     match at {
-        None => Some(Rule::R14),
+        Some(there) if leq(state, there) => None,
         Some(there) if !state.locks().is_same(there.locks()) => Some(Rule::R12),
-        Some(there) if !leq(state, there) => Some(Rule::R14),
-        Some(_) => None,
+        _ => Some(Rule::R14),
     }
 }
 
+#[inline(always)]
 fn successor_fault(cert: &Cert, callback: usize, lead: Option<(usize, &Abs)>) -> Option<Rule>
     ensures { result ≡ spec.successor_fault cert.now callback (lent lead.entry) }
 {
