@@ -192,6 +192,7 @@ impl Rows {
     }
 
     /// Makes room for an activation.
+    #[inline(always)]
     #[tactic(auto, using(crate::proofs::Counting::Rows::grown), unfolding(crate::specs::Rows::count_of))]
     fn grow(&mut self, activation: usize) -> Result<(), AllocError>
         ensures room { OnOk result (activation < length self.new.firsts) }
