@@ -79,15 +79,26 @@ impl Walk {
     /// # Errors
     ///
     /// The rule that this breaks: other locks were held there, or there is no such point.
-    #[tactic(auto, using(flt_abs::specs::LockLaws::same_locks_decides))]
+    #[inline(always)]
     fn reach(&mut self, lead: Option<(usize, &Abs)>) -> Result<(), Rule>
         requires few { length self.old.points ≤ 512 }
         ensures ok { OnOk result (spec.reach self.old (lent lead.entry) ≡ Ok self.new) }
         ensures err { IfErr result (λ r. spec.reach self.old (lent lead.entry) ≡ Err r) }
     {
-        let Some((point, state)) = lead else {
-            return Ok(());
-        };
+        match lead {
+            Some((point, state)) => self.reach_point(point, state),
+            None => Ok(()),
+        }
+    }
+
+    /// The same of the point and the state.
+    #[inline(never)]
+    #[tactic(auto, using(flt_abs::specs::LockLaws::same_locks_decides))]
+    fn reach_point(&mut self, point: usize, state: &Abs) -> Result<(), Rule>
+        requires few { length self.old.points ≤ 512 }
+        ensures ok { OnOk result (spec.reach self.old (Some (record { point = point; state = state.now })) ≡ Ok self.new) }
+        ensures err { IfErr result (λ r. spec.reach self.old (Some (record { point = point; state = state.now })) ≡ Err r) }
+    {
         if self.points.len() <= point {
             return Err(Rule::R14);
         }
