@@ -43,13 +43,16 @@ pub trait Pictures {
 /// How many bytes an input has at most.
 pub const MAX_INPUT: usize = 67_108_864;
 
+/// How many bytes there is room for from the start. Most texts and certificates are shorter, so that they aren't copied to grow.
+const FIRST_ROOM: usize = 65_536;
+
 /// All bytes that a reader has; none if a read fails, or if they are more than `MAX_INPUT`.
 pub fn read_within<R: Read>(alloc: Global, reader: &mut R) -> Result<Option<Vec<u8>>, AllocError>
     ensures all { IfOk result (λ found. IfSome found
         (λ v. Consumes (R.remaining reader.old) (R.remaining reader.new) v.items × IsAtEnd (R.remaining reader.new))) }
     ensures few { IfOk result (λ found. IfSome found (λ v. length v.items ≤ 67108864)) }
 {
-    let mut found = Vec::new(alloc);
+    let mut found = Vec::with_capacity(alloc, FIRST_ROOM)?;
     let mut buffer = [0u8; 4096];
     for _ in 0..u64::MAX {
         match reader.read(&mut buffer) {
