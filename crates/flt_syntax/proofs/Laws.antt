@@ -7,15 +7,23 @@ use Rattle.flt_syntax.specs.Spelling.{Spells, SpellsAtMostOne}
 use Rattle.flt_syntax.specs.declared.fault.ParseError.{ParseError}
 use Rattle.flt_syntax.specs.declared.fault.ParseError.TheVariants.{OutOfMemory, Syntax}
 use Rattle.flt_syntax.specs.declared.fault.SyntaxFault.{SyntaxFault}
+use Rattle.flt_tree.specs.WellFormed.{IsWellFormed}
 use Rattle.flt_tree.specs.declared.filter.Filter.{Filter}
 use Rattle.flt_tree.specs.declared.tree.Tree.{Tree}
 use Rattle.flt_syntax.proofs.CompleteFiles.{is_found}
+use Rattle.flt_syntax.proofs.FineFiles.{is_well_formed}
 use Rattle.flt_syntax.proofs.SoundFiles.{is_spelled, same_ok}
 
 pub spelled_result : (text : Text) (r : Result Tree ParseError) → IfOk r (λ t. filter_of text ≡ Ok t.filter) →
     IfOk r (λ t. Spells text t.filter)
 spelled_result text (Ok t) e = is_spelled text t.filter e
 spelled_result text (Err e) h = tt
+
+-- a tree that is read is well-formed
+pub well_formed_result : (text : Text) (r : Result Tree ParseError) → IfOk r (λ t. filter_of text ≡ Ok t.filter) →
+    IfOk r (λ t. IsWellFormed t.filter)
+well_formed_result text (Ok t) e = is_well_formed text t.filter (is_spelled text t.filter e)
+well_formed_result text (Err e) h = tt
 
 err_or_ok : (r : Result Filter SyntaxFault) (e : SyntaxFault) (f : Filter) → r ≡ Err e → r ≡ Ok f → ⊥
 err_or_ok r e f h l = cc

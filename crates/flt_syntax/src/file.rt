@@ -5,6 +5,7 @@ ghost use Rattle.flt_syntax.specs.Lex.{tokens};
 ghost use Rattle.flt_tree.specs.Measures.{is_small, are_small};
 ghost use Rattle.flt_syntax.specs.File as spec;
 ghost use Rattle.flt_tree.specs.Names.{lock_names, names_of, routine_names};
+ghost use Rattle.flt_tree.specs.WellFormed.{IsWellFormed};
 ghost use Rattle.flt_syntax.specs.Scope.{scope_of};
 ghost use Rattle.flt_syntax.specs.Spelling.{Spells, SpelledIsWellFormed, SpellsAtMostOne};
 ghost use Rattle.std.specs.List.{list_all};
@@ -237,10 +238,11 @@ fn read_text(alloc: Global, text: &[u8]) -> Result<Tree, ParseError>
     }
 }
 
-/// The tree that a text spells, or its first fault.
+/// The tree that a text spells, which is well-formed, or its first fault.
 #[tactic(auto, using(crate::proofs::Laws::spelled_result))]
 pub fn parse(alloc: Global, text: &[u8]) -> Result<Tree, ParseError>
     ensures spelled { IfOk result (λ t. Spells text.now t.filter) }
+    ensures well_formed { IfOk result (λ t. IsWellFormed t.filter) }
     ensures read { (f : Filter) → Spells text.now f → MatchResult result (λ t. t.filter ≡ f) (λ e. e ≡ ParseError.OutOfMemory) }
     ensures value { IfOk result (λ t. spec.filter_of text.now ≡ Ok t.filter) }
     ensures fault { IfErr result (spec.IsFaultOf (spec.filter_of text.now)) }
