@@ -19,5 +19,7 @@ pub use committing::Commit;
 pub use events::Events;
 pub use fault::ApplyFault;
 pub use flt_frame::{Advanced, Frame, Loaded, LoadedFault, advance};
+/// How an operation ended at its lowest point.
+pub use flt_store::Outcome;
 /// What a call answers that was refused memory.
 pub use std::alloc::AllocError as OutOfMemory;
