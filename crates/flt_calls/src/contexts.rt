@@ -7,7 +7,7 @@ ghost use Rattle.flt_model.specs.Effects as effects;
 ghost use Rattle.flt_model.specs.World as machine;
 ghost use Rattle.flt_calls.specs.Plans.{IsPlanned, Plans, world_of};
 ghost use Rattle.flt_calls.specs.Own.{AreOwn};
-ghost use Rattle.flt_store.specs.Changes.{AreCounted, IsPossible};
+ghost use Rattle.flt_store.specs.Changes.{AreCounted, IsPossible, cancels_entries};
 ghost use Rattle.flt_tree.specs.declared.filter.Statement.{Statement};
 
 use crate::caller::Caller;
@@ -105,6 +105,7 @@ fn allocated(
         then calls.allocated (world_of store.now actors acts) caller.now.activation output granted (length store.now.contexts)
         else effects.gives_nothing (world_of store.now actors acts) caller.now.activation (Some output) refused)) }
     ensures possible { IfOk result (λ plan. AreCounted store.now → IsPossible store.now plan.change) }
+    ensures few { IfOk result (λ plan. cancels_entries plan.change ≡ false) }
 {
     if grant {
         let number = store.contexts();
@@ -137,6 +138,7 @@ pub(crate) fn allocate(
         (λ w granted refused. calls.allocate w caller.now.activation output grant granted refused)) }
     ensures own { IfOk result (λ plan. AreOwn caller.now.activation plan.events) }
     ensures possible { IfOk result (λ plan. AreCounted store.now → IsPossible store.now plan.change) }
+    ensures few { IfOk result (λ plan. cancels_entries plan.change ≡ false) }
 {
     let mut events = Vec::new(alloc);
     events.push(Event::Call(caller.activation, Call::AllocateContext))?;
@@ -158,6 +160,7 @@ fn got(
         IsPlanned (world_of store.now actors acts) a plan events.items granted refused
         (calls.got (world_of store.now actors acts) a output granted refused there)) }
     ensures possible { IfOk result (λ plan. AreCounted store.now → IsPossible store.now plan.change) }
+    ensures few { IfOk result (λ plan. cancels_entries plan.change ≡ false) }
 {
     match there {
         None => Ok(made_plan(
@@ -191,6 +194,7 @@ fn get_by(
         (calls.get_by (world_of store.now actors acts) at.activation output granted refused
         (option_map (λ k. record { filter = at.filter; key = k }) at.key))) }
     ensures possible { IfOk result (λ plan. AreCounted store.now → IsPossible store.now plan.change) }
+    ensures few { IfOk result (λ plan. cancels_entries plan.change ≡ false) }
 {
     match at.key {
         None => Ok(made_plan(events, false, Write::Nothing, Change::Nothing)),
@@ -213,6 +217,7 @@ pub(crate) fn get(
         (λ w granted refused. calls.get w caller.now.activation on output granted refused)) }
     ensures own { IfOk result (λ plan. AreOwn caller.now.activation plan.events) }
     ensures possible { IfOk result (λ plan. AreCounted store.now → IsPossible store.now plan.change) }
+    ensures few { IfOk result (λ plan. cancels_entries plan.change ≡ false) }
 {
     let a = caller.activation;
     let given = caller.standing.operation(OperationVariable::Data);
@@ -257,6 +262,7 @@ fn kept(
         IsPlanned (world_of store.now actors acts) a plan events.items granted refused
         (calls.kept (world_of store.now actors acts) a old refused y)) }
     ensures possible { IfOk result (λ plan. AreCounted store.now → IsPossible store.now plan.change) }
+    ensures few { IfOk result (λ plan. cancels_entries plan.change ≡ false) }
 {
     match old {
         None => Ok(made_plan(events, false, Write::Nothing, Change::Nothing)),
@@ -289,6 +295,7 @@ fn set_there(
     ensures possible { IfOk result (λ plan. (machine.is_attached (machine.presence_at store.now link.filter) ≡ true) →
         (is_some (machine.context_at store.now link.context).link || machine.is_freed (machine.context_at store.now link.context)) ≡ false →
         AreCounted store.now → IsPossible store.now plan.change) }
+    ensures few { IfOk result (λ plan. cancels_entries plan.change ≡ false) }
 {
     match store.linked_at(link.filter, link.key) {
         None => Ok(made_plan(
@@ -326,6 +333,7 @@ fn set_by(
         (calls.set_by (world_of store.now actors acts) at.activation set.existing set.old granted refused named
         (option_map (λ k. record { filter = at.filter; key = k }) at.key))) }
     ensures possible { IfOk result (λ plan. AreCounted store.now → IsPossible store.now plan.change) }
+    ensures few { IfOk result (λ plan. cancels_entries plan.change ≡ false) }
 {
     match (named, at.key) {
         (Some(context), Some(key)) => {
@@ -376,6 +384,7 @@ pub(crate) fn set_context(
         (λ w granted refused. calls.set_context w caller.now.activation on existing context old granted refused)) }
     ensures own { IfOk result (λ plan. AreOwn caller.now.activation plan.events) }
     ensures possible { IfOk result (λ plan. AreCounted store.now → IsPossible store.now plan.change) }
+    ensures few { IfOk result (λ plan. cancels_entries plan.change ≡ false) }
 {
     let a = caller.activation;
     let named = caller.standing.context(context);
@@ -407,6 +416,7 @@ fn unlinked(
         IsPlanned (world_of store.now actors acts) a plan events.items granted refused
         (calls.unlinked (world_of store.now actors acts) a old granted refused there)) }
     ensures possible { IfOk result (λ plan. AreCounted store.now → IsPossible store.now plan.change) }
+    ensures few { IfOk result (λ plan. cancels_entries plan.change ≡ false) }
 {
     match there {
         None => Ok(made_plan(events, false, Write::Output(old, None), Change::Nothing)),
@@ -435,6 +445,7 @@ fn delete_by(
         (calls.delete_by (world_of store.now actors acts) at.activation old granted refused
         (option_map (λ k. record { filter = at.filter; key = k }) at.key))) }
     ensures possible { IfOk result (λ plan. AreCounted store.now → IsPossible store.now plan.change) }
+    ensures few { IfOk result (λ plan. cancels_entries plan.change ≡ false) }
 {
     match at.key {
         None => Ok(made_plan(events, false, Write::Nothing, Change::Nothing)),
@@ -457,6 +468,7 @@ pub(crate) fn delete_at(
         (λ w granted refused. calls.delete_at w caller.now.activation on old granted refused)) }
     ensures own { IfOk result (λ plan. AreOwn caller.now.activation plan.events) }
     ensures possible { IfOk result (λ plan. AreCounted store.now → IsPossible store.now plan.change) }
+    ensures few { IfOk result (λ plan. cancels_entries plan.change ≡ false) }
 {
     let a = caller.activation;
     let given = caller.standing.operation(OperationVariable::Data);
@@ -483,6 +495,7 @@ fn deleted(
         IsPlanned (world_of store.now actors acts) a plan events.items granted refused
         (calls.deleted (world_of store.now actors acts) a granted named)) }
     ensures possible { IfOk result (λ plan. AreCounted store.now → IsPossible store.now plan.change) }
+    ensures few { IfOk result (λ plan. cancels_entries plan.change ≡ false) }
 {
     match named {
         Some(x) if store.is_linked(x) => {
@@ -504,6 +517,7 @@ pub(crate) fn delete(
         (λ w granted refused. calls.delete w caller.now.activation context granted)) }
     ensures own { IfOk result (λ plan. AreOwn caller.now.activation plan.events) }
     ensures possible { IfOk result (λ plan. AreCounted store.now → IsPossible store.now plan.change) }
+    ensures few { IfOk result (λ plan. cancels_entries plan.change ≡ false) }
 {
     let a = caller.activation;
     let named = caller.standing.context(context);
@@ -528,6 +542,7 @@ fn referenced(
         IsPlanned (world_of store.now actors acts) a plan events.items granted refused
         (calls.referenced (world_of store.now actors acts) a output granted named)) }
     ensures possible { IfOk result (λ plan. AreCounted store.now → IsPossible store.now plan.change) }
+    ensures few { IfOk result (λ plan. cancels_entries plan.change ≡ false) }
 {
     match named {
         None => Ok(made_plan(events, true, Write::Nothing, Change::Nothing)),
@@ -555,6 +570,7 @@ pub(crate) fn reference(
         (λ w granted refused. calls.reference w caller.now.activation context output granted)) }
     ensures own { IfOk result (λ plan. AreOwn caller.now.activation plan.events) }
     ensures possible { IfOk result (λ plan. AreCounted store.now → IsPossible store.now plan.change) }
+    ensures few { IfOk result (λ plan. cancels_entries plan.change ≡ false) }
 {
     let a = caller.activation;
     let named = caller.standing.context(context);
@@ -576,6 +592,7 @@ fn released(
         IsPlanned (world_of store.now actors acts) a plan events.items granted refused
         (calls.released (world_of store.now actors acts) a granted named)) }
     ensures possible { IfOk result (λ plan. AreCounted store.now → IsPossible store.now plan.change) }
+    ensures few { IfOk result (λ plan. cancels_entries plan.change ≡ false) }
 {
     match named {
         None => Ok(made_plan(events, true, Write::Nothing, Change::Nothing)),
@@ -598,6 +615,7 @@ pub(crate) fn release(
         (λ w granted refused. calls.release w caller.now.activation context granted)) }
     ensures own { IfOk result (λ plan. AreOwn caller.now.activation plan.events) }
     ensures possible { IfOk result (λ plan. AreCounted store.now → IsPossible store.now plan.change) }
+    ensures few { IfOk result (λ plan. cancels_entries plan.change ≡ false) }
 {
     let a = caller.activation;
     let named = caller.standing.context(context);

@@ -1,13 +1,13 @@
 //! Calls on locks.
 
-ghost use Rattle.std.specs.Prelude.{◌≡◌, List, IfOk};
+ghost use Rattle.std.specs.Prelude.{◌≡◌, List, IfOk, false};
 ghost use Rattle.flt_model.specs.Calls as calls;
 ghost use Rattle.flt_model.specs.World as machine;
 ghost use Rattle.flt_rules.specs.Held as rules;
 ghost use Rattle.flt_calls.specs.Following.{Follows};
 ghost use Rattle.flt_calls.specs.Plans.{Plans};
 ghost use Rattle.flt_calls.specs.Own.{AreOwn};
-ghost use Rattle.flt_store.specs.Changes.{AreCounted, IsPossible};
+ghost use Rattle.flt_store.specs.Changes.{AreCounted, IsPossible, cancels_entries};
 
 use crate::caller::Caller;
 use crate::plans::{Plan, Write, made_plan};
@@ -29,6 +29,7 @@ fn taken(caller: &Caller, lock: LockNumber, access: Access, events: Vec<Event>) 
         (λ w granted refused. calls.taken w caller.now.activation lock access granted) }
     ensures events { result.events ≡ events.items }
     ensures possible { (s : machine.Store) → IsPossible s result.change }
+    ensures few { cancels_entries result.change ≡ false }
 {
     let a = caller.activation;
     if holds_lock(lock, &caller.standing.locks) {
@@ -49,6 +50,7 @@ fn given_up(caller: &Caller, lock: LockNumber, events: Vec<Event>) -> Plan
         (λ w granted refused. calls.given_up w caller.now.activation lock granted) }
     ensures events { result.events ≡ events.items }
     ensures possible { (s : machine.Store) → IsPossible s result.change }
+    ensures few { cancels_entries result.change ≡ false }
 {
     let a = caller.activation;
     if holds_lock(lock, &caller.standing.locks) {
@@ -75,6 +77,7 @@ pub(crate) fn acquire(
         (λ w granted refused. calls.acquire w caller.now.activation kind lock granted)) }
     ensures own { IfOk result (λ plan. AreOwn caller.now.activation plan.events) }
     ensures possible { IfOk result (λ plan. AreCounted store.now → IsPossible store.now plan.change) }
+    ensures few { IfOk result (λ plan. cancels_entries plan.change ≡ false) }
 {
     let _ = store;
     let a = caller.activation;
@@ -95,6 +98,7 @@ pub(crate) fn acquire_shared(
         (λ w granted refused. calls.acquire_shared w caller.now.activation lock granted)) }
     ensures own { IfOk result (λ plan. AreOwn caller.now.activation plan.events) }
     ensures possible { IfOk result (λ plan. AreCounted store.now → IsPossible store.now plan.change) }
+    ensures few { IfOk result (λ plan. cancels_entries plan.change ≡ false) }
 {
     let _ = store;
     let a = caller.activation;
@@ -116,6 +120,7 @@ pub(crate) fn release_lock(
         (λ w granted refused. calls.release_lock w caller.now.activation kind lock granted)) }
     ensures own { IfOk result (λ plan. AreOwn caller.now.activation plan.events) }
     ensures possible { IfOk result (λ plan. AreCounted store.now → IsPossible store.now plan.change) }
+    ensures few { IfOk result (λ plan. cancels_entries plan.change ≡ false) }
 {
     let _ = store;
     let a = caller.activation;

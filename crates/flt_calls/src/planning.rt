@@ -13,7 +13,7 @@ ghost use Rattle.flt_model.specs.Program.{callbacks_at};
 ghost use Rattle.flt_model.specs.Steps as steps;
 ghost use Rattle.flt_model.specs.World as machine;
 ghost use Rattle.flt_model.specs.declared.event.Event.{Event};
-ghost use Rattle.flt_store.specs.Changes.{AreCounted, IsPossible};
+ghost use Rattle.flt_store.specs.Changes.{AreCounted, IsPossible, cancels_entries};
 ghost use Rattle.flt_store.specs.declared.change.Change.TheVariants.{Nothing};
 ghost use Rattle.flt_tree.specs.declared.filter.FallibleCall.{FallibleCall};
 ghost use Rattle.flt_tree.specs.declared.filter.Filter.{Filter};
@@ -55,6 +55,7 @@ fn plan_action(
     ensures takes { IfOk result (λ plan. TakesNone caller.now.standing.locks plan.write) }
     ensures own { IfOk result (λ plan. AreOwn caller.now.activation plan.events) }
     ensures possible { IfOk result (λ plan. AreCounted store.now → IsPossible store.now plan.change) }
+    ensures few { IfOk result (λ plan. cancels_entries plan.change ≡ false) }
 {
     match action {
         Action::ReadValue(number, context) => {
@@ -80,6 +81,7 @@ fn plan_test(alloc: Global, store: &Store, caller: &Caller, test: Test) -> Resul
     ensures takes { IfOk result (λ plan. TakesNone caller.now.standing.locks plan.write) }
     ensures own { IfOk result (λ plan. AreOwn caller.now.activation plan.events) }
     ensures possible { IfOk result (λ plan. AreCounted store.now → IsPossible store.now plan.change) }
+    ensures few { IfOk result (λ plan. cancels_entries plan.change ≡ false) }
 {
     match test {
         Test::IsIrp => reads::test_irp(alloc, store, caller),
@@ -100,6 +102,7 @@ fn plan_plain(
     ensures takes { IfOk result (λ plan. TakesNone caller.now.standing.locks plan.write) }
     ensures own { IfOk result (λ plan. AreOwn caller.now.activation plan.events) }
     ensures possible { IfOk result (λ plan. AreCounted store.now → IsPossible store.now plan.change) }
+    ensures few { IfOk result (λ plan. cancels_entries plan.change ≡ false) }
 {
     match call {
         PlainCall::DeleteContext(context) => contexts::delete(alloc, store, caller, context),
@@ -134,6 +137,7 @@ fn plan_asked(
     ensures planned { IfOk result (λ plan. Plans store.now caller.now plan (λ w granted refused. spec.asked_step w caller.now.activation grant granted refused asked)) }
     ensures own { IfOk result (λ plan. AreOwn caller.now.activation plan.events) }
     ensures possible { IfOk result (λ plan. AreCounted store.now → IsPossible store.now plan.change) }
+    ensures few { IfOk result (λ plan. cancels_entries plan.change ≡ false) }
 {
     match asked {
         Asked::Allocate(output) => contexts::allocate(alloc, store, caller, output, grant),
@@ -173,6 +177,7 @@ fn plan_call(
     ensures takes { IfOk result (λ plan. TakesNone caller.now.standing.locks plan.write) }
     ensures own { IfOk result (λ plan. AreOwn caller.now.activation plan.events) }
     ensures possible { IfOk result (λ plan. AreCounted store.now → IsPossible store.now plan.change) }
+    ensures few { IfOk result (λ plan. cancels_entries plan.change ≡ false) }
 {
     if let Some(call) = plain_by(made) {
         return plan_plain(alloc, loaded, store, caller, call);
@@ -205,6 +210,7 @@ pub fn plan_step(
     ensures takes { IfOk result (λ plan. TakesNone caller.now.standing.locks plan.write) }
     ensures own { IfOk result (λ plan. AreOwn caller.now.activation plan.events) }
     ensures possible { IfOk result (λ plan. AreCounted store.now → IsPossible store.now plan.change) }
+    ensures few { IfOk result (λ plan. cancels_entries plan.change ≡ false) }
 {
     standings_have_points();
     let standing = &caller.standing;

@@ -1,6 +1,6 @@
 //! Calls on the cancel-safe queue and on work items: what is handed over is no longer held, whether it was held or not.
 
-ghost use Rattle.std.specs.Prelude.{◌≡◌, ◌++◌, [], List, IfOk, OnOk, if◌then◌else◌};
+ghost use Rattle.std.specs.Prelude.{◌≡◌, ◌++◌, [], List, IfOk, OnOk, if◌then◌else◌, false};
 ghost use Rattle.flt_model.specs.Calls as calls;
 ghost use Rattle.flt_model.specs.Effects as effects;
 ghost use Rattle.flt_model.specs.Variables as variables;
@@ -9,7 +9,7 @@ ghost use Rattle.flt_frame.specs.Standings.{activation_with};
 ghost use Rattle.flt_calls.specs.Following.{Follows};
 ghost use Rattle.flt_calls.specs.Plans.{Plans};
 ghost use Rattle.flt_calls.specs.Own.{AreOwn};
-ghost use Rattle.flt_store.specs.Changes.{AreCounted, IsPossible};
+ghost use Rattle.flt_store.specs.Changes.{AreCounted, IsPossible, cancels_entries};
 ghost use Rattle.flt_tree.specs.declared.variable.OperationVariable.TheVariants.{Data};
 
 use crate::caller::Caller;
@@ -71,6 +71,7 @@ fn enqueued(
     ensures planned { IfOk result (λ plan. Follows store.now caller.now events.items plan
         (λ w granted refused. calls.enqueued w caller.now.activation granted refused visit context)) }
     ensures possible { IfOk result (λ plan. IsPossible store.now plan.change) }
+    ensures few { IfOk result (λ plan. cancels_entries plan.change ≡ false) }
 {
     if store.is_attached(caller.filter) {
         events.push(Event::Lose(caller.activation, Object::Visit(visit)))?;
@@ -96,6 +97,7 @@ fn insert_by(
     ensures planned { IfOk result (λ plan. Follows store.now caller.now events.items plan
         (λ w granted refused. calls.insert_by w caller.now.activation granted refused handed.visit handed.context)) }
     ensures possible { IfOk result (λ plan. IsPossible store.now plan.change) }
+    ensures few { IfOk result (λ plan. cancels_entries plan.change ≡ false) }
 {
     match (handed.visit, handed.context) {
         (None, _) | (Some(_), Some(None)) => {
@@ -120,6 +122,7 @@ fn removed(
         (λ w granted refused. calls.removed w caller.now.activation operation output granted refused
         (machine.queue_at store.now caller.now.filter))) }
     ensures possible { IfOk result (λ plan. IsPossible store.now plan.change) }
+    ensures few { IfOk result (λ plan. cancels_entries plan.change ≡ false) }
 {
     match store.front(caller.filter) {
         None => Ok(made_plan(
@@ -162,6 +165,7 @@ fn deferred(
         (λ w granted refused. if asked.grant then calls.deferred w caller.now.activation asked.routine granted visit context
         else effects.unchanged w caller.now.activation refused)) }
     ensures possible { IfOk result (λ plan. (s : machine.Store) → IsPossible s plan.change) }
+    ensures few { IfOk result (λ plan. cancels_entries plan.change ≡ false) }
 {
     if asked.grant {
         events.push(Event::Lose(caller.activation, Object::Visit(visit)))?;
@@ -184,6 +188,7 @@ fn defer_by(
         (λ w granted refused. calls.defer_by w caller.now.activation asked.routine asked.grant granted refused
         handed.visit handed.context)) }
     ensures possible { IfOk result (λ plan. (s : machine.Store) → IsPossible s plan.change) }
+    ensures few { IfOk result (λ plan. cancels_entries plan.change ≡ false) }
 {
     match (handed.visit, handed.context) {
         (None, _) | (Some(_), Some(None)) => {
@@ -207,6 +212,7 @@ fn queued(
         (λ w granted refused. if asked.grant then calls.queued w caller.now.activation asked.routine granted context
         else effects.unchanged w caller.now.activation refused)) }
     ensures possible { IfOk result (λ plan. (s : machine.Store) → IsPossible s plan.change) }
+    ensures few { IfOk result (λ plan. cancels_entries plan.change ≡ false) }
 {
     if asked.grant {
         lose_context(caller.activation, context, &mut events)?;
@@ -227,6 +233,7 @@ fn queue_by(
     ensures planned { IfOk result (λ plan. (s : machine.Store) → Follows s caller.now events.items plan
         (λ w granted refused. calls.queue_by w caller.now.activation asked.routine asked.grant granted refused named)) }
     ensures possible { IfOk result (λ plan. (s : machine.Store) → IsPossible s plan.change) }
+    ensures few { IfOk result (λ plan. cancels_entries plan.change ≡ false) }
 {
     match named {
         Some(None) => Ok(made_plan(events, false, Write::Nothing, Change::Nothing)),
@@ -248,6 +255,7 @@ pub(crate) fn insert(
         (λ w granted refused. calls.insert w caller.now.activation context granted refused)) }
     ensures own { IfOk result (λ plan. AreOwn caller.now.activation plan.events) }
     ensures possible { IfOk result (λ plan. AreCounted store.now → IsPossible store.now plan.change) }
+    ensures few { IfOk result (λ plan. cancels_entries plan.change ≡ false) }
 {
     let handed = handed(&caller.standing, context);
     let mut events = Vec::new(alloc);
@@ -268,6 +276,7 @@ pub(crate) fn remove_next(
         (λ w granted refused. calls.remove_next w caller.now.activation operation output granted refused)) }
     ensures own { IfOk result (λ plan. AreOwn caller.now.activation plan.events) }
     ensures possible { IfOk result (λ plan. AreCounted store.now → IsPossible store.now plan.change) }
+    ensures few { IfOk result (λ plan. cancels_entries plan.change ≡ false) }
 {
     let mut events = Vec::new(alloc);
     events.push(Event::Call(caller.activation, Call::RemoveNextIo))?;
@@ -287,6 +296,7 @@ pub(crate) fn queue_deferred(
         (λ w granted refused. calls.queue_deferred w caller.now.activation routine context grant granted refused)) }
     ensures own { IfOk result (λ plan. AreOwn caller.now.activation plan.events) }
     ensures possible { IfOk result (λ plan. AreCounted store.now → IsPossible store.now plan.change) }
+    ensures few { IfOk result (λ plan. cancels_entries plan.change ≡ false) }
 {
     let _ = store;
     let handed = handed(&caller.standing, context);
@@ -309,6 +319,7 @@ pub(crate) fn queue_generic(
         (λ w granted refused. calls.queue_generic w caller.now.activation routine context grant granted refused)) }
     ensures own { IfOk result (λ plan. AreOwn caller.now.activation plan.events) }
     ensures possible { IfOk result (λ plan. AreCounted store.now → IsPossible store.now plan.change) }
+    ensures few { IfOk result (λ plan. cancels_entries plan.change ≡ false) }
 {
     let _ = store;
     let named = named(&caller.standing, context);

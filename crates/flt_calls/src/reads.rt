@@ -1,13 +1,13 @@
 //! Reads and writes that others see and that are no calls: the value of a context, the file of an operation, and whether it is an I/O
 //! request packet. A variable that is NULL leaves all as it is, and the test then fails.
 
-ghost use Rattle.std.specs.Prelude.{◌≡◌, List, IfOk, get_or};
+ghost use Rattle.std.specs.Prelude.{◌≡◌, List, IfOk, get_or, false};
 ghost use Rattle.flt_model.specs.Reads as reads;
 ghost use Rattle.flt_model.specs.Variables.{atom_value};
 ghost use Rattle.flt_model.specs.World as machine;
 ghost use Rattle.flt_calls.specs.Plans.{IsPlanned, Plans, world_of};
 ghost use Rattle.flt_calls.specs.Own.{AreOwn};
-ghost use Rattle.flt_store.specs.Changes.{AreCounted, IsPossible};
+ghost use Rattle.flt_store.specs.Changes.{AreCounted, IsPossible, cancels_entries};
 ghost use Rattle.flt_tree.specs.declared.filter.Statement.{Statement};
 
 use crate::caller::Caller;
@@ -30,6 +30,7 @@ fn value_read(
         IsPlanned (world_of store.now actors acts) a result events.items granted refused
         (reads.read_value_of (world_of store.now actors acts) a number granted context) }
     ensures possible { AreCounted store.now → IsPossible store.now result.change }
+    ensures few { cancels_entries result.change ≡ false }
 {
     let write = match context {
         Some(context) => Write::Number(number, store.value(context)),
@@ -50,6 +51,7 @@ pub(crate) fn read_value(
         (λ w granted refused. reads.read_value w caller.now.activation number context granted)) }
     ensures own { IfOk result (λ plan. AreOwn caller.now.activation plan.events) }
     ensures possible { IfOk result (λ plan. AreCounted store.now → IsPossible store.now plan.change) }
+    ensures few { IfOk result (λ plan. cancels_entries plan.change ≡ false) }
 {
     let a = caller.activation;
     let named = caller.standing.context(context);
@@ -70,6 +72,7 @@ fn file_read(
         IsPlanned (world_of store.now actors acts) a result events.items granted refused
         (reads.read_file_of (world_of store.now actors acts) a number granted visit) }
     ensures possible { AreCounted store.now → IsPossible store.now result.change }
+    ensures few { cancels_entries result.change ≡ false }
 {
     let write = match visit {
         Some(visit) => Write::Number(number, u64::from(store.arrival_of(visit).file)),
@@ -90,6 +93,7 @@ pub(crate) fn read_file(
         (λ w granted refused. reads.read_file w caller.now.activation number operation granted)) }
     ensures own { IfOk result (λ plan. AreOwn caller.now.activation plan.events) }
     ensures possible { IfOk result (λ plan. AreCounted store.now → IsPossible store.now plan.change) }
+    ensures few { IfOk result (λ plan. cancels_entries plan.change ≡ false) }
 {
     let a = caller.activation;
     let visit = caller.standing.operation(operation);
@@ -118,6 +122,7 @@ fn value_written(
         IsPlanned (world_of store.now actors acts) a result events.items granted refused
         (reads.write_value_of (world_of store.now actors acts) a written.atom granted context) }
     ensures possible { AreCounted store.now → IsPossible store.now result.change }
+    ensures few { cancels_entries result.change ≡ false }
 {
     let change = match context {
         Some(context) => Change::Write(context, written.value),
@@ -138,6 +143,7 @@ pub(crate) fn write_value(
         (λ w granted refused. reads.write_value w caller.now.activation context value granted)) }
     ensures own { IfOk result (λ plan. AreOwn caller.now.activation plan.events) }
     ensures possible { IfOk result (λ plan. AreCounted store.now → IsPossible store.now plan.change) }
+    ensures few { IfOk result (λ plan. cancels_entries plan.change ≡ false) }
 {
     let a = caller.activation;
     let named = caller.standing.context(context);
@@ -156,6 +162,7 @@ fn irp_tested(store: &Store, a: usize, visit: Option<usize>, events: Vec<Event>)
         IsPlanned (world_of store.now actors acts) a result events.items granted refused
         (reads.test_irp_of (world_of store.now actors acts) a granted refused visit) }
     ensures possible { AreCounted store.now → IsPossible store.now result.change }
+    ensures few { cancels_entries result.change ≡ false }
 {
     let holds = match visit {
         Some(visit) => store.arrival_of(visit).mode.is_irp(),
@@ -170,6 +177,7 @@ pub(crate) fn test_irp(alloc: Global, store: &Store, caller: &Caller) -> Result<
         (λ w granted refused. reads.test_irp w caller.now.activation granted refused)) }
     ensures own { IfOk result (λ plan. AreOwn caller.now.activation plan.events) }
     ensures possible { IfOk result (λ plan. AreCounted store.now → IsPossible store.now plan.change) }
+    ensures few { IfOk result (λ plan. cancels_entries plan.change ≡ false) }
 {
     let a = caller.activation;
     let visit = caller.standing.operation(OperationVariable::Data);

@@ -1,6 +1,6 @@
 //! Calls that complete an operation, and the end of a callback.
 
-ghost use Rattle.std.specs.Prelude.{◌≡◌, true, ◌++◌, [], List, Some, IfOk, OnOk, nat_lt, option_map};
+ghost use Rattle.std.specs.Prelude.{◌≡◌, true, ◌++◌, [], List, Some, IfOk, OnOk, nat_lt, option_map, false};
 ghost use Rattle.flt_rules.specs.Place.{answers};
 ghost use Rattle.flt_rules.specs.declared.held.HeldLock.{HeldLock};
 ghost use Rattle.flt_model.specs.Calls as calls;
@@ -24,7 +24,7 @@ ghost use Rattle.flt_calls.specs.Completing.{IsSettledBy, completes, completion_
 ghost use Rattle.flt_calls.specs.Returning.{IsReturning, context_told, status_told, visit_told};
 ghost use Rattle.flt_calls.specs.Own.{AreOwn};
 ghost use Rattle.flt_ops.specs.Parts as parts;
-ghost use Rattle.flt_store.specs.Changes.{AreCounted, IsPossible};
+ghost use Rattle.flt_store.specs.Changes.{AreCounted, IsPossible, cancels_entries};
 
 use crate::caller::Caller;
 use crate::effects::{Named, context, lose_context, need, need_named};
@@ -120,6 +120,7 @@ fn plan_completion(
         IsPlanned (world_of store.now actors acts) a plan [] granted refused (completes (world_of store.now actors acts) a completion granted)) }
     ensures takes { IfOk result (λ plan. (locks : List HeldLock) → TakesNone locks plan.write) }
     ensures possible { IfOk result (λ plan. IsPossible store.now plan.change) }
+    ensures few { IfOk result (λ plan. cancels_entries plan.change ≡ false) }
 {
     let mut events = Vec::new(alloc);
     tell_completion(a, completion, &mut events)?;
@@ -202,6 +203,7 @@ pub(crate) fn complete_pre(
     ensures takes { IfOk result (λ plan. TakesNone caller.now.standing.locks plan.write) }
     ensures own { IfOk result (λ plan. AreOwn caller.now.activation plan.events) }
     ensures possible { IfOk result (λ plan. AreCounted store.now → IsPossible store.now plan.change) }
+    ensures few { IfOk result (λ plan. cancels_entries plan.change ≡ false) }
 {
     let named = Named {
         visit: caller.standing.operation(operation),
@@ -229,6 +231,7 @@ pub(crate) fn complete_post(
     ensures takes { IfOk result (λ plan. TakesNone caller.now.standing.locks plan.write) }
     ensures own { IfOk result (λ plan. AreOwn caller.now.activation plan.events) }
     ensures possible { IfOk result (λ plan. AreCounted store.now → IsPossible store.now plan.change) }
+    ensures few { IfOk result (λ plan. cancels_entries plan.change ≡ false) }
 {
     let named = Named {
         visit: caller.standing.operation(OperationVariable::Data),
@@ -315,6 +318,7 @@ fn plan_return(
     ensures ends { IfOk result (λ plan. is_end plan.write ≡ true) }
     ensures own { IfOk result (λ plan. AreOwn a plan.events) }
     ensures possible { IfOk result (λ plan. IsPossible store.now plan.change) }
+    ensures few { IfOk result (λ plan. cancels_entries plan.change ≡ false) }
 {
     let mut events = Vec::new(alloc);
     tell_status(a, r.answers, r.named, status, &mut events)?;
@@ -361,6 +365,7 @@ pub(crate) fn returns(
     ensures ends { IfOk result (λ plan. is_end plan.write ≡ true) }
     ensures own { IfOk result (λ plan. AreOwn caller.now.activation plan.events) }
     ensures possible { IfOk result (λ plan. AreCounted store.now → IsPossible store.now plan.change) }
+    ensures few { IfOk result (λ plan. cancels_entries plan.change ≡ false) }
 {
     let r = read_at_end(caller, status);
     plan_return(alloc, loaded, store, caller.activation, status, r)

@@ -1,10 +1,10 @@
 -- What a move of the machine comes to, found out by reading alone.
-use Rattle.std.specs.Prelude.{◌≡◌, ◌<◌, ℕ, Bool, List, [], ◌∷◌, ◌++◌, length, Option, Some, None}
+use Rattle.std.specs.Prelude.{◌≡◌, ◌<◌, ℕ, Bool, true, false, List, [], ◌∷◌, ◌++◌, length, Option, Some, None}
 use Rattle.flt_tree.specs.declared.filter.Filter.{Filter}
 use Rattle.flt_model.specs.declared.event.Event.{Event}
 use Rattle.flt_model.specs.declared.event.Event.TheVariants as event
 use Rattle.flt_model.specs.declared.moves.Move.{Move}
-use Rattle.flt_model.specs.declared.moves.Move.TheVariants.{Arrive, Detached}
+use Rattle.flt_model.specs.declared.moves.Move.TheVariants.{Arrive, Cancel, Detach, Detached}
 use Rattle.flt_model.specs.Effects.{Step, gains_context}
 use Rattle.flt_model.specs.Moves.{gains_visit, has_active}
 use Rattle.flt_model.specs.Program.{body_at, callbacks_at, filter_of}
@@ -85,3 +85,9 @@ IsActive p _ active actors activations = Unit {0}
 abbrev pub HasRoom : Store → Move → Type 0
 HasRoom s (Arrive kind mode file) = length s.arrivals < 65536
 HasRoom s _ = Unit {0}
+
+-- any number of entries come to wait by the move: an operation is cancelled, or a teardown begins
+abbrev pub is_cancelling : Move → Bool
+is_cancelling (Cancel serial) = true
+is_cancelling (Detach altitude) = true
+is_cancelling _ = false

@@ -1,14 +1,14 @@
 //! Operations that arrive, go down and up, and are cancelled; and moves by name.
 
-ghost use Rattle.std.specs.Prelude.{◌≡◌, ◌<◌, List, length, IfSome};
+ghost use Rattle.std.specs.Prelude.{◌≡◌, true, false, ◌<◌, List, length, IfSome};
 ghost use Rattle.flt_store.specs.Stores.{world_of};
-ghost use Rattle.flt_dispatch.specs.Decisions.{Decides, DecidesAnywhere, DecidesIn, HasRoom, IsActive};
+ghost use Rattle.flt_dispatch.specs.Decisions.{Decides, DecidesAnywhere, DecidesIn, HasRoom, IsActive, is_cancelling};
 ghost use Rattle.flt_frame.specs.Loading.{AreLoaded};
 ghost use Rattle.flt_model.specs.Moves as moves;
 ghost use Rattle.flt_model.specs.Moves.{make};
 ghost use Rattle.flt_model.specs.World as world;
 ghost use Rattle.flt_model.specs.World.{Actor, Activation};
-ghost use Rattle.flt_store.specs.Changes.{IsPossible};
+ghost use Rattle.flt_store.specs.Changes.{IsPossible, cancels_entries};
 ghost use Rattle.flt_tree.specs.declared.filter.Filter.{Filter};
 
 use crate::decision::{Decision, Start};
@@ -22,6 +22,7 @@ use flt_store::{Change, Store};
 fn arrive(kind: Operation, mode: Mode, file: u32) -> Option<Decision>
     ensures decided { (s : world.Store) → DecidesAnywhere s result (λ w. moves.arrive w kind mode file) }
     ensures possible { IfSome result (λ d. (s : world.Store) → length s.arrivals < 65536 → IsPossible s d.change) }
+    ensures few { IfSome result (λ d. cancels_entries d.change ≡ false) }
 {
     if fits_mode(kind, mode) && file < 1024 {
         Some(Decision::only(Change::Arrive(kind, mode, file)))
@@ -42,6 +43,7 @@ fn pre(loaded: &Loaded, store: &Store, serial: u32) -> Option<Decision>
     ensures decided { DecidesIn loaded.now store.now result (λ p w. moves.pre_at p w serial
         (world.arrival_at store.now serial).kind (world.route_at store.now serial).position) }
     ensures possible { IfSome result (λ d. IsPossible store.now d.change) }
+    ensures few { IfSome result (λ d. cancels_entries d.change ≡ false) }
 {
     let kind = store.arrival(serial).kind;
     let filter = store.filter_at(serial)?;
@@ -68,6 +70,7 @@ fn skip(loaded: &Loaded, store: &Store, serial: u32) -> Option<Decision>
     ensures decided { DecidesIn loaded.now store.now result (λ p w. moves.skip_at p w serial
         (world.arrival_at store.now serial).kind (world.route_at store.now serial).position) }
     ensures possible { IfSome result (λ d. IsPossible store.now d.change) }
+    ensures few { IfSome result (λ d. cancels_entries d.change ≡ false) }
 {
     let kind = store.arrival(serial).kind;
     let filter = store.filter_at(serial)?;
@@ -83,6 +86,7 @@ fn lower(store: &Store, serial: u32) -> Option<Decision>
         Decides p (world_of store.now actors activations) result
         (moves.lower_at p (world_of store.now actors activations) serial (world.route_at store.now serial).position) }
     ensures possible { IfSome result (λ d. IsPossible store.now d.change) }
+    ensures few { IfSome result (λ d. cancels_entries d.change ≡ false) }
 {
     if store.is_past_filters(serial) {
         Some(Decision::only(Change::Lower(serial)))
@@ -96,6 +100,7 @@ fn post(loaded: &Loaded, store: &Store, serial: u32) -> Option<Decision>
     ensures decided { DecidesIn loaded.now store.now result (λ p w. moves.post_at p w serial
         (world.route_at store.now serial) (world.route_at store.now serial).position) }
     ensures possible { IfSome result (λ d. IsPossible store.now d.change) }
+    ensures few { IfSome result (λ d. cancels_entries d.change ≡ false) }
 {
     let frame = store.frame_at(serial)?;
     let kind = store.arrival(serial).kind;
@@ -118,6 +123,7 @@ fn post(loaded: &Loaded, store: &Store, serial: u32) -> Option<Decision>
 fn cancel(store: &Store, serial: u32) -> Option<Decision>
     ensures decided { DecidesAnywhere store.now result (λ w. moves.cancel w serial) }
     ensures possible { IfSome result (λ d. IsPossible store.now d.change) }
+    ensures few { IfSome result (λ d. cancels_entries d.change ≡ true) }
 {
     if store.is_done(serial) || store.cancelled(serial) {
         None
@@ -132,6 +138,7 @@ pub fn decide(loaded: &Loaded, store: &Store, step: Move, active: bool) -> Optio
         length store.now.presences ≡ length p → IsActive p step active actors activations →
         Decides p (world_of store.now actors activations) result (make p (world_of store.now actors activations) step) }
     ensures possible { IfSome result (λ d. HasRoom store.now step → IsPossible store.now d.change) }
+    ensures few { IfSome result (λ d. cancels_entries d.change ≡ is_cancelling step) }
 {
     match step {
         Move::Arrive {

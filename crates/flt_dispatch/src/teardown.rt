@@ -1,10 +1,10 @@
 //! The teardown of a filter's instance.
 
-ghost use Rattle.std.specs.Prelude.{◌≡◌, List, IfSome};
+ghost use Rattle.std.specs.Prelude.{◌≡◌, true, false, List, IfSome};
 ghost use Rattle.flt_dispatch.specs.Decisions.{Decides, DecidesAnywhere, DecidesIn};
 ghost use Rattle.flt_model.specs.Moves as moves;
 ghost use Rattle.flt_model.specs.World.{Actor, Activation};
-ghost use Rattle.flt_store.specs.Changes.{IsPossible};
+ghost use Rattle.flt_store.specs.Changes.{IsPossible, cancels_entries};
 ghost use Rattle.flt_store.specs.Stores.{world_of};
 ghost use Rattle.flt_tree.specs.declared.filter.Filter.{Filter};
 
@@ -18,6 +18,7 @@ use flt_store::{Change, Store};
 pub(crate) fn detach(store: &Store, filter: usize) -> Option<Decision>
     ensures decided { DecidesAnywhere store.now result (λ w. moves.detach w filter) }
     ensures possible { IfSome result (λ d. IsPossible store.now d.change) }
+    ensures few { IfSome result (λ d. cancels_entries d.change ≡ true) }
 {
     if store.is_attached(filter) {
         Some(Decision::only(Change::Detach(filter)))
@@ -30,6 +31,7 @@ pub(crate) fn detach(store: &Store, filter: usize) -> Option<Decision>
 pub(crate) fn drain(loaded: &Loaded, store: &Store, filter: usize, serial: u32) -> Option<Decision>
     ensures decided { DecidesIn loaded.now store.now result (λ p w. moves.drain p w filter serial) }
     ensures possible { IfSome result (λ d. IsPossible store.now d.change) }
+    ensures few { IfSome result (λ d. cancels_entries d.change ≡ false) }
 {
     if !store.is_detaching(filter) {
         return None;
@@ -55,6 +57,7 @@ pub(crate) fn drain(loaded: &Loaded, store: &Store, filter: usize, serial: u32) 
 pub(crate) fn unlink(store: &Store, filter: usize, key: Key) -> Option<Decision>
     ensures decided { DecidesAnywhere store.now result (λ w. moves.unlink w filter key) }
     ensures possible { IfSome result (λ d. IsPossible store.now d.change) }
+    ensures few { IfSome result (λ d. cancels_entries d.change ≡ false) }
 {
     if !store.is_detaching(filter) {
         return None;
@@ -85,6 +88,7 @@ pub(crate) fn detached(store: &Store, filter: usize, active: bool) -> Option<Dec
         active ≡ moves.has_active filter actors activations →
         Decides p (world_of store.now actors activations) result (moves.detached (world_of store.now actors activations) filter) }
     ensures possible { IfSome result (λ d. IsPossible store.now d.change) }
+    ensures few { IfSome result (λ d. cancels_entries d.change ≡ false) }
 {
     if store.is_detaching(filter) && is_drained(store, filter, active) {
         Some(Decision::only(Change::Finish(filter)))

@@ -1,7 +1,8 @@
 //! Which move comes next.
 
-ghost use Rattle.std.specs.Prelude.{◌≡◌, true, List, length, IfSome};
+ghost use Rattle.std.specs.Prelude.{◌≡◌, true, false, List, length, IfSome};
 ghost use Rattle.flt_store.specs.Stores.{world_of};
+ghost use Rattle.flt_dispatch.specs.Decisions.{is_cancelling};
 ghost use Rattle.flt_dispatch.specs.Turns as spec;
 ghost use Rattle.flt_frame.specs.Loading.{AreLoaded};
 ghost use Rattle.flt_model.specs.Moves.{has_active};
@@ -22,6 +23,7 @@ pub fn next_of(loaded: &Loaded, store: &Store, serial: u32) -> Option<Move>
     ensures enabled { (p : List Filter) (actors : List Actor) (activations : List Activation) → AreLoaded p loaded.now →
         length store.now.presences ≡ length p →
         IfSome result (λ step. spec.is_enabled p (world_of store.now actors activations) step ≡ true) }
+    ensures few { IfSome result (λ step. is_cancelling step ≡ false) }
 {
     if let Some(filter) = store.filter_at(serial) {
         let kind = store.arrival(serial).kind;
@@ -49,6 +51,7 @@ pub fn next_of_teardown(loaded: &Loaded, store: &Store, altitude: u32, active: b
     ensures enabled { (p : List Filter) (actors : List Actor) (activations : List Activation) → AreLoaded p loaded.now →
         active ≡ has_active (filter_of p altitude) actors activations →
         IfSome result (λ step. spec.is_enabled p (world_of store.now actors activations) step ≡ true) }
+    ensures few { IfSome result (λ step. is_cancelling step ≡ false) }
 {
     let filter = loaded.number(altitude);
     if !store.is_detaching(filter) {

@@ -1,10 +1,10 @@
 //! The callbacks of what waits: cancelled entries of a queue, and work items.
 
-ghost use Rattle.std.specs.Prelude.{◌≡◌, ◌||◌, IfSome};
+ghost use Rattle.std.specs.Prelude.{◌≡◌, false, ◌||◌, IfSome};
 ghost use Rattle.flt_dispatch.specs.Decisions.{DecidesIn};
 ghost use Rattle.flt_model.specs.Moves as moves;
 ghost use Rattle.flt_model.specs.World as world;
-ghost use Rattle.flt_store.specs.Changes.{IsPossible};
+ghost use Rattle.flt_store.specs.Changes.{IsPossible, cancels_entries};
 
 use crate::decision::{Decision, Start};
 use flt_frame::Loaded;
@@ -27,6 +27,7 @@ pub(crate) fn canceled(
 ) -> Option<Decision>
     ensures decided { DecidesIn loaded.now store.now result (λ p w. moves.canceled p w filter serial) }
     ensures possible { IfSome result (λ d. IsPossible store.now d.change) }
+    ensures few { IfSome result (λ d. cancels_entries d.change ≡ false) }
 {
     if !may_cancel(store, filter, serial) {
         return None;
@@ -51,6 +52,7 @@ pub(crate) fn canceled(
 pub(crate) fn work(loaded: &Loaded, store: &Store, number: usize) -> Option<Decision>
     ensures decided { DecidesIn loaded.now store.now result (λ p w. moves.work_by p w number (world.item_at store.now number)) }
     ensures possible { IfSome result (λ d. IsPossible store.now d.change) }
+    ensures few { IfSome result (λ d. cancels_entries d.change ≡ false) }
 {
     let item = store.item(number)?;
     let start = Start {

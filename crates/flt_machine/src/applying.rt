@@ -1,7 +1,7 @@
 //! Moves.
 
-ghost use Rattle.std.specs.Prelude.{◌≡◌, ◌↔◌, ◌<◌, ◌+◌, ◌++◌, ◌∷◌, [], List, length, Some, Err, is_some, IsTrue, IfOk, OnOk, OnErr};
-ghost use Rattle.flt_dispatch.specs.Decisions.{IsActive, actors_by, frees_by, gains_by};
+ghost use Rattle.std.specs.Prelude.{◌≡◌, ◌↔◌, ◌<◌, ◌≤◌, ◌+◌, ◌++◌, ◌∷◌, [], false, List, length, Some, Err, is_some, IsTrue, IfOk, IfSome, OnOk, OnErr};
+ghost use Rattle.flt_dispatch.specs.Decisions.{IsActive, actors_by, frees_by, gains_by, is_cancelling};
 ghost use Rattle.flt_dispatch.specs.Turns as turns;
 ghost use Rattle.flt_frame.specs.Loading.{AreLoaded};
 ghost use Rattle.flt_machine.specs.Calls as spec;
@@ -16,7 +16,7 @@ ghost use Rattle.flt_model.specs.Steps.{Make};
 ghost use Rattle.flt_model.specs.World.{is_detaching, presence_at};
 ghost use Rattle.flt_model.specs.declared.moves.JournalEntry.TheVariants as journal_entry;
 ghost use Rattle.flt_model.specs.declared.subject.Subject.TheVariants as subject;
-ghost use Rattle.flt_store.specs.Changes.{after_change, IsPossible};
+ghost use Rattle.flt_store.specs.Changes.{after_change, cancels_entries, IsPossible};
 ghost use Rattle.flt_tree.specs.declared.filter.Filter.{Filter};
 
 use crate::actor::Actor;
@@ -45,6 +45,7 @@ impl Board {
         ensures made { IfOk result (λ events. Now loaded.now self.old (λ p m. spec.Makes p self.new [] (Make step) events.list m)) }
         ensures next { IfOk result (λ events. events.next.items ≡ tickets.after_move loaded.now.altitudes self.old.store self.new.store
             (length self.old.standings) (length self.new.standings)) }
+        ensures few { is_cancelling step ≡ false → IfOk result (λ events. length events.next.items ≤ 2) }
         ensures written { IfOk result (λ events. self.new.entries ≡ self.old.entries ++ journal_entry.Move step ∷ []) }
         ensures disabled { (result ≡ Err fault.NotEnabled) ↔ IsDisabled loaded.now self.old step }
         ensures full { (result ≡ Err fault.Full) ↔ ((IsDisabled loaded.now self.old step → ⊥) × IsFullFor self.old step) }
@@ -77,8 +78,9 @@ impl Board {
         step: Move,
     ) -> Result<Vec<Subject>, AllocError>
         requires own { IsOwn loaded.now self.now }
-        ensures { IfOk result (λ next. Now loaded.now self.now
+        ensures next { IfOk result (λ next. Now loaded.now self.now
             (λ p m. next.items ≡ tickets.by_move loaded.now.altitudes m.world (make p m.world step))) }
+        ensures few { is_cancelling step ≡ false → IfOk result (λ next. length next.items ≤ 2) }
     {
         let active = self.is_active_for(loaded, step);
         let Some(decision) = decide(loaded, &self.store, step, active) else {
@@ -113,7 +115,8 @@ impl Board {
     /// The enabled one of an operation's own moves: pre, skip, lower or post.
     pub fn next_move(&self, loaded: &Loaded, serial: u32) -> Option<Move>
         requires own { IsOwn loaded.now self.now }
-        ensures { Now loaded.now self.now (λ p m. result ≡ turns.next_of p m.world serial) }
+        ensures next { Now loaded.now self.now (λ p m. result ≡ turns.next_of p m.world serial) }
+        ensures few { IfSome result (λ step. is_cancelling step ≡ false) }
     {
         flt_dispatch::next_of(loaded, &self.store, serial)
     }
@@ -122,7 +125,8 @@ impl Board {
     /// left.
     pub fn next_detach(&self, loaded: &Loaded, altitude: u32) -> Option<Move>
         requires own { IsOwn loaded.now self.now }
-        ensures { Now loaded.now self.now (λ p m. turns.ComesNextOf p m.world altitude result) }
+        ensures next { Now loaded.now self.now (λ p m. turns.ComesNextOf p m.world altitude result) }
+        ensures few { IfSome result (λ step. is_cancelling step ≡ false) }
     {
         let active = self.has_active(loaded.number(altitude));
         flt_dispatch::next_of_teardown(loaded, &self.store, altitude, active)
@@ -168,6 +172,7 @@ impl Board {
         ensures next { IfOk result (λ events. events.next.items ≡ tickets.subjects loaded.now.altitudes self.old.store
             (after_change self.old.store decision.now.change) (tickets.newcomer subject.Activation (length self.old.standings)
             (length self.old.standings + length (actors_by decision.now.start)))) }
+        ensures few { cancels_entries decision.now.change ≡ false → IfOk result (λ events. length events.next.items ≤ 2) }
         ensures made { OnOk result (HasMoved self.old self.new step decision.now) }
         ensures refused { OnErr result (self.new ≡ self.old) }
     {

@@ -66,6 +66,7 @@ impl Board {
         ensures next { (events : Events) → result ≡ answer.Committed events →
             events.next.items ≡ tickets.after_go loaded.now.altitudes self.old.store self.new.store advanced.now.frame.activation
             (is_some (standing_of self.new advanced.now.frame.activation)) }
+        ensures few { (events : Events) → result ≡ answer.Committed events → length events.next.items ≤ 2 }
         ensures stale { (result ≡ answer.Stale) ↔ (IsFresh self.old advanced.now → ⊥) }
         ensures blocked { (result ≡ answer.Blocked) ↔ (IsFresh self.old advanced.now × IsBlocked loaded.now self.old advanced.now grant) }
         ensures full { (result ≡ answer.Full) ↔ (IsFresh self.old advanced.now
@@ -164,6 +165,7 @@ impl Board {
             Now loaded.now self.old (λ p m. spec.Commits p self.old self.new advanced.now grant events.list m)) }
         ensures next { IfOk result (λ events. events.next.items ≡ tickets.after_go loaded.now.altitudes self.old.store self.new.store
             advanced.now.frame.activation (is_some (standing_of self.new advanced.now.frame.activation))) }
+        ensures few { IfOk result (λ events. length events.next.items ≤ 2) }
         ensures refused { OnErr result (self.new ≡ self.old) }
     {
         standings_have_points();

@@ -7,7 +7,7 @@ ghost use Rattle.flt_model.specs.Moves.{is_entry_of, is_up};
 ghost use Rattle.flt_model.specs.World as machine;
 ghost use Rattle.flt_model.specs.declared.subject.Subject.TheVariants as subject;
 ghost use Rattle.flt_ops.specs.Parts.{position_of, way_of};
-ghost use Rattle.flt_store.specs.Changes.{after_change, IsPossible};
+ghost use Rattle.flt_store.specs.Changes.{after_change, cancels_entries, IsPossible};
 ghost use Rattle.flt_store.specs.declared.change.Change.TheVariants as change;
 
 use flt_frame::Loaded;
@@ -27,8 +27,9 @@ pub(crate) fn subjects_by(
     requires few { length store.now.arrivals ≤ 65536 }
     requires items { length store.now.items ≤ 1000000 }
     requires queues { length store.now.queues ≡ length store.now.presences }
-    ensures { IfOk result (λ next. next.items ≡ spec.subjects loaded.now.altitudes store.now (after_change store.now change)
+    ensures next { IfOk result (λ next. next.items ≡ spec.subjects loaded.now.altitudes store.now (after_change store.now change)
         (spec.one_of activation)) }
+    ensures few { cancels_entries change ≡ false → IfOk result (λ next. length next.items ≤ 2) }
 {
     let mut next = Vec::new(alloc);
     push_one(operation_by(store, change), &mut next)?;
@@ -141,8 +142,9 @@ fn push_entries(
     requires possible { IsPossible store.now change }
     requires few { length store.now.arrivals ≤ 65536 }
     requires queues { length store.now.queues ≡ length store.now.presences }
-    ensures { OnOk result (next.new.items ≡ next.old.items
+    ensures next { OnOk result (next.new.items ≡ next.old.items
         ++ spec.by_altitude (spec.entries_of store.now (after_change store.now change)) 0 loaded.now.altitudes) }
+    ensures few { cancels_entries change ≡ false → OnOk result (length next.new.items ≤ length next.old.items + 1) }
 {
     match change {
         Change::Cancel(serial) => push_cancelled(loaded, store, serial, next),
@@ -218,8 +220,9 @@ fn push_inserted(
 ) -> Result<(), AllocError>
     requires possible { machine.is_attached (machine.presence_at store.now filter) ≡ true }
     requires queues { length store.now.queues ≡ length store.now.presences }
-    ensures { (x : Option ℕ) → OnOk result (next.new.items ≡ next.old.items
+    ensures next { (x : Option ℕ) → OnOk result (next.new.items ≡ next.old.items
         ++ spec.by_altitude (spec.entries_of store.now (after_change store.now (change.Insert filter visit x))) 0 loaded.now.altitudes) }
+    ensures few { OnOk result (length next.new.items ≤ length next.old.items + 1) }
 {
     let serial = store.visit(visit).operation;
     if !is_new(store, filter, serial) {

@@ -1,5 +1,5 @@
 -- What a turn does: the move of one subject. This project's own rule.
-use Rattle.std.specs.Prelude.{◌≡◌, ◌⊎◌, ◌^◌, ◌-◌, ℕ, ◌+◌, Bool, true, false, not, min, List, [], ◌∷◌, ◌++◌, take, option_map, Option, Some, None, is_some, length, if◌then◌else◌}
+use Rattle.std.specs.Prelude.{◌≡◌, ◌≤◌, ◌⊎◌, ◌^◌, ◌-◌, ℕ, ◌+◌, Bool, true, false, not, min, List, [], ◌∷◌, ◌++◌, option_map, Option, Some, None, is_some, length, if◌then◌else◌}
 use Rattle.std.specs.BTreeSet.{contains}
 use Rattle.std.specs.Ordering.{nat_cmp}
 use Rattle.flt_dispatch.specs.Turns.{ComesNextOf, next_of}
@@ -127,7 +127,7 @@ abbrev pub HasHad : Loaded → Situation → Situation → Choices → Choices �
 HasHad l b later c d (subject.Activation a) stays named = HasGone l b later c d a stays named
 HasHad l b later c d s stays named = HasMoved l b later s stays named × (d ≡ c)
 
--- the first subject has had its turn; the first four that this names come to the end, and then the subject itself, where it stays
+-- the first subject has had its turn; what this names comes to the end, and then the subject itself, where it stays
 pub record IsTurn (l : Loaded) (b later : Situation) (c d : Choices) (before after : List Subject) : Type 0 where
   pub first : Subject
   pub others : List Subject
@@ -135,7 +135,8 @@ pub record IsTurn (l : Loaded) (b later : Situation) (c d : Choices) (before aft
   pub stays : Bool
   pub named : List Subject
   pub had : HasHad l b later c d first stays named
-  pub ends : after ≡ others ++ take 4 named ++ (if stays then first ∷ [] else [])
+  pub few : length named ≤ 2
+  pub ends : after ≡ others ++ named ++ (if stays then first ∷ [] else [])
 
 -- the journal goes on by one entry at most
 abbrev pub GoesOn : Situation → Situation → Type 0

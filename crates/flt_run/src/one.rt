@@ -1,7 +1,8 @@
 //! One turn at a time, on a board of one thread.
 
 ghost use Rattle.std.specs.VecDeque.{deque_len, deque_capacity};
-ghost use Rattle.std.specs.Prelude.{◌≡◌, ◌↔◌, ◌≤◌, ◌+◌, ◌++◌, ◌∷◌, [], false, true, List, length, take, drop, Ok, Err, Some, IfSome, IfOk, OnErr, if◌then◌else◌};
+ghost use Rattle.std.specs.Prelude.{◌≡◌, ◌↔◌, ◌≤◌, ◌+◌, ◌++◌, ◌∷◌, [], false, true, List, length, drop, Ok, Err, Some, IfSome, IfOk, OnErr, if◌then◌else◌};
+ghost use Rattle.flt_dispatch.specs.Decisions.{is_cancelling};
 ghost use Rattle.flt_machine.specs.Situations.{IsOwn, Now};
 ghost use Rattle.flt_run.specs.Turns as spec;
 ghost use Rattle.flt_run.specs.declared.fault.TurnFault.TheVariants as fault;
@@ -13,8 +14,8 @@ use flt_model::{Move, Subject};
 use std::alloc::{AllocError, Global};
 use std::collections::VecDeque;
 
-/// How many subjects a turn names at most: an operation, an activation, a work item and an entry.
-const MOST_NAMED: usize = 4;
+/// How many subjects a turn names at most: an activation; and an operation, a work item or an entry.
+const MOST_NAMED: usize = 2;
 
 /// What a subject's turn came to.
 #[derive(Drop)]
@@ -43,6 +44,7 @@ pub fn asked_by(board: &Board, loaded: &Loaded, subject: Subject) -> Option<Move
     requires own { IsOwn loaded.now board.now }
     ensures asks { Now loaded.now board.now (λ p m. spec.AsksFor p m.world subject result) }
     ensures following { IfSome result spec.IsFollowing }
+    ensures few { IfSome result (λ step. is_cancelling step ≡ false) }
 {
     match subject {
         Subject::Operation(serial) => board.next_move(loaded, serial),
@@ -82,6 +84,7 @@ fn move_on(
     ensures own { spec.RemainsBoard loaded.now board.old board.new }
     ensures entries { spec.GoesOn board.old board.new }
     ensures moved { IfOk result (λ t. spec.HasMoved loaded.now board.old board.new subject t.stays t.next.items) }
+    ensures few { IfOk result (λ t. length t.next.items ≤ 2) }
     ensures full { result ≡ Err fault.Full → length board.old.entries ≡ 1000000 }
     ensures refused { OnErr result (board.new ≡ board.old) }
 {
@@ -113,6 +116,7 @@ fn go_on(
     ensures entries { spec.GoesOn board.old board.new }
     ensures gone { IfOk result
         (λ t. spec.HasGone loaded.now board.old board.new choices.old choices.new activation t.stays t.next.items) }
+    ensures few { IfOk result (λ t. length t.next.items ≤ 2) }
     ensures full { result ≡ Err fault.Full → length board.old.entries ≡ 1000000 }
     ensures refused { OnErr result ((board.new ≡ board.old) × (choices.new ≡ choices.old)) }
 {
@@ -149,6 +153,7 @@ fn go(
     ensures entries { spec.GoesOn board.old board.new }
     ensures had { IfOk result
         (λ t. spec.HasHad loaded.now board.old board.new choices.old choices.new subject t.stays t.next.items) }
+    ensures few { IfOk result (λ t. length t.next.items ≤ 2) }
     ensures full { result ≡ Err fault.Full → length board.old.entries ≡ 1000000 }
     ensures refused { OnErr result ((board.new ≡ board.old) × (choices.new ≡ choices.old)) }
 {
@@ -169,21 +174,15 @@ fn push_all(subjects: &mut VecDeque<Subject>, next: &[Subject])
     }
 }
 
-/// The first four of some subjects.
-fn named(next: &[Subject]) -> &[Subject]
-    ensures { result.now ≡ take 4 next.now }
-{
-    &next[..next.len().min(MOST_NAMED)]
-}
-
 /// The first subject has had its turn.
 fn put_behind(subjects: &mut VecDeque<Subject>, first: Subject, turned: Turned)
-    requires room { deque_len subjects.old + 4 ≤ deque_capacity subjects.old }
+    requires room { deque_len subjects.old + 2 ≤ deque_capacity subjects.old }
     requires some { (others : List Subject) × (subjects.old.items ≡ first ∷ others) }
-    ensures { subjects.new.items ≡ drop 1 subjects.old.items ++ take 4 turned.next.items ++ (if turned.stays then first ∷ [] else []) }
+    requires few { length turned.next.items ≤ 2 }
+    ensures { subjects.new.items ≡ drop 1 subjects.old.items ++ turned.next.items ++ (if turned.stays then first ∷ [] else []) }
 {
     subjects.pop_front();
-    push_all(subjects, named(turned.next.as_slice()));
+    push_all(subjects, turned.next.as_slice());
     if turned.stays {
         subjects.push_back_reserved(first);
     }
@@ -192,8 +191,8 @@ fn put_behind(subjects: &mut VecDeque<Subject>, first: Subject, turned: Turned)
 /// The first subject of a list has its turn. An operation, a work item or an entry makes its move, where it has one that is enabled; an
 /// activation makes its local steps and the step after them. Then the subject goes. It comes to the end of the list instead where it is
 /// an activation that is blocked, or a teardown that has begun; a teardown goes once it has ended its filter. What the move or the step gives a ticket
-/// comes to the end first, the first four of it: an operation, an activation, a work item and an entry; no contract says that there are
-/// no more. It answers false where there is no subject. What is loaded must be the board's own.
+/// comes to the end first, which is an activation and an operation, a work item or an entry at most. It answers false where there is no
+/// subject. What is loaded must be the board's own.
 pub fn turn(
     alloc: Global,
     board: &mut Board,

@@ -1,5 +1,5 @@
 -- What calls and moves change of what activations share, each in the machine's own words, and when it can be made.
-use Rattle.std.specs.Prelude.{◌≡◌, ℕ, ◌-◌, ◌<◌, ◌^◌, true, false, ◌||◌, [], ◌∷◌, ◌++◌, drop, find, is_some, length, set, Option, Some, None}
+use Rattle.std.specs.Prelude.{◌≡◌, ℕ, ◌-◌, ◌<◌, ◌^◌, Bool, true, false, ◌||◌, [], ◌∷◌, ◌++◌, drop, find, is_some, length, set, Option, Some, None}
 use Rattle.flt_model.specs.Calls.{put_link}
 use Rattle.flt_model.specs.Effects.{after_unlink}
 use Rattle.flt_model.specs.Locks.{with_holder, without_holder}
@@ -76,3 +76,9 @@ IsPossible s (change.Cancel o) = (is_done s o || (route_at s o).cancelled) ≡ f
 IsPossible s (change.Detach f) = is_attached (presence_at s f) ≡ true
 IsPossible s (change.Finish f) = is_attached (presence_at s f) ≡ false
 IsPossible s _ = Unit {0}
+
+-- any number of entries come to wait by it: an operation is cancelled, or a teardown begins. By any other change it is one at most
+abbrev pub cancels_entries : Change → Bool
+cancels_entries (change.Cancel o) = true
+cancels_entries (change.Detach f) = true
+cancels_entries _ = false
