@@ -7,14 +7,13 @@ ghost use Rattle.flt_machine.specs.Situations.{IsOwn};
 ghost use Rattle.flt_model.specs.Program.{filters_of};
 ghost use Rattle.flt_tree.specs.WellFormed.{IsWellFormed};
 
-use flt_machine::{Advanced, ApplyFault, Board, Commit, Loaded, advance};
+use flt_machine::{Advanced, ApplyFault, Board, Commit, Loaded, Outcome, advance};
 use flt_model::{Journal, JournalEntry, Move, Subject, Verdict, Violation, read};
 use flt_replay::replay;
 use flt_rules::FinalStatus;
 use flt_run::one::turn;
 use flt_run::{Choices, TurnFault};
-use flt_store::Outcome;
-use flt_syntax::{Tree, parse, spelled_is_well_formed};
+use flt_syntax::{Tree, parse};
 use std::alloc::{AllocError, Global};
 use std::collections::VecDeque;
 use std::marker::Model;
@@ -70,7 +69,6 @@ impl Model for Scene {
 pub(crate) fn trees_of(alloc: Global, texts: &[&str]) -> Result<Vec<Tree>, Fail>
     ensures { IfOk result (λ trees. All IsWellFormed (filters_of trees.items)) }
 {
-    spelled_is_well_formed();
     let mut trees = Vec::new(alloc);
     for text in texts {
         let tree = parse(alloc, text.as_bytes())?;
