@@ -13,3 +13,8 @@ Gives coming None left = (coming ≡ []) × (left ≡ [])
 -- these come before all others
 abbrev pub ComesFirst : Text → Text → Type 0
 ComesFirst front coming = (left : Text) × (coming ≡ front ++ left)
+
+-- the bytes of a reader that are known; none where they aren't
+abbrev pub known_bytes : Option Text → Text
+known_bytes None = []
+known_bytes (Some bytes) = bytes
