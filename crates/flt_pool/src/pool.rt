@@ -56,9 +56,9 @@ impl Pool {
         self.inlet.push_as::<Puts, R>(rt, &mut seat.pass, ticket)
     }
 
-    /// Takes the front ticket of the seat's own deque; where that is empty, of the injector; and where that is empty too, of the first of
-    /// the others' deques that isn't, in the order of the workers. It answers none only once it has found each of them empty, though
-    /// not all at one moment.
+    /// Takes a ticket. It looks at the seat's own deque, then at the injector, and then at the others' deques in the order of the workers,
+    /// and takes the front ticket of the first one in which it finds any. This order is in no contract, and neither is that all of them
+    /// were empty, each at its moment, where it answers none: a seat knows nothing of what others put and took.
     pub fn take<R: Wait>(&self, rt: &R, seat: &mut TakeSeat) -> Option<Ticket>
         requires { IsTakeSeatOf self.now seat.old }
         ensures seat { IsTakeSeatOf self.now seat.new }

@@ -79,9 +79,9 @@ impl Exchange {
 
     // ---- what workers do
 
-    /// Takes the front ticket of the worker's own deque; where that is empty, of what callers put; and where there is none either, of
-    /// the first of the others' deques that isn't empty, in the order of the workers. It answers none only once it has found each of
-    /// them empty, though not all at one moment.
+    /// Takes a ticket. It looks at the worker's own deque, then at what callers put, and then at the others' deques in the order of the
+    /// workers, and takes the front ticket of the first one in which it finds any. As with `Pool::take`, no contract says in which order
+    /// it looks, nor that all of them were empty, each at its moment, where it answers none.
     pub fn take<R: Wait>(&self, rt: &R, place: &mut WorkerPlace) -> Option<Ticket>
         requires { IsWorkerOf self.now place.old }
         ensures place { IsWorkerOf self.now place.new }
