@@ -1,7 +1,9 @@
 //! Streams of journals that fail at each of their calls. Texts that are no journals stand in `examples/cases/journals.cases`, and others
 //! with their verdicts in `examples/verdicts/`.
 
-use flt_model::{Journal, JournalFault, ReadFault, Sink, Source, WriteFault, read, write};
+use flt_model::{
+    Journal, JournalFault, ReadFault, Reading, Sink, Source, WriteFault, Writing, read, write,
+};
 use std::alloc::{AllocError, Global};
 use std::test::Fail;
 
@@ -154,8 +156,16 @@ fn wrong_write(alloc: Global, text: &[u8]) -> Result<Option<u64>, JournalFault> 
     Ok(None)
 }
 
+/// Whether a journal that is read from a reader of std goes as it was to a writer of std.
+fn goes_through_std(alloc: Global, text: &[u8]) -> Result<bool, JournalFault> {
+    let journal = read(alloc, &mut Reading::new(text))?;
+    let mut out = Writing::new(Vec::new(alloc));
+    Ok(write(&journal, &mut out).is_ok() && out.into_inner().as_slice() == text)
+}
+
 #[test]
 fn failing_streams_are_told(rt: HostRuntime) -> Result<(), Fail> {
+    assert!(rt; goes_through_std(rt.alloc(), EACH_KIND.as_bytes())?);
     assert!(rt; stops_at_a_wrong_byte(rt.alloc()));
     assert!(rt; wrong_read(rt.alloc(), EACH_KIND.as_bytes()).is_none());
     assert!(rt; wrong_write(rt.alloc(), EACH_KIND.as_bytes())?.is_none());
