@@ -61,7 +61,7 @@ pub fn fault_name(kind: FaultKind) -> &'static str
 
 /// The first fault of a text, as `check` and `analyse` say it.
 #[derive(Drop)]
-struct SyntaxLine(SyntaxFault);
+pub struct SyntaxLine(pub SyntaxFault);
 
 impl fmt::Display for SyntaxLine {
     ghost output = { λ s. Some (spec.syntax_line s.0) };

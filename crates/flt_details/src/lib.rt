@@ -16,7 +16,7 @@ mod subjects;
 mod tracing;
 
 pub use branches::{step_call_outcome, step_outcome, tell_branch};
-pub use closing::{RuleName, fault_line, fault_name, findings_line};
+pub use closing::{RuleName, SyntaxLine, fault_line, fault_name, findings_line};
 pub use judged::{Judged, judge};
 pub use page::Page;
 pub use pieces::line_at;
