@@ -12,9 +12,8 @@ use Rattle.flt_model.specs.Expansion.{expansion, expand}
 use Rattle.flt_model.specs.Runs.{Moment, after, next, run_from}
 use Rattle.flt_model.specs.Steps.{Transition, Make, Local, Board}
 use Rattle.flt_model.specs.World.{World, Activation, activation_at, nobody}
-use Rattle.flt_costs.specs.Costs.{steps_of}
-use Rattle.flt_costs.proofs.Leaving.{left_in}
-use Rattle.flt_costs.proofs.Spending.{Spends, board_spends, local_spends}
+use Rattle.flt_costs.specs.Costs.{steps_of, left_in, Spends}
+use Rattle.flt_costs.proofs.Spending.{board_spends, local_spends}
 use Rattle.flt_costs.proofs.Starting.{Comes, one, same, make_comes}
 
 -- ---- the steps of one activation

@@ -32,11 +32,8 @@ use Rattle.flt_model.specs.Reads.{read_value_of, write_value_of, read_file_of, t
 use Rattle.flt_model.specs.Returns.{returned, returns}
 use Rattle.flt_model.specs.Steps.{plain_step, fallible_step}
 use Rattle.flt_model.specs.Variables.{context_in, operation_in, named_in, with_old}
+use Rattle.flt_costs.specs.Costs.{left_in}
 use Rattle.flt_model.specs.World.{World, Activation, Entry, Link, activation_at, actor_at, arrival_of, context_at, is_attached, linked_at, presence_at, queue_at}
-
--- what an activation may still spend: what remains of it and its end, and nothing once it has ended
-abbrev pub left_in : Activation → ℕ
-left_in act = if act.ended then 0 else cost act.rest + 1
 
 left_by : (b : Bool) (n : ℕ) → (if b then 0 else n) ≤ n
 left_by true n = omega arith

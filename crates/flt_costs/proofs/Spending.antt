@@ -1,6 +1,5 @@
 -- Each step of an activation, local or not, lowers what it may still spend by one at least, and leaves the other activations as they are.
 use Rattle.std.proofs.Common.{◌≡◌, ◌≤◌, ℕ, ◌+◌, max, Bool, true, false, List, [], ◌∷◌, ◌++◌, Option, Some, None, refl, subst, arith}
-use Rattle.std.proofs.Math.ListN.{set}
 use Rattle.std.specs.Prelude.{if◌then◌else◌, option_map}
 use Rattle.flt_tree.specs.Measures.{cost, cost_of, cost_step}
 use Rattle.flt_tree.specs.declared.filter.Action.{Action}
@@ -22,14 +21,9 @@ use Rattle.flt_model.specs.Returns.{returns}
 use Rattle.flt_model.specs.Steps.{may_go, act_step, plain_step, fallible_step, test_step, if_step, statement_step, list_step, board, moved_on, local}
 use Rattle.flt_model.specs.Variables.{context_in, operation_in}
 use Rattle.flt_model.specs.World.{World, Activation, activation_at, actor_at}
+use Rattle.flt_costs.specs.Costs.{left_in, Spends}
 use Rattle.flt_costs.proofs.Costs.{cost_cons, cost_append, layer_cost, IsCheaper, local_cheaper}
-use Rattle.flt_costs.proofs.Leaving.{left_in, left_below, Leaves, leaves_more, plain_to, value_read, value_written, file_read, irp_tested, fallible_to, returns_leaves}
-
--- these are the world's activations but for one, which has spent something
-pub record Spends (w : World) (a : ℕ) (acts : List Activation) : Type 0 where
-  pub act : Activation
-  pub acts_are : acts ≡ set w.activations a act
-  pub less : left_in act + 1 ≤ left_in (activation_at w a)
+use Rattle.flt_costs.proofs.Leaving.{left_below, Leaves, leaves_more, plain_to, value_read, value_written, file_read, irp_tested, fallible_to, returns_leaves}
 
 -- ---- steps that others see
 

@@ -21,9 +21,9 @@ use Rattle.flt_model.specs.Program.{no_filter, callbacks_at, body_at}
 use Rattle.flt_model.specs.Runs.{Moment, start, after, next, run_from}
 use Rattle.flt_model.specs.Steps.{Transition, Make, Local, Board}
 use Rattle.flt_model.specs.World.{World, Activation, nobody}
-use Rattle.flt_costs.specs.Costs.{steps_of, callback_cost, HasStarted, IsStartedFrom, IsStarted, IsRunTo}
-use Rattle.flt_costs.proofs.Leaving.{left_in, left_below}
-use Rattle.flt_costs.proofs.Spending.{Spends, board_spends, local_spends}
+use Rattle.flt_costs.specs.Costs.{steps_of, callback_cost, HasStarted, IsStartedFrom, IsStarted, IsRunTo, left_in, Spends}
+use Rattle.flt_costs.proofs.Leaving.{left_below}
+use Rattle.flt_costs.proofs.Spending.{board_spends, local_spends}
 use Rattle.flt_costs.proofs.Starting.{Comes, one, same, make_comes}
 use Rattle.flt_costs.proofs.Journals.{Parts, count_at, left_at, joined, parts, entries_goes}
 

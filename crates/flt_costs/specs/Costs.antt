@@ -1,6 +1,6 @@
 -- How many steps the entries of a journal give each activation, with which callback it starts, and what that callback costs.
 -- This project's own rules.
-use Rattle.std.specs.Prelude.{◌≡◌, ℕ, ◌+◌, false, ◌==◌, if◌then◌else◌, List, [], ◌∷◌, ◌++◌, length, Some}
+use Rattle.std.specs.Prelude.{◌≡◌, ℕ, ◌+◌, ◌≤◌, false, ◌==◌, if◌then◌else◌, List, [], ◌∷◌, ◌++◌, length, Some, set}
 use Rattle.flt_tree.specs.Measures.{cost}
 use Rattle.flt_tree.specs.declared.filter.Filter.{Filter}
 use Rattle.flt_model.specs.declared.moves.JournalEntry.{JournalEntry}
@@ -12,7 +12,21 @@ use Rattle.flt_model.specs.Moves.{make}
 use Rattle.flt_model.specs.Program.{callbacks_at, body_at}
 use Rattle.flt_model.specs.Runs.{Moment, run, run_from, start}
 use Rattle.flt_model.specs.Steps.{Transition}
-use Rattle.flt_model.specs.World.{World, Actor, Activation}
+use Rattle.flt_model.specs.World.{World, Actor, Activation, activation_at}
+
+-- ---- what is spent
+
+-- what an activation may still spend: what remains of it and its end, and nothing once it has ended
+abbrev pub left_in : Activation → ℕ
+left_in act = if act.ended then 0 else cost act.rest + 1
+
+-- these are the world's activations but for one, which has spent something
+pub record Spends (w : World) (a : ℕ) (acts : List Activation) : Type 0 where
+  pub act : Activation
+  pub acts_are : acts ≡ set w.activations a act
+  pub less : left_in act + 1 ≤ left_in (activation_at w a)
+
+-- ---- journals
 
 -- how many steps of the activation the entries tell of
 abbrev pub steps_of : ℕ → List JournalEntry → ℕ

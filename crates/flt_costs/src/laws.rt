@@ -1,9 +1,13 @@
 //! The law of costs.
 
-ghost use Rattle.std.specs.Prelude.{◌≡◌, ◌≤◌, ◌<◌, ℕ, List, length, IsTrue};
+ghost use Rattle.std.specs.Prelude.{◌≡◌, ◌≤◌, ◌<◌, ℕ, Bool, List, length, IsTrue, Some};
 ghost use Rattle.std.specs.List.{list_all};
-ghost use Rattle.flt_costs.specs.Costs.{IsRunTo, IsStarted, callback_cost, steps_of};
+ghost use Rattle.flt_costs.specs.Costs.{IsRunTo, IsStarted, Spends, callback_cost, steps_of};
+ghost use Rattle.flt_model.specs.Effects.{Step};
 ghost use Rattle.flt_model.specs.Runs.{Moment};
+ghost use Rattle.flt_model.specs.Steps.{board, local};
+ghost use Rattle.flt_model.specs.World.{World};
+ghost use Rattle.flt_model.specs.declared.event.Event.{Event};
 ghost use Rattle.flt_model.specs.declared.moves.JournalEntry.{JournalEntry};
 ghost use Rattle.flt_tree.specs.Measures.{are_small, max_cost};
 ghost use Rattle.flt_tree.specs.declared.filter.Filter.{Filter};
@@ -20,4 +24,13 @@ pub fn journals_stay_within_costs()
         length m.world.activations ≤ a → steps_of a entries ≡ 0 }
     ensures limited { (p : List Filter) (entries : List JournalEntry) (m : Moment) (a : ℕ) → IsRunTo p entries m →
         IsTrue (list_all are_small p) → steps_of a entries ≤ max_cost }
+{}
+
+/// Each step of an activation, one of its own or one that others see, lowers what it may still spend, by one at least, and leaves the other
+/// activations as they are. It does nothing: its clauses are the law.
+pub fn steps_spend()
+    ensures hidden { (p : List Filter) (t : List Event) (w : World) (a : ℕ) (s : Step) → local p t w a ≡ Some s →
+        Spends w a s.world.activations }
+    ensures seen { (p : List Filter) (t : List Event) (w : World) (a : ℕ) (grant : Bool) (s : Step) → board p t w a grant ≡ Some s →
+        Spends w a s.world.activations }
 {}

@@ -4,4 +4,4 @@
 
 mod laws;
 
-pub use laws::journals_stay_within_costs;
+pub use laws::{journals_stay_within_costs, steps_spend};
