@@ -1,0 +1,199 @@
+//! Searches for a lock that is taken while none of the others is held.
+
+ghost use Rattle.std.specs.Prelude.{◌≡◌, ◌<◌, ◌⊎◌, ℕ, length, slice_set, Some, true, false, IfSome, IfNone};
+ghost use Rattle.flt_order.specs.Order as spec;
+ghost use Rattle.flt_check.specs.Covering.{count_at};
+ghost use Rattle.flt_rules.specs.Call.{place_of};
+ghost use Rattle.flt_rules.specs.Held.{holds_lock};
+
+use flt_cert::Cert;
+use flt_graph::{Graph, Instruction};
+use flt_rules::{Call, HeldLock, LockNumber};
+
+/// A callback takes a lock at a point while it holds another. Callbacks and points count from 0.
+#[derive(Clone, Copy)]
+pub struct Acquisition {
+    pub callback: usize,
+    pub point: usize,
+    pub taken: LockNumber,
+    pub holding: LockNumber,
+}
+
+/// The lock that an instruction takes.
+fn taken_by(instruction: Instruction) -> Option<LockNumber>
+    ensures { result ≡ spec.taken_by instruction }
+{
+    match instruction {
+        Instruction::Call(invocation, _, _) => match invocation.call {
+            Call::AcquireLock(_) => invocation.lock,
+            Call::AcquirePushLockShared => invocation.lock,
+            _ => None,
+        },
+        _ => None,
+    }
+}
+
+/// Whether a lock is left.
+fn is_left(left: &[bool; 8], lock: LockNumber) -> bool
+    ensures { result ≡ spec.is_left left.now lock }
+{
+    left.get(usize::from(lock.place()))
+        .copied()
+        .unwrap_or(false)
+}
+
+/// The first held lock that is left.
+fn first_left(locks: &[HeldLock], left: &[bool; 8]) -> Option<LockNumber>
+    ensures some { IfSome result (λ l. (holds_lock l locks.now ≡ true) × (spec.is_left left.now l ≡ true)) }
+    ensures none { IfNone result (spec.NoneLeft left.now locks.now) }
+{
+    for held in locks {
+        if is_left(left, held.lock) {
+            return Some(held.lock);
+        }
+    }
+    None
+}
+
+/// An acquisition of the lock at a point, with a lock that is left.
+fn from_point(
+    graph: &Graph,
+    cert: &Cert,
+    left: &[bool; 8],
+    lock: LockNumber,
+    callback: usize,
+    point: usize,
+) -> Option<Acquisition>
+    ensures some { IfSome result (spec.IsFrom graph.now cert.now left.now lock) }
+    ensures none { IfNone result (spec.FreeAt graph.now cert.now left.now lock callback point) }
+{
+    let state = cert.state(callback, point)?;
+    let taken = taken_by(graph.instruction(callback, point))?;
+    if taken != lock {
+        return None;
+    }
+    let holding = first_left(state.locks().as_slice(), left)?;
+    Some(Acquisition {
+        callback,
+        point,
+        taken,
+        holding,
+    })
+}
+
+/// An acquisition of the lock in a callback, with a lock that is left.
+fn from_callback(
+    graph: &Graph,
+    cert: &Cert,
+    left: &[bool; 8],
+    lock: LockNumber,
+    callback: usize,
+) -> Option<Acquisition>
+    ensures some { IfSome result (spec.IsFrom graph.now cert.now left.now lock) }
+    ensures none { IfNone result (spec.FreeBefore graph.now cert.now left.now lock callback (count_at cert.now callback)) }
+{
+    for point in 0..cert.points(callback).len() {
+        if let Some(found) = from_point(graph, cert, left, lock, callback, point) {
+            return Some(found);
+        }
+    }
+    None
+}
+
+/// An acquisition of the lock that holds one that is left; none where it is taken only while none that is left is held. Of locks that are
+/// stuck there is one for each, and so a way back from one to another, which comes round after eight steps at most.
+pub fn taken_from(
+    graph: &Graph,
+    cert: &Cert,
+    left: &[bool; 8],
+    lock: LockNumber,
+) -> Option<Acquisition>
+    ensures some { IfSome result (spec.IsFrom graph.now cert.now left.now lock) }
+    ensures none { IfNone result (spec.IsFree graph.now cert.now left.now lock) }
+{
+    for callback in 0..cert.callbacks().len() {
+        if let Some(found) = from_callback(graph, cert, left, lock, callback) {
+            return Some(found);
+        }
+    }
+    None
+}
+
+/// Whether a lock is left that is taken only where none that is left is held.
+fn is_next(graph: &Graph, cert: &Cert, left: &[bool; 8], lock: LockNumber) -> bool
+    ensures yes { result ≡ true → (spec.is_left left.now lock ≡ true) × spec.IsFree graph.now cert.now left.now lock }
+    ensures no_ { result ≡ false → spec.is_left left.now lock ≡ true → spec.IsTaken graph.now cert.now left.now lock }
+{
+    is_left(left, lock) && taken_from(graph, cert, left, lock).is_none()
+}
+
+/// A lock that is left and is taken only where none that is left is held.
+fn next_free(graph: &Graph, cert: &Cert, left: &[bool; 8]) -> Option<LockNumber>
+    ensures some { IfSome result (λ l. (spec.is_left left.now l ≡ true) × spec.IsFree graph.now cert.now left.now l) }
+    ensures none { IfNone result (spec.AreTakenBefore graph.now cert.now left.now 8) }
+{
+    for place in 0..8usize {
+        if let Some(lock) = LockNumber::at(place) {
+            if is_next(graph, cert, left, lock) {
+                return Some(lock);
+            }
+        }
+    }
+    None
+}
+
+/// The lock is left no longer.
+#[tactic(auto, using(crate::proofs::Places::place_below))]
+fn remove(left: &mut [bool; 8], lock: LockNumber)
+    ensures { left.new ≡ slice_set left.old (place_of lock) false }
+{
+    left[usize::from(lock.place())] = false;
+}
+
+/// A lock that is left.
+fn any_left(left: &[bool; 8]) -> Option<LockNumber>
+    ensures some { IfSome result (λ l. spec.is_left left.now l ≡ true) }
+    ensures none { IfNone result ((l : LockNumber) → place_of l < 8 → spec.is_left left.now l ≡ false) }
+{
+    for place in 0..8usize {
+        if let Some(lock) = LockNumber::at(place) {
+            if is_left(left, lock) {
+                return Some(lock);
+            }
+        }
+    }
+    None
+}
+
+/// What is left when locks are taken away one after the other, each only where none that is left is held while it is taken.
+fn reduce(graph: &Graph, cert: &Cert) -> [bool; 8]
+    ensures ranked { spec.AreRanked graph.now cert.now result 8 }
+    ensures rest { (spec.count_left result ≡ 0) ⊎ spec.AreTakenBefore graph.now cert.now result 8 }
+{
+    let mut left = [true; 8];
+    for round in 0..8usize {
+        match next_free(graph, cert, &left) {
+            Some(lock) => remove(&mut left, lock),
+            None => return left,
+        }
+    }
+    left
+}
+
+/// Locks that are each taken while another one of them is held, by a certificate; none, and locks are taken in an order.
+pub fn find_stuck(graph: &Graph, cert: &Cert) -> Option<[bool; 8]>
+    ensures ordered { IfNone result (spec.TakesInOrder graph.now cert.now) }
+    ensures stuck { IfSome result (spec.IsStuck graph.now cert.now) }
+{
+    let left = reduce(graph, cert);
+    match any_left(&left) {
+        Some(_) => Some(left),
+        None => None,
+    }
+}
+
+/// Locks that are stuck have no order; so `find_stuck` finds none exactly where locks are taken in one. It does nothing: its clause is the
+/// law.
+pub fn stuck_have_no_order()
+    ensures { spec.StuckHaveNoOrder }
+{}
