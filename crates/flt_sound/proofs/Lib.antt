@@ -4,3 +4,5 @@ pub mod calls
 pub mod ends
 pub mod moves
 pub mod run
+pub mod rest
+pub mod progress

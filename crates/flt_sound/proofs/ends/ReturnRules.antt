@@ -79,6 +79,11 @@ none_kept : (locks : List HeldLock) → not (abs.is_empty locks) ≡ false → i
 none_kept [] h = refl
 none_kept (l ∷ locks) h = absurd (cc)
 
+-- a list of locks that is found empty has none
+nothing_in : (locks : List HeldLock) → is_empty locks ≡ true → locks ≡ []
+nothing_in [] h = refl
+nothing_in (l ∷ locks) h = absurd (cc)
+
 -- a set of modes that is one mode alone means that mode
 mode_by : (irp fast : Bool) (mode wanted : Mode) → abs.is_mode_alone (record { irp = irp; fast = fast }) wanted ≡ true →
     has_mode (record { irp = irp; fast = fast }) mode ≡ true → same_mode mode wanted ≡ true
@@ -127,6 +132,10 @@ module _ {p : List Filter} {m : Moment} {a : ℕ} {s : Shadow} (at : IsAt p m a 
   pub no_locks : (st : Option Status) → AtReturn st → is_empty (activation_at m.world a).locks ≡ true
   no_locks st f =
       ap (λ (act : Activation). is_empty act.locks) (activation_is at) ∙ none_kept s.locks (rw (sym (spot at).means.locks) f.r10)
+
+  -- so its list of locks is empty
+  pub without_locks : (st : Option Status) → AtReturn st → s.locks ≡ []
+  without_locks st f = nothing_in s.locks (none_kept s.locks (rw (sym (spot at).means.locks) f.r10))
 
   -- ---- R02
 

@@ -49,7 +49,7 @@ use Rattle.flt_sound.proofs.calls.Handing.{context_lost, loses-named}
 use Rattle.flt_sound.proofs.calls.Effects.{own_filter, own_place, GivenAt, same_store}
 use Rattle.flt_sound.proofs.ends.Ending.{Ending, when, answer, used, lost_if, taken_if, settled_if, given_back, front, ending, in_turn, has_later, loses-used, loses-lost_if, front_does, ending_does, ending_turned}
 use Rattle.flt_sound.proofs.ends.Frames.{reference_taken, given_visit, frame_made}
-use Rattle.flt_sound.proofs.ends.ReturnRules.{AtReturn, no_locks, contexts_free, none_held, all_past, silent_free, returnable, held_asked, away_asked, stage_is, post_is, answer_legal}
+use Rattle.flt_sound.proofs.ends.ReturnRules.{without_locks, AtReturn, no_locks, contexts_free, none_held, all_past, silent_free, returnable, held_asked, away_asked, stage_is, post_is, answer_legal}
 use Rattle.flt_sound.proofs.ends.Tests.{implied}
 use Rattle.flt_sound.proofs.ends.Settling.{has_post_of, frames_by, settled_parts}
 use Rattle.flt_sound.proofs.points.Handed.{Names, names_has, named_own, handed, handed_values, handed_count}
@@ -263,7 +263,8 @@ module _ {p : List Filter} {m : Moment} {a : ℕ} {s : Shadow} (at : IsAt p m a 
         lost_one a x y,
         handed_count at c x n y,
       ))
-      (ending_turned a m.world.store store (end_of st x v) back.turned) (λ on. back.empty)
+      (ending_turned a m.world.store store (end_of st x v) back.turned)
+      (λ on. record { visits = back.empty; contexts = contexts_free at (Some st) c x r n named; locks = without_locks at (Some st) r })
       ledger (ending_does a (Touched at store) (end_of st x v) touched).clean
 
   -- ---- the visit is owned
@@ -381,7 +382,12 @@ module _ {p : List Filter} {m : Moment} {a : ℕ} {s : Shadow} (at : IsAt p m a 
       (ended (no_locks at st r) (λ y. omega (arith, contexts_at at y, contexts_free at st None None r tt none_named y)) (none _))
       (λ on. absurd (cc))
       (same_store at).change (λ u. simp counts (omega arith)) (λ y. simp counts (omega arith))
-      (calm_of at (same_store at) es (λ v. simp counts) (λ v. simp counts)) (λ on u. none_held at st r u (silent_free at st r silent u))
+      (calm_of at (same_store at) es (λ v. simp counts) (λ v. simp counts))
+      (λ on. record {
+        visits = λ u. none_held at st r u (silent_free at st r silent u);
+        contexts = contexts_free at st None None r tt none_named;
+        locks = without_locks at st r;
+      })
       (quiet_ledger at es (λ y. simp counts) (λ y. simp counts)) tt
 
   -- an end is good whether the callback answers or not: by R15 one that answers has a status, by R06 one with a status answers

@@ -211,4 +211,15 @@ entered laws p ok f n c e q same t means =
       stands = laws.whole c.body;
       reached = r.1;
       means = (laws.below (entry (graph.place_at x.graph n)) r.0 r.2).situations t (subst (λ q. Means (entry q) t) (sym at) means);
+      covered = λ g k low cov.
+          let within : n < length g.callbacks =
+          omega (arith, slice_get_within (callbacks_at p f) n c e, laws.count (filter_at p f) g low) in
+          let entered = cov.entries n within in
+          let place : graph.place_at g n ≡ q = (laws.each (filter_at p f) g n c low e).place ∙ sym same in
+          record {
+            state = entered.0;
+            reached = entered.1;
+            means = (laws.below (entry (graph.place_at g n)) entered.0 entered.2).situations t
+                (subst (λ q. Means (entry q) t) (sym place) means);
+          };
     }

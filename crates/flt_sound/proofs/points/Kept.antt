@@ -2,7 +2,7 @@
 -- visits, contexts), an unsettled visit stands in one place and is settled once, each reference of a context stands somewhere. They are
 -- equations between sums, so that a step of one activation is shown by a few linear equations (`StepOf`), whatever the call was.
 -- Here p is the program, m a moment, a, b are activations, s, old, new shadows or stores, es the events of the step.
-use Rattle.std.proofs.Common.{◌≡◌, ◌≢◌, ℕ, ◌+◌, ◌<◌, ◌≤◌, Bool, true, false, List, length, map, Some, refl, sym, ap, ◌∙◌, subst, arith, inl, inr, sum_by, ◌++◌}
+use Rattle.std.proofs.Common.{◌≡◌, ◌≢◌, ℕ, ◌+◌, ◌<◌, ◌≤◌, Bool, true, false, List, [], length, map, Some, refl, sym, ap, ◌∙◌, subst, arith, inl, inr, sum_by, ◌++◌}
 use Rattle.std.specs.List.{list_all}
 use Rattle.std.specs.Prelude.{if◌then◌else◌}
 use Rattle.std.proofs.lemmas.List.Sums.{get_or-le-sum_by, sum_by-set}
@@ -33,6 +33,15 @@ use Rattle.flt_sound.proofs.points.Stored.{Stored, Stood}
 abbrev pub keeps_context : ℕ → Shadow → ℕ
 keeps_context x s = own_all x s.contexts
 
+-- an activation that has ended owns nothing and holds no lock
+pub record IsIdle (s : Shadow) : Type 0 where
+  -- it owns no visit
+  pub visits : (v : ℕ) → own_all v s.operations ≡ 0
+  -- and no context
+  pub contexts : (x : ℕ) → own_all x s.contexts ≡ 0
+  -- and holds no lock
+  pub locks : s.locks ≡ []
+
 -- an activation of a moment stands at a point of its callback
 abbrev pub StoodAt : List Filter → Moment → ℕ → Shadow → Type 0
 StoodAt p m a s = Stood m.world.store.visits m.world.store.arrivals p (actor_at m.world a) s
@@ -59,8 +68,8 @@ pub record Kept (p : List Filter) (m : Moment) : Type 0 where
   pub owners : (v : ℕ) → sum_by (keeps_visit v) shadows + (queued v m.world.store + working v m.world.store) ≡ unsettled v m.world.store
   -- a visit that has come is settled once, or not yet
   pub once : (v : ℕ) → settles m.trace v + unsettled v m.world.store ≡ made v (length m.world.store.visits)
-  -- an activation that has ended owns no visit
-  pub idle : (a : ℕ) → (shadow_at shadows a).ended ≡ true → (v : ℕ) → own_all v (shadow_at shadows a).operations ≡ 0
+  -- an activation that has ended owns nothing
+  pub idle : (a : ℕ) → (shadow_at shadows a).ended ≡ true → IsIdle (shadow_at shadows a)
   -- each visit has its mark, settled or not
   pub settled_long : length m.world.store.settled ≡ length m.world.store.visits
   -- each filter has its queue
@@ -139,8 +148,8 @@ module _ (p : List Filter) (m : Moment) (a : ℕ) (old new : Shadow) (s : Store)
     pub plain_is : act ≡ plain new
     -- the second part's equations
     pub turned : Turned a m.world.store s es
-    -- where it ends it owns no visit
-    pub idle : new.ended ≡ true → (v : ℕ) → own_all v new.operations ≡ 0
+    -- where it ends it owns nothing
+    pub idle : new.ended ≡ true → IsIdle new
     -- the third part's equations
     pub ledger : Ledger a m.world.store s es
     -- what it gains is its filter's own
@@ -186,8 +195,7 @@ module _ (p : List Filter) (m : Moment) (a : ℕ) (old new : Shadow) (s : Store)
               rw q.is (r.change.visits v) in
               owners_after a k.shadows new m.world.store s es v there (k.owners v) change r.turned.turns;
           once = λ v. rw r.store.visits (simp counts (omega (arith, k.once v, r.turned.once v)));
-          idle = at_set (λ b (o : Shadow). o.ended ≡ true → (v : ℕ) →
-              own_all v o.operations ≡ 0) k.shadows a new no_one there r.idle (λ b ne. k.idle b);
+          idle = at_set (λ b (o : Shadow). o.ended ≡ true → IsIdle o) k.shadows a new no_one there r.idle (λ b ne. k.idle b);
           settled_long = r.turned.long ∙ (k.settled_long ∙ ap length (sym r.store.visits));
           seats = r.turned.seats ∙ k.seats;
           count = λ x.

@@ -89,7 +89,7 @@ module _ {p : List Filter} {m : Moment} {a : ℕ} where
           };
           plain_is = e;
           turned = calm_turned a store store [] refl refl refl (λ v. simp counts) (λ v. simp counts);
-          idle = λ done v. let no : true ≡ false = sym done ∙ (on ∙ at.on) in absurd (cc);
+          idle = λ done. let no : true ≡ false = sym done ∙ (on ∙ at.on) in absurd (cc);
           ledger = still a store store [] at.kept.mine refl refl refl refl (λ x. simp counts) (λ x. simp counts);
           gained = λ x g. let k = simp counts at g in absurd (omega (arith, k));
         });

@@ -2,7 +2,7 @@
 -- callback's graph, the certificate has a state there, and the state means the activation's situation (`Placed`). Then no rule is broken
 -- at the point (`fine`), and after each outcome it is placed again (`goes_on`). No other file speaks of graphs and states at once.
 -- Here p is the program, f a filter's number in it, t a situation, q a place, i the instruction at its point.
-use Rattle.std.proofs.Common.{◌≡◌, ℕ, zero, suc, ◌<◌, Bool, true, false, List, [], ◌∷◌, length, Option, Some, None, Ok, ap, sym, subst, refl, arith}
+use Rattle.std.proofs.Common.{◌≡◌, ℕ, zero, suc, ◌<◌, Bool, true, false, List, [], ◌∷◌, length, Option, Some, None, Ok, ap, sym, subst, refl, ◌∙◌, arith}
 use Rattle.std.specs.Prelude.{IsTrue, slice_get, slice_index_or, find, cond}
 use Rattle.std.proofs.Math.ListN.{get_or}
 use Rattle.flt_rules.specs.declared.place.Operation.{Operation}
@@ -23,7 +23,7 @@ use Rattle.flt_tree.specs.declared.filter.Status.{Status}
 use Rattle.flt_graph.specs.Graph.{point_in, callback_at, place_at, instruction_at, points_at}
 use Rattle.flt_graph.specs.Instruction.{plain}
 use Rattle.flt_graph.specs.Lowering.{AreGraphsOf, IsGraphOf, IsLowered, end_of}
-use Rattle.flt_graph.specs.Points.{Stands, StandsAt, IsFirst, IsLeftOf, instruction_of, choice, remaining, successor}
+use Rattle.flt_graph.specs.Points.{Stands, end, before, again, StandsAt, IsFirst, IsLeftOf, instruction_of, choice, remaining, successor}
 use Rattle.flt_graph.specs.Served.{IsInstructionServed}
 use Rattle.flt_graph.specs.declared.graph.CallbackGraph.{CallbackGraph}
 use Rattle.flt_graph.specs.declared.graph.Graph.{Graph}
@@ -77,6 +77,15 @@ pub record Laws : Type 0 where
 
 -- ---- an activation's place in its text
 
+-- a certificate has a state at a callback's point, and it means the situation
+pub record IsMeant (cert : Certificate) (number point : ℕ) (t : Situation) : Type 0 where
+  -- the state
+  pub state : State
+  -- it is there
+  pub reached : state_at cert number point ≡ Some state
+  -- it means the situation
+  pub means : Means state t
+
 -- a callback of an accepted filter, at a point where this list remains, in a state that means this situation
 pub record Placed (p : List Filter) (f : ℕ) (place : Place) (rest : List Statement) (t : Situation) : Type 0 where
   -- what the crates below prove
@@ -111,6 +120,8 @@ pub record Placed (p : List Filter) (f : ℕ) (place : Place) (rest : List State
   pub reached : state_at cert number point ≡ Some state
   -- the state means the situation
   pub means : Means state t
+  -- and so it is of each certificate that covers the filter's graph
+  pub covered : (g : Graph) (k : Certificate) → IsLowered filter g → Covers g k → IsMeant k number point t
 
 -- ---- rules that aren't broken
 
@@ -165,11 +176,11 @@ none_broken None n m e = refl
 -- ---- the point
 
 -- a state that is there has its point
-reached_within : (points : List (Option State)) (n : ℕ) (x : State) → slice_index_or points n None ≡ Some x → n < length points
+pub reached_within : (points : List (Option State)) (n : ℕ) (x : State) → slice_index_or points n None ≡ Some x → n < length points
 reached_within points n x e = within points n None (λ d. let past : slice_index_or points n None ≡ None = d in absurd (cc))
 
 -- a state that is there has its callback
-callback_within : (k : Certificate) (n m : ℕ) (x : State) → state_at k n m ≡ Some x → n < length k
+pub callback_within : (k : Certificate) (n m : ℕ) (x : State) → state_at k n m ≡ Some x → n < length k
 callback_within k n m x e =
     within k n [] (λ d.
     let none : state_at k n m ≡ None = ap (λ l. slice_index_or l m None) d in absurd (cc))
@@ -199,6 +210,15 @@ module _ {p : List Filter} {f : ℕ} {place : Place} {rest : List Statement} {t 
       none_broken (first_broken setting_here q.state here) (leads_to q.state here) steps.0 steps.1 in
       fine_of (breaks setting_here q.state i) (subst (λ j. first_broken setting_here q.state j ≡ None) e none)
 
+-- ---- the filter's graph is one
+
+-- two graphs of a callback have one point where a list of its text stands
+same_at : (all : List Callback) (c : Callback) (g h : CallbackGraph) (n : ℕ) (list : List Statement) → IsGraphOf all c g → IsGraphOf all c h →
+    Stands c.body n list → point_in g n ≡ point_in h n
+same_at all c g h n list x y end = x.end ∙ sym y.end
+same_at all c g h n list x y (before i) = x.statements _ _ _ _ _ i ∙ sym (y.statements _ _ _ _ _ i)
+same_at all c g h n list x y (again i e less) = x.statements _ _ _ _ _ i ∙ sym (y.statements _ _ _ _ _ i)
+
 -- ---- where it goes on
 
 module _ {p : List Filter} {f : ℕ} {place : Place} {rest : List Statement} {t : Situation} (q : Placed p f place rest t) where
@@ -206,12 +226,56 @@ module _ {p : List Filter} {f : ℕ} {place : Place} {rest : List Statement} {t 
   pub graph_of : IsGraphOf q.filter.callbacks q.callback (callback_at q.graph q.number)
   graph_of = q.laws.each q.filter q.graph q.number q.callback q.lowered q.declared
 
+  -- what stands at the point is the same in each graph of the filter
+  pub same_here : (g : Graph) → IsLowered q.filter g → instruction_at g q.number q.point ≡ here q
+  same_here g low = ap (λ (x : Point). x.instruction)
+      (same_at q.filter.callbacks q.callback (callback_at g q.number) (callback_at q.graph q.number) q.point rest
+      (q.laws.each q.filter g q.number q.callback low q.declared) graph_of q.stands)
+
+  -- a successor that a certificate covers has a state there
+  led_to : (k : Certificate) (o : Option Successor) (to : Option ℕ) (n : ℕ) (u : Situation) → Reaches o to u → IsLed k q.number o →
+      to ≡ Some n → IsMeant k q.number n u
+  led_to k None to n u r l e = absurd r
+  led_to k (Some s) to n u r l e =
+      let both : Some s.point ≡ Some n = r.0 ∙ e in
+      let same : s.point ≡ n = cc in
+      record {
+        state = l.0;
+        reached = subst (λ i. state_at k q.number i ≡ Some l.0) same l.1;
+        means = (q.laws.below s.state l.0 l.2).situations u r.1;
+      }
+
+  led_side : (k : Certificate) (next : Successors) (outcome : Bool) → IsLed k q.number next.first → IsLed k q.number next.second →
+      IsLed k q.number (side next outcome)
+  led_side k next true a b = a
+  led_side k next false a b = b
+
+  -- each certificate that covers a graph of the filter has a state at the successor that means what an outcome leaves
+  covered_on : (outcome gives : Bool) → may_come_out (here q) t outcome ≡ true → (n : ℕ) → successor (here q) outcome ≡ Some n →
+      (g : Graph) (k : Certificate) → IsLowered q.filter g → Covers g k → IsMeant k q.number n (leaves (here q) outcome gives t)
+  covered_on outcome gives may n e g k low cov =
+      let x = q.covered g k low cov in
+      let same = same_here g low in
+      let number : q.number < length g.callbacks =
+      (let h = callback_within k q.number q.point x.state x.reached in omega (arith, cov.callbacks)) in
+      let point : q.point < points_at g q.number =
+      (let h = reached_within (slice_index_or k q.number []) q.point x.state x.reached in omega (arith, cov.points q.number number)) in
+      let steps = cov.steps q.number q.point x.state number point x.reached in
+      let may' : may_come_out (instruction_at g q.number q.point) t outcome ≡ true =
+      subst (λ j. may_come_out j t outcome ≡ true) (sym same) may in
+      let reaches = q.laws.follows g q.number q.point x.state t steps.0 outcome gives steps.1 x.means may' in
+      subst (λ j. IsMeant k q.number n (leaves j outcome gives t)) same
+      (led_to k (side steps.0 outcome) (successor (instruction_at g q.number q.point) outcome) n
+      (leaves (instruction_at g q.number q.point) outcome gives t) reaches (led_side k steps.0 outcome steps.2 steps.3)
+      (ap (λ j. successor j outcome) same ∙ e))
+
   -- a successor that the certificate covers is a place again
   led_on : (o : Option Successor) (to : Option ℕ) (list : List Statement) (u : Situation) → Reaches o to u → IsLed q.cert q.number o →
       StandsAt q.callback.body to (Some list) →
+      ((n : ℕ) → to ≡ Some n → (g : Graph) (k : Certificate) → IsLowered q.filter g → Covers g k → IsMeant k q.number n u) →
       Placed p f place list u
-  led_on None to list u r l s = absurd r
-  led_on (Some n) to list u r l s =
+  led_on None to list u r l s c = absurd r
+  led_on (Some n) to list u r l s c =
       let stands : StandsAt q.callback.body (Some n.point) (Some list) = subst (λ o. StandsAt q.callback.body o (Some list)) (sym r.0) s in
       record {
         laws = q.laws;
@@ -231,6 +295,7 @@ module _ {p : List Filter} {f : ℕ} {place : Place} {rest : List Statement} {t 
         stands = stands;
         reached = l.1;
         means = (q.laws.below n.state l.0 l.2).situations u r.1;
+        covered = c n.point (sym r.0);
       }
 
   led : (next : Successors) (outcome : Bool) → IsLed q.cert q.number next.first → IsLed q.cert q.number next.second →
@@ -251,7 +316,7 @@ module _ {p : List Filter} {f : ℕ} {place : Place} {rest : List Statement} {t 
       (q.laws.next q.filter.callbacks q.callback (callback_at q.graph q.number) q.point rest outcome graph_of q.stands) in
       subst (λ j. Placed p f place list (leaves j outcome gives t)) e
       (led_on (side steps.0 outcome) (successor (here q) outcome) list (leaves (here q) outcome gives t) reaches
-      (led steps.0 outcome steps.2 steps.3) stands)
+      (led steps.0 outcome steps.2 steps.3) stands (covered_on outcome gives may'))
 
 -- ---- the instruction at the point is that of the first statement
 

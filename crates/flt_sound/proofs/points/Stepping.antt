@@ -20,7 +20,7 @@ use Rattle.flt_sound.proofs.sums.Shadows.{Unset, Owns, value_of, own_all, Shadow
 use Rattle.flt_sound.proofs.sums.Touching.{CleanBy, clean_from, gained_of}
 use Rattle.flt_sound.proofs.sums.Turns.{Turned, calm_turned}
 use Rattle.flt_sound.proofs.points.Events.{Events}
-use Rattle.flt_sound.proofs.points.Kept.{Good, StoreChange, IsAt, kept_after, refs_of, held_one, StoodAt}
+use Rattle.flt_sound.proofs.points.Kept.{Good, StoreChange, IsAt, IsIdle, kept_after, refs_of, held_one, StoodAt}
 use Rattle.flt_sound.proofs.points.Rows.{draining_of, PlacedAt, was}
 
 module _ {p : List Filter} {m : Moment} {a : ℕ} {s : Shadow} (at : IsAt p m a s) where
@@ -92,8 +92,8 @@ module _ {p : List Filter} {m : Moment} {a : ℕ} {s : Shadow} (at : IsAt p m a 
   -- ---- the activation goes on
 
   -- an activation that goes on hasn't ended: it owes nothing
-  pub running : (new : Shadow) → new.ended ≡ s.ended → new.ended ≡ true → (v : ℕ) → own_all v new.operations ≡ 0
-  running new same e v = let no : true ≡ false = sym e ∙ (same ∙ at.on) in absurd (cc)
+  pub running : (new : Shadow) → new.ended ≡ s.ended → new.ended ≡ true → IsIdle new
+  running new same e = let no : true ≡ false = sym e ∙ (same ∙ at.on) in absurd (cc)
 
   -- where only contexts change it stands as it stood
   pub stood_contexts : (new : Shadow) → new.operations ≡ s.operations → new.mode ≡ s.mode → length new.contexts ≡ length s.contexts →
@@ -131,7 +131,7 @@ module _ {p : List Filter} {m : Moment} {a : ℕ} {s : Shadow} (at : IsAt p m a 
       (new.ended ≡ false → StoodAt p m a new) → StoreChange p m.world.store store →
       ((v : ℕ) → gains es a (Visit v) + own_all v s.operations ≡ loses es a (Visit v) + own_all v new.operations) →
       ((x : ℕ) → gains es a (Context x) + own_all x s.contexts ≡ loses es a (Context x) + own_all x new.contexts) →
-      Turned a m.world.store store es → (new.ended ≡ true → (v : ℕ) → own_all v new.operations ≡ 0) → Ledger a m.world.store store es →
+      Turned a m.world.store store es → (new.ended ≡ true → IsIdle new) → Ledger a m.world.store store es →
       CleanBy (Touched store) es →
       Good p m (record { world = record m.world { activations = set m.world.activations a act; store = store }; events = es })
   row_good new store es act e events stood c visits contexts turned idle ledger clean =

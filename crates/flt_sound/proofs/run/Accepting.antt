@@ -1,6 +1,6 @@
 -- The worked filter is accepted: it is well-formed, and its certificate has no fault at any point of its graph.
 use Rattle.std.proofs.Common.{◌≡◌, ℕ, zero, suc, ◌<◌, Bool, true, false, List, [], ◌∷◌, Option, Some, None, refl, ap, sym, subst, ◌∙◌, arith, inl, inr, lit≤}
-use Rattle.std.specs.Prelude.{◌&&◌, not, is_none, IsTrue}
+use Rattle.std.specs.Prelude.{◌&&◌, not, is_none, slice_index_or, IsTrue}
 use Rattle.std.proofs.lemmas.Bool.{and_parts, cases_eq}
 use Rattle.flt_tree.specs.WellFormed as fine
 use Rattle.flt_tree.specs.WellFormed.{IsWellFormed, IsPlain, IsStatement, AreCallbacks}
@@ -11,12 +11,13 @@ use Rattle.flt_tree.specs.declared.filter.Statement.{Statement, out-Statement}
 use Rattle.flt_tree.specs.declared.filter.Statement.TheFolds.{map-Statement, fold_out-Statement, para-Statement, para-roll-Statement}
 use Rattle.flt_tree.specs.declared.filter.Statement.TheViews.{roll-out-Statement}
 use Rattle.flt_graph.specs.Codes.{Code, code_step, statement_code, block_code}
-use Rattle.flt_graph.specs.Graph.{points_at}
+use Rattle.flt_graph.specs.Graph.{instruction_at, points_at}
 use Rattle.flt_graph.specs.Lowering.{IsLowered, graph_of}
 use Rattle.flt_graph.specs.declared.graph.Graph.{Graph}
 use Rattle.flt_cert.specs.Format.{Certificate, is_certificate}
 use Rattle.flt_check.specs.Checker.{IsFaultless, differs, point_fault}
-use Rattle.flt_check.specs.Covering.{Covers}
+use Rattle.flt_check.specs.Covering.{Covers, state_at}
+use Rattle.flt_abs.specs.State.{State}
 use Rattle.flt_model.specs.WorkedParts.{computed, release_if}
 use Rattle.flt_rules.specs.declared.call.LockKind.TheVariants.{Push}
 use Rattle.flt_rules.specs.declared.call.LockNumber.TheVariants.{L0}
@@ -26,7 +27,11 @@ use Rattle.flt_tree.specs.declared.filter.Lock.{Lock}
 use Rattle.flt_tree.specs.declared.filter.PlainCall.TheVariants as plain
 use Rattle.flt_tree.specs.declared.variable.ContextVariable.{ContextVariable}
 use Rattle.flt_tree.specs.declared.variable.ContextVariable.TheVariants.{C0, Arg}
+use Rattle.flt_order.specs.Order.{taken_by}
+use Rattle.flt_sound.specs.Progress.{IsOrderly}
 use Rattle.flt_sound.specs.Soundness.{IsAccepted, AreAccepted}
+use Rattle.flt_sound.proofs.points.Placed.{callback_within, reached_within}
+use Rattle.flt_sound.proofs.progress.Ordering.{keeps_order, kept_order, order_by}
 use Rattle.flt_sound.specs.Worked.{worked, worked_graph, certificate}
 
 -- ---- it is well-formed
@@ -175,6 +180,35 @@ worked_accepted have cover = record {
   well_formed = well_formed;
   lowered = lowered have;
   covers = cover worked_graph certificate is_certificate_there faultless;
+}
+
+-- ---- it takes its lock in an order: it has one
+
+ordered_all : all_below 5 (λ c. all_below (points_at worked_graph c) (λ p.
+    keeps_order (λ n. n) (state_at certificate c p) (taken_by (instruction_at worked_graph c p)))) ≡ true
+unfolding computed
+ordered_all = refl
+
+-- as many points as the certificate has
+count_all : Covers worked_graph certificate → (c p : ℕ) (x : State) → state_at certificate c p ≡ Some x → (c < 5) × (p < points_at worked_graph c)
+count_all cov c p x e =
+    let callback = callback_within certificate c p x e in
+    let point = reached_within (slice_index_or certificate c []) p x e in
+    (callback, omega (arith, point, cov.points c callback))
+
+-- so it is orderly
+pub worked_orderly : ((f : Filter) → IsLowered f (graph_of f)) →
+    ((g : Graph) (k : Certificate) → IsTrue (is_certificate k) → IsFaultless g k → Covers g k) → IsOrderly worked
+unfolding worked_accepted
+worked_orderly have cover = record {
+  accepted = worked_accepted have cover;
+  ordered = order_by worked_graph certificate (λ n. n) (λ c p x l e t.
+      let there = count_all (worked_accepted have cover).covers c p x e in
+      kept_order (λ n. n) (state_at certificate c p) (taken_by (instruction_at worked_graph c p)) x l e t
+      (below_holds (points_at worked_graph c) (λ p. keeps_order (λ n. n) (state_at certificate c p)
+      (taken_by (instruction_at worked_graph c p)))
+      (below_holds 5 (λ c. all_below (points_at worked_graph c) (λ p. keeps_order (λ n. n) (state_at certificate c p)
+      (taken_by (instruction_at worked_graph c p)))) ordered_all c there.0) p there.1));
 }
 
 -- alone it makes a list of accepted filters

@@ -61,7 +61,7 @@ opens p = record {
   };
   owners = λ v. omega (arith, no_entries v p);
   once = λ v. omega (arith, settles-nil v, made_none v);
-  idle = λ a on v. own_all-nil v;
+  idle = λ a on. record { visits = λ v. own_all-nil v; contexts = λ x. own_all-nil x; locks = refl };
   settled_long = refl;
   seats = length-map p (λ _. []);
   count = λ x. omega (arith, no_lines x p);

@@ -87,7 +87,7 @@ module _ (p : List Filter) (m : Moment) (s : Step) (g : Good p m s) (exclude : I
   keeps_all V3 = once_along m.trace s.events (λ v. omega (arith, g.kept.once v, made_few v (length s.world.store.visits)))
   keeps_all V4 = all_owned (length s.world.store.visits) (is_owned s.world (m.trace ++ s.events))
       (λ v. visit_owned s.world (m.trace ++ s.events) v g.kept.shadows g.kept.same
-      (λ b. record { balance = g.kept.visits b v; idle = λ e. g.kept.idle b e v }) (g.kept.owners v))
+      (λ b. record { balance = g.kept.visits b v; idle = λ e. (g.kept.idle b e).visits v }) (g.kept.owners v))
   keeps_all V5 = g.legal
   keeps_all V6 = g.low
   keeps_all V7 = and_from _ _ g.disciplined exclude
