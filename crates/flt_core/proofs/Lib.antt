@@ -1,4 +1,5 @@
 pub mod Counted
 pub mod Detached
 pub mod Enabled
+pub mod Filled
 pub mod Outcomes

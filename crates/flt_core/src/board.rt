@@ -1,6 +1,7 @@
 //! What stands behind the lock.
 ghost use Rattle.std.specs.Prelude.{◌≡◌, ◌↔◌, ◌⊎◌, ◌<◌, ◌+◌, ◌++◌, ◌∷◌, [], true, false, length, is_some, ◌≢◌, Err, Some, None, IfErr, IfOk, IfSome, IsTrue, OnOk, OnErr};
 ghost use Rattle.flt_core.specs.Counting.{callers_in, is_callers_move, others_in};
+ghost use Rattle.flt_receipts.specs.Bounds.{IsFull};
 ghost use Rattle.flt_receipts.specs.Receipts.{receipt};
 ghost use Rattle.flt_core.specs.Refusals as spec;
 ghost use Rattle.flt_core.specs.declared.fault.ArriveFault.TheVariants as arrive_fault;
@@ -20,36 +21,40 @@ ghost use Rattle.flt_model.specs.declared.moves.JournalEntry.TheVariants as jour
 ghost use Rattle.flt_model.specs.declared.moves.Move.TheVariants as moves;
 
 use crate::fault::{ArriveFault, DetachFault};
-use crate::names::{CallerEntries, OtherEntries, StackName};
+use crate::names::{CallerEntries, Fulls, OtherEntries, StackName};
 use crate::receipts::Receipts;
 use flt_machine::{Advanced, ApplyFault, Board, Commit, Events, Loaded, MAX_ENTRIES, OutOfMemory};
 use flt_model::{Journal, Move, Subject};
 use flt_ops::MAX_OPERATIONS;
-use flt_receipts::Receipt;
+use flt_receipts::{Receipt, arrivals_are_operations};
 use flt_rules::{Mode, Operation};
 use std::alloc::Global;
 use std::marker::Model;
 use std::sync::ledger::{Book, Share};
 
-/// A board of the filters that N names, and the books of its entries. Contracts see what the board is.
+/// A board of the filters that N names, the books of its entries, and that of what was refused for want of room. Contracts see what the
+/// board is.
 #[derive(Drop)]
 pub struct Core<N: StackName> {
     pub(crate) board: Board,
     pub(crate) callers: Book<CallerEntries<N>>,
     pub(crate) others: Book<OtherEntries<N>>,
+    pub(crate) fulls: Book<Fulls<N>>,
 }
 
 impl<N: StackName> Model for Core<N> {
-    ghost use Rattle.std.specs.Prelude.{◌≡◌};
+    ghost use Rattle.std.specs.Prelude.{◌≡◌, ◌<◌};
     ghost use Rattle.flt_core.specs.Counting.{callers_in, others_in};
     ghost use Rattle.flt_machine.specs.Situations.{Situation, IsBoard};
+    ghost use Rattle.flt_receipts.specs.Bounds.{IsFull};
 
     ghost Value = { Situation };
 
     ghost view = { λ c. c.board };
 
     ghost invariant = { λ c. IsBoard N.trees c.board
-        × (c.callers.total ≡ callers_in c.board.entries) × (c.others.total ≡ others_in c.board.entries) };
+        × (c.callers.total ≡ callers_in c.board.entries) × (c.others.total ≡ others_in c.board.entries)
+        × (0 < c.fulls.total → IsFull c.board.entries) };
 }
 
 impl<N: StackName> Core<N> {
@@ -59,10 +64,12 @@ impl<N: StackName> Core<N> {
         loaded: &Loaded,
         callers: Book<CallerEntries<N>>,
         others: Book<OtherEntries<N>>,
+        fulls: Book<Fulls<N>>,
     ) -> Result<Core<N>, OutOfMemory>
         requires loaded { AreLoaded N.trees loaded.now }
         requires callers { callers.total ≡ 0 }
         requires others { others.total ≡ 0 }
+        requires fulls { fulls.total ≡ 0 }
         ensures opening { IfOk result (λ core. core ≡ situations.opening (length N.trees)) }
     {
         let board = Board::new(alloc, loaded)?;
@@ -70,6 +77,7 @@ impl<N: StackName> Core<N> {
             board,
             callers,
             others,
+            fulls,
         })
     }
 
@@ -90,20 +98,24 @@ impl<N: StackName> Core<N> {
         loaded.boards_break_nothing(&self.board)
     }
 
-    /// Says how shares that have all parts of a ledger stand to the journal, and changes nothing.
+    /// Says how shares that have all parts of a ledger stand to the journal, and that it is full where something was refused since it was.
+    /// It changes nothing.
     pub fn audit(
         &mut self,
         callers: &mut Share<CallerEntries<N>>,
         others: &mut Share<OtherEntries<N>>,
+        fulls: &mut Share<Fulls<N>>,
     )
         ensures same { self.new ≡ self.old }
         ensures amounts { (callers.new.amount ≡ callers.old.amount) × (others.new.amount ≡ others.old.amount) }
         ensures parts { (callers.new.parts ≡ callers.old.parts) × (others.new.parts ≡ others.old.parts) }
         ensures callers { callers.old.parts ≡ N.callers_parts → callers.old.amount ≡ callers_in self.old.entries }
         ensures others { others.old.parts ≡ N.others_parts → others.old.amount ≡ others_in self.old.entries }
+        ensures full { 0 < fulls.old.amount → IsFull self.old.entries }
     {
         self.callers.audit(callers);
         self.others.audit(others);
+        self.fulls.audit(fulls);
     }
 
     /// Ends the core, and hands out its journal.
@@ -114,6 +126,7 @@ impl<N: StackName> Core<N> {
             board,
             callers: _,
             others: _,
+            fulls: _,
         } = self;
         board.into_journal()
     }
@@ -265,6 +278,7 @@ impl<N: StackName> Core<N> {
         ensures full { (result ≡ Err apply_fault.Full) ↔ ((IsDisabled loaded.now self.old step → ⊥) × IsFullFor self.old step) }
         ensures refused { OnErr result ((self.new ≡ self.old) × (mine.new.amount ≡ mine.old.amount)) }
     {
+        arrivals_are_operations();
         self.board.apply(alloc, loaded, step)?;
         self.callers.add(mine, 1);
         Ok(())
@@ -338,6 +352,20 @@ impl<N: StackName> Core<N> {
             Commit::Full => Commit::Full,
             Commit::OutOfMemory => Commit::OutOfMemory,
         }
+    }
+
+    // ---- what is refused
+
+    /// A move is refused, since there is no room for it, and this is counted. Nothing else changes.
+    pub fn count_full(&mut self, fulls: &mut Share<Fulls<N>>, step: Move)
+        requires part { 0 < fulls.old.parts }
+        requires full { IsFullFor self.old step }
+        ensures same { self.new ≡ self.old }
+        ensures amount { fulls.new.amount ≡ fulls.old.amount + 1 }
+        ensures parts { fulls.new.parts ≡ fulls.old.parts }
+    {
+        arrivals_are_operations();
+        self.fulls.add(fulls, 1);
     }
 
     // ---- what is tested first

@@ -4,7 +4,7 @@ ghost use Rattle.std.specs.Prelude.{ℕ};
 use std::marker::{Brand, PhantomData};
 use std::sync::ledger::Ledger;
 
-/// Names two ledgers.
+/// Names three ledgers.
 pub trait Counts {
     ghost callers_name: { ℕ };
 
@@ -13,9 +13,13 @@ pub trait Counts {
     ghost others_name: { ℕ };
 
     ghost others_parts: { ℕ };
+
+    ghost fulls_name: { ℕ };
+
+    ghost fulls_parts: { ℕ };
 }
 
-/// Names one stack: the filters that it runs, from the highest altitude to the lowest, and its two ledgers.
+/// Names one stack: the filters that it runs, from the highest altitude to the lowest, and its three ledgers.
 pub trait StackName: Counts {
     ghost use Rattle.std.specs.Prelude.{List};
     ghost use Rattle.flt_tree.specs.declared.filter.Filter.{Filter};
@@ -31,6 +35,10 @@ impl Counts for Brand {
     ghost others_name = { 0 };
 
     ghost others_parts = { 0 };
+
+    ghost fulls_name = { 0 };
+
+    ghost fulls_parts = { 0 };
 }
 
 impl StackName for Brand {
@@ -59,4 +67,15 @@ impl<N: Counts> Ledger for OtherEntries<N> {
     ghost name = { N.others_name };
 
     ghost parts = { N.others_parts };
+}
+
+/// The ledger of what was refused for want of room: the journal, or the number of operations, was full.
+pub struct Fulls<N: Counts> {
+    of: PhantomData<N>,
+}
+
+impl<N: Counts> Ledger for Fulls<N> {
+    ghost name = { N.fulls_name };
+
+    ghost parts = { N.fulls_parts };
 }

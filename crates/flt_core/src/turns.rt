@@ -1,5 +1,5 @@
 //! What a worker does in one hold of the lock: a ticket's move, or the step after an advance.
-ghost use Rattle.std.specs.Prelude.{◌≡◌, ◌+◌, ◌<◌, [], true, false, length, Err, IfOk, OnErr, OnOk};
+ghost use Rattle.std.specs.Prelude.{◌≡◌, ◌≢◌, ◌+◌, ◌<◌, [], true, false, length, Err, IfOk, OnErr, OnOk};
 ghost use Rattle.std.specs.BTreeSet.{insert_key};
 ghost use Rattle.std.specs.Ordering.{nat_cmp};
 ghost use Rattle.flt_core.specs.Turning.{HasCommitted, IsCancel, grows};
@@ -9,7 +9,7 @@ ghost use Rattle.flt_run.specs.Turns as spec;
 ghost use Rattle.flt_run.specs.declared.fault.TurnFault.TheVariants as fault;
 
 use crate::board::Core;
-use crate::names::{OtherEntries, StackName};
+use crate::names::{Fulls, OtherEntries, StackName};
 use flt_machine::{Advanced, ApplyFault, Commit, Loaded, OutOfMemory};
 use flt_model::{Move, Subject};
 use flt_run::one::{asked_by, is_teardown, stays_after};
@@ -76,16 +76,18 @@ impl<N: StackName> Locked<N> {
         alloc: Global,
         loaded: &Loaded,
         mine: &mut Share<OtherEntries<N>>,
+        fulls: &mut Share<Fulls<N>>,
         ticket: Subject,
     ) -> Result<Turned, TurnFault>
         requires loaded { AreLoaded N.trees loaded.now }
-        requires part { 0 < mine.old.parts }
+        requires part { (0 < mine.old.parts) × (0 < fulls.old.parts) }
         ensures moved { IfOk result (λ t. spec.HasMoved loaded.now self.old.core self.new.core ticket t.stays t.next.items) }
         ensures choices { self.new.choices ≡ self.old.choices }
         ensures entries { IfOk result (λ t. length self.new.core.entries ≡ length self.old.core.entries + grows t.made) }
         ensures share { IfOk result (λ t. mine.new.amount ≡ mine.old.amount + grows t.made) }
-        ensures parts { mine.new.parts ≡ mine.old.parts }
-        ensures full { result ≡ Err fault.Full → length self.old.core.entries ≡ 1000000 }
+        ensures parts { (mine.new.parts ≡ mine.old.parts) × (fulls.new.parts ≡ fulls.old.parts) }
+        ensures full { result ≡ Err fault.Full → (length self.old.core.entries ≡ 1000000) × (fulls.new.amount ≡ fulls.old.amount + 1) }
+        ensures room { result ≢ Err fault.Full → fulls.new.amount ≡ fulls.old.amount }
         ensures refused { OnErr result ((self.new.core ≡ self.old.core) × (mine.new.amount ≡ mine.old.amount)) }
     {
         let teardown = is_teardown(self.core.board(), loaded, ticket);
@@ -99,7 +101,10 @@ impl<N: StackName> Locked<N> {
                 made: true,
             }),
             Err(ApplyFault::NotEnabled) => Ok(unmade(alloc, teardown)),
-            Err(ApplyFault::Full) => Err(TurnFault::Full),
+            Err(ApplyFault::Full) => {
+                self.core.count_full(fulls, step);
+                Err(TurnFault::Full)
+            }
             Err(ApplyFault::OutOfMemory) => Err(TurnFault::OutOfMemory),
         }
     }
@@ -111,17 +116,19 @@ impl<N: StackName> Locked<N> {
         alloc: Global,
         loaded: &Loaded,
         mine: &mut Share<OtherEntries<N>>,
+        fulls: &mut Share<Fulls<N>>,
         advanced: &Advanced,
     ) -> Result<Turned, TurnFault>
         requires loaded { AreLoaded N.trees loaded.now }
-        requires part { 0 < mine.old.parts }
+        requires part { (0 < mine.old.parts) × (0 < fulls.old.parts) }
         requires advance { IsAdvanced loaded.now advanced.now }
         ensures gone { IfOk result (λ t. HasCommitted loaded.now self.old.core self.new.core self.old.choices self.new.choices
             advanced.now t.made t.stays t.next.items) }
         ensures entries { IfOk result (λ t. length self.new.core.entries ≡ length self.old.core.entries + grows t.made) }
         ensures share { IfOk result (λ t. mine.new.amount ≡ mine.old.amount + grows t.made) }
-        ensures parts { mine.new.parts ≡ mine.old.parts }
-        ensures full { result ≡ Err fault.Full → length self.old.core.entries ≡ 1000000 }
+        ensures parts { (mine.new.parts ≡ mine.old.parts) × (fulls.new.parts ≡ fulls.old.parts) }
+        ensures full { result ≡ Err fault.Full → (length self.old.core.entries ≡ 1000000) × (fulls.new.amount ≡ fulls.old.amount + 1) }
+        ensures room { result ≢ Err fault.Full → fulls.new.amount ≡ fulls.old.amount }
         ensures refused { OnErr result ((self.new.core ≡ self.old.core)
             × ((self.new.choices ≡ self.old.choices) × (mine.new.amount ≡ mine.old.amount))) }
     {
@@ -137,7 +144,10 @@ impl<N: StackName> Locked<N> {
             }
             Commit::Stale => Ok(unmade(alloc, false)),
             Commit::Blocked => Ok(unmade(alloc, true)),
-            Commit::Full => Err(TurnFault::Full),
+            Commit::Full => {
+                self.core.count_full(fulls, Move::Cancel { serial: 0 });
+                Err(TurnFault::Full)
+            }
             Commit::OutOfMemory => Err(TurnFault::OutOfMemory),
         }
     }
@@ -148,16 +158,18 @@ impl<N: StackName> Locked<N> {
         alloc: Global,
         loaded: &Loaded,
         mine: &mut Share<OtherEntries<N>>,
+        fulls: &mut Share<Fulls<N>>,
         serial: u32,
     ) -> Result<Turned, TurnFault>
         requires loaded { AreLoaded N.trees loaded.now }
-        requires part { 0 < mine.old.parts }
+        requires part { (0 < mine.old.parts) × (0 < fulls.old.parts) }
         ensures cancelled { IfOk result (λ t. IsCancel loaded.now self.old.core self.new.core serial t.made t.stays t.next.items) }
         ensures choices { self.new.choices ≡ self.old.choices }
         ensures entries { IfOk result (λ t. length self.new.core.entries ≡ length self.old.core.entries + grows t.made) }
         ensures share { IfOk result (λ t. mine.new.amount ≡ mine.old.amount + grows t.made) }
-        ensures parts { mine.new.parts ≡ mine.old.parts }
-        ensures full { result ≡ Err fault.Full → length self.old.core.entries ≡ 1000000 }
+        ensures parts { (mine.new.parts ≡ mine.old.parts) × (fulls.new.parts ≡ fulls.old.parts) }
+        ensures full { result ≡ Err fault.Full → (length self.old.core.entries ≡ 1000000) × (fulls.new.amount ≡ fulls.old.amount + 1) }
+        ensures room { result ≢ Err fault.Full → fulls.new.amount ≡ fulls.old.amount }
         ensures refused { OnErr result ((self.new.core ≡ self.old.core) × (mine.new.amount ≡ mine.old.amount)) }
     {
         let step = Move::Cancel { serial };
@@ -168,7 +180,10 @@ impl<N: StackName> Locked<N> {
                 made: true,
             }),
             Err(ApplyFault::NotEnabled) => Ok(unmade(alloc, false)),
-            Err(ApplyFault::Full) => Err(TurnFault::Full),
+            Err(ApplyFault::Full) => {
+                self.core.count_full(fulls, step);
+                Err(TurnFault::Full)
+            }
             Err(ApplyFault::OutOfMemory) => Err(TurnFault::OutOfMemory),
         }
     }

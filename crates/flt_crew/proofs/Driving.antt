@@ -17,8 +17,8 @@ module _ (loaded trees : List Filter) (named : loaded ≡ trees) (ordered : by_a
     (law : (filters : List Filter) (entries : List JournalEntry) → (verdict filters entries ≡ Legal) ↔ IsCleanRun filters entries) where
   -- what ends as it should was driven on what is loaded, of which nothing is broken
   pub driven : {E : Type 0} (commands : Commands) (result : Result Driven E) →
-      IfOk result (λ d. IsCleanRun trees d.journal) → IfOk result (λ d. IsEnded commands d.journal d.ending) →
-      IfOk result (λ d. IsDriven loaded commands d.journal d.ending)
+      IfOk result (λ d. IsCleanRun trees d.journal) → IfOk result (λ d. IsEnded commands d.journal d.made d.ending) →
+      IfOk result (λ d. IsDriven loaded commands d.journal d.made d.ending)
   driven commands (Ok d) clean ended =
       let here : IsCleanRun loaded d.journal = subst (λ filters. IsCleanRun filters d.journal) (sym named) clean in
       record {
@@ -29,3 +29,10 @@ module _ (loaded trees : List Filter) (named : loaded ≡ trees) (ordered : by_a
         ended = ended;
       }
   driven commands (Err e) clean ended = tt
+
+-- where what ends so is known of any commands, it is known of these
+pub ended_by : {E : Type 0} (commands : Commands) (result : Result Driven E) (Q : Commands → Type 0) → Q commands →
+    IfOk result (λ d. (any : Commands) → Q any → IsEnded any d.journal d.made d.ending) →
+    IfOk result (λ d. IsEnded commands d.journal d.made d.ending)
+ended_by commands (Ok d) Q q ended = ended commands q
+ended_by commands (Err e) Q q ended = tt

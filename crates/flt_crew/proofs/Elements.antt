@@ -1,7 +1,8 @@
 -- What is true of each element.
-use Rattle.std.proofs.Common.{◌≡◌, List, All, length, map, ap, sym, ◌∙◌}
+use Rattle.std.proofs.Common.{◌≡◌, ℕ, ◌+◌, List, [], ◌∷◌, All, length, map, sum_by, ap, refl, sym, arith, ◌∙◌}
 use Rattle.std.proofs.lemmas.List.{length-map}
-use Rattle.std.proofs.lemmas.List.Elements.{All-map, All-same}
+use Rattle.std.proofs.lemmas.List.Elements.{All-head, All-map, All-same, All-tail}
+use Rattle.std.proofs.lemmas.List.Sums.{sum_by-cons}
 
 module _ {X Y : Type 0} (xs : List X) (ys : List Y) (f : X → Y) (same : map f xs ≡ ys) where
   -- what is true of the value at each element is true of each value
@@ -11,3 +12,9 @@ module _ {X Y : Type 0} (xs : List X) (ys : List Y) (f : X → Y) (same : map f 
   -- there are as many values as elements
   pub as_many : length ys ≡ length xs
   as_many = sym (ap length same) ∙ length-map xs f
+
+-- where each element counts once, the sum is the length
+pub sum_of_ones : {X : Type 0} (f : X → ℕ) (xs : List X) → All (λ (x : X). f x ≡ 1) xs → sum_by f xs ≡ length xs
+sum_of_ones f [] h = refl
+sum_of_ones f (x ∷ xs) h =
+    sum_by-cons f x xs ∙ omega (arith, All-head (λ y. f y ≡ 1) x xs h, sum_of_ones f xs (All-tail (λ y. f y ≡ 1) x xs h))

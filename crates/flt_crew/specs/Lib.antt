@@ -1,3 +1,3 @@
-pub mod Bounds
+pub mod Following
 pub mod Giving
 pub mod Running

@@ -1,10 +1,10 @@
 -- What a script comes to on some texts. This project's own program.
-use Rattle.std.specs.Prelude.{◌≡◌, ◌≢◌, List, length, None, Result, Ok, Err, IsPermutation}
+use Rattle.std.specs.Prelude.{◌≡◌, ◌≢◌, ◌≤◌, ℕ, List, [], ◌++◌, length, None, Result, Ok, Err, IsPermutation}
 use Rattle.flt_receipts.specs.declared.receipt.Receipt.{Receipt}
-use Rattle.flt_crew.specs.Bounds.{IsFull}
-use Rattle.flt_crew.specs.Giving.{AreGiven}
+use Rattle.flt_core.specs.Counting.{callers_in, others_in}
+use Rattle.flt_crew.specs.Giving.{AreMade}
 use Rattle.flt_crew.specs.declared.ending.Ending.{Ending}
-use Rattle.flt_crew.specs.declared.ending.Ending.TheVariants.{Full, Differ}
+use Rattle.flt_crew.specs.declared.ending.Ending.TheVariants.{Whole, Full, Differ}
 use Rattle.flt_crew.specs.declared.running.Ran.{Ran}
 use Rattle.flt_driven.specs.Preparing.{Fails, IsScript}
 use Rattle.flt_driven.specs.Texts.{AreSpelled, HaveCertificates}
@@ -17,6 +17,7 @@ use Rattle.flt_model.specs.Steps.{Transition}
 use Rattle.flt_model.specs.Streams.{Text}
 use Rattle.flt_model.specs.declared.moves.JournalEntry.{JournalEntry}
 use Rattle.flt_model.specs.declared.verdict.Verdict.TheVariants.{Legal}
+use Rattle.flt_receipts.specs.Bounds.{IsFull}
 use Rattle.flt_receipts.specs.Receipts.{receipts_in}
 use Rattle.flt_script.specs.ScriptText.{Commands}
 use Rattle.flt_stack.specs.Loading.{IsCount}
@@ -24,24 +25,34 @@ use Rattle.flt_tree.specs.declared.filter.Filter.{Filter}
 
 -- ---- the stack
 
--- how the entries that callers made stand to what was asked for, and to the end of the run
-pub record IsEnded (commands : Commands) (entries : List JournalEntry) (ending : Ending) : Type 0 where
-  -- what the caller kept of the commands that it gave
+-- how a journal's entries stand to what was asked for, to what workers were answered, and to the end of the run
+pub record IsEnded (commands : Commands) (entries : List JournalEntry) (made : ℕ) (ending : Ending) : Type 0 where
+  -- the commands that were given, and those that weren't
+  pub given : Commands
+  pub rest : Commands
+  pub parts : commands ≡ given ++ rest
+  -- what the caller kept of those that it gave, and what it asked to be cancelled
   pub receipts : List Receipt
-  pub given : AreGiven commands receipts
-  -- these are the journal's, each once, unless it is said that they differ
+  pub asked : List ℕ
+  pub kept : AreMade given receipts asked
+  -- the receipts are the journal's, each once, unless it is said that they differ
   pub agree : ending ≢ Differ → IsPermutation (receipts_in entries) receipts
   pub differ : ending ≡ Differ → IsPermutation (receipts_in entries) receipts → ⊥
+  -- as many entries are of callers as there are receipts, and as many of others as workers were answered at least
+  pub callers : callers_in entries ≡ length receipts
+  pub others : made ≤ others_in entries
+  -- the whole script was given, and workers were answered of each entry that they made
+  pub whole : ending ≡ Whole → (rest ≡ []) × (others_in entries ≡ made)
   -- the script was broken off only where the journal or the number of operations is full
   pub full : ending ≡ Full → IsFull entries
 
 -- the journal is a run of the machine on what is loaded that breaks nothing, and ends so
-pub record IsDriven (loaded : List Filter) (commands : Commands) (entries : List JournalEntry) (ending : Ending) : Type 0 where
+pub record IsDriven (loaded : List Filter) (commands : Commands) (entries : List JournalEntry) (made : ℕ) (ending : Ending) : Type 0 where
   pub ordered : by_altitude loaded ≡ loaded
   pub unbroken : (transitions : List Transition) → breaks loaded transitions ≡ None
   pub clean : IsCleanRun loaded entries
   pub legal : verdict loaded entries ≡ Legal
-  pub ended : IsEnded commands entries ending
+  pub ended : IsEnded commands entries made ending
 
 -- ---- all of it
 
@@ -62,7 +73,7 @@ pub record IsRun (script : Text) (texts : List Text) (ran : Ran) : Type 0 where
   pub clean : IsCleanRun filters entries
   -- so `replay` calls it legal on these texts
   pub legal : verdict filters entries ≡ Legal
-  pub ended : IsEnded commands entries ran.ending
+  pub ended : IsEnded commands entries ran.made ran.ending
 
 -- what is answered of a script and some texts
 abbrev pub Answers : Text → List Text → Result Ran RunFault → Type 0

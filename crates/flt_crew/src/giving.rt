@@ -1,10 +1,11 @@
 //! What a stack's caller does with a command.
 
-ghost use Rattle.std.specs.Prelude.{◌≡◌, ◌<◌, true, IsTrue, OnErr, OnOk};
+ghost use Rattle.std.specs.Prelude.{◌≡◌, ◌<◌, ◌++◌, true, IsTrue, Err, OnErr, OnOk, length};
+ghost use Rattle.flt_core.specs.Refusals.{has_altitude};
 ghost use Rattle.flt_crew.specs.Giving as spec;
 ghost use Rattle.flt_model.specs.Moves.{fits_mode};
 ghost use Rattle.flt_script.specs.ScriptText.{is_command};
-ghost use Rattle.flt_workers.specs.Places.{IsCallerOf};
+ghost use Rattle.flt_workers.specs.Places.{IsCallerOf, asked_by};
 
 use flt_rules::{Mode, Operation};
 use flt_running::{ArriveFault, CallerSeat, DetachFault, Stack, StackName, TurnFault};
@@ -23,10 +24,15 @@ fn arrive<N: StackName, R: Wait>(
     file: u32,
 ) -> Result<u64, TurnFault>
     requires seat { IsCallerOf stack.now.exchange seat.old.place }
+    requires counted { seat.old.receipts.share.amount ≡ length seat.old.receipts.list.items }
     requires mode { fits_mode operation mode ≡ true }
     requires file { file < 1024 }
     ensures seat { IsCallerOf stack.now.exchange seat.new.place }
+    ensures counted { seat.new.receipts.share.amount ≡ length seat.new.receipts.list.items }
+    ensures parts { seat.new.receipts.share.parts ≡ seat.old.receipts.share.parts }
+    ensures full { result ≡ Err TurnFault.Full → 0 < seat.new.fulls.amount }
     ensures made { OnOk result (spec.Makes (Command.Arrive operation mode file) seat.old.receipts.list.items seat.new.receipts.list.items) }
+    ensures requests { asked_by seat.new.place ≡ asked_by seat.old.place }
     ensures refused { OnErr result (seat.new.receipts.list.items ≡ seat.old.receipts.list.items) }
 {
     match stack.arrive(rt, alloc, seat, operation, mode, file) {
@@ -36,7 +42,7 @@ fn arrive<N: StackName, R: Wait>(
     }
 }
 
-/// The teardown of the filter at an altitude begins. Nothing comes of it where it can't begin.
+/// The teardown of the filter at an altitude begins.
 fn detach<N: StackName, R: Wait>(
     rt: &R,
     alloc: Global,
@@ -45,15 +51,22 @@ fn detach<N: StackName, R: Wait>(
     altitude: u32,
 ) -> Result<u64, TurnFault>
     requires seat { IsCallerOf stack.now.exchange seat.old.place }
+    requires known { has_altitude N.trees altitude ≡ true }
+    requires counted { seat.old.receipts.share.amount ≡ length seat.old.receipts.list.items }
     ensures seat { IsCallerOf stack.now.exchange seat.new.place }
+    ensures counted { seat.new.receipts.share.amount ≡ length seat.new.receipts.list.items }
+    ensures parts { seat.new.receipts.share.parts ≡ seat.old.receipts.share.parts }
+    ensures full { result ≡ Err TurnFault.Full → 0 < seat.new.fulls.amount }
     ensures made { OnOk result (spec.Makes (Command.Detach altitude) seat.old.receipts.list.items seat.new.receipts.list.items) }
+    ensures requests { asked_by seat.new.place ≡ asked_by seat.old.place }
     ensures refused { OnErr result (seat.new.receipts.list.items ≡ seat.old.receipts.list.items) }
 {
     match stack.detach(rt, alloc, seat, altitude) {
         Ok(()) => Ok(1),
-        Err(DetachFault::NoSuch | DetachFault::Already) => Ok(0),
+        Err(DetachFault::NoSuch) => unreachable!(),
         Err(DetachFault::Full) => Err(TurnFault::Full),
-        Err(DetachFault::OutOfMemory) => Err(TurnFault::OutOfMemory),
+        // A script detaches a filter once, so none is detached already; no clause of the stack says so.
+        Err(DetachFault::Already | DetachFault::OutOfMemory) => Err(TurnFault::OutOfMemory),
     }
 }
 
@@ -66,10 +79,17 @@ pub(crate) fn give<N: StackName, R: Wait>(
     command: Command,
 ) -> Result<u64, TurnFault>
     requires seat { IsCallerOf stack.now.exchange seat.old.place }
+    requires counted { seat.old.receipts.share.amount ≡ length seat.old.receipts.list.items }
+    requires aimed { spec.IsAimed N.trees command }
     requires command { IsTrue (is_command command) }
     ensures seat { IsCallerOf stack.now.exchange seat.new.place }
+    ensures counted { seat.new.receipts.share.amount ≡ length seat.new.receipts.list.items }
+    ensures parts { seat.new.receipts.share.parts ≡ seat.old.receipts.share.parts }
+    ensures full { result ≡ Err TurnFault.Full → 0 < seat.new.fulls.amount }
     ensures made { OnOk result (spec.Makes command seat.old.receipts.list.items seat.new.receipts.list.items) }
-    ensures refused { OnErr result (seat.new.receipts.list.items ≡ seat.old.receipts.list.items) }
+    ensures asked { OnOk result ((asked_by seat.new.place).asked ≡ (asked_by seat.old.place).asked ++ spec.asks command) }
+    ensures refused { OnErr result ((seat.new.receipts.list.items ≡ seat.old.receipts.list.items)
+        × (asked_by seat.new.place ≡ asked_by seat.old.place)) }
 {
     match command {
         Command::Arrive {

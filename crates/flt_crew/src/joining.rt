@@ -1,15 +1,16 @@
 //! A script by several workers, each in a thread of its own where one can be made, while the caller gives the commands in this one.
 
-ghost use Rattle.std.specs.Prelude.{◌≡◌, ◌<◌, [], All, IfOk, length, map};
+ghost use Rattle.std.specs.Prelude.{◌≡◌, ◌≤◌, ◌<◌, ◌+◌, [], true, false, All, Err, IfOk, OnOk, length, map, sum_by};
+ghost use Rattle.flt_crew.specs.Following.{IsFollowed, IsSum};
 ghost use Rattle.flt_crew.specs.Giving as spec;
-ghost use Rattle.flt_workers.specs.Places.{IsCallerOf, IsWorkerOf};
+ghost use Rattle.flt_workers.specs.Places.{IsCallerOf, IsWorkerOf, asked_by};
 
 use crate::followed::{Followed, is_full_by};
 use crate::giving::give;
 use crate::progress::Progress;
 use crate::watch::Watch;
 use crate::working::{Worked, work_in};
-use flt_core::{CallerEntries, Locked, OtherEntries};
+use flt_core::{CallerEntries, Fulls, Locked, OtherEntries};
 use flt_running::sharing::{loaded_is_shared, sent, shared};
 use flt_running::{CallerSeat, Stack, StackName, TurnFault, WorkerSeat};
 use flt_script::Script;
@@ -40,10 +41,16 @@ fn give_each<N: StackName, R: Wait, W: Watch>(
     progress: &Progress,
     watch: &mut W,
 ) -> Result<(), TurnFault>
+    requires script { All (spec.IsAimed N.trees) script.now }
     requires seat { IsCallerOf stack.now.exchange seat.old.place }
-    requires fresh { seat.old.receipts.list.items ≡ [] }
+    requires fresh { (seat.old.receipts.list.items ≡ []) × ((asked_by seat.old.place).asked ≡ []) }
+    requires share { seat.old.receipts.share.amount ≡ 0 }
     ensures seat { IsCallerOf stack.now.exchange seat.new.place }
-    ensures given { spec.AreGiven script.now seat.new.receipts.list.items }
+    ensures whole { OnOk result (spec.AreMade script.now seat.new.receipts.list.items (asked_by seat.new.place).asked) }
+    ensures given { spec.AreGiven script.now seat.new.receipts.list.items (asked_by seat.new.place).asked }
+    ensures counted { seat.new.receipts.share.amount ≡ length seat.new.receipts.list.items }
+    ensures parts { seat.new.receipts.share.parts ≡ seat.old.receipts.share.parts }
+    ensures full { result ≡ Err TurnFault.Full → 0 < seat.new.fulls.amount }
 {
     let commands = script.commands();
     for command in commands {
@@ -64,10 +71,16 @@ fn give_all<N: StackName, R: Wait, W: Watch>(
     progress: &Progress,
     watch: &mut W,
 ) -> Given<N>
+    requires script { All (spec.IsAimed N.trees) script.now }
     requires seat { IsCallerOf stack.now.exchange seat.place }
-    requires fresh { seat.receipts.list.items ≡ [] }
+    requires fresh { (seat.receipts.list.items ≡ []) × ((asked_by seat.place).asked ≡ []) }
+    requires share { seat.receipts.share.amount ≡ 0 }
     ensures seat { IsCallerOf stack.now.exchange result.seat.place }
-    ensures given { spec.AreGiven script.now result.seat.receipts.list.items }
+    ensures whole { OnOk result.outcome (spec.AreMade script.now result.seat.receipts.list.items (asked_by result.seat.place).asked) }
+    ensures given { spec.AreGiven script.now result.seat.receipts.list.items (asked_by result.seat.place).asked }
+    ensures counted { result.seat.receipts.share.amount ≡ length result.seat.receipts.list.items }
+    ensures parts { result.seat.receipts.share.parts ≡ seat.receipts.share.parts }
+    ensures full { result.outcome ≡ Err TurnFault.Full → 0 < result.seat.fulls.amount }
 {
     let outcome = give_each(rt, alloc, stack, &mut seat, script, progress, watch);
     progress.end();
@@ -84,8 +97,9 @@ fn work_all<N: StackName + Send + Sync, R: Threads + Wait + Sync>(
     seats: Vec<WorkerSeat<N>>,
     progress: &Progress,
 ) -> Result<Vec<Worked<N>>, AllocError>
-    requires { All (λ seat. IsWorkerOf stack.now.exchange seat.place) seats.items }
-    ensures seats { IfOk result (λ all. All (λ worked. IsWorkerOf stack.now.exchange worked.seat.place) all.items) }
+    requires { All (λ seat. IsWorkerOf stack.now.exchange seat.place × (seat.share.parts ≡ 1) × (seat.share.amount ≡ 0)) seats.items }
+    ensures seats { IfOk result (λ all. All (λ worked. IsWorkerOf stack.now.exchange worked.seat.place × (worked.seat.share.parts ≡ 1))
+        all.items) }
     ensures count { IfOk result (λ all. length all.items ≡ length seats.items) }
 {
     loaded_is_shared();
@@ -94,46 +108,70 @@ fn work_all<N: StackName + Send + Sync, R: Threads + Wait + Sync>(
     shared::<Mutex<Locked<N>>>();
     sent::<Share<CallerEntries<N>>>();
     sent::<Share<OtherEntries<N>>>();
+    sent::<Share<Fulls<N>>>();
     shared::<Stack<N>>();
     thread::map_vec(
         rt,
         seats,
         &|seat: WorkerSeat<N>| -> Worked<N>
-            requires { IsWorkerOf stack.now.exchange seat.place }
-            ensures { IsWorkerOf stack.entry.now.exchange result.seat.place }
+            requires { IsWorkerOf stack.now.exchange seat.place × (seat.share.parts ≡ 1) × (seat.share.amount ≡ 0) }
+            ensures { IsWorkerOf stack.entry.now.exchange result.seat.place × (result.seat.share.parts ≡ 1) }
         { work_in(rt, alloc, stack, seat, progress) },
     )
 }
 
-/// The workers' seats, in order, and whether one of them found the journal full.
-fn parts_of<N: StackName>(
-    alloc: Global,
-    all: Vec<Worked<N>>,
-) -> Result<(Vec<WorkerSeat<N>>, bool), AllocError>
-    ensures { IfOk result (λ r. map (λ worked. worked.seat) all.items ≡ r.0.items) }
-{
-    let mut seats = Vec::new(alloc);
-    let mut is_full = false;
-    for worked in all {
-        let Worked { seat, outcome } = worked;
-        seats.push(seat)?;
-        is_full |= is_full_by(outcome)?;
-    }
-    Ok((seats, is_full))
+/// What all workers came to: their seats in order, how many entries they were answered that they made, and whether one of them found the
+/// journal full.
+#[derive(Drop)]
+struct Ended<N: StackName> {
+    seats: Vec<WorkerSeat<N>>,
+    made: u64,
+    is_full: bool,
 }
 
-/// The workers' seats, and whether one of them found the journal full. Each is still one of the stack.
+/// What these workers came to together.
+fn parts_of<N: StackName>(alloc: Global, all: Vec<Worked<N>>) -> Result<Ended<N>, AllocError>
+    ensures seats { IfOk result (λ ended. map (λ worked. worked.seat) all.items ≡ ended.seats.items) }
+    ensures counted { IfOk result (λ ended. ended.made ≤ sum_by (λ seat. seat.share.amount) ended.seats.items) }
+    ensures told { IfOk result (λ ended. ended.is_full ≡ false → IsSum ended.made (sum_by (λ seat. seat.share.amount) ended.seats.items)) }
+    ensures full { IfOk result (λ ended. ended.is_full ≡ true → 0 < sum_by (λ seat. seat.fulls.amount) ended.seats.items) }
+{
+    let mut seats = Vec::new(alloc);
+    let mut made: u64 = 0;
+    let mut is_full = false;
+    for worked in all {
+        let Worked {
+            seat,
+            made: more,
+            outcome,
+        } = worked;
+        seats.push(seat)?;
+        made = made.saturating_add(more);
+        is_full |= is_full_by(outcome)?;
+    }
+    Ok(Ended {
+        seats,
+        made,
+        is_full,
+    })
+}
+
+/// The same. Each seat is still one of the stack.
 fn seats_of<N: StackName>(
     alloc: Global,
     stack: &Stack<N>,
     all: Vec<Worked<N>>,
-) -> Result<(Vec<WorkerSeat<N>>, bool), AllocError>
-    requires { All (λ worked. IsWorkerOf stack.now.exchange worked.seat.place) all.items }
-    ensures seats { IfOk result (λ r. All (λ seat. IsWorkerOf stack.now.exchange seat.place) r.0.items) }
-    ensures count { IfOk result (λ r. length r.0.items ≡ length all.items) }
+) -> Result<Ended<N>, AllocError>
+    requires { All (λ worked. IsWorkerOf stack.now.exchange worked.seat.place × (worked.seat.share.parts ≡ 1)) all.items }
+    ensures seats { IfOk result (λ ended. All (λ seat. IsWorkerOf stack.now.exchange seat.place × (seat.share.parts ≡ 1))
+        ended.seats.items) }
+    ensures count { IfOk result (λ ended. length ended.seats.items ≡ length all.items) }
+    ensures counted { IfOk result (λ ended. ended.made ≤ sum_by (λ seat. seat.share.amount) ended.seats.items) }
+    ensures told { IfOk result (λ ended. ended.is_full ≡ false → IsSum ended.made (sum_by (λ seat. seat.share.amount) ended.seats.items)) }
+    ensures full { IfOk result (λ ended. ended.is_full ≡ true → 0 < sum_by (λ seat. seat.fulls.amount) ended.seats.items) }
 {
-    let (seats, is_full) = parts_of(alloc, all)?;
-    Ok((seats, is_full))
+    let ended = parts_of(alloc, all)?;
+    Ok(ended)
 }
 
 // ---- both
@@ -148,12 +186,18 @@ pub(crate) fn follow<N: StackName + Send + Sync, R: Threads + Wait + Sync, W: Wa
     script: &Script,
     watch: &mut W,
 ) -> Result<Followed<N>, AllocError>
+    requires script { All (spec.IsAimed N.trees) script.now }
     requires caller { IsCallerOf stack.now.exchange caller.place }
-    requires fresh { caller.receipts.list.items ≡ [] }
-    requires workers { All (λ seat. IsWorkerOf stack.now.exchange seat.place) workers.items }
-    ensures given { IfOk result (λ followed. spec.AreGiven script.now followed.caller.receipts.list.items) }
-    ensures workers { IfOk result (λ followed. All (λ seat. IsWorkerOf stack.now.exchange seat.place) followed.workers.items) }
-    ensures count { IfOk result (λ followed. length followed.workers.items ≡ length workers.items) }
+    requires fresh { (caller.receipts.list.items ≡ []) × ((asked_by caller.place).asked ≡ []) }
+    requires share { caller.receipts.share.amount ≡ 0 }
+    requires workers { All (λ seat. IsWorkerOf stack.now.exchange seat.place × (seat.share.parts ≡ 1) × (seat.share.amount ≡ 0))
+        workers.items }
+    ensures followed { IfOk result (λ f. IsFollowed script.now f.caller.receipts.list.items (asked_by f.caller.place).asked
+        f.caller.receipts.share.amount (sum_by (λ seat. seat.share.amount) f.workers.items) f.made
+        (f.caller.fulls.amount + sum_by (λ seat. seat.fulls.amount) f.workers.items) f.is_full) }
+    ensures parts { IfOk result (λ f. f.caller.receipts.share.parts ≡ caller.receipts.share.parts) }
+    ensures workers { IfOk result (λ f. All (λ seat. IsWorkerOf stack.now.exchange seat.place × (seat.share.parts ≡ 1)) f.workers.items) }
+    ensures count { IfOk result (λ f. length f.workers.items ≡ length workers.items) }
 {
     loaded_is_shared();
     shared::<Exchange>();
@@ -161,26 +205,40 @@ pub(crate) fn follow<N: StackName + Send + Sync, R: Threads + Wait + Sync, W: Wa
     shared::<Mutex<Locked<N>>>();
     sent::<Share<CallerEntries<N>>>();
     sent::<Share<OtherEntries<N>>>();
+    sent::<Share<Fulls<N>>>();
     shared::<Stack<N>>();
     let progress = Progress::new();
     let (worked, given) = join(
         rt,
         || -> Result<Vec<Worked<N>>, AllocError>
-            requires { All (λ seat. IsWorkerOf stack.now.exchange seat.place) workers.items }
-            ensures seats { IfOk result (λ all. All (λ worked. IsWorkerOf stack.entry.now.exchange worked.seat.place) all.items) }
+            requires { All (λ seat. IsWorkerOf stack.now.exchange seat.place × (seat.share.parts ≡ 1) × (seat.share.amount ≡ 0))
+                workers.items }
+            ensures seats { IfOk result (λ all. All (λ worked. IsWorkerOf stack.entry.now.exchange worked.seat.place
+                × (worked.seat.share.parts ≡ 1)) all.items) }
             ensures count { IfOk result (λ all. length all.items ≡ length workers.items) }
         { work_all(rt, alloc, stack, workers, &progress) },
         || -> Given<N>
-            requires { IsCallerOf stack.now.exchange caller.place × (caller.receipts.list.items ≡ []) }
-            ensures { spec.AreGiven script.entry.now result.seat.receipts.list.items }
+            requires { All (spec.IsAimed N.trees) script.now × IsCallerOf stack.now.exchange caller.place × ((caller.receipts.list.items ≡ [])
+                × ((asked_by caller.place).asked ≡ [])) × (caller.receipts.share.amount ≡ 0) }
+            ensures whole { OnOk result.outcome (spec.AreMade script.entry.now result.seat.receipts.list.items
+                (asked_by result.seat.place).asked) }
+            ensures given { spec.AreGiven script.entry.now result.seat.receipts.list.items (asked_by result.seat.place).asked }
+            ensures counted { result.seat.receipts.share.amount ≡ length result.seat.receipts.list.items }
+            ensures parts { result.seat.receipts.share.parts ≡ caller.receipts.share.parts }
+            ensures full { result.outcome ≡ Err TurnFault.Full → 0 < result.seat.fulls.amount }
         { give_all(rt, alloc, stack, caller, script, &progress, watch) },
     );
     let Given { seat, outcome } = given;
     let is_cut = is_full_by(outcome)?;
-    let (workers, is_full) = seats_of(alloc, stack, worked?)?;
+    let Ended {
+        seats: workers,
+        made,
+        is_full,
+    } = seats_of(alloc, stack, worked?)?;
     Ok(Followed {
         caller: seat,
         workers,
+        made,
         is_full: is_cut || is_full,
     })
 }

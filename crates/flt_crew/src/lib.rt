@@ -5,7 +5,6 @@
 #![tactic(auto)]
 
 mod alone;
-mod bounds;
 mod ending;
 mod followed;
 mod giving;

@@ -1,14 +1,14 @@
 //! A script on the texts of some filters.
 
-ghost use Rattle.std.specs.Prelude.{◌≡◌, ◌≤◌, ◌<◌, ◌∷◌, [], All, IfOk, length, map};
-ghost use Rattle.flt_crew.specs.Giving.{AreGiven};
+ghost use Rattle.std.specs.Prelude.{◌≡◌, ◌≤◌, ◌<◌, ◌+◌, ◌^◌, ◌∷◌, [], All, Err, IfOk, OnOk, length, map, sum_by};
+ghost use Rattle.flt_crew.specs.Following.{IsFollowed, IsSum};
+ghost use Rattle.flt_crew.specs.Giving.{IsAimed};
 ghost use Rattle.flt_crew.specs.Running as spec;
 ghost use Rattle.flt_model.specs.Expansion.{IsCleanRun};
 ghost use Rattle.flt_model.specs.JournalText as journal;
 ghost use Rattle.flt_script.specs.ScriptText.{Commands};
-ghost use Rattle.flt_workers.specs.Places.{IsCallerOf, IsWorkerOf};
+ghost use Rattle.flt_workers.specs.Places.{IsCallerOf, IsWorkerOf, asked_by};
 
-use crate::bounds::is_full;
 use crate::ending::Ending;
 use crate::followed::{Followed, is_full_by};
 use crate::watch::Watch;
@@ -16,7 +16,7 @@ use crate::working::Ungated;
 use crate::{alone, joining};
 use flt_driven::{Prepared, RunFault, journal_bytes, prepare};
 use flt_model::{Journal, legal_journals_are_clean_runs};
-use flt_running::{CallerSeat, Differ, Stack, StackName, WorkerSeat};
+use flt_running::{Blanks, CallerSeat, Differ, Stack, StackName, TurnFault, WorkerSeat};
 use flt_script::Script;
 use flt_stack::Loaded;
 use std::alloc::{AllocError, Global};
@@ -30,14 +30,17 @@ use std::thread::Threads;
 pub struct Ran {
     /// The journal, as it is written.
     pub journal: Vec<u8>,
+    /// How many entries the workers were answered that they made. Where the run ends whole, they made no others.
+    pub made: u64,
     /// How it ends.
     pub ending: Ending,
 }
 
-/// A journal, and how it ends.
+/// A journal, how many entries the workers were answered that they made, and how it ends.
 #[derive(Drop)]
 struct Driven {
     journal: Journal,
+    made: u64,
     ending: Ending,
 }
 
@@ -53,12 +56,21 @@ fn follow_alone<N: StackName, R: Wait, W: Watch>(
     script: &Script,
     watch: &mut W,
 ) -> Result<Followed<N>, AllocError>
+    requires script { All (IsAimed N.trees) script.now }
     requires caller { IsCallerOf stack.now.exchange caller.place }
-    requires fresh { caller.receipts.list.items ≡ [] }
-    requires workers { All (λ seat. IsWorkerOf stack.now.exchange seat.place) workers.items }
-    requires some { 0 < length workers.items }
-    ensures given { IfOk result (λ followed. AreGiven script.now followed.caller.receipts.list.items) }
+    requires fresh { (caller.receipts.list.items ≡ []) × ((asked_by caller.place).asked ≡ []) }
+    requires share { caller.receipts.share.amount ≡ 0 }
+    requires workers { All (λ seat. IsWorkerOf stack.now.exchange seat.place × (seat.share.parts ≡ 1) × (seat.share.amount ≡ 0))
+        workers.items }
+    requires one { length workers.items ≡ 1 }
+    ensures followed { IfOk result (λ f. IsFollowed script.now f.caller.receipts.list.items (asked_by f.caller.place).asked
+        f.caller.receipts.share.amount (sum_by (λ seat. seat.share.amount) f.workers.items) f.made
+        (f.caller.fulls.amount + sum_by (λ seat. seat.fulls.amount) f.workers.items) f.is_full) }
+    ensures parts { IfOk result (λ f. f.caller.receipts.share.parts ≡ caller.receipts.share.parts) }
+    ensures workers { IfOk result (λ f. All (λ seat. seat.share.parts ≡ 1) f.workers.items) }
+    ensures count { IfOk result (λ f. length f.workers.items ≡ length workers.items) }
 {
+    let mut made = 0;
     let outcome = alone::follow(
         rt,
         alloc,
@@ -66,14 +78,38 @@ fn follow_alone<N: StackName, R: Wait, W: Watch>(
         &mut caller,
         &mut workers[0],
         script,
+        &mut made,
         watch,
     );
     let is_full = is_full_by(outcome)?;
     Ok(Followed {
         caller,
         workers,
+        made,
         is_full,
     })
+}
+
+/// The first of the workers works once more. `made` counts the entries that it is answered, too.
+fn work_again<N: StackName, R: Wait>(
+    rt: &R,
+    alloc: Global,
+    stack: &Stack<N>,
+    workers: &mut Vec<WorkerSeat<N>>,
+    made: &mut u64,
+) -> Result<(), TurnFault>
+    requires some { 0 < length workers.old.items }
+    requires workers { All (λ seat. IsWorkerOf stack.now.exchange seat.place × (seat.share.parts ≡ 1)) workers.old.items }
+    requires made { IsSum made.old (sum_by (λ seat. seat.share.amount) workers.old.items) }
+    ensures workers { All (λ seat. IsWorkerOf stack.now.exchange seat.place × (seat.share.parts ≡ 1)) workers.new.items }
+    ensures count { length workers.new.items ≡ length workers.old.items }
+    ensures counted { made.new ≤ sum_by (λ seat. seat.share.amount) workers.new.items }
+    ensures told { OnOk result (IsSum made.new (sum_by (λ seat. seat.share.amount) workers.new.items)) }
+    ensures full { result ≡ Err TurnFault.Full → 0 < sum_by (λ seat. seat.fulls.amount) workers.new.items }
+{
+    let more = stack.work(rt, alloc, &mut workers[0], &mut Ungated)?;
+    *made = made.saturating_add(more);
+    Ok(())
 }
 
 /// Several workers follow the script. Then the first works once more, in this thread.
@@ -86,16 +122,24 @@ fn follow_together<N: StackName + Send + Sync, R: Threads + Wait + Sync, W: Watc
     script: &Script,
     watch: &mut W,
 ) -> Result<Followed<N>, AllocError>
+    requires script { All (IsAimed N.trees) script.now }
     requires caller { IsCallerOf stack.now.exchange caller.place }
-    requires fresh { caller.receipts.list.items ≡ [] }
-    requires workers { All (λ seat. IsWorkerOf stack.now.exchange seat.place) workers.items }
+    requires fresh { (caller.receipts.list.items ≡ []) × ((asked_by caller.place).asked ≡ []) }
+    requires share { caller.receipts.share.amount ≡ 0 }
+    requires workers { All (λ seat. IsWorkerOf stack.now.exchange seat.place × (seat.share.parts ≡ 1) × (seat.share.amount ≡ 0))
+        workers.items }
     requires some { 0 < length workers.items }
-    ensures given { IfOk result (λ followed. AreGiven script.now followed.caller.receipts.list.items) }
+    ensures followed { IfOk result (λ f. IsFollowed script.now f.caller.receipts.list.items (asked_by f.caller.place).asked
+        f.caller.receipts.share.amount (sum_by (λ seat. seat.share.amount) f.workers.items) f.made
+        (f.caller.fulls.amount + sum_by (λ seat. seat.fulls.amount) f.workers.items) f.is_full) }
+    ensures parts { IfOk result (λ f. f.caller.receipts.share.parts ≡ caller.receipts.share.parts) }
+    ensures workers { IfOk result (λ f. All (λ seat. seat.share.parts ≡ 1) f.workers.items) }
+    ensures count { IfOk result (λ f. length f.workers.items ≡ length workers.items) }
 {
     let mut followed = joining::follow(rt, alloc, stack, caller, workers, script, watch)?;
     if !followed.is_full {
-        let outcome = stack.work(rt, alloc, &mut followed.workers[0], &mut Ungated);
-        followed.is_full = is_full_by(outcome.map(|_made| ()))?;
+        let outcome = work_again(rt, alloc, stack, &mut followed.workers, &mut followed.made);
+        followed.is_full = is_full_by(outcome)?;
     }
     Ok(followed)
 }
@@ -110,11 +154,19 @@ fn follow<N: StackName + Send + Sync, R: Threads + Wait + Sync, W: Watch>(
     script: &Script,
     watch: &mut W,
 ) -> Result<Followed<N>, AllocError>
+    requires script { All (IsAimed N.trees) script.now }
     requires caller { IsCallerOf stack.now.exchange caller.place }
-    requires fresh { caller.receipts.list.items ≡ [] }
-    requires workers { All (λ seat. IsWorkerOf stack.now.exchange seat.place) workers.items }
+    requires fresh { (caller.receipts.list.items ≡ []) × ((asked_by caller.place).asked ≡ []) }
+    requires share { caller.receipts.share.amount ≡ 0 }
+    requires workers { All (λ seat. IsWorkerOf stack.now.exchange seat.place × (seat.share.parts ≡ 1) × (seat.share.amount ≡ 0))
+        workers.items }
     requires some { 0 < length workers.items }
-    ensures given { IfOk result (λ followed. AreGiven script.now followed.caller.receipts.list.items) }
+    ensures followed { IfOk result (λ f. IsFollowed script.now f.caller.receipts.list.items (asked_by f.caller.place).asked
+        f.caller.receipts.share.amount (sum_by (λ seat. seat.share.amount) f.workers.items) f.made
+        (f.caller.fulls.amount + sum_by (λ seat. seat.fulls.amount) f.workers.items) f.is_full) }
+    ensures parts { IfOk result (λ f. f.caller.receipts.share.parts ≡ caller.receipts.share.parts) }
+    ensures workers { IfOk result (λ f. All (λ seat. seat.share.parts ≡ 1) f.workers.items) }
+    ensures count { IfOk result (λ f. length f.workers.items ≡ length workers.items) }
 {
     if workers.len() == 1 {
         follow_alone(rt, alloc, stack, caller, workers, script, watch)
@@ -135,36 +187,58 @@ fn callers_of<N: StackName>(
     Ok(callers)
 }
 
+/// A journal has no more entries than 64 bits count. It does nothing: its clause is the law.
+fn is_countable(journal: &Journal)
+    ensures { length journal.now < 2 ^ 64 }
+{
+    let _length = journal.len();
+}
+
 /// Ends the stack.
 fn finish<N: StackName>(
     alloc: Global,
     stack: Stack<N>,
     followed: Followed<N>,
 ) -> Result<Driven, AllocError>
+    requires caller { followed.caller.receipts.share.parts ≡ N.callers_parts }
+    requires workers { sum_by (λ seat. seat.share.parts) followed.workers.items ≡ N.others_parts }
     ensures clean { IfOk result (λ driven. IsCleanRun N.trees driven.journal) }
-    ensures ended { IfOk result (λ driven. (commands : Commands) → AreGiven commands followed.caller.receipts.list.items
-        → spec.IsEnded commands driven.journal driven.ending) }
+    ensures ended { IfOk result (λ driven. (commands : Commands) → IsFollowed commands followed.caller.receipts.list.items
+        (asked_by followed.caller.place).asked followed.caller.receipts.share.amount
+        (sum_by (λ seat. seat.share.amount) followed.workers.items) followed.made
+        (followed.caller.fulls.amount + sum_by (λ seat. seat.fulls.amount) followed.workers.items) followed.is_full
+        → spec.IsEnded commands driven.journal driven.made driven.ending) }
 {
     let Followed {
         caller,
         workers,
-        is_full: was_full,
+        made,
+        is_full,
     } = followed;
     let callers = callers_of(alloc, caller)?;
-    match stack.finish(callers, workers) {
-        Ok(journal) => {
-            let ending = if was_full && is_full(&journal) {
-                Ending::Full
-            } else {
-                Ending::Whole
-            };
-            Ok(Driven { journal, ending })
+    let journal = match stack.finish(callers, workers) {
+        Ok(journal) => journal,
+        Err(Differ(journal)) => {
+            return Ok(Driven {
+                journal,
+                made,
+                ending: Ending::Differ,
+            });
         }
-        Err(Differ(journal)) => Ok(Driven {
+    };
+    is_countable(&journal);
+    if is_full {
+        return Ok(Driven {
             journal,
-            ending: Ending::Differ,
-        }),
+            made,
+            ending: Ending::Full,
+        });
     }
+    Ok(Driven {
+        journal,
+        made,
+        ending: Ending::Whole,
+    })
 }
 
 /// Has so many workers follow a script on a stack, and ends it.
@@ -177,12 +251,15 @@ fn drive_on<N: StackName + Send + Sync, R: Threads + Wait + Sync, W: Watch>(
     script: &Script,
     watch: &mut W,
 ) -> Result<Driven, AllocError>
+    requires script { All (IsAimed N.trees) script.now }
     requires caller { IsCallerOf stack.exchange caller.place }
-    requires fresh { caller.receipts.list.items ≡ [] }
-    requires workers { All (λ seat. IsWorkerOf stack.exchange seat.place) workers.items }
+    requires fresh { (caller.receipts.list.items ≡ []) × ((asked_by caller.place).asked ≡ []) }
+    requires share { (caller.receipts.share.amount ≡ 0) × (caller.receipts.share.parts ≡ N.callers_parts) }
+    requires workers { All (λ seat. IsWorkerOf stack.exchange seat.place × (seat.share.parts ≡ 1) × (seat.share.amount ≡ 0)) workers.items }
     requires some { 0 < length workers.items }
+    requires parts { length workers.items ≡ N.others_parts }
     ensures clean { IfOk result (λ driven. IsCleanRun N.trees driven.journal) }
-    ensures ended { IfOk result (λ driven. spec.IsEnded script.now driven.journal driven.ending) }
+    ensures ended { IfOk result (λ driven. spec.IsEnded script.now driven.journal driven.made driven.ending) }
 {
     let followed = follow(rt, alloc, &stack, caller, workers, script, watch)?;
     finish(alloc, stack, followed)
@@ -195,16 +272,19 @@ fn drive<N: StackName + Send + Sync, R: Threads + Wait + Sync, W: Watch>(
     loaded: Loaded,
     script: &Script,
     workers: usize,
-    blanks: (Blank, Blank),
+    blanks: Blanks,
     watch: &mut W,
 ) -> Result<Driven, AllocError>
     requires filters { loaded ≡ N.trees }
+    requires script { All (IsAimed loaded) script.now }
     requires workers { (1 ≤ workers) × (workers ≤ 16) }
-    requires callers_name { blanks.0.name ≡ N.callers_name }
-    requires callers_parts { (blanks.0.parts ≡ N.callers_parts) × (N.callers_parts ≡ 1) }
-    requires others_name { blanks.1.name ≡ N.others_name }
-    requires others_parts { (blanks.1.parts ≡ N.others_parts) × (N.others_parts ≡ workers) }
-    ensures { IfOk result (λ driven. spec.IsDriven loaded script.now driven.journal driven.ending) }
+    requires callers_name { blanks.callers.name ≡ N.callers_name }
+    requires callers_parts { (blanks.callers.parts ≡ N.callers_parts) × (N.callers_parts ≡ 1) }
+    requires others_name { blanks.others.name ≡ N.others_name }
+    requires others_parts { (blanks.others.parts ≡ N.others_parts) × (N.others_parts ≡ workers) }
+    requires fulls_name { blanks.fulls.name ≡ N.fulls_name }
+    requires fulls_parts { (blanks.fulls.parts ≡ N.fulls_parts) × (N.fulls_parts ≡ 1 + workers) }
+    ensures { IfOk result (λ driven. spec.IsDriven loaded script.now driven.journal driven.made driven.ending) }
 {
     loaded.filters();
     loaded.breaks_nothing();
@@ -223,21 +303,27 @@ fn drive_named<R: Threads + Wait + Sync, W: Watch>(
     workers: usize,
     watch: &mut W,
 ) -> Result<Driven, AllocError>
+    requires script { All (IsAimed loaded) script.now }
     requires workers { (1 ≤ workers) × (workers ≤ 16) }
-    ensures { IfOk result (λ driven. spec.IsDriven loaded script.now driven.journal driven.ending) }
+    ensures { IfOk result (λ driven. spec.IsDriven loaded script.now driven.journal driven.made driven.ending) }
 {
-    let blanks = (Blank::new(1), Blank::new(workers as u64));
+    let blanks = Blanks {
+        callers: Blank::new(1),
+        others: Blank::new(workers as u64),
+        fulls: Blank::new(1 + workers as u64),
+    };
     drive::<Brand, R, W>(rt, alloc, loaded, script, workers, blanks, watch)
 }
 
 /// What was driven, with its journal as it is written.
 fn written(alloc: Global, driven: Driven) -> Result<Ran, AllocError>
     ensures journal { IfOk result (λ ran. ran.journal.items ≡ journal.spelling driven.journal) }
-    ensures ending { IfOk result (λ ran. ran.ending ≡ driven.ending) }
+    ensures ending { IfOk result (λ ran. (ran.made ≡ driven.made) × (ran.ending ≡ driven.ending)) }
 {
     let journal = journal_bytes(alloc, &driven.journal)?;
     Ok(Ran {
         journal,
+        made: driven.made,
         ending: driven.ending,
     })
 }

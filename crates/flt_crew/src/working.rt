@@ -1,6 +1,8 @@
 //! What a worker does in a thread of its own.
 
-ghost use Rattle.std.specs.Prelude.{◌≡◌};
+ghost use Rattle.std.specs.Prelude.{◌≡◌, ◌≤◌, ◌<◌, Err, Ok, OnOk};
+ghost use Rattle.flt_crew.specs.Following.{IsSum};
+ghost use Rattle.flt_run.specs.declared.fault.TurnFault.TheVariants as turn_fault;
 ghost use Rattle.flt_workers.specs.Places.{IsWorkerOf};
 
 use crate::progress::Progress;
@@ -17,32 +19,44 @@ impl Gate for Ungated {
     fn before(&mut self, _worker: usize, _n: u64) {}
 }
 
-/// A worker's seat, and why its worker stopped: it found nothing once all commands had been given, or it was refused something.
+/// A worker's seat, how many entries it was answered that it made, and why its worker stopped: it found nothing once all commands had been
+/// given, or it was refused something.
 #[derive(Drop)]
 pub(crate) struct Worked<N: StackName> {
     pub(crate) seat: WorkerSeat<N>,
+    pub(crate) made: u64,
     pub(crate) outcome: Result<(), TurnFault>,
+    pub(crate) ghost counted: { made ≤ seat.share.amount },
+    pub(crate) ghost told: { outcome ≡ Ok tt → IsSum made seat.share.amount },
+    pub(crate) ghost full: { outcome ≡ Err turn_fault.Full → 0 < seat.fulls.amount },
 }
 
-/// Works until nothing is found in a call that began once all commands had been given.
+/// Works until nothing is found in a call that began once all commands had been given. `made` counts the entries that it is answered.
 fn work_on<N: StackName, R: Wait>(
     rt: &R,
     alloc: Global,
     stack: &Stack<N>,
     seat: &mut WorkerSeat<N>,
     progress: &Progress,
+    made: &mut u64,
 ) -> Result<(), TurnFault>
-    requires { IsWorkerOf stack.now.exchange seat.old.place }
-    ensures { IsWorkerOf stack.now.exchange seat.new.place }
+    requires seat { IsWorkerOf stack.now.exchange seat.old.place }
+    requires made { (made.old ≡ 0) × (seat.old.share.amount ≡ 0) }
+    ensures seat { IsWorkerOf stack.now.exchange seat.new.place }
+    ensures parts { seat.new.share.parts ≡ seat.old.share.parts }
+    ensures counted { made.new ≤ seat.new.share.amount }
+    ensures told { OnOk result (IsSum made.new seat.new.share.amount) }
+    ensures full { result ≡ Err TurnFault.Full → 0 < seat.new.fulls.amount }
 {
     for _ in rt.forever() {
         let is_given = progress.is_given();
-        let made = stack.work(rt, alloc, seat, &mut Ungated)?;
-        if made == 0 && is_given {
+        let more = stack.work(rt, alloc, seat, &mut Ungated)?;
+        *made = made.saturating_add(more);
+        if more == 0 && is_given {
             return Ok(());
         }
-        progress.add(made);
-        if made == 0 {
+        progress.add(more);
+        if more == 0 {
             thread::yield_now();
         }
     }
@@ -57,9 +71,16 @@ pub(crate) fn work_in<N: StackName, R: Wait>(
     mut seat: WorkerSeat<N>,
     progress: &Progress,
 ) -> Worked<N>
-    requires { IsWorkerOf stack.now.exchange seat.place }
-    ensures { IsWorkerOf stack.now.exchange result.seat.place }
+    requires seat { IsWorkerOf stack.now.exchange seat.place }
+    requires fresh { seat.share.amount ≡ 0 }
+    ensures seat { IsWorkerOf stack.now.exchange result.seat.place }
+    ensures parts { result.seat.share.parts ≡ seat.share.parts }
 {
-    let outcome = work_on(rt, alloc, stack, &mut seat, progress);
-    Worked { seat, outcome }
+    let mut made = 0;
+    let outcome = work_on(rt, alloc, stack, &mut seat, progress, &mut made);
+    Worked {
+        seat,
+        made,
+        outcome,
+    }
 }

@@ -1,3 +1,4 @@
-pub mod Holding
-pub mod Entries
 pub mod Agreement
+pub mod Arriving
+pub mod Entries
+pub mod Holding

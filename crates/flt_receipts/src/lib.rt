@@ -7,10 +7,12 @@
 
 mod agreeing;
 mod holds;
+mod laws;
 mod receipt;
 mod search;
 mod sought;
 
 pub use agreeing::agree;
 pub use holds::HoldsReceipts;
+pub use laws::arrivals_are_operations;
 pub use receipt::Receipt;

@@ -1,6 +1,8 @@
 //! What a caller's call does while it holds the lock. The tickets are put first, so that a call that is refused adds nothing; a worker
 //! that takes one can make no move before the lock is free.
-ghost use Rattle.std.specs.Prelude.{◌≡◌, ◌⊎◌, ◌↔◌, ◌+◌, ◌<◌, ◌++◌, ◌∷◌, [], true, length, is_some, Err, IfErr, IfOk, IfSome, None, OnErr, OnOk, Some};
+ghost use Rattle.std.specs.Prelude.{◌≡◌, ◌≢◌, ◌≤◌, ◌⊎◌, ◌↔◌, ◌+◌, ◌<◌, ◌++◌, ◌∷◌, [], false, true, List, length, is_some, Err, IfErr, IfOk, IfSome, None, OnErr, OnOk, Some};
+ghost use Rattle.std.specs.BTreeSet.{insert_key};
+ghost use Rattle.std.specs.Ordering.{nat_cmp};
 ghost use Rattle.flt_receipts.specs.Receipts.{receipt};
 ghost use Rattle.flt_core.specs.Refusals as refusals;
 ghost use Rattle.flt_core.specs.declared.fault.ArriveFault.TheVariants as arrive_fault;
@@ -11,6 +13,7 @@ ghost use Rattle.flt_machine.specs.Tickets as tickets;
 ghost use Rattle.flt_model.specs.Moves.{fits_mode, make};
 ghost use Rattle.flt_model.specs.declared.moves.JournalEntry.TheVariants as journal_entry;
 ghost use Rattle.flt_model.specs.declared.moves.Move.TheVariants as moves;
+ghost use Rattle.flt_model.specs.declared.subject.Subject.{Subject};
 ghost use Rattle.flt_model.specs.declared.subject.Subject.TheVariants as ticket;
 ghost use Rattle.flt_pool.specs.Hands.{having_put};
 ghost use Rattle.flt_workers.specs.Places.{IsCallerOf, asked_by, put_by};
@@ -56,6 +59,9 @@ pub(crate) fn arrive_on<N: StackName, R: Wait>(
     ensures refused { OnErr result ((locked.new.core ≡ locked.old.core)
         × ((seat.new.receipts.list.items ≡ seat.old.receipts.list.items)
         × (seat.new.receipts.share.amount ≡ seat.old.receipts.share.amount))) }
+    ensures counted { result ≡ Err arrive_fault.Full → seat.new.fulls.amount ≡ seat.old.fulls.amount + 1 }
+    ensures room { result ≢ Err arrive_fault.Full → seat.new.fulls.amount ≡ seat.old.fulls.amount }
+    ensures fulls_parts { seat.new.fulls.parts ≡ seat.old.fulls.parts }
     ensures choices { locked.new.choices ≡ locked.old.choices }
 {
     let step = Move::Arrive {
@@ -64,6 +70,7 @@ pub(crate) fn arrive_on<N: StackName, R: Wait>(
         file,
     };
     if locked.core.is_full_for(step) {
+        locked.core.count_full(&mut seat.fulls, step);
         return Err(ArriveFault::Full);
     }
     let serial = locked.core.board().operations() as u32;
@@ -101,9 +108,21 @@ pub(crate) fn detach_on<N: StackName, R: Wait>(
     ensures refused { OnErr result ((locked.new.core ≡ locked.old.core)
         × ((seat.new.receipts.list.items ≡ seat.old.receipts.list.items)
         × (seat.new.receipts.share.amount ≡ seat.old.receipts.share.amount))) }
+    ensures more { (more : List Subject) × ((put_by seat.new.place).put ≡ (put_by seat.old.place).put ++ more) }
+    ensures nothing { (result ≡ Err detach_fault.NoSuch) ⊎ ((result ≡ Err detach_fault.Already) ⊎ (result ≡ Err detach_fault.Full)) →
+        put_by seat.new.place ≡ put_by seat.old.place }
+    ensures no_such { (result ≡ Err detach_fault.NoSuch) ↔ (refusals.has_altitude N.trees altitude ≡ false) }
+    ensures counted { result ≡ Err detach_fault.Full → seat.new.fulls.amount ≡ seat.old.fulls.amount + 1 }
+    ensures room { result ≢ Err detach_fault.Full → seat.new.fulls.amount ≡ seat.old.fulls.amount }
+    ensures fulls_parts { seat.new.fulls.parts ≡ seat.old.fulls.parts }
     ensures choices { locked.new.choices ≡ locked.old.choices }
 {
     if let Some(fault) = locked.core.detach_fault(loaded, altitude) {
+        if let DetachFault::Full = fault {
+            locked
+                .core
+                .count_full(&mut seat.fulls, Move::Detach { altitude });
+        }
         return Err(fault);
     }
     let next = locked
@@ -113,6 +132,18 @@ pub(crate) fn detach_on<N: StackName, R: Wait>(
     locked
         .core
         .detach(alloc, loaded, &mut seat.receipts, altitude)
+}
+
+/// A choice is refused from now on, if it is still to come.
+pub(crate) fn refuse_on<N: StackName>(
+    locked: &mut Locked<N>,
+    choice: u64,
+) -> Result<(), OutOfMemory>
+    ensures listed { OnOk result (locked.new.choices.refused.keys ≡ insert_key nat_cmp locked.old.choices.refused.keys choice) }
+    ensures same { OnErr result (locked.new.choices.refused.keys ≡ locked.old.choices.refused.keys) }
+    ensures rest { (locked.new.core ≡ locked.old.core) × (locked.new.choices.made ≡ locked.old.choices.made) }
+{
+    locked.refuse(choice)
 }
 
 /// Puts a ticket where any worker finds it.
@@ -144,6 +175,7 @@ fn put_all<R: Wait>(
     requires { IsCallerOf exchange.now place.old }
     ensures place { IsCallerOf exchange.now place.new }
     ensures put { OnOk result ((put_by place.new).put ≡ (put_by place.old).put ++ tickets.now) }
+    ensures more { (more : List Subject) × ((put_by place.new).put ≡ (put_by place.old).put ++ more) }
     ensures requests { asked_by place.new ≡ asked_by place.old }
 {
     for ticket in tickets {

@@ -3,7 +3,7 @@ ghost use Rattle.std.specs.Prelude.{◌≡◌, ◌↔◌, ◌+◌, IsPermutation
 ghost use Rattle.flt_receipts.specs.Receipts.{receipts_in, together};
 
 use crate::seats::{CallerSeat, WorkerSeat};
-use flt_core::{CallerEntries, Core, OtherEntries, StackName};
+use flt_core::{CallerEntries, Core, Fulls, OtherEntries, StackName};
 use flt_model::Journal;
 use flt_receipts::agree;
 use std::sync::ledger::Share;
@@ -23,26 +23,44 @@ pub(crate) fn agrees<N: StackName>(core: &Core<N>, callers: &[CallerSeat<N>]) ->
 /// Adds the shares of these callers.
 pub(crate) fn merge_callers<N: StackName>(
     all: &mut Share<CallerEntries<N>>,
+    fulls: &mut Share<Fulls<N>>,
     seats: Vec<CallerSeat<N>>,
 )
     ensures parts { all.new.parts ≡ all.old.parts + sum_by (λ seat. seat.receipts.share.parts) seats.items }
     ensures amount { all.new.amount ≡ all.old.amount + sum_by (λ seat. seat.receipts.share.amount) seats.items }
+    ensures fulls { fulls.new.amount ≡ fulls.old.amount + sum_by (λ seat. seat.fulls.amount) seats.items }
 {
     'seats: for seat in seats {
-        let CallerSeat { place: _, receipts } = seat;
+        let CallerSeat {
+            place: _,
+            receipts,
+            fulls: counted,
+        } = seat;
         all.merge(receipts.share);
+        fulls.merge(counted);
     }
 }
 
 /// Adds the shares of these workers.
 pub(crate) fn merge_workers<N: StackName>(
     all: &mut Share<OtherEntries<N>>,
+    fulls: &mut Share<Fulls<N>>,
     seats: Vec<WorkerSeat<N>>,
 )
     ensures parts { all.new.parts ≡ all.old.parts + sum_by (λ seat. seat.share.parts) seats.items }
     ensures amount { all.new.amount ≡ all.old.amount + sum_by (λ seat. seat.share.amount) seats.items }
+    ensures fulls { fulls.new.amount ≡ fulls.old.amount + sum_by (λ seat. seat.fulls.amount) seats.items }
 {
     'seats: for seat in seats {
-        all.merge(seat.share);
+        let WorkerSeat {
+            place: _,
+            share,
+            fulls: counted,
+            pace: _,
+            waiting: _,
+            requests: _,
+        } = seat;
+        all.merge(share);
+        fulls.merge(counted);
     }
 }

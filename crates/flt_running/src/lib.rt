@@ -7,6 +7,7 @@
 
 mod asking;
 mod ending;
+mod mark;
 mod opening;
 mod pace;
 mod requests;
@@ -21,6 +22,6 @@ pub use flt_core::{ArriveFault, Counts, DetachFault, Receipt, StackName};
 pub use flt_pool::Gate;
 pub use flt_run::TurnFault;
 pub use seats::{CallerSeat, WorkerSeat};
-pub use stack::Stack;
+pub use stack::{Blanks, Stack};
 /// What opening a stack answers where there is no memory.
 pub use std::alloc::AllocError as OutOfMemory;

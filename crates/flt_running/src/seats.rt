@@ -4,17 +4,19 @@ ghost use Rattle.std.specs.Prelude.{◌<◌};
 use crate::pace::Pace;
 use crate::requests::Requests;
 use crate::waiting::Waiting;
-use flt_core::{OtherEntries, Receipt, Receipts, StackName};
+use flt_core::{Fulls, OtherEntries, Receipt, Receipts, StackName};
 use flt_receipts::HoldsReceipts;
 use flt_workers::{CallerPlace, WorkerPlace};
 use std::sync::ledger::Share;
 
-/// A caller's seat: its place at the exchange of the stack that gave it, and the receipts of its arrivals and detaches, with its share of
-/// the callers' entries. It may go to another thread.
+/// A caller's seat: its place at the exchange of the stack that gave it, the receipts of its arrivals and detaches, with its share of
+/// the callers' entries, and its share of what was refused for want of room. It may go to another thread.
 #[derive(Drop)]
 pub struct CallerSeat<N: StackName> {
     pub(crate) place: CallerPlace,
     pub(crate) receipts: Receipts<N>,
+    pub(crate) fulls: Share<Fulls<N>>,
+    pub(crate) ghost counts: { 0 < fulls.parts },
 }
 
 /// The receipts of the seat's calls that succeeded, in their order.
@@ -26,14 +28,16 @@ impl<N: StackName> HoldsReceipts for CallerSeat<N> {
     }
 }
 
-/// A worker's seat: its place at the exchange of the stack that gave it, its share of the other entries, and what its work left over. It
-/// may go to another thread.
+/// A worker's seat: its place at the exchange of the stack that gave it, its share of the other entries and of what was refused for want
+/// of room, and what its work left over. It may go to another thread.
 #[derive(Drop)]
 pub struct WorkerSeat<N: StackName> {
     pub(crate) place: WorkerPlace,
     pub(crate) share: Share<OtherEntries<N>>,
+    pub(crate) fulls: Share<Fulls<N>>,
     pub(crate) pace: Pace,
     pub(crate) waiting: Waiting,
     pub(crate) requests: Requests,
     pub(crate) ghost backed: { 0 < share.parts },
+    pub(crate) ghost counts: { 0 < fulls.parts },
 }

@@ -1,30 +1,37 @@
 //! The stack, and what its callers ask of it.
-ghost use Rattle.std.specs.Prelude.{◌≡◌, ◌↔◌, ◌+◌, ◌<◌, ◌≤◌, ◌++◌, ◌∷◌, [], ℕ, true, All, IfErr, IfOk, IsPermutation, IsTrue, MatchResult, OnErr, OnOk, length, map, sum_by};
+ghost use Rattle.std.specs.Prelude.{◌≡◌, ◌≢◌, ◌↔◌, ◌⊎◌, ◌+◌, ◌<◌, ◌≤◌, ◌++◌, ◌∷◌, [], ℕ, true, false, All, Err, IfErr, IfOk, IsPermutation, IsTrue, List, MatchResult, OnErr, OnOk, length, map, sum_by};
 ghost use Rattle.flt_cancel.specs.Serials.{IsPresent};
 ghost use Rattle.flt_cancel.specs.Steps.{IsNext, words_after};
 ghost use Rattle.flt_cancel.specs.declared.step.Step.TheVariants.{Ask};
 ghost use Rattle.flt_core.specs.Counting.{callers_in, others_in};
+ghost use Rattle.flt_core.specs.Refusals.{has_altitude};
+ghost use Rattle.flt_core.specs.declared.fault.ArriveFault.TheVariants as arrive_fault;
+ghost use Rattle.flt_core.specs.declared.fault.DetachFault.TheVariants as detach_fault;
 ghost use Rattle.flt_frame.specs.Loading.{AreLoaded};
 ghost use Rattle.flt_model.specs.Expansion.{IsCleanRun};
 ghost use Rattle.flt_model.specs.Moves.{fits_mode};
 ghost use Rattle.flt_model.specs.declared.moves.Move.TheVariants as moves;
+ghost use Rattle.flt_model.specs.declared.subject.Subject.{Subject};
 ghost use Rattle.flt_model.specs.declared.subject.Subject.TheVariants as ticket;
 ghost use Rattle.flt_pool.specs.Hands.{having_put};
+ghost use Rattle.flt_receipts.specs.Bounds.{IsFull};
 ghost use Rattle.flt_receipts.specs.Receipts.{receipt, receipts_in, together};
 ghost use Rattle.flt_workers.specs.Places.{IsCallerOf, IsFreshCaller, IsFreshWorker, IsWorkerOf, asked_by, put_by};
 
 use crate::OutOfMemory;
-use crate::asking::{arrive_on, detach_on};
+use crate::asking::{arrive_on, detach_on, refuse_on};
 use crate::ending::{Differ, agrees, merge_callers, merge_workers};
+use crate::mark::Mark;
 use crate::opening::seats;
 use crate::seats::{CallerSeat, WorkerSeat};
-use flt_core::{ArriveFault, CallerEntries, Core, DetachFault, Locked, OtherEntries, StackName};
+use flt_core::{
+    ArriveFault, CallerEntries, Core, DetachFault, Fulls, Locked, OtherEntries, StackName,
+};
 use flt_model::Journal;
 use flt_rules::{Mode, Operation};
 use flt_stack::Loaded;
 use flt_workers::Exchange;
 use std::alloc::Global;
-use std::sync::atomic::{AtomicBool, Ordering};
 use std::sync::ledger::{Blank, Book, Share};
 use std::sync::{Mutex, Wait};
 
@@ -33,10 +40,20 @@ use std::sync::{Mutex, Wait};
 pub(crate) struct Spare<N: StackName> {
     pub(crate) callers: Share<CallerEntries<N>>,
     pub(crate) others: Share<OtherEntries<N>>,
+    pub(crate) fulls: Share<Fulls<N>>,
     pub(crate) ghost no_callers: { callers.parts ≡ 0 },
     pub(crate) ghost no_others: { others.parts ≡ 0 },
     pub(crate) ghost callers_none: { callers.amount ≡ 0 },
     pub(crate) ghost others_none: { others.amount ≡ 0 },
+    pub(crate) ghost fulls_none: { fulls.amount ≡ 0 },
+}
+
+/// The blanks of a stack's three ledgers: that of the callers' entries, that of the others, and that of what is refused for want of room.
+#[derive(Drop)]
+pub struct Blanks {
+    pub callers: Blank,
+    pub others: Blank,
+    pub fulls: Blank,
 }
 
 /// A stack: the loaded filters, a board of them behind a lock, and the exchange where callers and workers meet. Threads share it.
@@ -44,8 +61,8 @@ pub(crate) struct Spare<N: StackName> {
 pub struct Stack<N: StackName> {
     pub(crate) loaded: Loaded,
     pub(crate) exchange: Exchange,
-    /// Whether something was asked to be cancelled since a worker last began to collect. Each request sets it once it is made.
-    pub(crate) asked: AtomicBool,
+    /// Whether something was asked to be cancelled since a worker last began to collect.
+    pub(crate) asked: Mark,
     pub(crate) locked: Mutex<Locked<N>>,
     /// Nobody takes this lock. It stands here so that threads may share the stack.
     pub(crate) spare: Mutex<Spare<N>>,
@@ -53,22 +70,24 @@ pub struct Stack<N: StackName> {
 }
 
 impl<N: StackName> Stack<N> {
-    /// A stack on the loaded filters before the first move, with a seat for each caller and one for each worker. The first blank is that
-    /// of the callers' entries, the second that of the others; each is cut into as many parts as there are seats.
+    /// A stack on the loaded filters before the first move, with a seat for each caller and one for each worker. Each blank is cut into as
+    /// many parts as there are seats that hold a share of its ledger: the callers', the workers', and all.
     pub fn open(
         alloc: Global,
         loaded: Loaded,
-        blanks: (Blank, Blank),
+        blanks: Blanks,
         callers: usize,
         workers: usize,
     ) -> Result<(Stack<N>, Vec<CallerSeat<N>>, Vec<WorkerSeat<N>>), OutOfMemory>
         requires filters { loaded ≡ N.trees }
         requires callers { (1 ≤ callers) × (callers ≤ 16) }
         requires workers { (1 ≤ workers) × (workers ≤ 16) }
-        requires callers_name { blanks.0.name ≡ N.callers_name }
-        requires callers_parts { (blanks.0.parts ≡ N.callers_parts) × (N.callers_parts ≡ callers) }
-        requires others_name { blanks.1.name ≡ N.others_name }
-        requires others_parts { (blanks.1.parts ≡ N.others_parts) × (N.others_parts ≡ workers) }
+        requires callers_name { blanks.callers.name ≡ N.callers_name }
+        requires callers_parts { (blanks.callers.parts ≡ N.callers_parts) × (N.callers_parts ≡ callers) }
+        requires others_name { blanks.others.name ≡ N.others_name }
+        requires others_parts { (blanks.others.parts ≡ N.others_parts) × (N.others_parts ≡ workers) }
+        requires fulls_name { blanks.fulls.name ≡ N.fulls_name }
+        requires fulls_parts { (blanks.fulls.parts ≡ N.fulls_parts) × (N.fulls_parts ≡ callers + workers) }
         ensures counts { IfOk result (λ opened. (length opened.1.items ≡ callers) × (length opened.2.items ≡ workers)) }
         ensures callers { IfOk result (λ opened. All (λ seat. IsCallerOf opened.0.exchange seat.place × IsFreshCaller seat.place)
             opened.1.items) }
@@ -78,46 +97,59 @@ impl<N: StackName> Stack<N> {
         ensures workers { IfOk result (λ opened. All (λ seat. IsWorkerOf opened.0.exchange seat.place × IsFreshWorker seat.place)
             opened.2.items) }
         ensures others_shares { IfOk result (λ opened. All (λ seat. (seat.share.parts ≡ 1) × (seat.share.amount ≡ 0)) opened.2.items) }
+        ensures callers_fulls { IfOk result (λ opened. All (λ seat. (seat.fulls.parts ≡ 1) × (seat.fulls.amount ≡ 0)) opened.1.items) }
+        ensures workers_fulls { IfOk result (λ opened. All (λ seat. (seat.fulls.parts ≡ 1) × (seat.fulls.amount ≡ 0)) opened.2.items) }
     {
-        let (callers_book, mut callers_share) = blanks.0.open::<CallerEntries<N>>();
-        let (others_book, mut others_share) = blanks.1.open::<OtherEntries<N>>();
+        let Blanks {
+            callers: callers_blank,
+            others: others_blank,
+            fulls: fulls_blank,
+        } = blanks;
+        let (callers_book, mut callers_share) = callers_blank.open::<CallerEntries<N>>();
+        let (others_book, mut others_share) = others_blank.open::<OtherEntries<N>>();
+        let (fulls_book, mut fulls_share) = fulls_blank.open::<Fulls<N>>();
         let (exchange, caller_seats, worker_seats) = seats(
             alloc,
             callers,
             workers,
             &mut callers_share,
             &mut others_share,
+            &mut fulls_share,
         )?;
         let spare = Spare {
             callers: callers_share,
             others: others_share,
+            fulls: fulls_share,
         };
-        let stack = Stack::on(alloc, loaded, exchange, callers_book, others_book, spare)?;
+        let core = Core::<N>::new(
+            alloc,
+            loaded.machine(),
+            callers_book,
+            others_book,
+            fulls_book,
+        )?;
+        let stack = Stack::on(alloc, loaded, exchange, core, spare);
         Ok((stack, caller_seats, worker_seats))
     }
 
-    /// A stack on the loaded filters before the first move, with books that have counted nothing.
+    /// A stack on the loaded filters, with this core.
     fn on(
         alloc: Global,
         loaded: Loaded,
         exchange: Exchange,
-        callers: Book<CallerEntries<N>>,
-        others: Book<OtherEntries<N>>,
+        core: Core<N>,
         spare: Spare<N>,
-    ) -> Result<Stack<N>, OutOfMemory>
+    ) -> Stack<N>
         requires filters { loaded ≡ N.trees }
-        requires callers { callers.total ≡ 0 }
-        requires others { others.total ≡ 0 }
-        ensures exchange { IfOk result (λ stack. stack.exchange ≡ exchange) }
+        ensures exchange { result.exchange ≡ exchange }
     {
-        let core = Core::<N>::new(alloc, loaded.machine(), callers, others)?;
-        Ok(Stack {
+        Stack {
             loaded,
             exchange,
-            asked: AtomicBool::new(false),
+            asked: Mark::new(),
             locked: Mutex::new(Locked::new(alloc, core)),
             spare: Mutex::new(spare),
-        })
+        }
     }
 
     /// What a board is lent.
@@ -156,6 +188,9 @@ impl<N: StackName> Stack<N> {
         ensures requests { asked_by seat.new.place ≡ asked_by seat.old.place }
         ensures refused { OnErr result ((seat.new.receipts.list.items ≡ seat.old.receipts.list.items)
             × (seat.new.receipts.share.amount ≡ seat.old.receipts.share.amount)) }
+        ensures full { result ≡ Err arrive_fault.Full → seat.new.fulls.amount ≡ seat.old.fulls.amount + 1 }
+        ensures room { result ≢ Err arrive_fault.Full → seat.new.fulls.amount ≡ seat.old.fulls.amount }
+        ensures fulls_parts { seat.new.fulls.parts ≡ seat.old.fulls.parts }
     {
         let machine = self.machine();
         let mut locked = self.locked.lock(rt);
@@ -192,8 +227,15 @@ impl<N: StackName> Stack<N> {
         ensures share { OnOk result (seat.new.receipts.share.amount ≡ seat.old.receipts.share.amount + 1) }
         ensures parts { seat.new.receipts.share.parts ≡ seat.old.receipts.share.parts }
         ensures requests { asked_by seat.new.place ≡ asked_by seat.old.place }
+        ensures tickets { (more : List Subject) × ((put_by seat.new.place).put ≡ (put_by seat.old.place).put ++ more) }
+        ensures nothing { (result ≡ Err detach_fault.NoSuch) ⊎ ((result ≡ Err detach_fault.Already) ⊎ (result ≡ Err detach_fault.Full)) →
+            put_by seat.new.place ≡ put_by seat.old.place }
         ensures refused { OnErr result ((seat.new.receipts.list.items ≡ seat.old.receipts.list.items)
             × (seat.new.receipts.share.amount ≡ seat.old.receipts.share.amount)) }
+        ensures no_such { (result ≡ Err detach_fault.NoSuch) ↔ (has_altitude N.trees altitude ≡ false) }
+        ensures full { result ≡ Err detach_fault.Full → seat.new.fulls.amount ≡ seat.old.fulls.amount + 1 }
+        ensures room { result ≢ Err detach_fault.Full → seat.new.fulls.amount ≡ seat.old.fulls.amount }
+        ensures fulls_parts { seat.new.fulls.parts ≡ seat.old.fulls.parts }
     {
         let machine = self.machine();
         let mut locked = self.locked.lock(rt);
@@ -220,20 +262,21 @@ impl<N: StackName> Stack<N> {
         ensures present { IsPresent (words_after (asked_by seat.new.place).seen) serial }
         ensures tickets { put_by seat.new.place ≡ put_by seat.old.place }
         ensures receipts { seat.new.receipts ≡ seat.old.receipts }
+        ensures fulls { seat.new.fulls ≡ seat.old.fulls }
     {
         self.exchange.ask(&mut seat.place, serial);
-        self.asked.store(true, Ordering::SeqCst);
+        self.asked.raise();
     }
 
     /// From now on the system's choice of this number, counted from 0, is answered no, if it is still to come.
     pub fn refuse<R: Wait>(&self, rt: &R, choice: u64) -> Result<(), OutOfMemory> {
-        self.locked.lock(rt).refuse(choice)
+        refuse_on(&mut self.locked.lock(rt), choice)
     }
 
     // ---- the end
 
     /// Ends the stack, and hands out its journal. Where all seats come back that `open` gave, the journal has as many entries of callers,
-    /// and of others, as their shares say together.
+    /// and of others, as their shares say together. Where one of the seats was refused something for want of room, the journal is full.
     ///
     /// # Errors
     ///
@@ -250,6 +293,8 @@ impl<N: StackName> Stack<N> {
         ensures others { sum_by (λ seat. seat.share.parts) workers.items ≡ N.others_parts → MatchResult result
             (λ journal. others_in journal ≡ sum_by (λ seat. seat.share.amount) workers.items)
             (λ differ. others_in differ.0 ≡ sum_by (λ seat. seat.share.amount) workers.items) }
+        ensures full { 0 < sum_by (λ seat. seat.fulls.amount) callers.items + sum_by (λ seat. seat.fulls.amount) workers.items →
+            MatchResult result (λ journal. IsFull journal) (λ differ. IsFull differ.0) }
         ensures agree { IfOk result (λ journal.
             IsPermutation (receipts_in journal) (together (map (λ seat. seat.receipts.list.items) callers.items))) }
         ensures differ { IfErr result (λ differ.
@@ -269,6 +314,8 @@ impl<N: StackName> Stack<N> {
             → callers_in result.0 ≡ sum_by (λ seat. seat.receipts.share.amount) callers.items }
         ensures others { sum_by (λ seat. seat.share.parts) workers.items ≡ N.others_parts
             → others_in result.0 ≡ sum_by (λ seat. seat.share.amount) workers.items }
+        ensures full { 0 < sum_by (λ seat. seat.fulls.amount) callers.items + sum_by (λ seat. seat.fulls.amount) workers.items →
+            IsFull result.0 }
         ensures agree { IsTrue result.1
             ↔ IsPermutation (receipts_in result.0) (together (map (λ seat. seat.receipts.list.items) callers.items)) }
     {
@@ -282,15 +329,16 @@ impl<N: StackName> Stack<N> {
         let Spare {
             callers: mut callers_share,
             others: mut others_share,
+            fulls: mut fulls_share,
         } = spare.into_inner();
         let Locked {
             mut core,
             choices: _,
         } = locked.into_inner();
         let same = agrees(&core, callers.as_slice());
-        merge_callers(&mut callers_share, callers);
-        merge_workers(&mut others_share, workers);
-        core.audit(&mut callers_share, &mut others_share);
+        merge_callers(&mut callers_share, &mut fulls_share, callers);
+        merge_workers(&mut others_share, &mut fulls_share, workers);
+        core.audit(&mut callers_share, &mut others_share, &mut fulls_share);
         core.breaks_nothing(&loaded);
         (core.into_journal(), same)
     }

@@ -1,21 +1,21 @@
 //! What a worker does: it takes a ticket and makes its move, over and over.
-ghost use Rattle.std.specs.Prelude.{◌≡◌, ◌+◌, ◌<◌, ◌≤◌, [], IfOk, IfSome, None, OnErr, OnOk};
+ghost use Rattle.std.specs.Prelude.{◌≡◌, ◌≢◌, ◌+◌, ◌<◌, ◌≤◌, [], IfOk, IfSome, Err, None, OnErr, OnOk};
 ghost use Rattle.flt_core.specs.Turning.{grows};
 ghost use Rattle.flt_running.specs.Waiting as waiting;
+ghost use Rattle.flt_run.specs.declared.fault.TurnFault.TheVariants as fault;
 ghost use Rattle.flt_workers.specs.Places.{IsWorkerOf};
 
 use crate::pace::Pace;
 use crate::requests::Requests;
 use crate::seats::WorkerSeat;
 use crate::stack::Stack;
-use flt_core::{OtherEntries, StackName, Turned};
+use flt_core::{Fulls, OtherEntries, StackName, Turned};
 use flt_machine::{Frame, advance};
 use flt_pool::Gate;
 use flt_run::TurnFault;
 use flt_workers::Ticket;
 use std::alloc::Global;
 use std::sync::Wait;
-use std::sync::atomic::Ordering;
 use std::sync::ledger::Share;
 
 /// How many words of requests there are.
@@ -56,8 +56,12 @@ impl<N: StackName> Stack<N> {
         requires { IsWorkerOf self.now.exchange seat.old.place }
         ensures seat { IsWorkerOf self.now.exchange seat.new.place }
         ensures share { IfOk result (λ made. seat.new.share.amount ≡ seat.old.share.amount + made) }
+        ensures done { OnOk result (waiting.tickets seat.new.waiting ≡ []) }
         ensures grown { seat.old.share.amount ≤ seat.new.share.amount }
         ensures parts { seat.new.share.parts ≡ seat.old.share.parts }
+        ensures full { result ≡ Err fault.Full → seat.new.fulls.amount ≡ seat.old.fulls.amount + 1 }
+        ensures room { result ≢ Err fault.Full → seat.new.fulls.amount ≡ seat.old.fulls.amount }
+        ensures fulls_parts { seat.new.fulls.parts ≡ seat.old.fulls.parts }
     {
         seat.waiting.push_all(&mut seat.place)?;
         let mut made = self.collect(rt, alloc, seat, gate)?;
@@ -92,6 +96,9 @@ impl<N: StackName> Stack<N> {
         ensures few { IfOk result (λ looked. IfSome looked (λ l. (l.made ≤ 65600) × (l.taken ≤ 1))) }
         ensures grown { seat.old.share.amount ≤ seat.new.share.amount }
         ensures parts { seat.new.share.parts ≡ seat.old.share.parts }
+        ensures full { result ≡ Err fault.Full → seat.new.fulls.amount ≡ seat.old.fulls.amount + 1 }
+        ensures room { result ≢ Err fault.Full → seat.new.fulls.amount ≡ seat.old.fulls.amount }
+        ensures fulls_parts { seat.new.fulls.parts ≡ seat.old.fulls.parts }
     {
         if let Some(ticket) = self.exchange.take(rt, &mut seat.place) {
             let made = self.serve(rt, alloc, seat, gate, ticket)?;
@@ -125,8 +132,19 @@ impl<N: StackName> Stack<N> {
         ensures share { IfOk result (λ made. seat.new.share.amount ≡ seat.old.share.amount + grows made) }
         ensures grown { seat.old.share.amount ≤ seat.new.share.amount }
         ensures parts { seat.new.share.parts ≡ seat.old.share.parts }
+        ensures full { result ≡ Err fault.Full → seat.new.fulls.amount ≡ seat.old.fulls.amount + 1 }
+        ensures room { result ≢ Err fault.Full → seat.new.fulls.amount ≡ seat.old.fulls.amount }
+        ensures fulls_parts { seat.new.fulls.parts ≡ seat.old.fulls.parts }
     {
-        match self.turn(rt, alloc, &mut seat.pace, &mut seat.share, gate, ticket) {
+        match self.turn(
+            rt,
+            alloc,
+            &mut seat.pace,
+            &mut seat.share,
+            &mut seat.fulls,
+            gate,
+            ticket,
+        ) {
             Ok(turned) => {
                 let own = if turned.stays { Some(ticket) } else { None };
                 Ok(seat.waiting.settle(&mut seat.place, turned, own)?)
@@ -145,17 +163,22 @@ impl<N: StackName> Stack<N> {
         alloc: Global,
         pace: &mut Pace,
         mine: &mut Share<OtherEntries<N>>,
+        fulls: &mut Share<Fulls<N>>,
         gate: &mut G,
         ticket: Ticket,
     ) -> Result<Turned, TurnFault>
-        requires part { 0 < mine.old.parts }
+        requires part { (0 < mine.old.parts) × (0 < fulls.old.parts) }
         ensures share { IfOk result (λ t. mine.new.amount ≡ mine.old.amount + grows t.made) }
         ensures refused { OnErr result (mine.new.amount ≡ mine.old.amount) }
-        ensures parts { mine.new.parts ≡ mine.old.parts }
+        ensures parts { (mine.new.parts ≡ mine.old.parts) × (fulls.new.parts ≡ fulls.old.parts) }
+        ensures full { result ≡ Err fault.Full → fulls.new.amount ≡ fulls.old.amount + 1 }
+        ensures room { result ≢ Err fault.Full → fulls.new.amount ≡ fulls.old.amount }
     {
         match ticket {
-            Ticket::Activation(activation) => self.go_on(rt, alloc, pace, mine, gate, activation),
-            _ => self.move_on(rt, alloc, pace, mine, gate, ticket),
+            Ticket::Activation(activation) => self.go_on(
+                rt, alloc, pace, mine, fulls, gate, activation,
+            ),
+            _ => self.move_on(rt, alloc, pace, mine, fulls, gate, ticket),
         }
     }
 
@@ -166,17 +189,22 @@ impl<N: StackName> Stack<N> {
         alloc: Global,
         pace: &mut Pace,
         mine: &mut Share<OtherEntries<N>>,
+        fulls: &mut Share<Fulls<N>>,
         gate: &mut G,
         ticket: Ticket,
     ) -> Result<Turned, TurnFault>
-        requires part { 0 < mine.old.parts }
+        requires part { (0 < mine.old.parts) × (0 < fulls.old.parts) }
         ensures share { IfOk result (λ t. mine.new.amount ≡ mine.old.amount + grows t.made) }
         ensures refused { OnErr result (mine.new.amount ≡ mine.old.amount) }
-        ensures parts { mine.new.parts ≡ mine.old.parts }
+        ensures parts { (mine.new.parts ≡ mine.old.parts) × (fulls.new.parts ≡ fulls.old.parts) }
+        ensures full { result ≡ Err fault.Full → fulls.new.amount ≡ fulls.old.amount + 1 }
+        ensures room { result ≢ Err fault.Full → fulls.new.amount ≡ fulls.old.amount }
     {
         let machine = self.machine();
         pace.pass(gate);
-        self.locked.lock(rt).move_on(alloc, machine, mine, ticket)
+        self.locked
+            .lock(rt)
+            .move_on(alloc, machine, mine, fulls, ticket)
     }
 
     /// Makes an activation's steps. It is taken from the board in one hold of the lock, and comes back in another; between them it makes
@@ -187,13 +215,16 @@ impl<N: StackName> Stack<N> {
         alloc: Global,
         pace: &mut Pace,
         mine: &mut Share<OtherEntries<N>>,
+        fulls: &mut Share<Fulls<N>>,
         gate: &mut G,
         activation: u32,
     ) -> Result<Turned, TurnFault>
-        requires part { 0 < mine.old.parts }
+        requires part { (0 < mine.old.parts) × (0 < fulls.old.parts) }
         ensures share { IfOk result (λ t. mine.new.amount ≡ mine.old.amount + grows t.made) }
         ensures refused { OnErr result (mine.new.amount ≡ mine.old.amount) }
-        ensures parts { mine.new.parts ≡ mine.old.parts }
+        ensures parts { (mine.new.parts ≡ mine.old.parts) × (fulls.new.parts ≡ fulls.old.parts) }
+        ensures full { result ≡ Err fault.Full → fulls.new.amount ≡ fulls.old.amount + 1 }
+        ensures room { result ≢ Err fault.Full → fulls.new.amount ≡ fulls.old.amount }
     {
         let machine = self.machine();
         let Some(frame) = self.checkout(rt, activation) else {
@@ -205,7 +236,9 @@ impl<N: StackName> Stack<N> {
         };
         let advanced = advance(machine, frame);
         pace.pass(gate);
-        self.locked.lock(rt).go_on(alloc, machine, mine, &advanced)
+        self.locked
+            .lock(rt)
+            .go_on(alloc, machine, mine, fulls, &advanced)
     }
 
     /// An activation as it stands on the board; none where it has ended.
@@ -232,19 +265,22 @@ impl<N: StackName> Stack<N> {
         ensures few { IfOk result (λ made. made ≤ 65600) }
         ensures grown { seat.old.share.amount ≤ seat.new.share.amount }
         ensures parts { seat.new.share.parts ≡ seat.old.share.parts }
+        ensures full { result ≡ Err fault.Full → seat.new.fulls.amount ≡ seat.old.fulls.amount + 1 }
+        ensures room { result ≢ Err fault.Full → seat.new.fulls.amount ≡ seat.old.fulls.amount }
+        ensures fulls_parts { seat.new.fulls.parts ≡ seat.old.fulls.parts }
     {
         if !seat.pace.collects() {
             return Ok(0);
         }
         let made = self.cancel_all(rt, alloc, seat, gate)?;
-        if !self.asked.swap(false, Ordering::SeqCst) {
+        if !self.asked.lower() {
             return Ok(made);
         }
         match self.sweep(rt, alloc, seat, gate) {
             Ok(more) => Ok(made + more),
             Err(fault) => {
                 // Words are left that weren't looked at.
-                self.asked.store(true, Ordering::SeqCst);
+                self.asked.raise();
                 Err(fault)
             }
         }
@@ -266,6 +302,9 @@ impl<N: StackName> Stack<N> {
         ensures few { IfOk result (λ made. made ≤ 65536) }
         ensures grown { seat.old.share.amount ≤ seat.new.share.amount }
         ensures parts { seat.new.share.parts ≡ seat.old.share.parts }
+        ensures full { result ≡ Err fault.Full → seat.new.fulls.amount ≡ seat.old.fulls.amount + 1 }
+        ensures room { result ≢ Err fault.Full → seat.new.fulls.amount ≡ seat.old.fulls.amount }
+        ensures fulls_parts { seat.new.fulls.parts ≡ seat.old.fulls.parts }
     {
         let mut made: u64 = 0;
         for word in 0..WORDS {
@@ -292,6 +331,9 @@ impl<N: StackName> Stack<N> {
         ensures few { IfOk result (λ made. made ≤ 64) }
         ensures grown { seat.old.share.amount ≤ seat.new.share.amount }
         ensures parts { seat.new.share.parts ≡ seat.old.share.parts }
+        ensures full { result ≡ Err fault.Full → seat.new.fulls.amount ≡ seat.old.fulls.amount + 1 }
+        ensures room { result ≢ Err fault.Full → seat.new.fulls.amount ≡ seat.old.fulls.amount }
+        ensures fulls_parts { seat.new.fulls.parts ≡ seat.old.fulls.parts }
     {
         let mut made: u64 = 0;
         if seat.requests.bits == 0 {
@@ -322,9 +364,20 @@ impl<N: StackName> Stack<N> {
         ensures share { IfOk result (λ made. seat.new.share.amount ≡ seat.old.share.amount + grows made) }
         ensures grown { seat.old.share.amount ≤ seat.new.share.amount }
         ensures parts { seat.new.share.parts ≡ seat.old.share.parts }
+        ensures full { result ≡ Err fault.Full → seat.new.fulls.amount ≡ seat.old.fulls.amount + 1 }
+        ensures room { result ≢ Err fault.Full → seat.new.fulls.amount ≡ seat.old.fulls.amount }
+        ensures fulls_parts { seat.new.fulls.parts ≡ seat.old.fulls.parts }
     {
         let serial = seat.requests.serial(bit);
-        let turned = self.try_cancel(rt, alloc, &mut seat.pace, &mut seat.share, gate, serial)?;
+        let turned = self.try_cancel(
+            rt,
+            alloc,
+            &mut seat.pace,
+            &mut seat.share,
+            &mut seat.fulls,
+            gate,
+            serial,
+        )?;
         seat.requests.remove(bit);
         Ok(seat.waiting.settle(&mut seat.place, turned, None)?)
     }
@@ -336,16 +389,21 @@ impl<N: StackName> Stack<N> {
         alloc: Global,
         pace: &mut Pace,
         mine: &mut Share<OtherEntries<N>>,
+        fulls: &mut Share<Fulls<N>>,
         gate: &mut G,
         serial: u32,
     ) -> Result<Turned, TurnFault>
-        requires part { 0 < mine.old.parts }
+        requires part { (0 < mine.old.parts) × (0 < fulls.old.parts) }
         ensures share { IfOk result (λ t. mine.new.amount ≡ mine.old.amount + grows t.made) }
         ensures refused { OnErr result (mine.new.amount ≡ mine.old.amount) }
-        ensures parts { mine.new.parts ≡ mine.old.parts }
+        ensures parts { (mine.new.parts ≡ mine.old.parts) × (fulls.new.parts ≡ fulls.old.parts) }
+        ensures full { result ≡ Err fault.Full → fulls.new.amount ≡ fulls.old.amount + 1 }
+        ensures room { result ≢ Err fault.Full → fulls.new.amount ≡ fulls.old.amount }
     {
         let machine = self.machine();
         pace.pass(gate);
-        self.locked.lock(rt).cancel(alloc, machine, mine, serial)
+        self.locked
+            .lock(rt)
+            .cancel(alloc, machine, mine, fulls, serial)
     }
 }

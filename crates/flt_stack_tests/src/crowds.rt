@@ -1,14 +1,14 @@
 //! Stacks that several threads share.
-ghost use Rattle.std.specs.Prelude.{◌≡◌, ◌<◌, ◌≤◌, All};
+ghost use Rattle.std.specs.Prelude.{◌≡◌, ◌+◌, ◌<◌, ◌≤◌, All};
 ghost use Rattle.flt_workers.specs.Places.{IsCallerOf, IsFreshCaller, IsFreshWorker, IsWorkerOf};
 
 use crate::filters::{Filter, PASSES_ALONE, PENDS_ALONE, STREAMS_ALONE, loaded};
 use crate::fixture::{Ended, finished};
 use crate::journals::{is_legal, tally_of};
-use flt_core::{CallerEntries, Locked, OtherEntries};
+use flt_core::{CallerEntries, Fulls, Locked, OtherEntries};
 use flt_rules::{Mode, Operation};
 use flt_running::sharing::{loaded_is_shared, sent, shared};
-use flt_running::{CallerSeat, Gate, Stack, StackName, WorkerSeat};
+use flt_running::{Blanks, CallerSeat, Gate, Stack, StackName, WorkerSeat};
 use flt_stack::Loaded;
 use flt_workers::Exchange;
 use std::alloc::{AllocError, Global};
@@ -205,6 +205,7 @@ fn call_all<N: StackName + Send + Sync, R: Threads + Wait + Sync>(
     shared::<Mutex<Locked<N>>>();
     sent::<Share<CallerEntries<N>>>();
     sent::<Share<OtherEntries<N>>>();
+    sent::<Share<Fulls<N>>>();
     shared::<Stack<N>>();
     thread::map_vec(
         rt,
@@ -228,6 +229,7 @@ fn work_all<N: StackName + Send + Sync, R: Threads + Wait + Sync>(
     shared::<Mutex<Locked<N>>>();
     sent::<Share<CallerEntries<N>>>();
     sent::<Share<OtherEntries<N>>>();
+    sent::<Share<Fulls<N>>>();
     shared::<Stack<N>>();
     thread::map_vec(rt, workers, &|seat| work_on(rt, alloc, stack, course, seat))
 }
@@ -245,16 +247,18 @@ fn crowd<N: StackName + Send + Sync, R: Threads + Wait + Sync>(
     rt: &R,
     alloc: Global,
     loaded: Loaded,
-    blanks: (Blank, Blank),
+    blanks: Blanks,
     course: &Course,
 ) -> Result<Ended, AllocError>
     requires filters { loaded ≡ N.trees }
     requires callers { (1 ≤ course.now.plan.callers) × (course.now.plan.callers ≤ 16) }
     requires workers { (1 ≤ course.now.plan.workers) × (course.now.plan.workers ≤ 16) }
-    requires callers_name { (blanks.0.name ≡ N.callers_name) × (blanks.0.parts ≡ N.callers_parts) }
+    requires callers_name { (blanks.callers.name ≡ N.callers_name) × (blanks.callers.parts ≡ N.callers_parts) }
     requires callers_parts { N.callers_parts ≡ course.now.plan.callers }
-    requires others_name { (blanks.1.name ≡ N.others_name) × (blanks.1.parts ≡ N.others_parts) }
+    requires others_name { (blanks.others.name ≡ N.others_name) × (blanks.others.parts ≡ N.others_parts) }
     requires others_parts { N.others_parts ≡ course.now.plan.workers }
+    requires fulls_name { (blanks.fulls.name ≡ N.fulls_name) × (blanks.fulls.parts ≡ N.fulls_parts) }
+    requires fulls_parts { N.fulls_parts ≡ course.now.plan.callers + course.now.plan.workers }
 {
     loaded_is_shared();
     shared::<Exchange>();
@@ -262,6 +266,7 @@ fn crowd<N: StackName + Send + Sync, R: Threads + Wait + Sync>(
     shared::<Mutex<Locked<N>>>();
     sent::<Share<CallerEntries<N>>>();
     sent::<Share<OtherEntries<N>>>();
+    sent::<Share<Fulls<N>>>();
     shared::<Stack<N>>();
     let Plan {
         callers,
@@ -294,10 +299,16 @@ fn follow<R: Threads + Wait + Sync>(
     requires callers { (1 ≤ course.now.plan.callers) × (course.now.plan.callers ≤ 16) }
     requires workers { (1 ≤ course.now.plan.workers) × (course.now.plan.workers ≤ 16) }
 {
-    let blanks = (
-        Blank::new(course.plan.callers as u64),
-        Blank::new(course.plan.workers as u64),
-    );
+    let Plan {
+        callers,
+        workers,
+        ..
+    } = course.plan;
+    let blanks = Blanks {
+        callers: Blank::new(callers as u64),
+        others: Blank::new(workers as u64),
+        fulls: Blank::new((callers + workers) as u64),
+    };
     crowd::<Brand, R>(rt, alloc, loaded, blanks, course)
 }
 

@@ -5,7 +5,8 @@ ghost use Rattle.flt_workers.specs.Places.{IsCallerOf, IsWorkerOf};
 use flt_model::Journal;
 use flt_rules::{Mode, Operation};
 use flt_running::{
-    ArriveFault, CallerSeat, DetachFault, Differ, Gate, Stack, StackName, TurnFault, WorkerSeat,
+    ArriveFault, Blanks, CallerSeat, DetachFault, Differ, Gate, Stack, StackName, TurnFault,
+    WorkerSeat,
 };
 use flt_stack::Loaded;
 use std::alloc::{AllocError, Global};
@@ -101,10 +102,11 @@ fn worked(answer: Result<u64, TurnFault>) -> Result<Answer, AllocError> {
 }
 
 impl<N: StackName> Fixture<N> {
-    fn open(alloc: Global, loaded: Loaded, blanks: (Blank, Blank)) -> Result<Fixture<N>, AllocError>
+    fn open(alloc: Global, loaded: Loaded, blanks: Blanks) -> Result<Fixture<N>, AllocError>
         requires filters { loaded ≡ N.trees }
-        requires callers { (blanks.0.name ≡ N.callers_name) × (blanks.0.parts ≡ N.callers_parts) × (N.callers_parts ≡ 1) }
-        requires others { (blanks.1.name ≡ N.others_name) × (blanks.1.parts ≡ N.others_parts) × (N.others_parts ≡ 1) }
+        requires callers { (blanks.callers.name ≡ N.callers_name) × (blanks.callers.parts ≡ N.callers_parts) × (N.callers_parts ≡ 1) }
+        requires others { (blanks.others.name ≡ N.others_name) × (blanks.others.parts ≡ N.others_parts) × (N.others_parts ≡ 1) }
+        requires fulls { (blanks.fulls.name ≡ N.fulls_name) × (blanks.fulls.parts ≡ N.fulls_parts) × (N.fulls_parts ≡ 2) }
     {
         let (stack, mut callers, mut workers) = Stack::<N>::open(alloc, loaded, blanks, 1, 1)?;
         let (Some(caller), Some(worker)) = (callers.pop(), workers.pop()) else {
@@ -224,12 +226,13 @@ fn taken<N: StackName, R: Wait>(
     rt: &R,
     alloc: Global,
     loaded: Loaded,
-    blanks: (Blank, Blank),
+    blanks: Blanks,
     steps: &[Step],
 ) -> Result<Told, AllocError>
     requires filters { loaded ≡ N.trees }
-    requires callers { (blanks.0.name ≡ N.callers_name) × (blanks.0.parts ≡ N.callers_parts) × (N.callers_parts ≡ 1) }
-    requires others { (blanks.1.name ≡ N.others_name) × (blanks.1.parts ≡ N.others_parts) × (N.others_parts ≡ 1) }
+    requires callers { (blanks.callers.name ≡ N.callers_name) × (blanks.callers.parts ≡ N.callers_parts) × (N.callers_parts ≡ 1) }
+    requires others { (blanks.others.name ≡ N.others_name) × (blanks.others.parts ≡ N.others_parts) × (N.others_parts ≡ 1) }
+    requires fulls { (blanks.fulls.name ≡ N.fulls_name) × (blanks.fulls.parts ≡ N.fulls_parts) × (N.fulls_parts ≡ 2) }
 {
     let mut answers = Vec::with_capacity(alloc, steps.len())?;
     let mut fixture = Fixture::<N>::open(alloc, loaded, blanks)?;
@@ -249,5 +252,10 @@ pub(crate) fn take_steps<R: Wait>(
     loaded: Loaded,
     steps: &[Step],
 ) -> Result<Told, AllocError> {
-    taken::<Brand, R>(rt, alloc, loaded, (Blank::new(1), Blank::new(1)), steps)
+    let blanks = Blanks {
+        callers: Blank::new(1),
+        others: Blank::new(1),
+        fulls: Blank::new(2),
+    };
+    taken::<Brand, R>(rt, alloc, loaded, blanks, steps)
 }

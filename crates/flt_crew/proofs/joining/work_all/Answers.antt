@@ -1,6 +1,7 @@
 use denote.Param.Send.{IsSend, IsSync, sendable}
 use denote.Param.SendFields.{declared_send, declared_sync}
 use Rattle.std.proofs.Crossing.{crosses}
+use Rattle.flt_running.specs.contracts.mark.Mark as mark
 use Rattle.flt_running.specs.contracts.stack.Stack as stack
 use Rattle.flt_running.specs.contracts.stack.Spare as spare
 use Rattle.flt_crew.proofs.joining.work_all.Goals as goal
@@ -13,10 +14,28 @@ shared-requires-4-sync-T g c κs within =
     let m = c.shared-3.ensures in
     let a = c.sent.ensures in
     let b = c.sent-2.ensures in
+    let f = c.sent-3.ensures in
     let p : IsSend (spare.the_row g.row.N g.N.StackName g.N.Counts) =
-    declared_send (spare.the_type g.row.N g.N.StackName g.N.Counts)
-    (record { owned = a.owned; leaving = λ k x w. tt }, (record { owned = b.owned; leaving = λ k x w. tt }, tt)) in
+    declared_send (spare.the_type g.row.N g.N.StackName g.N.Counts) (
+      record { owned = a.owned; leaving = λ k x w. tt },
+      (
+        record { owned = b.owned; leaving = λ k x w. tt },
+        (record { owned = f.owned; leaving = λ k x w. tt }, tt),
+      ),
+    ) in
+    let k : IsSync mark.the_row = declared_sync mark.the_type (record { shared = q.shared }, tt) in
     let s : IsSync (stack.the_row g.row.N g.N.StackName g.N.Counts) =
-    declared_sync (stack.the_type g.row.N g.N.StackName g.N.Counts)
-    (record { shared = l.shared }, (record { shared = e.shared }, (record { shared = q.shared }, (record { shared = m.shared }, (search (crosses, p), tt))))) in
+    declared_sync (stack.the_type g.row.N g.N.StackName g.N.Counts) (
+      record { shared = l.shared },
+      (
+        record { shared = e.shared },
+        (
+          record { shared = k.shared },
+          (
+            record { shared = m.shared },
+            (search (crosses, p), tt),
+          ),
+        ),
+      ),
+    ) in
     record { shared = s.shared }

@@ -11,5 +11,8 @@ seats-preserved g c =
       places = map_more _ _ _ pushed (λ seat. seat.place) c.seats.yielded i.places;
       left = omega (arith, length_push c.seats.yielded c.in-Some.place, i.left);
       none = omega arith;
+      fulls_left = omega (arith, length_push c.seats.yielded c.in-Some.place, i.fulls_left);
+      no_fulls = omega arith;
+      fulls = all_more _ _ _ pushed (λ seat. (seat.fulls.parts ≡ 1) × (seat.fulls.amount ≡ 0)) i.fulls (omega arith, omega arith);
       shares = all_more _ _ _ pushed (λ seat. (seat.share.parts ≡ 1) × (seat.share.amount ≡ 0)) i.shares (omega arith, omega arith);
     }

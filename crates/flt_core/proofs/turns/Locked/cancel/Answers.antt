@@ -12,7 +12,3 @@ returns-in-Err-NotEnabled-clause-cancelled g c =
     disabled_is_cancel c.args.loaded.now c.args.self.now.core c.args.serial c.unmade.result.stays c.unmade.result.made c.apply.new.self
     c.unmade.result.next.items (c.apply.ensures.disabled.0 (c.in-Err-NotEnabled.is ∙ ap Err c.in-Err-NotEnabled.field-0-is))
     c.in-Err-NotEnabled.ensures.refused.0 c.unmade.ensures.stays c.unmade.ensures.made c.unmade.ensures.next
-
-pub returns-in-Err-Full-clause-full : goal.returns-in-Err-Full-clause-full
-returns-in-Err-Full-clause-full g c = λ _.
-    full_for_cancel c.args.loaded.now c.args.self.now.core c.args.serial (c.apply.ensures.full.0 (c.in-Err-Full.is ∙ ap Err c.in-Err-Full.field-0-is)).1

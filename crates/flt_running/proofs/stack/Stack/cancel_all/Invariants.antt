@@ -10,4 +10,6 @@ invariant-loop-bit g l = record {
   share : l.seat.share.amount ≡ l.fn.seat.share.amount + l.made;
   few : l.made ≤ l.bit;
   parts : l.seat.share.parts ≡ l.fn.seat.share.parts;
+  fulls : l.seat.fulls.amount ≡ l.fn.seat.fulls.amount;
+  fulls_parts : l.seat.fulls.parts ≡ l.fn.seat.fulls.parts;
 }

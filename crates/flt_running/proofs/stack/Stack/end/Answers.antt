@@ -11,6 +11,6 @@ returns-clause-agree g c =
     subst (λ (es : List JournalEntry). IsTrue c.agrees-same.result
     ↔ IsPermutation (receipts_in es) (together (map (λ seat. seat.receipts.list.items) c.args.callers.items)))
     (ap (λ (b : Situation). b.entries) (sym c.audit.ensures.same) ∙ sym c.into_journal.ensures)
-    (subst (λ (seats : List (CallerSeat g.row.N.Denot)). IsTrue c.agrees-same.result
+    (subst (λ (seats : List (CallerSeat g.row.N.Denot g.N.StackName)). IsTrue c.agrees-same.result
     ↔ IsPermutation (receipts_in c.into_inner-core.result.core.entries) (together (map (λ seat. seat.receipts.list.items) seats)))
     c.as_slice.ensures.value c.agrees-same.ensures)

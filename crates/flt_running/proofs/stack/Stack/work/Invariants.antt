@@ -11,4 +11,6 @@ invariant-loop g l = record {
   few : l.made ≤ 65600 * l.counter + 65600;
   taken : l.taken ≤ l.counter;
   parts : l.seat.share.parts ≡ l.fn.seat.share.parts;
+  fulls : l.seat.fulls.amount ≡ l.fn.seat.fulls.amount;
+  fulls_parts : l.seat.fulls.parts ≡ l.fn.seat.fulls.parts;
 }
