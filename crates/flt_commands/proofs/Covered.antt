@@ -1,5 +1,5 @@
 -- What is covered breaks nothing, and an exit status 0 says that something is covered.
-use Rattle.std.proofs.Common.{◌⊎◌, inl, inr, ◌≡◌, ℕ, zero, suc, List, [], ◌∷◌, ◌++◌, Bool, None, Option, Some, Result, Ok, Err, take, drop, max, refl, sym, ◌∙◌, arith}
+use Rattle.std.proofs.Common.{◌⊎◌, inl, inr, ◌≡◌, ℕ, zero, suc, List, [], ◌∷◌, ◌++◌, Bool, None, Option, Result, Ok, Err, take, drop, max, refl, sym, ◌∙◌, arith}
 use Rattle.std.proofs.Math.Path.{subst}
 use Rattle.flt_syntax.specs.File.{filter_of}
 use Rattle.flt_syntax.specs.declared.fault.SyntaxFault.{SyntaxFault}
@@ -13,9 +13,7 @@ use Rattle.flt_crew.specs.declared.running.Ran.{Ran}
 use Rattle.flt_explain.specs.declared.finding.Finding.{Finding}
 use Rattle.flt_forms.specs.Lines.{AreLines}
 use Rattle.flt_forms.specs.Sarif.{AreResults}
-use Rattle.flt_notes.specs.Readings.{IsOther}
 use Rattle.flt_notes.specs.Reported.{AreReports, HasNotice, HasNoticeStatus, HasReport, HasStatus, IsText}
-use Rattle.flt_reasons.specs.declared.notice.Notice.{Notice}
 use Rattle.flt_details.specs.Reports.{IsJudged, IsKnown, findings_status, status_of as status_of_judged, texts_of}
 use Rattle.flt_details.specs.declared.sources.Explained.{Explained as Told}
 use Rattle.flt_details.specs.declared.sources.Source.{Source}
@@ -33,18 +31,15 @@ use Rattle.flt_commands.proofs.OnePlace.{zipped_once}
 use Rattle.flt_commands.specs.Analyse.{IsAnalysed}
 use Rattle.flt_commands.specs.Answer.{status_of}
 use Rattle.flt_commands.specs.Check.{HasPoints, IsAnswer, IsChecked}
-use Rattle.flt_commands.specs.Clean.{BreakNothing, BreaksNothing, EachBreaksNothing, IsClean, YesIsClean}
+use Rattle.flt_commands.specs.Clean.{BreakNothing, BreaksNothing, EachBreaksNothing, IsClean}
 use Rattle.flt_commands.specs.Commands.{IsSaid, IsSaidOf, IsReported}
 use Rattle.flt_commands.specs.Explain.{IsExplained, IsTold}
-use Rattle.flt_commands.specs.Inputs.{Giving, given, Text}
+use Rattle.flt_commands.specs.Inputs.{Giving, given, Text, unread}
 use Rattle.flt_commands.specs.Running.{IsRan}
 use Rattle.flt_words.specs.Request.{Asked, Check, Analyse, Run, Replay, Show, Explain, Page}
-use Rattle.flt_words.specs.Words.{asked}
 use Rattle.flt_commands.specs.declared.answer.Answer.{Answer}
 use Rattle.flt_commands.specs.declared.answer.Answer.TheVariants.{Accepted, Refused, Certificate as Written, Judged, Ran as has_run, FileRefused, Explained, Page as has_page, Shown}
-use Rattle.flt_commands.specs.declared.commands.CommandFault.{CommandFault}
 use Rattle.flt_commands.specs.declared.failure.Failure.{Failure}
-use Rattle.std.specs.Prelude.{IfOk}
 
 -- the laws' clauses
 abbrev pub Law : Type 0
@@ -213,18 +208,10 @@ module _ (law : Law) (runs : LawOfRuns) (read : LawOfReading) where
   said_is_clean (Explain form states journal files) texts answer said good = explained form states journal files texts answer said good
   said_is_clean (Page name) texts answer said good = tt
 
-  of_said : (gives : Giving) (request : Asked) (said : Result Answer Failure) (bytes : List ℕ) → IsSaid gives request said →
-      IsReported said bytes 0 → YesIsClean gives (Some request)
-  of_said gives request (Err f) bytes said reported = absurd (omega (arith, reported.1.1))
-  of_said gives request (Ok answer) bytes (given texts result there said) reported =
-      (texts, there, said_is_clean request texts answer said (sym reported.1))
-
-  -- where what the words ask for is said, and reported with the status 0, the text breaks nothing
-  pub clean_of : (gives : Giving) (words : List (List ℕ)) (request : Asked) (said : Result Answer Failure)
-      (result : Result ℕ CommandFault) (P : ℕ → List ℕ → Type 0)
-      → Some request ≡ asked words → IsSaid gives request said →
-      IfOk result (λ status. (bytes : List ℕ) × IsReported said bytes status × P status bytes)
-      → IfOk result (λ status. status ≡ 0 → YesIsClean gives (asked words))
-  clean_of gives words request said (Ok status) P asks is (bytes, reported, rest) =
-      λ good. rw (← asks) (of_said gives request said bytes is (subst (λ n. IsReported said bytes n) good reported))
-  clean_of gives words request said (Err f) P asks is reported = tt
+  -- where this is said of what the names give, and reported with the status 0, the text breaks nothing
+  pub clean_of : (gives : Giving) (request : Asked) (texts : List Text) (said : Result Answer Failure) (bytes : List ℕ) (status : ℕ) →
+      IsSaid gives request texts said → IsReported said bytes status → status ≡ 0 → IsClean request texts
+  clean_of gives request texts _ bytes status (unread f fails) reported good = absurd (omega (arith, reported.1.1, good))
+  clean_of gives request texts (Err f) bytes status (given result there said) reported good = absurd (omega (arith, reported.1.1, good))
+  clean_of gives request texts (Ok answer) bytes status (given result there said) reported good =
+      said_is_clean request texts answer said (sym reported.1 ∙ good)

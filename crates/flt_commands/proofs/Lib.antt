@@ -1,6 +1,6 @@
 pub mod Covered
+pub mod Ended
 pub mod Firsts
-pub mod Kept
 pub mod OneAnalysis
 pub mod OneAnswer
 pub mod OneCheck
@@ -8,4 +8,4 @@ pub mod OnePlace
 pub mod OneReading
 pub mod OneVerdict
 pub mod Readings
-pub mod Pages
+pub mod Reported

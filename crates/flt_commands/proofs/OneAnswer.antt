@@ -4,14 +4,16 @@ use Rattle.flt_commands.proofs.OneReading.{says_once}
 use Rattle.flt_commands.specs.Analyse.{IsAnalysed}
 use Rattle.flt_commands.specs.Answer.{output, status_of}
 use Rattle.flt_commands.specs.Check.{IsChecked}
-use Rattle.flt_commands.specs.Commands.{IsReported, IsSaid, IsSaidOf, PrintsFor, names_of}
-use Rattle.flt_commands.specs.Inputs.{Giving}
+use Rattle.flt_commands.specs.Commands.{AnswersFor, IsReported, IsSaid, IsSaidOf}
+use Rattle.flt_commands.specs.Inputs.{Giving, Text}
+use Rattle.flt_commands.specs.Names.{names_of}
 use Rattle.flt_commands.specs.Replay.{IsReplayed}
 use Rattle.flt_commands.specs.Single.{AreSame, AskForOne, GivesOne, HasOneAnswer, SaysOne, seen, told}
 use Rattle.flt_words.specs.Request.{Asked, Check, Analyse, Run, Replay, Show, Explain, Page}
 use Rattle.flt_commands.specs.declared.answer.Answer.{Answer}
 use Rattle.flt_commands.specs.declared.failure.Failure.{Failure}
 use Rattle.flt_commands.specs.declared.failure.Failure.TheVariants.{OutOfMemory}
+use Rattle.flt_commands.specs.declared.report.Report.{Report}
 
 -- an answer isn't want of memory, nor is any other failure
 an_answer : (a : Answer) → Ok a ≢ Err OutOfMemory
@@ -53,15 +55,16 @@ module _ (checked : SaysOne IsChecked) (analysed : SaysOne IsAnalysed) (replayed
   of_one (Replay journal files) has = replayed
 
   -- of what is asked for one thing is said at most
-  pub said_once : (gives : Giving) (request : Asked) (a b : Result Answer Failure) → HasOneAnswer request → GivesOne gives →
-      IsSaid gives request a →
-      IsSaid gives request b → AreSame a b
-  said_once gives request a b has one x y = says_once gives one (names_of request) (IsSaidOf request) (of_one request has) a b x y
+  pub said_once : (gives : Giving) (request : Asked) (texts more : List Text) (a b : Result Answer Failure) → HasOneAnswer request →
+      GivesOne gives → IsSaid gives request texts a → IsSaid gives request more b → AreSame a b
+  said_once gives request texts more a b has one x y =
+      says_once gives one (names_of request) (IsSaidOf request) (of_one request has) texts more a b x y
 
   -- one thing is printed at most, with one exit status
-  pub printed_once : (gives : Giving) (request : Option Asked) (bytes other : List ℕ) (status other_status : ℕ) → AskForOne request →
-      GivesOne gives → PrintsFor gives request bytes status →
-      PrintsFor gives request other other_status → (bytes ≡ other) × (status ≡ other_status)
-  printed_once gives None bytes other status other_status has one x y = (x.0 ∙ sym y.0, x.1 ∙ sym y.1)
-  printed_once gives (Some request) bytes other status other_status has one x y =
-      reported_once bytes other status other_status x.0 y.0 (said_once gives request x.0 y.0 has one x.1 y.1) x.2 y.2
+  pub printed_once : (gives : Giving) (written others : Text → Text → Type 0) (request : Option Asked) (r s : Report) → AskForOne request →
+      GivesOne gives → AnswersFor gives written request r → AnswersFor gives others request s →
+      (r.output.items ≡ s.output.items) × (r.status ≡ s.status)
+  printed_once gives written others None r s has one x y = (x.0 ∙ sym y.0, x.1 ∙ sym y.1)
+  printed_once gives written others (Some request) r s has one x y =
+      reported_once r.output.items s.output.items r.status s.status x.said y.said
+      (said_once gives request x.texts y.texts x.said y.said has one x.is y.is) x.reported y.reported

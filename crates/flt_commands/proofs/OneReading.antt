@@ -88,14 +88,14 @@ module _ (gives : Giving) (one : GivesOne gives) where
 
   -- what is said where names are read is one thing, if it is for what they give
   pub says_once : (names : List Text) (IsSaidOf : List Text → Result Answer Failure → Type 0) → SaysOne IsSaidOf →
-      (a b : Result Answer Failure) →
-      Says gives names IsSaidOf a → Says gives names IsSaidOf b → AreSame a b
-  says_once names IsSaidOf once _ _ (unread f fails) (unread h others) p q =
+      (texts more : List Text) (a b : Result Answer Failure) →
+      Says gives names IsSaidOf texts a → Says gives names IsSaidOf more b → AreSame a b
+  says_once names IsSaidOf once texts more _ _ (unread f fails) (unread h others) p q =
       ap Err (unread_once names f h (unreadable gives names f (λ e. p (ap Err e)) fails)
       (unreadable gives names h (λ e. q (ap Err e)) others))
-  says_once names IsSaidOf once _ _ (unread f fails) (given texts b there said) p q =
-      absurd (all_or_none names f texts (unreadable gives names f (λ e. p (ap Err e)) fails) there)
-  says_once names IsSaidOf once _ _ (given texts a there said) (unread h others) p q =
+  says_once names IsSaidOf once texts more _ _ (unread f fails) (given b there said) p q =
+      absurd (all_or_none names f more (unreadable gives names f (λ e. p (ap Err e)) fails) there)
+  says_once names IsSaidOf once texts more _ _ (given a there said) (unread h others) p q =
       absurd (all_or_none names h texts (unreadable gives names h (λ e. q (ap Err e)) others) there)
-  says_once names IsSaidOf once _ _ (given texts a there said) (given more b also other) p q =
+  says_once names IsSaidOf once texts more _ _ (given a there said) (given b also other) p q =
       once texts a b said (subst (λ ts. IsSaidOf ts b) (sym (texts_once names texts more there also)) other) p q

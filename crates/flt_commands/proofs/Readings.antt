@@ -27,24 +27,24 @@ module _ (gives : Giving) (IsSaidOf : List Text → Result Answer Failure → Ty
   -- what is said of one input that was read
   pub says_of_one : (name : Text) (x : Vec ℕ Global) → length texts ≡ 1 → x ≡ slice_index_or texts 0 x →
       AreGiven gives (name ∷ []) (map (λ t. t.items) texts) →
-      IsSaidOf (x.items ∷ []) result → Says gives (name ∷ []) IsSaidOf result
-  says_of_one name x one at read said = given _ result (rw (only_one texts x one at) at read) said
+      IsSaidOf (x.items ∷ []) result → Says gives (name ∷ []) IsSaidOf (map (λ t. t.items) texts) result
+  says_of_one name x one at read said = given result read (rw (only_one texts x one at) said)
 
   -- what is said of two
   pub says_of_both : (name other : Text) (x y : Vec ℕ Global) → length texts ≡ 2 → x ≡ slice_index_or texts 0 x →
       y ≡ slice_index_or texts 1 y →
       AreGiven gives (name ∷ other ∷ []) (map (λ t. t.items) texts) → IsSaidOf (x.items ∷ y.items ∷ []) result →
-      Says gives (name ∷ other ∷ []) IsSaidOf result
-  says_of_both name other x y two first second read said = given _ result (rw (both texts x y two first second) at read) said
+      Says gives (name ∷ other ∷ []) IsSaidOf (map (λ t. t.items) texts) result
+  says_of_both name other x y two first second read said = given result read (rw (both texts x y two first second) said)
 
 -- what is said of a first input and of those behind it
 pub says_of_first : (gives : Giving) (IsSaidOf : List Text → Result Answer Failure → Type 0) (texts : List (Vec ℕ Global)) (result : Result Answer Failure) (first_name : Text)
     (names : List Text) (x : Vec ℕ Global) (others : List (Vec ℕ Global)) →
     x ≡ slice_index_or texts 0 x → others ≡ drop 1 texts → AreGiven gives (first_name ∷ names) (map (λ t. t.items) texts) →
-    IsSaidOf (x.items ∷ map (λ t. t.items) others) result → Says gives (first_name ∷ names) IsSaidOf result
+    IsSaidOf (x.items ∷ map (λ t. t.items) others) result → Says gives (first_name ∷ names) IsSaidOf (map (λ t. t.items) texts) result
 says_of_first gives IsSaidOf [] result first_name names x others first behind read said =
     absurd (omega (arith, AllZip-long {B = Text} (λ name text. gives name (Some text)) (first_name ∷ names) [] read.each))
 says_of_first gives IsSaidOf (t ∷ texts) result first_name names x others first behind read said =
     let is_first : x ≡ t = first in
     let are_others : others ≡ texts = behind in
-    given _ result read (rw (is_first, are_others) at said)
+    given result read (rw (is_first, are_others) at said)

@@ -1,12 +1,11 @@
 -- What the exit status 0 is worth: no run of the machine on the text breaks anything. This project's own program.
-use Rattle.std.specs.Prelude.{◌≡◌, ℕ, List, [], ◌∷◌, Option, Some, None, take}
+use Rattle.std.specs.Prelude.{◌≡◌, ℕ, List, [], ◌∷◌, None, take}
 use Rattle.flt_syntax.specs.Spelling.{Spells}
 use Rattle.flt_tree.specs.declared.filter.Filter.{Filter}
 use Rattle.flt_model.specs.Program.{by_altitude}
 use Rattle.flt_model.specs.Runs.{breaks}
 use Rattle.flt_model.specs.Steps.{Transition}
-use Rattle.flt_commands.specs.Commands.{names_of}
-use Rattle.flt_commands.specs.Inputs.{AreGiven, Giving, Text}
+use Rattle.flt_commands.specs.Inputs.{Text}
 use Rattle.flt_commands.specs.Replay.{AreSpelled}
 use Rattle.flt_commands.specs.Split.{IsCertificateStart}
 use Rattle.flt_words.specs.Request.{Asked, Check, Analyse, Run, Replay, Show, Explain, Page}
@@ -38,8 +37,3 @@ IsClean (Show timeline picture journal files) texts = Unit {0}
 IsClean (Explain form states journal files) texts = EachBreaksNothing texts
 IsClean (Page name) texts = Unit {0}
 IsClean _ _ = ⊥
-
--- the words ask for something, and the text in what was read for them breaks nothing
-abbrev pub YesIsClean : Giving → Option Asked → Type 0
-YesIsClean gives (Some request) = (texts : List Text) × AreGiven gives (names_of request) texts × IsClean request texts
-YesIsClean gives None = ⊥

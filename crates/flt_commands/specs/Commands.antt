@@ -1,31 +1,27 @@
--- What the commands put on the standard output, and their exit status. This project's own program.
-use Rattle.std.specs.Prelude.{◌≡◌, ◌≢◌, ℕ, List, [], ◌∷◌, Option, Some, None, Result, Ok, Err}
-use Rattle.flt_crew.specs.declared.ending.Ending.TheVariants.{Whole}
+-- What a command line comes to: what is read, what is said of it, how that is printed, what it is worth and what is kept. This project's own
+-- program.
+use Rattle.std.specs.Prelude.{◌≡◌, ◌≢◌, ℕ, List, [], ◌∷◌, ◌++◌, Option, Some, None, Result, Ok, Err, IfOk, map}
 use Rattle.flt_commands.specs.Analyse.{IsAnalysed}
-use Rattle.flt_commands.specs.Answer.{ending_of, output, status_of}
+use Rattle.flt_commands.specs.Answer.{ending_of, output, remark, status_of}
 use Rattle.flt_commands.specs.Check.{IsChecked}
-use Rattle.flt_commands.specs.Explain.{IsExplained, IsKept, IsPaged}
-use Rattle.flt_commands.specs.Inputs.{AreGiven, Giving, Says, Text}
+use Rattle.flt_commands.specs.Clean.{IsClean}
+use Rattle.flt_commands.specs.Explain.{IsExplained, IsPaged, IsWritten}
+use Rattle.flt_commands.specs.Failure.{failure_line}
+use Rattle.flt_commands.specs.Inputs.{Giving, Says, Text}
+use Rattle.flt_commands.specs.Names.{names_of}
 use Rattle.flt_commands.specs.Replay.{IsReplayed, IsShown}
 use Rattle.flt_commands.specs.Running.{IsRan}
+use Rattle.flt_model.specs.JournalText.{Entries, spelling}
 use Rattle.flt_words.specs.Request.{Asked, Check, Analyse, Run, Replay, Show, Explain, Page}
 use Rattle.flt_words.specs.Words.{asked}
 use Rattle.flt_commands.specs.declared.answer.Answer.{Answer}
 use Rattle.flt_commands.specs.declared.failure.Failure.{Failure}
 use Rattle.flt_commands.specs.declared.failure.Failure.TheVariants.{OutOfMemory}
+use Rattle.flt_commands.specs.declared.report.Report.{Report}
 
--- the names that are read, in this order
-abbrev pub names_of : Asked → List Text
-names_of (Check file None) = file ∷ []
-names_of (Check file (Some cert)) = file ∷ cert ∷ []
-names_of (Analyse file) = file ∷ []
-names_of (Run workers quiet script files) = script ∷ files
-names_of (Replay journal files) = journal ∷ files
-names_of (Show timeline picture journal files) = journal ∷ files
-names_of (Explain form states journal files) = files
-names_of (Page name) = []
+-- ---- what is said
 
--- what is said of the bytes that they give
+-- what is said of the bytes that the names give
 abbrev pub IsSaidOf : Asked → List Text → Result Answer Failure → Type 0
 IsSaidOf (Check file cert) = IsChecked
 IsSaidOf (Analyse file) = IsAnalysed
@@ -35,35 +31,74 @@ IsSaidOf (Show timeline picture journal files) = IsShown timeline picture
 IsSaidOf (Explain form states journal files) = IsExplained form journal files
 IsSaidOf (Page name) = λ texts. IsPaged name
 
--- what is said of what is asked for: an answer, or why there is none
-abbrev pub IsSaid : Giving → Asked → Result Answer Failure → Type 0
+-- what is said of what is asked for, an answer or why there is none, where the names give these texts
+abbrev pub IsSaid : Giving → Asked → List Text → Result Answer Failure → Type 0
 IsSaid gives request = Says gives (names_of request) (IsSaidOf request)
 
--- where a file is named for the journal of a finding, it is written there
-abbrev pub KeepsFor : Giving → (Text → Text → Type 0) → Option Asked → Type 0
-KeepsFor gives written (Some (Explain form states (Some name) files)) =
-    (texts : List Text) × AreGiven gives files texts × IsKept written name texts
-KeepsFor gives written _ = Unit {0}
+-- ---- how that is printed
 
 -- nothing on the standard output, and the status 2: the words can't be taken, something can't be read, or is wrong
 abbrev pub IsNothing : List ℕ → ℕ → Type 0
 IsNothing bytes status = (bytes ≡ []) × (status ≡ 2)
 
--- how that is printed; where memory ran out, nothing is
+-- what stands on the standard output, and the exit status; where memory ran out, nothing does
 abbrev pub IsReported : Result Answer Failure → List ℕ → ℕ → Type 0
 IsReported (Ok answer) bytes status = (bytes ≡ output answer) × (status ≡ status_of answer)
 IsReported (Err f) bytes status = (f ≢ OutOfMemory) × IsNothing bytes status
 
--- an answer beside which nothing stands on the standard error: all but a journal that is full too early or that the receipts contradict
-abbrev pub IsWhole : Result Answer Failure → Type 0
-IsWhole (Ok answer) = ending_of answer ≡ Whole
-IsWhole (Err f) = ⊥
+-- what stands on the standard error: with a journal, how its run ended, where it didn't end with its script; with no answer, the line that
+-- says why, after these bytes
+abbrev pub IsRemarkedAfter : List ℕ → Result Answer Failure → List ℕ → Type 0
+IsRemarkedAfter before (Ok answer) bytes = bytes ≡ remark (ending_of answer)
+IsRemarkedAfter before (Err f) bytes = bytes ≡ before ++ (failure_line f ++ 10 ∷ [])
 
--- what is said of what is asked for, and how it is printed; words that ask for nothing print nothing
-abbrev pub PrintsFor : Giving → Option Asked → List ℕ → ℕ → Type 0
-PrintsFor gives None bytes status = IsNothing bytes status
-PrintsFor gives (Some request) bytes status = (said : Result Answer Failure) × IsSaid gives request said × IsReported said bytes status
+-- what may stand before that line: `explain` says there why a file isn't read
+abbrev pub IsRemarked : Asked → Result Answer Failure → List ℕ → Type 0
+IsRemarked (Explain form states journal files) said bytes = (before : List ℕ) × IsRemarkedAfter before said bytes
+IsRemarked request said bytes = IsRemarkedAfter [] said bytes
 
--- what the words of a command line, and what its names give, put on the standard output, and the exit status
-abbrev pub Prints : Giving → List (List ℕ) → List ℕ → ℕ → Type 0
-Prints gives words bytes status = PrintsFor gives (asked words) bytes status
+-- ---- all of it
+
+-- the texts that a report has
+abbrev pub texts_in : Report → List Text
+texts_in report = map (λ text. text.items) report.texts.items
+
+-- where there is an answer about a journal, its entries are kept, whose spelling its bytes are
+abbrev pub IsKeptAs : Option Entries → Text → Result Answer Failure → Type 0
+IsKeptAs (Some entries) bytes (Ok answer) = bytes ≡ spelling entries
+IsKeptAs None bytes (Ok answer) = ⊥
+IsKeptAs kept bytes (Err f) = kept ≡ None
+
+-- what the names give is what the report has: the texts, and first the journal, where one was read
+abbrev pub AreThose : Asked → Report → List Text → Result Answer Failure → Type 0
+AreThose (Replay journal files) report texts said =
+    (bytes : Text) × (texts ≡ bytes ∷ texts_in report) × IsKeptAs report.journal bytes said
+AreThose (Show timeline picture journal files) report texts said =
+    (bytes : Text) × (texts ≡ bytes ∷ texts_in report) × IsKeptAs report.journal bytes said
+AreThose request report texts said = texts ≡ texts_in report
+
+-- where a file is named for it, the journal of the first finding that has one is written there
+abbrev pub IsKept : (Text → Text → Type 0) → Asked → Result Answer Failure → Type 0
+IsKept written (Explain form states journal files) said = IfOk said (IsWritten written journal)
+IsKept written request said = Unit {0}
+
+-- the report on what is asked for. All of it speaks of the same texts, which are the report's: they are what the names give; this is said of
+-- them; that is what the report has for the standard output, for the exit status and for the standard error; with the status 0 the filters
+-- that they spell break nothing; and what is written for it into a file
+pub record IsAnswered (gives : Giving) (written : Text → Text → Type 0) (request : Asked) (report : Report) : Type 0 where
+  pub said : Result Answer Failure
+  pub texts : List Text
+  pub those : AreThose request report texts said
+  pub is : IsSaid gives request texts said
+  pub reported : IsReported said report.output.items report.status
+  pub remarked : IsRemarked request said report.remark.items
+  pub clean : report.status ≡ 0 → IsClean request texts
+  pub kept : IsKept written request said
+
+-- the report on a command line; of words that ask for nothing there is a text about their use
+abbrev pub AnswersFor : Giving → (Text → Text → Type 0) → Option Asked → Report → Type 0
+AnswersFor gives written None report = IsNothing report.output.items report.status
+AnswersFor gives written (Some request) report = IsAnswered gives written request report
+
+abbrev pub Answers : Giving → (Text → Text → Type 0) → List (List ℕ) → Report → Type 0
+Answers gives written words report = AnswersFor gives written (asked words) report

@@ -9,7 +9,6 @@ use Rattle.flt_notes.specs.Noted.{first_journal}
 use Rattle.flt_notes.specs.Reported.{AreReports}
 use Rattle.flt_notes.specs.Told.{AreNoted, AreSaid}
 use Rattle.flt_notes.specs.declared.explaining.Told.{Told}
-use Rattle.flt_notes.specs.declared.noted.Noted.{Noted}
 use Rattle.flt_details.specs.Reports.{texts_of}
 use Rattle.flt_details.specs.declared.sources.Explained.{Explained as Reported}
 use Rattle.flt_details.specs.declared.sources.Source.{Source}
@@ -64,12 +63,6 @@ IsSpelledAs written name None = Unit {0}
 abbrev pub IsWritten : (Text → Text → Type 0) → Option Text → Answer → Type 0
 IsWritten written (Some name) (Explained e) = IsSpelledAs written name (first_journal e.noted)
 IsWritten written _ answer = Unit {0}
-
--- of these texts, the journal of the first finding that has one is written under a name
-pub record IsKept (written : Text → Text → Type 0) (name : Text) (texts : List Text) : Type 0 where
-  pub noted : List Noted
-  pub are : AreNoted texts noted
-  pub kept : IsSpelledAs written name (first_journal noted)
 
 -- ---- pages
 

@@ -1,10 +1,13 @@
--- Why a command has no answer.
+-- Why a command has no answer, and in which words.
+use Rattle.std.specs.Prelude.{List, ℕ, ◌++◌, codes}
+use Rattle.std.specs.Fmt.{decimal}
+use Rattle.flt_details.specs.Closing.{syntax_line}
 use Rattle.flt_syntax.specs.declared.fault.ParseError.{ParseError}
 use Rattle.flt_syntax.specs.declared.fault.ParseError.TheVariants as parse
 use Rattle.flt_cert.specs.declared.fault.CertFault.{CertFault}
 use Rattle.flt_cert.specs.declared.fault.CertFault.TheVariants as cert
 use Rattle.flt_commands.specs.declared.failure.Failure.{Failure}
-use Rattle.flt_commands.specs.declared.failure.Failure.TheVariants.{Syntax, Certificate, OutOfMemory}
+use Rattle.flt_commands.specs.declared.failure.Failure.TheVariants.{CannotRead, CannotWrite, NoFile, TooManyFiles, Syntax, FileSyntax, Certificate, JournalLine, ScriptLine, Altitude, OutOfMemory}
 
 -- how a fault of a certificate is reported
 abbrev pub of_certificate : CertFault → Failure
@@ -15,3 +18,17 @@ of_certificate cert.OutOfMemory = OutOfMemory
 abbrev pub of_parse : ParseError → Failure
 of_parse (parse.Syntax f) = Syntax f
 of_parse parse.OutOfMemory = OutOfMemory
+
+-- the line that says why there is no answer
+abbrev pub failure_line : Failure → List ℕ
+failure_line (CannotRead name) = codes "cannot read " ++ name.now
+failure_line (CannotWrite name) = codes "cannot write " ++ name.now
+failure_line NoFile = codes "no file"
+failure_line TooManyFiles = codes "too many files"
+failure_line (Syntax f) = syntax_line f
+failure_line (FileSyntax file f) = codes "file " ++ decimal file ++ codes " " ++ syntax_line f
+failure_line (Certificate line) = codes "certificate line " ++ decimal line
+failure_line (JournalLine line) = codes "journal line " ++ decimal line
+failure_line (ScriptLine line) = codes "script line " ++ decimal line
+failure_line (Altitude file) = codes "altitude file " ++ decimal file
+failure_line OutOfMemory = codes "out of memory"

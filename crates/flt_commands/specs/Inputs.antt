@@ -57,9 +57,8 @@ abbrev pub NamesFailBehind : Giving → Bool → List Text → Failure → Type 
 NamesFailBehind gives is_used names f = (before found : List Text) → AreGiven gives before found →
     list_any is_standard before ≡ is_used → NamesFail gives (before ++ names) f
 
--- what is said where these names are read: how that fails, or what is said of the bytes that they give
+-- what is said where these names are read: how that fails, or what is said of the bytes that they give, which are these
 pub data Says (gives : Giving) (names : List Text)
-    (IsSaidOf : List Text → Result Answer Failure → Type 0) : Result Answer Failure → Type 0 where
-  unread : (f : Failure) → NamesFail gives names f → Says gives names IsSaidOf (Err f)
-  given : (texts : List Text) (result : Result Answer Failure) → AreGiven gives names texts → IsSaidOf texts result →
-      Says gives names IsSaidOf result
+    (IsSaidOf : List Text → Result Answer Failure → Type 0) (texts : List Text) : Result Answer Failure → Type 0 where
+  unread : (f : Failure) → NamesFail gives names f → Says gives names IsSaidOf texts (Err f)
+  given : (result : Result Answer Failure) → AreGiven gives names texts → IsSaidOf texts result → Says gives names IsSaidOf texts result

@@ -6,7 +6,9 @@ pub mod Commands
 pub mod Explain
 pub mod Failure
 pub mod Inputs
+pub mod Names
 pub mod Replay
 pub mod Running
 pub mod Single
 pub mod Split
+pub mod System

@@ -1,6 +1,6 @@
 //! What `analyse` says of the name that it is given.
 
-ghost use Rattle.std.specs.Prelude.{◌≡◌, ◌<◌};
+ghost use Rattle.std.specs.Prelude.{◌≡◌, ◌<◌, map};
 ghost use Rattle.flt_commands.specs.Analyse as spec;
 ghost use Rattle.flt_commands.specs.Commands.{IsSaid};
 ghost use Rattle.flt_words.specs.Request.{Analyse};
@@ -8,6 +8,7 @@ ghost use Rattle.flt_words.specs.Request.{Analyse};
 use crate::answer::Answer;
 use crate::failure::Failure;
 use crate::inputs::{Inputs, read_all};
+use crate::report::Contents;
 use flt_analyse::{AnalyseFault, Ticks, analyse};
 use flt_cert::write;
 use flt_graph::lower;
@@ -37,14 +38,15 @@ fn analyse_text<'a, L: Ledger>(
     }
 }
 
-/// What `analyse` says of the name that it is given.
+/// What `analyse` says of the name that it is given, and what this gives.
 pub fn analyse_file<'a, I: Inputs>(
     alloc: Global,
     inputs: &I,
     file: &'a str,
+    contents: &mut Contents,
 ) -> Result<Answer, Failure<'a>>
-    ensures { IsSaid (I.gives inputs.now) (Analyse file.entry.now) result }
+    ensures { IsSaid (I.gives inputs.now) (Analyse file.entry.now) (map (λ text. text.items) contents.new.texts.items) result }
 {
-    let texts = read_all(alloc, inputs, &[file])?;
-    analyse_text::<Brand>(alloc, texts[0].as_slice(), Blank::new(1))
+    contents.texts = read_all(alloc, inputs, &[file])?;
+    analyse_text::<Brand>(alloc, contents.texts[0].as_slice(), Blank::new(1))
 }

@@ -1,6 +1,6 @@
 //! What `check` says of the names that it is given.
 
-ghost use Rattle.std.specs.Prelude.{option_map};
+ghost use Rattle.std.specs.Prelude.{map, option_map};
 ghost use Rattle.flt_commands.specs.Check as spec;
 ghost use Rattle.flt_commands.specs.Commands.{IsSaid};
 ghost use Rattle.flt_words.specs.Request.{Check};
@@ -8,6 +8,7 @@ ghost use Rattle.flt_words.specs.Request.{Check};
 use crate::answer::Answer;
 use crate::failure::Failure;
 use crate::inputs::{Inputs, read_all};
+use crate::report::Contents;
 use crate::split::certificate_start;
 use flt_check::check;
 use flt_graph::lower;
@@ -35,23 +36,29 @@ fn check_together<'a>(alloc: Global, input: &[u8]) -> Result<Answer, Failure<'a>
     check_text(alloc, text, certificate)
 }
 
-/// What `check` says of the names that it is given.
+/// What `check` says of the names that it is given, and what these give.
 pub fn check_files<'a, I: Inputs>(
     alloc: Global,
     inputs: &I,
     file: &'a str,
     cert: Option<&'a str>,
+    contents: &mut Contents,
 ) -> Result<Answer, Failure<'a>>
-    ensures { IsSaid (I.gives inputs.now) (Check file.entry.now (option_map (λ name. name.now) cert.entry)) result }
+    ensures { IsSaid (I.gives inputs.now) (Check file.entry.now (option_map (λ name. name.now) cert.entry))
+        (map (λ text. text.items) contents.new.texts.items) result }
 {
     match cert {
         None => {
-            let texts = read_all(alloc, inputs, &[file])?;
-            check_together(alloc, texts[0].as_slice())
+            contents.texts = read_all(alloc, inputs, &[file])?;
+            check_together(alloc, contents.texts[0].as_slice())
         }
         Some(cert) => {
-            let texts = read_all(alloc, inputs, &[file, cert])?;
-            check_text(alloc, texts[0].as_slice(), texts[1].as_slice())
+            contents.texts = read_all(alloc, inputs, &[file, cert])?;
+            check_text(
+                alloc,
+                contents.texts[0].as_slice(),
+                contents.texts[1].as_slice(),
+            )
         }
     }
 }

@@ -1,179 +1,173 @@
 //! The commands, over inputs and writers.
 
 ghost use Rattle.std.specs.Io.KnownBytes.{Appends};
-ghost use Rattle.std.specs.Prelude.{◌≡◌, ◌≢◌, ◌⊎◌, ℕ, List, OnErr, OnOk, IfOk, IfErr, map, string_bytes};
-ghost use Rattle.flt_commands.specs.Answer.{ending_of, output, remark, status_of};
-ghost use Rattle.flt_commands.specs.Clean.{YesIsClean};
+ghost use Rattle.std.specs.Prelude.{◌≡◌, ◌≢◌, ◌⊎◌, [], OnOk, IfOk, IfErr, map, string_bytes};
 ghost use Rattle.flt_commands.specs.Commands as spec;
-ghost use Rattle.flt_words.specs.Words.{asked};
 
 use crate::analyse::analyse_file;
-use crate::answer::Answer;
 use crate::check::check_files;
 use crate::clean::{covered_texts_break_nothing, driven_texts_break_nothing};
 use crate::explain::{Asked, explain_files, page_of};
-use crate::failure::Failure;
+use crate::fault::CommandFault;
 use crate::inputs::{Inputs, Pictures};
 use crate::replay::replay_files;
+use crate::report::{Contents, Report, report_on};
 use crate::running::run_files;
 use crate::showing::show_files;
 use crate::unread::why_unread;
-use flt_crew::{Ending, Unwatched, Watch};
-use flt_model::{Sink, WriteFault, put_all};
+use flt_crew::{Unwatched, Watch};
+use flt_model::{Sink, put_all};
 use flt_syntax::spelled_is_read;
 use flt_words::{Request, read_words};
-use std::alloc::{AllocError, AllocFailed, Global};
+use std::alloc::Global;
 use std::sync::Wait;
 use std::thread::Threads;
-use thiserror::Error;
 
-/// Why a command ended without its answer.
-#[derive(Clone, Copy, Debug, PartialEq, Eq, Error)]
-pub enum CommandFault {
-    #[error("out of memory")]
-    OutOfMemory,
-    #[error("cannot write")]
-    Write,
-}
-
-impl From<AllocError> for CommandFault {
-    ghost use Rattle.std.specs.Prelude.{◌≡◌};
-    ghost use Rattle.flt_commands.specs.declared.commands.CommandFault.TheVariants.{OutOfMemory};
-
-    ghost from_gives = { λ _ e. e ≡ OutOfMemory };
-
-    fn from(_: AllocError) -> CommandFault {
-        CommandFault::OutOfMemory
-    }
-}
-
-impl<T: Drop> From<AllocFailed<T>> for CommandFault {
-    ghost use Rattle.std.specs.Prelude.{◌≡◌};
-    ghost use Rattle.flt_commands.specs.declared.commands.CommandFault.TheVariants.{OutOfMemory};
-
-    ghost from_gives = { λ _ e. e ≡ OutOfMemory };
-
-    fn from(_: AllocFailed<T>) -> CommandFault {
-        CommandFault::OutOfMemory
-    }
-}
-
-impl From<WriteFault> for CommandFault {
-    ghost use Rattle.std.specs.Prelude.{◌≡◌};
-    ghost use Rattle.flt_commands.specs.declared.commands.CommandFault.TheVariants.{Write};
-
-    ghost from_gives = { λ _ e. e ≡ Write };
-
-    fn from(_: WriteFault) -> CommandFault {
-        CommandFault::Write
-    }
-}
-
-/// Writes what stands on the standard error beside a journal that ends so.
-fn tell_ending<E: Sink>(ending: Ending, err: &mut E) -> Result<(), WriteFault>
-    ensures writes { OnOk result (Appends (E.taken err.old) (E.taken err.new) (remark ending)) }
-    ensures whole { ending ≡ Ending.Whole → OnOk result (err.new ≡ err.old) }
-    ensures fine { OnOk result (E.failures err.new ≡ E.failures err.old) }
-    ensures failed { OnErr result (E.failures err.new ≢ E.failures err.old) }
-{
-    match ending {
-        Ending::Whole => Ok(()),
-        Ending::Full => put_all(err, b"full\n"),
-        Ending::Differ => put_all(err, b"receipts differ\n"),
-    }
-}
-
-/// Writes an answer, and gives its status. What it says of a journal's end goes to `err`.
-fn tell<O: Sink, E: Sink>(
+/// The report on a program's words, its own name left out.
+fn report_of<R: Threads + Wait + Sync, I: Inputs, P: Pictures, W: Watch>(
+    rt: &R,
     alloc: Global,
-    answer: Answer,
+    words: &[String],
+    inputs: &I,
+    pictures: &mut P,
+    coloured: bool,
+    watch: &mut W,
+) -> Result<Report, CommandFault>
+    ensures answers { IfOk result (spec.Answers (I.gives inputs.now) (P.written pictures.new) (map string_bytes words.now)) }
+    ensures quiet { IfOk result (λ report. report.status ≢ 2 → report.remark.items ≡ []) }
+    ensures err { IfErr result (λ e. e ≡ CommandFault.OutOfMemory) }
+{
+    covered_texts_break_nothing();
+    driven_texts_break_nothing();
+    spelled_is_read();
+    let mut contents = Contents::new(alloc);
+    match read_words(alloc, words)? {
+        Request::Usage(text) => Ok(Report::on_usage(alloc, text)),
+        Request::Check { file, cert } => {
+            let said = check_files(alloc, inputs, file, cert, &mut contents);
+            report_on(alloc, Vec::new(alloc), said, contents)
+        }
+        Request::Analyse { file } => {
+            let said = analyse_file(alloc, inputs, file, &mut contents);
+            report_on(alloc, Vec::new(alloc), said, contents)
+        }
+        Request::Run {
+            workers,
+            quiet: true,
+            script,
+            files,
+        } => {
+            let files = files.as_slice();
+            let said = run_files(
+                rt,
+                alloc,
+                workers,
+                inputs,
+                script,
+                files,
+                &mut Unwatched,
+                &mut contents,
+            );
+            report_on(alloc, Vec::new(alloc), said, contents)
+        }
+        Request::Run {
+            workers,
+            script,
+            files,
+            ..
+        } => {
+            let said = run_files(
+                rt,
+                alloc,
+                workers,
+                inputs,
+                script,
+                files.as_slice(),
+                watch,
+                &mut contents,
+            );
+            report_on(alloc, Vec::new(alloc), said, contents)
+        }
+        Request::Replay { journal, files } => {
+            let said = replay_files(alloc, inputs, journal, files.as_slice(), &mut contents);
+            report_on(alloc, Vec::new(alloc), said, contents)
+        }
+        Request::Show {
+            timeline,
+            picture,
+            journal,
+            files,
+        } => {
+            let files = files.as_slice();
+            let said = show_files(
+                alloc,
+                inputs,
+                timeline,
+                picture,
+                journal,
+                files,
+                pictures,
+                &mut contents,
+            );
+            report_on(alloc, Vec::new(alloc), said, contents)
+        }
+        Request::Explain {
+            form,
+            states,
+            journal,
+            files,
+        } => {
+            let asked = Asked { states, journal };
+            let files = files.as_slice();
+            let said = explain_files(
+                alloc,
+                coloured,
+                form,
+                asked,
+                inputs,
+                files,
+                pictures,
+                &mut contents,
+            );
+            let before = why_unread(alloc, inputs, files, &said)?;
+            report_on(alloc, before, said, contents)
+        }
+        Request::Page { name } => {
+            let said = page_of(name);
+            report_on(alloc, Vec::new(alloc), said, contents)
+        }
+    }
+}
+
+/// Writes a report, what it has for the standard error last.
+fn write_report<O: Sink, E: Sink>(
+    report: &Report,
     out: &mut O,
     err: &mut E,
-) -> Result<u8, CommandFault>
-    ensures prints { IfOk result (λ status. (status ≡ status_of answer) × Appends (O.taken out.old) (O.taken out.new) (output answer)) }
-    ensures remarks { OnOk result (Appends (E.taken err.old) (E.taken err.new) (remark (ending_of answer))) }
-    ensures write { IfErr result (λ e. e ≡ CommandFault.Write → (O.failures out.new ≢ O.failures out.old)
-        ⊎ (E.failures err.new ≢ E.failures err.old)) }
+) -> Result<(), CommandFault>
+    ensures prints { OnOk result (Appends (O.taken out.old) (O.taken out.new) report.now.output.items) }
+    ensures remarks { OnOk result (Appends (E.taken err.old) (E.taken err.new) report.now.remark.items) }
+    ensures write { IfErr result (λ e. (e ≡ CommandFault.Write) × ((O.failures out.new ≢ O.failures out.old)
+        ⊎ (E.failures err.new ≢ E.failures err.old))) }
     ensures fine { OnOk result ((O.failures out.new ≡ O.failures out.old) × (E.failures err.new ≡ E.failures err.old)) }
-    ensures memory { IfErr result (λ e. e ≡ CommandFault.OutOfMemory → (out.new ≡ out.old) × (err.new ≡ err.old)) }
-    ensures quiet { IfOk result (λ status. status ≢ 2 → err.new ≡ err.old) }
-    ensures whole { ending_of answer ≡ Ending.Whole → IfOk result (λ _. err.new ≡ err.old) }
+    ensures quiet { OnOk result (report.now.remark.items ≡ [] → err.new ≡ err.old) }
 {
-    let status = answer.status();
-    let ending = answer.ending();
-    let bytes = answer.output(alloc)?;
-    put_all(out, bytes.as_slice())?;
-    tell_ending(ending, err)?;
-    Ok(status)
-}
-
-/// Writes in one line why there is no answer, behind some other lines, and gives the status of that.
-fn excuse<E: Sink>(
-    alloc: Global,
-    before: Vec<u8>,
-    failure: &Failure,
-    err: &mut E,
-) -> Result<u8, CommandFault>
-    ensures status { IfOk result (λ status. status ≡ 2) }
-    ensures write { IfErr result (λ e. e ≡ CommandFault.Write → E.failures err.new ≢ E.failures err.old) }
-    ensures fine { OnOk result (E.failures err.new ≡ E.failures err.old) }
-    ensures memory { IfErr result (λ e. e ≡ CommandFault.OutOfMemory → err.new ≡ err.old) }
-{
-    let line = format!(in alloc; "{failure}\n")?;
-    let mut lines = before;
-    lines.extend_from_slice(line.as_bytes())?;
-    put_all(err, lines.as_slice())?;
-    Ok(2)
-}
-
-/// Writes what a command says: its answer to `out`, or why it has none to `err`, behind some other lines.
-fn report_behind<O: Sink, E: Sink>(
-    alloc: Global,
-    before: Vec<u8>,
-    said: Result<Answer, Failure>,
-    out: &mut O,
-    err: &mut E,
-) -> Result<u8, CommandFault>
-    ensures prints { IfOk result (λ status. (bytes : List ℕ) × spec.IsReported said.entry bytes status
-        × Appends (O.taken out.old) (O.taken out.new) bytes) }
-    ensures write { IfErr result (λ e. e ≡ CommandFault.Write → (O.failures out.new ≢ O.failures out.old)
-        ⊎ (E.failures err.new ≢ E.failures err.old)) }
-    ensures fine { OnOk result ((O.failures out.new ≡ O.failures out.old) × (E.failures err.new ≡ E.failures err.old)) }
-    ensures memory { IfErr result (λ e. e ≡ CommandFault.OutOfMemory → (out.new ≡ out.old) × (err.new ≡ err.old)) }
-    ensures quiet { IfOk result (λ status. status ≢ 2 → err.new ≡ err.old) }
-    ensures whole { spec.IsWhole said.entry → IfOk result (λ _. err.new ≡ err.old) }
-{
-    match said {
-        Ok(answer) => tell(alloc, answer, out, err),
-        Err(Failure::OutOfMemory) => Err(CommandFault::OutOfMemory),
-        Err(failure) => excuse(alloc, before, &failure, err),
+    put_all(out, report.output.as_slice())?;
+    if report.remark.is_empty() {
+        return Ok(());
     }
+    put_all(err, report.remark.as_slice())?;
+    Ok(())
 }
 
-/// Writes what a command says: its answer to `out`, or why it has none to `err`.
-fn report<O: Sink, E: Sink>(
-    alloc: Global,
-    said: Result<Answer, Failure>,
-    out: &mut O,
-    err: &mut E,
-) -> Result<u8, CommandFault>
-    ensures prints { IfOk result (λ status. (bytes : List ℕ) × spec.IsReported said.entry bytes status
-        × Appends (O.taken out.old) (O.taken out.new) bytes) }
-    ensures write { IfErr result (λ e. e ≡ CommandFault.Write → (O.failures out.new ≢ O.failures out.old)
-        ⊎ (E.failures err.new ≢ E.failures err.old)) }
-    ensures fine { OnOk result ((O.failures out.new ≡ O.failures out.old) × (E.failures err.new ≡ E.failures err.old)) }
-    ensures memory { IfErr result (λ e. e ≡ CommandFault.OutOfMemory → (out.new ≡ out.old) × (err.new ≡ err.old)) }
-    ensures quiet { IfOk result (λ status. status ≢ 2 → err.new ≡ err.old) }
-    ensures whole { spec.IsWhole said.entry → IfOk result (λ _. err.new ≡ err.old) }
-{
-    report_behind(alloc, Vec::new(alloc), said, out, err)
-}
-
-/// Runs the command of a program's words, its own name left out, and answers the exit status: 0 for yes, 1 for no, and 2
-/// where there is no answer, a journal was full before its script had ended, or the receipts contradict it. What it says goes to `out`, why
-/// there is no answer, `full` or `receipts differ` to `err`; a picture or a journal to `pictures`. Reports have the colours of a terminal
-/// where it is `coloured`. Where it drives filters, it tells `watch` of each line of the script, unless it is asked to be quiet. Threads are
-/// started by `run` alone, where it has more than one worker.
+/// Runs the command of a program's words, its own name left out, and hands out the report on it once it is written: what answers goes to
+/// `out`, why there is no answer, `full` or `receipts differ` to `err`; a picture or a journal goes to `pictures`. Reports of `explain` have
+/// the colours of a terminal where it is `coloured`. Where it drives filters, `watch` hears of each line of the script, unless the words ask
+/// for quiet. Threads are started by `run` alone, where it has more than one worker.
+///
+/// # Errors
+///
+/// A growth was refused, and nothing is written; or a write failed.
 pub fn command<R: Threads + Wait + Sync, I: Inputs, P: Pictures, O: Sink, E: Sink, W: Watch>(
     rt: &R,
     alloc: Global,
@@ -184,103 +178,17 @@ pub fn command<R: Threads + Wait + Sync, I: Inputs, P: Pictures, O: Sink, E: Sin
     out: &mut O,
     err: &mut E,
     watch: &mut W,
-) -> Result<u8, CommandFault>
-    ensures prints { IfOk result (λ status. (bytes : List ℕ)
-        × spec.Prints (I.gives inputs.now) (map string_bytes words.now) bytes status × Appends (O.taken out.old) (O.taken out.new) bytes) }
+) -> Result<Report, CommandFault>
+    ensures answers { IfOk result (spec.Answers (I.gives inputs.now) (P.written pictures.new) (map string_bytes words.now)) }
+    ensures prints { IfOk result (λ report. Appends (O.taken out.old) (O.taken out.new) report.output.items) }
+    ensures remarks { IfOk result (λ report. Appends (E.taken err.old) (E.taken err.new) report.remark.items) }
     ensures write { IfErr result (λ e. e ≡ CommandFault.Write → (O.failures out.new ≢ O.failures out.old)
         ⊎ (E.failures err.new ≢ E.failures err.old)) }
     ensures fine { OnOk result ((O.failures out.new ≡ O.failures out.old) × (E.failures err.new ≡ E.failures err.old)) }
     ensures memory { IfErr result (λ e. e ≡ CommandFault.OutOfMemory → (out.new ≡ out.old) × (err.new ≡ err.old)) }
-    ensures quiet { IfOk result (λ status. status ≢ 2 → err.new ≡ err.old) }
-    ensures clean { IfOk result (λ status. status ≡ 0 → YesIsClean (I.gives inputs.now) (asked (map string_bytes words.now))) }
-    ensures journal { IfOk result (λ status. status ≢ 2 →
-        spec.KeepsFor (I.gives inputs.now) (P.written pictures.new) (asked (map string_bytes words.now))) }
+    ensures quiet { IfOk result (λ report. report.status ≢ 2 → err.new ≡ err.old) }
 {
-    covered_texts_break_nothing();
-    driven_texts_break_nothing();
-    spelled_is_read();
-    match read_words(alloc, words)? {
-        Request::Usage(text) => {
-            put_all(err, text.as_bytes())?;
-            Ok(2)
-        }
-        Request::Check { file, cert } => {
-            let said = check_files(alloc, inputs, file, cert);
-            report(alloc, said, out, err)
-        }
-        Request::Analyse { file } => {
-            let said = analyse_file(alloc, inputs, file);
-            report(alloc, said, out, err)
-        }
-        Request::Run {
-            workers,
-            quiet: true,
-            script,
-            files,
-        } => {
-            let said = run_files(
-                rt,
-                alloc,
-                workers,
-                inputs,
-                script,
-                files.as_slice(),
-                &mut Unwatched,
-            );
-            report(alloc, said, out, err)
-        }
-        Request::Run {
-            workers,
-            script,
-            files,
-            ..
-        } => {
-            let said = run_files(rt, alloc, workers, inputs, script, files.as_slice(), watch);
-            report(alloc, said, out, err)
-        }
-        Request::Replay { journal, files } => {
-            let said = replay_files(alloc, inputs, journal, files.as_slice());
-            report(alloc, said, out, err)
-        }
-        Request::Show {
-            timeline,
-            picture,
-            journal,
-            files,
-        } => {
-            let said = show_files(
-                alloc,
-                inputs,
-                timeline,
-                picture,
-                journal,
-                files.as_slice(),
-                pictures,
-            );
-            report(alloc, said, out, err)
-        }
-        Request::Explain {
-            form,
-            states,
-            journal,
-            files,
-        } => {
-            let asked = Asked { states, journal };
-            let said = explain_files(
-                alloc,
-                coloured,
-                form,
-                asked,
-                inputs,
-                files.as_slice(),
-                pictures,
-            );
-            let before = why_unread(alloc, inputs, files.as_slice(), &said)?;
-            report_behind(alloc, before, said, out, err)
-        }
-        Request::Page { name } => {
-            let said = page_of(name);
-            report(alloc, said, out, err)
-        }
-    }
+    let report = report_of(rt, alloc, words, inputs, pictures, coloured, watch)?;
+    write_report(&report, out, err)?;
+    Ok(report)
 }

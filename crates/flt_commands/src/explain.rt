@@ -10,6 +10,7 @@ ghost use Rattle.flt_details.specs.Reports.{texts_of};
 use crate::answer::Answer;
 use crate::failure::Failure;
 use crate::inputs::{Inputs, Pictures, read_all};
+use crate::report::Contents;
 use flt_details::Source;
 use flt_driven::journal_bytes;
 use flt_forms::{lines, sarif};
@@ -103,7 +104,7 @@ fn write_journal<P: Pictures>(
     }
 }
 
-/// What `explain` says of the names that it is given, in a form. The journal of the first finding that has one is written into a file,
+/// What `explain` says of the names that it is given, in a form, and what these give. The journal of the first finding that has one is written into a file,
 /// where one is named.
 pub fn explain_files<'a, I: Inputs, P: Pictures>(
     alloc: Global,
@@ -113,13 +114,15 @@ pub fn explain_files<'a, I: Inputs, P: Pictures>(
     inputs: &I,
     files: &[&'a str],
     pictures: &mut P,
+    contents: &mut Contents,
 ) -> Result<Answer, Failure<'a>>
     ensures said { Says (I.gives inputs.now) (map (λ name. name.now) files.now)
-        (spec.IsExplained form (option_map (λ name. name.now) asked.entry.journal) (map (λ name. name.now) files.now)) result }
+        (spec.IsExplained form (option_map (λ name. name.now) asked.entry.journal) (map (λ name. name.now) files.now))
+        (map (λ text. text.items) contents.new.texts.items) result }
     ensures written { IfOk result (spec.IsWritten (P.written pictures.new) (option_map (λ name. name.now) asked.entry.journal)) }
 {
-    let texts = read_all(alloc, inputs, files)?;
-    let sources = sources(alloc, files, texts.as_slice())?;
+    contents.texts = read_all(alloc, inputs, files)?;
+    let sources = sources(alloc, files, contents.texts.as_slice())?;
     let told = told(alloc, coloured, form, asked, sources.as_slice())?;
     if let Some(name) = asked.journal {
         if !write_journal(alloc, name, told.noted.as_slice(), pictures)? {

@@ -1,9 +1,10 @@
 //! Why a command has no answer.
 
-ghost use Rattle.std.specs.Prelude.{◌≡◌};
+ghost use Rattle.std.specs.Prelude.{◌≡◌, Some};
 ghost use Rattle.flt_commands.specs.Failure as spec;
 
 use flt_cert::CertFault;
+use flt_details::SyntaxLine;
 use flt_syntax::{ParseError, SyntaxFault};
 use std::alloc::{AllocError, AllocFailed};
 use std::fmt;
@@ -32,14 +33,22 @@ pub enum Failure<'a> {
 }
 
 impl fmt::Display for Failure<'_> {
+    ghost output = { λ f. Some (spec.failure_line f) };
+
     fn fmt<W: fmt::Write>(&self, f: &mut fmt::Formatter<W>) -> fmt::Result {
         match self {
             Failure::CannotRead(name) => write!(f, "cannot read {name}"),
             Failure::CannotWrite(name) => write!(f, "cannot write {name}"),
             Failure::NoFile => write!(f, "no file"),
             Failure::TooManyFiles => write!(f, "too many files"),
-            Failure::Syntax(fault) => write!(f, "syntax {fault}"),
-            Failure::FileSyntax(file, fault) => write!(f, "file {file} syntax {fault}"),
+            Failure::Syntax(fault) => {
+                let line = SyntaxLine(*fault);
+                write!(f, "{line}")
+            }
+            Failure::FileSyntax(file, fault) => {
+                let line = SyntaxLine(*fault);
+                write!(f, "file {file} {line}")
+            }
             Failure::Certificate(line) => write!(f, "certificate line {line}"),
             Failure::JournalLine(line) => write!(f, "journal line {line}"),
             Failure::ScriptLine(line) => write!(f, "script line {line}"),

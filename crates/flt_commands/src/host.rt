@@ -1,47 +1,95 @@
-//! The files and the streams of the system.
+//! The system that the program runs on: its files, its streams, and the program's own words.
 
-use crate::commands::{CommandFault, command};
-use crate::inputs::{Inputs, MAX_INPUT, Pictures, read_pieces_within, read_within};
-use crate::pieces::Pieces;
+ghost use Rattle.std.specs.Prelude.{◌≡◌, IfNone, IfOk, IfSome, map, string_bytes};
+ghost use Rattle.flt_commands.specs.Commands.{Answers};
+ghost use Rattle.flt_commands.specs.System.{given_by_host, written_by_host};
+
+use crate::commands::command;
+use crate::fault::CommandFault;
+use crate::inputs::MAX_INPUT;
+use crate::named::Named;
+use crate::report::Report;
+use crate::system::{Reader, System};
 use flt_crew::Watch;
-use flt_model::{Sink, WriteFault};
+use flt_model::{ReadFault, Writing};
 use flt_reasons::Unread;
-use std::alloc::{AllocError, Global};
-use std::io::{IsTerminal, Write};
+use std::alloc::AllocError;
+use std::fs::{self, File};
+use std::io::{IsTerminal, Read, Stdin};
 use std::sync::Wait;
 use std::thread::Threads;
-use std::{env, fs, io};
+use std::{env, io};
 
-/// Files by their paths, and the standard input as `-`.
+/// A file or a stream of the system that is read, with a count of its failures.
 #[derive(Drop)]
-struct Files<'a> {
+struct Counted<R: Read + Drop> {
+    inner: R,
+    failures: u64,
+}
+
+impl<R: Read + Drop> Counted<R> {
+    fn new(inner: R) -> Counted<R>
+        ensures inner { result.inner ≡ inner }
+        ensures fine { result.failures ≡ 0 }
+    {
+        Counted { inner, failures: 0 }
+    }
+}
+
+impl<R: Read + Drop> Reader for Counted<R> {
+    ghost left = { λ r. R.remaining r.inner };
+
+    ghost failures = { λ r. r.failures };
+
+    fn take(&mut self, buffer: &mut [u8]) -> Result<usize, ReadFault> {
+        match self.inner.read(buffer) {
+            Ok(n) => Ok(n),
+            Err(_) => {
+                self.failures = self.failures.wrapping_add(1);
+                Err(ReadFault)
+            }
+        }
+    }
+}
+
+/// The system that the program runs on: its files by their paths, and the standard input.
+#[derive(Drop)]
+struct Host<'a> {
     rt: &'a HostRuntime,
 }
 
-impl Inputs for Files<'_> {
+impl System for Host<'_> {
+    type File = Counted<File>;
+
+    type Input = Counted<Stdin>;
+
+    type Made = File;
+
     ghost use Rattle.std.specs.Prelude.{⊤};
+    ghost use Rattle.flt_commands.specs.System.{Unknown, Unsaid};
 
-    // A file system gives what it likes.
-    ghost gives = { λ _ _ _. ⊤ };
+    // Nothing is known of what its files hold, of which there are, and of when a read fails.
+    ghost holds = { λ _. Unknown };
 
-    fn read(&self, alloc: Global, name: &str) -> Result<Option<Vec<u8>>, AllocError> {
-        if name == "-" {
-            return read_within(alloc, &mut self.rt.stdin());
-        }
+    ghost lacks = { λ _. Unsaid };
+
+    ghost fails = { λ _. ⊤ };
+
+    ghost makes = { λ _. Unknown };
+
+    fn open(&self, name: &str) -> Option<Counted<File>> {
         match fs::open(self.rt, name) {
-            Ok(mut file) => read_within(alloc, &mut file),
-            Err(_) => Ok(None),
+            Ok(file) => Some(Counted::new(file)),
+            Err(_) => None,
         }
     }
 
-    fn read_pieces(&self, alloc: Global, name: &str) -> Result<Option<Pieces>, AllocError> {
-        if name == "-" {
-            return read_pieces_within(alloc, &mut self.rt.stdin());
-        }
-        match fs::open(self.rt, name) {
-            Ok(mut file) => read_pieces_within(alloc, &mut file),
-            Err(_) => Ok(None),
-        }
+    fn input(&self) -> Counted<Stdin> {
+        Counted::new(self.rt.stdin())
+    }
+
+    fn create(&self, name: &str) -> Option<File> {
+        fs::create(self.rt, name).ok()
     }
 
     fn why(&self, name: &str) -> Unread {
@@ -72,53 +120,6 @@ fn why_missing(kind: io::ErrorKind) -> Unread {
         io::ErrorKind::NotFound | io::ErrorKind::NotADirectory => Unread::Missing,
         io::ErrorKind::PermissionDenied => Unread::Denied,
         _ => Unread::Failed,
-    }
-}
-
-/// Writes all of some bytes into a file of the system.
-fn write_file(rt: &HostRuntime, name: &str, bytes: &[u8]) -> io::Result<()> {
-    let mut file = fs::create(rt, name)?;
-    file.write_all(bytes)?;
-    file.flush()
-}
-
-impl Pictures for Files<'_> {
-    ghost use Rattle.std.specs.Prelude.{⊤};
-
-    // A file system keeps what it likes.
-    ghost written = { λ _ _ _. ⊤ };
-
-    fn write(&mut self, name: &str, bytes: &[u8]) -> bool {
-        write_file(self.rt, name, bytes).is_ok()
-    }
-}
-
-/// A stream of the system, with a count of its failures.
-#[derive(Drop)]
-struct Stream<W: Write + Drop> {
-    inner: W,
-    failures: u64,
-}
-
-impl<W: Write + Drop> Stream<W> {
-    fn new(inner: W) -> Stream<W> {
-        Stream { inner, failures: 0 }
-    }
-}
-
-impl<W: Write + Drop> Sink for Stream<W> {
-    ghost taken = { λ s. W.contents s.inner };
-
-    ghost failures = { λ s. s.failures };
-
-    fn put(&mut self, bytes: &[u8]) -> Result<usize, WriteFault> {
-        match self.inner.write(bytes) {
-            Ok(n) if 0 < n || bytes.is_empty() => Ok(n),
-            _ => {
-                self.failures = self.failures.wrapping_add(1);
-                Err(WriteFault)
-            }
-        }
     }
 }
 
@@ -158,42 +159,99 @@ fn arguments(rt: &HostRuntime) -> Result<Option<Vec<String>>, AllocError> {
     Ok(Some(words))
 }
 
-/// Runs the command of the program's own words, and gives the exit status. What it reads and where it writes are the system's. `threads` is
-/// the same runtime once more: `main` alone can hand out that it starts threads.
-pub fn run<R: Threads + Wait + Sync>(rt: &HostRuntime, threads: &R) -> u8 {
-    let alloc = rt.alloc();
-    let inputs = Files { rt };
-    let mut out = Stream::new(rt.stdout());
-    let mut err = Stream::new(rt.stderr());
+/// Says on the standard error that memory ran out.
+fn say_out_of_memory(rt: &HostRuntime) {
+    let _ = eprintln!(rt; "out of memory");
+}
+
+/// The words of the command line; none if one of them isn't UTF-8, or if memory ran out, which the standard error then says.
+fn words_of(rt: &HostRuntime) -> Option<Vec<String>> {
+    match arguments(rt) {
+        Ok(Some(words)) => Some(words),
+        Ok(None) => {
+            let _ = eprintln!(rt; "a word is not UTF-8");
+            None
+        }
+        Err(_) => {
+            say_out_of_memory(rt);
+            None
+        }
+    }
+}
+
+/// The program's own words, and what they came to.
+#[derive(Drop)]
+pub struct Execution {
+    /// The words, the program's own name left out.
+    pub words: Vec<String>,
+    /// What they came to; none where a word isn't UTF-8, memory ran out or a write failed.
+    pub report: Option<Report>,
+}
+
+impl Execution {
+    /// The exit status: that of the report, and 2 where there is none.
+    pub fn status(&self) -> u8
+        ensures some { IfSome self.now.report (λ report. result ≡ report.status) }
+        ensures none { IfNone self.now.report (result ≡ 2) }
+    {
+        match &self.report {
+            Some(report) => report.status,
+            None => 2,
+        }
+    }
+}
+
+/// Runs the command of some words on the system.
+fn execute<R: Threads + Wait + Sync>(
+    rt: &HostRuntime,
+    threads: &R,
+    words: &[String],
+) -> Result<Report, CommandFault>
+    ensures { IfOk result (Answers given_by_host written_by_host (map string_bytes words.now)) }
+{
+    let host = Host { rt };
     let mut watch = Progress {
         rt,
         is_shown: rt.stderr().is_terminal(),
         lines: 0,
     };
-    let status = match arguments(rt) {
-        Ok(Some(words)) => command(
-            threads,
-            alloc,
-            words.as_slice(),
-            &inputs,
-            &mut Files { rt },
-            rt.stdout().is_terminal(),
-            &mut out,
-            &mut err,
-            &mut watch,
-        ),
-        Ok(None) => {
-            let _ = eprintln!(rt; "a word is not UTF-8");
-            Ok(2)
-        }
-        Err(fault) => Err(CommandFault::from(fault)),
+    command(
+        threads,
+        rt.alloc(),
+        words,
+        &Named { system: &host },
+        &mut Named { system: &host },
+        rt.stdout().is_terminal(),
+        &mut Writing::new(rt.stdout()),
+        &mut Writing::new(rt.stderr()),
+        &mut watch,
+    )
+}
+
+/// Runs the command of the program's own words on the system, and hands out the words with what they came to. `threads` is the same runtime
+/// once more: `main` alone can hand out that it starts threads.
+pub fn run<R: Threads + Wait + Sync>(rt: &HostRuntime, threads: &R) -> Execution
+    ensures { IfSome result.report (Answers given_by_host written_by_host (map string_bytes result.words.items)) }
+{
+    let Some(words) = words_of(rt) else {
+        return Execution {
+            words: Vec::new(rt.alloc()),
+            report: None,
+        };
     };
-    match status {
-        Ok(status) => status,
-        Err(CommandFault::Write) => 2,
-        Err(CommandFault::OutOfMemory) => {
-            let _ = eprintln!(rt; "out of memory");
-            2
+    match execute(rt, threads, words.as_slice()) {
+        Ok(report) => Execution {
+            words,
+            report: Some(report),
+        },
+        Err(fault) => {
+            if fault == CommandFault::OutOfMemory {
+                say_out_of_memory(rt);
+            }
+            Execution {
+                words,
+                report: None,
+            }
         }
     }
 }

@@ -1,15 +1,16 @@
 //! What a command reads.
 
 ghost use Rattle.std.specs.Io.KnownBytes.{Consumes, IsAtEnd};
-ghost use Rattle.std.specs.Prelude.{◌≡◌, ◌≤◌, ◌<◌, ◌∷◌, ℕ, List, Option, IfOk, IfErr, IfSome, IsTrue, length, map, option_map};
+ghost use Rattle.std.specs.Prelude.{◌≡◌, ◌≢◌, ◌⊎◌, ◌≤◌, ◌<◌, ◌∷◌, ℕ, List, Option, IfOk, IfErr, IfNone, IfSome, IsTrue, length, map, option_map};
 ghost use Rattle.flt_commands.specs.Inputs as spec;
+ghost use Rattle.flt_commands.specs.System as system;
 
 use crate::failure::Failure;
 use crate::pieces::Pieces;
+use crate::system::Reader;
 use flt_reasons::Unread;
 use std::alloc::{AllocError, Global};
 use std::cmp::min;
-use std::io::Read;
 
 /// The bytes behind names. A name is a file's, or `-` for the standard input.
 pub trait Inputs {
@@ -47,15 +48,17 @@ pub const MAX_INPUT: usize = 67_108_864;
 const FIRST_ROOM: usize = 65_536;
 
 /// All bytes that a reader has; none if a read fails, or if they are more than `MAX_INPUT`.
-pub fn read_within<R: Read>(alloc: Global, reader: &mut R) -> Result<Option<Vec<u8>>, AllocError>
-    ensures all { IfOk result (λ found. IfSome found
-        (λ v. Consumes (R.remaining reader.old) (R.remaining reader.new) v.items × IsAtEnd (R.remaining reader.new))) }
+#[tactic(auto, using(crate::proofs::Ended::all_read, crate::proofs::Ended::read_too_long))]
+pub fn read_within<R: Reader>(alloc: Global, reader: &mut R) -> Result<Option<Vec<u8>>, AllocError>
+    ensures all { IfOk result (λ found. IfSome found (λ v. system.AreAll (R.left reader.old) v.items)) }
     ensures few { IfOk result (λ found. IfSome found (λ v. length v.items ≤ 67108864)) }
+    ensures none { IfOk result (λ found. IfNone found
+        ((R.failures reader.new ≢ R.failures reader.old) ⊎ system.IsTooLong (R.left reader.old))) }
 {
     let mut found = Vec::with_capacity(alloc, FIRST_ROOM)?;
     let mut buffer = [0u8; 4096];
     for _ in 0..u64::MAX {
-        match reader.read(&mut buffer) {
+        match reader.take(&mut buffer) {
             Err(_) => return Ok(None),
             Ok(0) => return Ok(Some(found)),
             Ok(n) => found.extend_from_slice(&buffer[..n])?,
@@ -72,16 +75,18 @@ pub fn read_within<R: Read>(alloc: Global, reader: &mut R) -> Result<Option<Vec<
 const PIECE: usize = 131_072;
 
 /// The next bytes that a reader has, `PIECE` of them or all that are left; none if a read fails.
-fn read_piece<R: Read>(alloc: Global, reader: &mut R) -> Result<Option<Vec<u8>>, AllocError>
-    ensures bytes { IfOk result (λ found. IfSome found (λ v. Consumes (R.remaining reader.old) (R.remaining reader.new) v.items)) }
-    ensures end { IfOk result (λ found. IfSome found (λ v. length v.items < 131072 → IsAtEnd (R.remaining reader.new))) }
+fn read_piece<R: Reader>(alloc: Global, reader: &mut R) -> Result<Option<Vec<u8>>, AllocError>
+    ensures bytes { IfOk result (λ found. IfSome found (λ v. Consumes (R.left reader.old) (R.left reader.new) v.items)) }
+    ensures end { IfOk result (λ found. IfSome found (λ v. length v.items < 131072 → IsAtEnd (R.left reader.new))) }
     ensures few { IfOk result (λ found. IfSome found (λ v. length v.items ≤ 131072)) }
+    ensures fine { IfOk result (λ found. IfSome found (λ _. R.failures reader.new ≡ R.failures reader.old)) }
+    ensures none { IfOk result (λ found. IfNone found (R.failures reader.new ≢ R.failures reader.old)) }
 {
     let mut piece = Vec::with_capacity(alloc, PIECE)?;
     let mut buffer = [0u8; 4096];
     while piece.len() < PIECE {
         let room = min(PIECE - piece.len(), buffer.len());
-        match reader.read(&mut buffer[..room]) {
+        match reader.take(&mut buffer[..room]) {
             Err(_) => return Ok(None),
             Ok(0) => break,
             Ok(n) => piece.extend_from_slice(&buffer[..n])?,
@@ -91,13 +96,15 @@ fn read_piece<R: Read>(alloc: Global, reader: &mut R) -> Result<Option<Vec<u8>>,
 }
 
 /// The same as `read_within`, in pieces.
-pub fn read_pieces_within<R: Read>(
+#[tactic(auto, using(crate::proofs::Ended::all_read, crate::proofs::Ended::read_too_long))]
+pub fn read_pieces_within<R: Reader>(
     alloc: Global,
     reader: &mut R,
 ) -> Result<Option<Pieces>, AllocError>
-    ensures all { IfOk result (λ found. IfSome found
-        (λ p. Consumes (R.remaining reader.old) (R.remaining reader.new) p × IsAtEnd (R.remaining reader.new))) }
+    ensures all { IfOk result (λ found. IfSome found (λ p. system.AreAll (R.left reader.old) p)) }
     ensures few { IfOk result (λ found. IfSome found (λ p. length p ≤ 67108864)) }
+    ensures none { IfOk result (λ found. IfNone found
+        ((R.failures reader.new ≢ R.failures reader.old) ⊎ system.IsTooLong (R.left reader.old))) }
 {
     let mut pieces = Pieces::new(alloc);
     let mut length = 0;

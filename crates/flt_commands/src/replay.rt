@@ -1,9 +1,9 @@
 //! What `replay` says of the names that it is given.
 
-ghost use Rattle.std.specs.Prelude.{◌≡◌, IfOk, IfErr, map};
+ghost use Rattle.std.specs.Prelude.{◌≡◌, ◌∷◌, List, ℕ, None, IfOk, IfErr, map};
 ghost use Rattle.flt_model.specs.JournalText.{IsJournal, spelling};
 ghost use Rattle.flt_replay.specs.Judging.{filters_of};
-ghost use Rattle.flt_commands.specs.Commands.{IsSaid};
+ghost use Rattle.flt_commands.specs.Commands.{IsKeptAs, IsSaid};
 ghost use Rattle.flt_commands.specs.Replay as spec;
 ghost use Rattle.flt_words.specs.Request.{Replay};
 
@@ -11,6 +11,7 @@ use crate::answer::Answer;
 use crate::failure::Failure;
 use crate::inputs::{Inputs, read_with_journal};
 use crate::pieces::{PieceReader, Pieces};
+use crate::report::Contents;
 use flt_model::{Journal, JournalFault, Verdict, first_repeated, read};
 use flt_replay::replay;
 use flt_syntax::{ParseError, Tree, parse};
@@ -68,6 +69,7 @@ pub(crate) fn replay_all<'a>(
     texts: &[Vec<u8>],
 ) -> Result<Replayed, Failure<'a>>
     ensures ok { IfOk result (λ r. spec.IsVerdict written (map (λ text. text.items) texts.now) r.verdict) }
+    ensures spelled { IfOk result (λ r. written ≡ spelling r.journal) }
     ensures err { IfErr result (spec.IsFailure written (map (λ text. text.items) texts.now)) }
 {
     if MAX_FILTERS < texts.len() {
@@ -88,27 +90,43 @@ pub(crate) fn replay_all<'a>(
     }
 }
 
-/// The verdict about a journal on some texts.
+/// The verdict about a journal on some texts. The journal's entries are kept.
 fn replay_texts<'a>(
     alloc: Global,
     written: Pieces,
     texts: &[Vec<u8>],
+    journal: &mut Option<Journal>,
 ) -> Result<Answer, Failure<'a>>
-    ensures { spec.Judges written (map (λ text. text.items) texts.now) result }
+    ensures said { spec.Judges written (map (λ text. text.items) texts.now) result }
+    ensures kept { journal.old ≡ None → IsKeptAs journal.new written result }
 {
-    let replayed = replay_all(alloc, written, texts)?;
-    Ok(Answer::Judged(replayed.verdict))
+    let Replayed {
+        trees: _,
+        journal: entries,
+        verdict,
+    } = replay_all(alloc, written, texts)?;
+    *journal = Some(entries);
+    Ok(Answer::Judged(verdict))
 }
 
-/// What `replay` says of the names that it is given.
+/// What `replay` says of the names that it is given, and what these give.
 pub fn replay_files<'a, I: Inputs>(
     alloc: Global,
     inputs: &I,
     journal: &'a str,
     files: &[&'a str],
+    contents: &mut Contents,
 ) -> Result<Answer, Failure<'a>>
-    ensures { IsSaid (I.gives inputs.now) (Replay journal.entry.now (map (λ name. name.now) files.now)) result }
+    ensures { (bytes : List ℕ) × IsSaid (I.gives inputs.now) (Replay journal.entry.now (map (λ name. name.now) files.now))
+        (bytes ∷ map (λ text. text.items) contents.new.texts.items) result × IsKeptAs contents.new.journal bytes result }
 {
+    contents.journal = None;
     let (written, texts) = read_with_journal(alloc, inputs, journal, files)?;
-    replay_texts(alloc, written, texts.as_slice())
+    contents.texts = texts;
+    replay_texts(
+        alloc,
+        written,
+        contents.texts.as_slice(),
+        &mut contents.journal,
+    )
 }

@@ -7,6 +7,7 @@ ghost use Rattle.flt_commands.specs.Running as spec;
 use crate::answer::Answer;
 use crate::failure::Failure;
 use crate::inputs::{Inputs, read_all};
+use crate::report::Contents;
 use flt_crew::{RunFault, Watch, run};
 use flt_words::Workers;
 use std::alloc::Global;
@@ -38,7 +39,8 @@ fn run_texts<'a, R: Threads + Wait + Sync, W: Watch>(
     }
 }
 
-/// What `run` says of the names that it is given, by so many workers. `watch` is told of each line of the script that was given.
+/// What `run` says of the names that it is given, by so many workers, and what these give. `watch` hears of each line of the script that was
+/// given.
 pub fn run_files<'a, R: Threads + Wait + Sync, I: Inputs, W: Watch>(
     rt: &R,
     alloc: Global,
@@ -47,12 +49,15 @@ pub fn run_files<'a, R: Threads + Wait + Sync, I: Inputs, W: Watch>(
     script: &'a str,
     files: &[&'a str],
     watch: &mut W,
+    contents: &mut Contents,
 ) -> Result<Answer, Failure<'a>>
-    ensures { Says (I.gives inputs.now) (script.entry.now ∷ map (λ name. name.now) files.now) spec.IsRan result }
+    ensures { Says (I.gives inputs.now) (script.entry.now ∷ map (λ name. name.now) files.now) spec.IsRan
+        (map (λ text. text.items) contents.new.texts.items) result }
 {
     let mut names = Vec::new(alloc);
     names.push(script)?;
     names.extend_from_slice(files)?;
-    let texts = read_all(alloc, inputs, names.as_slice())?;
-    run_texts(rt, alloc, workers, texts[0].as_slice(), &texts[1..], watch)
+    contents.texts = read_all(alloc, inputs, names.as_slice())?;
+    let script = contents.texts[0].as_slice();
+    run_texts(rt, alloc, workers, script, &contents.texts[1..], watch)
 }

@@ -1,6 +1,7 @@
 //! What `replay` says of the names that it is given, where the journal is shown.
 
-ghost use Rattle.std.specs.Prelude.{◌≡◌, [], ◌∷◌, false, IfOk, map, option_map};
+ghost use Rattle.std.specs.Prelude.{◌≡◌, [], ◌∷◌, ℕ, List, None, false, IfOk, map, option_map};
+ghost use Rattle.flt_commands.specs.Commands.{IsKeptAs};
 ghost use Rattle.flt_commands.specs.Inputs.{Says};
 ghost use Rattle.flt_commands.specs.Replay as spec;
 
@@ -9,6 +10,7 @@ use crate::failure::Failure;
 use crate::inputs::{Inputs, Pictures, read_with_journal};
 use crate::pieces::Pieces;
 use crate::replay::{Replayed, replay_all};
+use crate::report::Contents;
 use flt_model::{Journal, Verdict};
 use flt_picture::picture;
 use flt_timeline::Timeline;
@@ -59,7 +61,7 @@ fn show<'a, P: Pictures>(
     Ok(Answer::Shown(rows, replayed.verdict))
 }
 
-/// What is said of a journal on some texts, where it is shown.
+/// What is said of a journal on some texts, where it is shown. The journal's entries are kept where it can be.
 fn show_texts<'a, P: Pictures>(
     alloc: Global,
     is_asked: bool,
@@ -67,16 +69,20 @@ fn show_texts<'a, P: Pictures>(
     written: Pieces,
     texts: &[Vec<u8>],
     pictures: &mut P,
+    journal: &mut Option<Journal>,
 ) -> Result<Answer, Failure<'a>>
-    ensures { spec.ShownJudges is_asked (option_map (λ name. name.now) name.entry) written
+    ensures said { spec.ShownJudges is_asked (option_map (λ name. name.now) name.entry) written
         (map (λ text. text.items) texts.now) result }
+    ensures kept { journal.old ≡ None → IsKeptAs journal.new written result }
 {
     let replayed = replay_all(alloc, written, texts)?;
-    show(alloc, is_asked, name, &replayed, pictures)
+    let answer = show(alloc, is_asked, name, &replayed, pictures)?;
+    *journal = Some(replayed.journal);
+    Ok(answer)
 }
 
-/// What `replay` says of the names that it is given, where the journal is shown: as rows, where they are asked for, and in a file, where
-/// one is named.
+/// What `replay` says of the names that it is given, where the journal is shown, and what these give. It is shown as rows, where they are
+/// asked for, and in a file, where one is named.
 pub fn show_files<'a, I: Inputs, P: Pictures>(
     alloc: Global,
     inputs: &I,
@@ -85,10 +91,16 @@ pub fn show_files<'a, I: Inputs, P: Pictures>(
     journal: &'a str,
     files: &[&'a str],
     pictures: &mut P,
+    contents: &mut Contents,
 ) -> Result<Answer, Failure<'a>>
-    ensures { Says (I.gives inputs.now) (journal.entry.now ∷ map (λ name. name.now) files.now)
-        (spec.IsShown is_asked (option_map (λ name. name.now) name.entry)) result }
+    ensures { (bytes : List ℕ) × Says (I.gives inputs.now) (journal.entry.now ∷ map (λ name. name.now) files.now)
+        (spec.IsShown is_asked (option_map (λ name. name.now) name.entry)) (bytes ∷ map (λ text. text.items) contents.new.texts.items) result
+        × IsKeptAs contents.new.journal bytes result }
 {
+    contents.journal = None;
     let (written, texts) = read_with_journal(alloc, inputs, journal, files)?;
-    show_texts(alloc, is_asked, name, written, texts.as_slice(), pictures)
+    contents.texts = texts;
+    let texts = contents.texts.as_slice();
+    let entries = &mut contents.journal;
+    show_texts(alloc, is_asked, name, written, texts, pictures, entries)
 }

@@ -3,7 +3,7 @@
 ghost use Rattle.std.specs.Prelude.{◌≡◌, ℕ, List, Result};
 ghost use Rattle.flt_commands.specs.Analyse.{IsAnalysed};
 ghost use Rattle.flt_commands.specs.Check.{HasPoints, IsChecked};
-ghost use Rattle.flt_commands.specs.Commands.{IsSaid, Prints};
+ghost use Rattle.flt_commands.specs.Commands.{Answers, IsSaid};
 ghost use Rattle.flt_commands.specs.Inputs.{Text};
 ghost use Rattle.flt_commands.specs.Replay.{IsReplayed};
 ghost use Rattle.flt_commands.specs.Single as spec;
@@ -11,9 +11,10 @@ ghost use Rattle.flt_words.specs.Request.{Asked};
 ghost use Rattle.flt_words.specs.Words.{asked};
 ghost use Rattle.flt_commands.specs.declared.answer.Answer.{Answer};
 ghost use Rattle.flt_commands.specs.declared.failure.Failure.{Failure};
+ghost use Rattle.flt_commands.specs.declared.report.Report.{Report};
 ghost use Rattle.flt_graph.specs.declared.graph.Graph.{Graph};
 
-use crate::inputs::Inputs;
+use crate::inputs::{Inputs, Pictures};
 use flt_analyse::{one_certificate_is_least, one_fault_is_named};
 use flt_cert::{one_certificate_is_spelled, one_fault_is_first};
 use flt_check::{covering_is_faultless, one_fault_is_least};
@@ -64,12 +65,13 @@ fn one_verdict_at_most()
 
 /// A command line has one answer at most, where the inputs give one thing for each name, and it asks for no run, no reports and
 /// no page. What is printed is one, and so is the exit status; why there is none is one too, unless memory ran out. It does nothing: its clauses are the law.
-pub fn one_answer_at_most<I: Inputs>()
-    ensures one { (inputs : I) (words : List (List ℕ)) (bytes other : List ℕ) (status other_status : ℕ) →
-        spec.AskForOne (asked words) → spec.GivesOne (I.gives inputs) → Prints (I.gives inputs) words bytes status →
-        Prints (I.gives inputs) words other other_status → (bytes ≡ other) × (status ≡ other_status) }
-    ensures said { (inputs : I) (request : Asked) (a b : Result Answer Failure) → spec.HasOneAnswer request →
-        spec.GivesOne (I.gives inputs) → IsSaid (I.gives inputs) request a → IsSaid (I.gives inputs) request b → spec.AreSame a b }
+pub fn one_answer_at_most<I: Inputs, P: Pictures>()
+    ensures one { (inputs : I) (pictures others : P) (words : List (List ℕ)) (a b : Report) → spec.AskForOne (asked words) →
+        spec.GivesOne (I.gives inputs) → Answers (I.gives inputs) (P.written pictures) words a →
+        Answers (I.gives inputs) (P.written others) words b → (a.output.items ≡ b.output.items) × (a.status ≡ b.status) }
+    ensures said { (inputs : I) (request : Asked) (texts others : List Text) (a b : Result Answer Failure) → spec.HasOneAnswer request →
+        spec.GivesOne (I.gives inputs) → IsSaid (I.gives inputs) request texts a → IsSaid (I.gives inputs) request others b →
+        spec.AreSame a b }
 {
     one_check_at_most();
     one_analysis_at_most();

@@ -1,15 +1,14 @@
 use Rattle.std.proofs.Common.{◌≡◌, ℕ, Err, Vec, Global, map, ap, ◌∙◌, refl, rules}
 use Rattle.std.proofs.Math.Path.{subst}
 use Rattle.flt_notes.specs.Told.{AreNoted}
-use Rattle.flt_details.specs.Reports.{texts_of}
 use Rattle.flt_commands.specs.Inputs.{given, unread}
 use Rattle.flt_commands.specs.declared.failure.Failure.TheVariants.{OutOfMemory}
 use Rattle.flt_commands.proofs.explain.explain_files.Goals as goal
 
-pub returns-in_err-texts-clause-said : goal.returns-in_err-texts-clause-said
-returns-in_err-texts-clause-said g c =
-    let fails : c.from_residual.result ≡ Err c.in_err-texts.field-0.0 = search rules in
-    rw fails (unread _ c.in_err-texts.ensures.err)
+pub returns-in_err-contents-clause-said : goal.returns-in_err-contents-clause-said
+returns-in_err-contents-clause-said g c =
+    let fails : c.from_residual.result ≡ Err c.in_err-contents.field-0.0 = search rules in
+    rw fails (unread _ c.in_err-contents.ensures.err)
 
 pub returns-in_err-sources-clause-said : goal.returns-in_err-sources-clause-said
 returns-in_err-sources-clause-said g c =
@@ -27,13 +26,12 @@ returns-in_err-write_journal-clause-said g c =
     rw fails (unread OutOfMemory tt)
 
 pub returns-then-not-branch-clause-said : goal.returns-then-not-branch-clause-said
-returns-then-not-branch-clause-said g c = given _ _ c.in_ok-texts.ensures.ok (rw c.in-Some.is refl)
+returns-then-not-branch-clause-said g c = given _ c.in_ok-contents.ensures.ok (rw c.in-Some.is refl)
 
 pub returns-clause-said : goal.returns-clause-said
 returns-clause-said g c =
-    let texts : texts_of c.in_ok-sources.sources.items ≡ map (λ (t : Vec ℕ Global). t.items) c.in_ok-texts.texts.items =
-    c.in_ok-sources.ensures.texts ∙ ap (λ ts. map (λ (t : Vec ℕ Global). t.items) ts) c.as_slice.ensures.value in
-    given _ _ c.in_ok-texts.ensures.ok
+    let texts = c.in_ok-sources.ensures.texts ∙ ap (λ ts. map (λ (t : Vec ℕ Global). t.items) ts) c.as_slice.ensures.value in
+    given _ c.in_ok-contents.ensures.ok
     (record {
       sources = c.in_ok-sources.sources.items;
       named = c.in_ok-sources.ensures.names;

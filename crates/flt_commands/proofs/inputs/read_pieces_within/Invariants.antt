@@ -4,7 +4,9 @@ use Rattle.flt_commands.proofs.inputs.read_pieces_within.Given as goal
 
 abbrev pub invariant-loop : goal.invariant-loop
 invariant-loop g l = record {
-  so_far : Consumes (g.R.Read.remaining l.fn.reader) (g.R.Read.remaining l.reader) l.pieces;
+  so_far : Consumes (g.R.Reader.left l.fn.reader) (g.R.Reader.left l.reader) l.pieces;
   counted : l.length ≡ length l.pieces;
   few : l.length ≤ 67108864;
+  fine : g.R.Reader.failures l.reader ≡ g.R.Reader.failures l.fn.reader;
+  some : l.counter ≤ length l.pieces;
 }

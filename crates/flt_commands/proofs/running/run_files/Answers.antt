@@ -16,19 +16,19 @@ returns-in_err-extend_from_slice g c =
     let fails : c.from_residual-in_err-extend_from_slice.result ≡ Err OutOfMemory = search rules in
     rw fails (unread OutOfMemory tt)
 
-pub returns-in_err-texts : goal.returns-in_err-texts
-returns-in_err-texts g c =
-    let fails : c.from_residual-in_err-texts.result ≡ Err c.in_err-texts.field-0.0 = search rules in
+pub returns-in_err-contents : goal.returns-in_err-contents
+returns-in_err-contents g c =
+    let fails : c.from_residual-in_err-contents.result ≡ Err c.in_err-contents.field-0.0 = search rules in
     let names : map (λ (n : Bor (List ℕ)). n.now) c.as_slice.result.now ≡ c.args.script.now
     ∷ map (λ (n : Bor (List ℕ)). n.now) c.args.files.now =
     rw (c.as_slice.ensures.value, c.in_ok-extend_from_slice.ensures.items, c.in_ok-push.ensures.items, c.new-names.ensures.items) refl in
-    rw fails (unread _ (rw names at c.in_err-texts.ensures.err))
+    rw fails (unread _ (rw names at c.in_err-contents.ensures.err))
 
 pub returns : goal.returns
 returns g c =
     let names : map (λ (n : Bor (List ℕ)). n.now) c.as_slice.result.now ≡ c.args.script.now
     ∷ map (λ (n : Bor (List ℕ)). n.now) c.args.files.now =
     rw (c.as_slice.ensures.value, c.in_ok-extend_from_slice.ensures.items, c.in_ok-push.ensures.items, c.new-names.ensures.items) refl in
-    says_of_first _ IsRan c.in_ok-texts.texts.items _ _ _ c.index.result.now _ c.index.ensures
-    (rw c.deref.ensures.value (take_rest c.in_ok-texts.texts.items 1))
-    (rw names at c.in_ok-texts.ensures.ok) (rw c.as_slice-2.ensures.value at c.run_texts.ensures)
+    says_of_first _ IsRan _ _ _ _ c.index.result.now _ c.index.ensures
+    (rw c.deref.ensures.value (take_rest _ 1))
+    (rw names at c.in_ok-contents.ensures.ok) (rw c.as_slice-script.ensures.value at c.run_texts.ensures)

@@ -8,6 +8,7 @@ returns g c =
     let analysed = c.one_analysis_at_most.ensures in
     let replayed = c.one_verdict_at_most.ensures in
     record {
-      one = λ inputs words. printed_once checked analysed replayed (g.I.Inputs.gives inputs) (asked words);
+      one = λ inputs pictures others words. printed_once checked analysed replayed (g.I.Inputs.gives inputs) (g.P.Pictures.written pictures)
+          (g.P.Pictures.written others) (asked words);
       said = λ inputs. said_once checked analysed replayed (g.I.Inputs.gives inputs);
     }

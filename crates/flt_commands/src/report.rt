@@ -1,0 +1,156 @@
+//! What a command comes to, before it is written.
+
+ghost use Rattle.std.specs.Prelude.{◌≡◌, ◌≢◌, ◌++◌, ◌∷◌, [], None, IfErr, IfOk};
+ghost use Rattle.flt_commands.specs.Answer.{ending_of, output, remark, status_of};
+ghost use Rattle.flt_commands.specs.Commands as spec;
+ghost use Rattle.flt_commands.specs.Failure.{failure_line};
+
+use crate::answer::Answer;
+use crate::failure::Failure;
+use crate::fault::CommandFault;
+use flt_crew::Ending;
+use flt_model::Journal;
+use std::alloc::{AllocError, Global};
+
+/// What a command comes to: what was read for it, and what goes where.
+#[derive(Drop)]
+pub struct Report {
+    /// What the names among the words give, in their order; of a journal see `journal`.
+    pub texts: Vec<Vec<u8>>,
+    /// The entries of the journal that was read. Its bytes, which they spell, are given back while it is read.
+    pub journal: Option<Journal>,
+    /// What goes to the standard output.
+    pub output: Vec<u8>,
+    /// What goes to the standard error.
+    pub remark: Vec<u8>,
+    /// The exit status: 0 for yes, 1 for no, and 2 where there is no answer, a journal was full before its script had ended, or the
+    /// receipts contradict it.
+    pub status: u8,
+}
+
+impl Report {
+    /// The report on what some names give.
+    fn on(contents: Contents, output: Vec<u8>, remark: Vec<u8>, status: u8) -> Report
+        ensures texts { result.texts ≡ contents.texts }
+        ensures journal { result.journal ≡ contents.journal }
+        ensures output { result.output ≡ output }
+        ensures remark { result.remark ≡ remark }
+        ensures status { result.status ≡ status }
+    {
+        Report {
+            texts: contents.texts,
+            journal: contents.journal,
+            output,
+            remark,
+            status,
+        }
+    }
+
+    /// The report on words that ask for a text about their use.
+    pub(crate) fn on_usage(alloc: Global, text: String) -> Report
+        ensures output { result.output.items ≡ [] }
+        ensures status { result.status ≡ 2 }
+    {
+        Report {
+            texts: Vec::new(alloc),
+            journal: None,
+            output: Vec::new(alloc),
+            remark: text.into_bytes(),
+            status: 2,
+        }
+    }
+}
+
+/// What the names of a command line give, as far as it is kept.
+#[derive(Drop)]
+pub(crate) struct Contents {
+    pub(crate) texts: Vec<Vec<u8>>,
+    pub(crate) journal: Option<Journal>,
+}
+
+impl Contents {
+    /// Nothing yet.
+    pub(crate) fn new(alloc: Global) -> Contents
+        ensures texts { result.texts.items ≡ [] }
+        ensures journal { result.journal ≡ None }
+    {
+        Contents {
+            texts: Vec::new(alloc),
+            journal: None,
+        }
+    }
+}
+
+/// What stands on the standard error beside a journal that ends so.
+fn remark_on(alloc: Global, ending: Ending) -> Result<Vec<u8>, AllocError>
+    ensures { IfOk result (λ bytes. bytes.items ≡ remark ending) }
+{
+    let mut bytes = Vec::new(alloc);
+    match ending {
+        Ending::Whole => {}
+        Ending::Full => bytes.extend_from_slice(b"full\n")?,
+        Ending::Differ => bytes.extend_from_slice(b"receipts differ\n")?,
+    }
+    Ok(bytes)
+}
+
+/// The report on an answer.
+fn report_on_answer(
+    alloc: Global,
+    answer: Answer,
+    contents: Contents,
+) -> Result<Report, CommandFault>
+    ensures texts { IfOk result (λ report. report.texts ≡ contents.texts) }
+    ensures journal { IfOk result (λ report. report.journal ≡ contents.journal) }
+    ensures output { IfOk result (λ report. report.output.items ≡ output answer) }
+    ensures status { IfOk result (λ report. report.status ≡ status_of answer) }
+    ensures remark { IfOk result (λ report. report.remark.items ≡ remark (ending_of answer)) }
+    ensures quiet { IfOk result (λ report. report.status ≢ 2 → report.remark.items ≡ []) }
+    ensures err { IfErr result (λ e. e ≡ CommandFault.OutOfMemory) }
+{
+    let status = answer.status();
+    let remark = remark_on(alloc, answer.ending())?;
+    let output = answer.output(alloc)?;
+    Ok(Report::on(contents, output, remark, status))
+}
+
+/// The report on why there is no answer, in a line behind some others.
+fn report_on_failure(
+    alloc: Global,
+    before: Vec<u8>,
+    failure: &Failure,
+    contents: Contents,
+) -> Result<Report, CommandFault>
+    ensures texts { IfOk result (λ report. report.texts ≡ contents.texts) }
+    ensures journal { IfOk result (λ report. report.journal ≡ contents.journal) }
+    ensures output { IfOk result (λ report. report.output.items ≡ []) }
+    ensures status { IfOk result (λ report. report.status ≡ 2) }
+    ensures remark { IfOk result (λ report. report.remark.items ≡ before.items ++ (failure_line failure.now ++ 10 ∷ [])) }
+    ensures err { IfErr result (λ e. e ≡ CommandFault.OutOfMemory) }
+{
+    let line = format!(in alloc; "{failure}\n")?;
+    let mut remark = before;
+    remark.extend_from_slice(line.as_bytes())?;
+    Ok(Report::on(contents, Vec::new(alloc), remark, 2))
+}
+
+/// The report on what is said of what was read; where there is no answer, with these lines before the one that says why.
+pub(crate) fn report_on(
+    alloc: Global,
+    before: Vec<u8>,
+    said: Result<Answer, Failure>,
+    contents: Contents,
+) -> Result<Report, CommandFault>
+    ensures texts { IfOk result (λ report. report.texts ≡ contents.texts) }
+    ensures journal { IfOk result (λ report. report.journal ≡ contents.journal) }
+    ensures reported { IfOk result (λ report. spec.IsReported said.entry report.output.items report.status) }
+    ensures remarked { IfOk result (λ report. spec.IsRemarkedAfter before.items said.entry report.remark.items) }
+    ensures quiet { IfOk result (λ report. report.status ≢ 2 → report.remark.items ≡ []) }
+    ensures err { IfErr result (λ e. e ≡ CommandFault.OutOfMemory) }
+{
+    match said {
+        Ok(answer) => report_on_answer(alloc, answer, contents),
+        Err(Failure::OutOfMemory) => Err(CommandFault::OutOfMemory),
+        Err(failure) => report_on_failure(alloc, before, &failure, contents),
+    }
+}
