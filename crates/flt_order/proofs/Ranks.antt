@@ -13,7 +13,7 @@ use Rattle.flt_rules.specs.declared.held.HeldLock.{HeldLock}
 use Rattle.flt_cert.specs.Format.{Certificate}
 use Rattle.flt_graph.specs.declared.graph.Graph.{Graph}
 use Rattle.flt_graph.specs.Graph.{instruction_at}
-use Rattle.flt_order.specs.Order.{taken_by, is_left, IsAcquired, IsFree, NoneLeft, TakesInOrder, AreRanked, AreTakenBefore, IsStuck, count_left, StuckHaveNoOrder}
+use Rattle.flt_order.specs.Order.{taken_by, is_left, IsAcquired, IsFree, IsTaken, NoneLeft, TakesInOrder, AreRanked, AreTakenBefore, count_left}
 use Rattle.flt_order.specs.declared.order.Acquisition.{Acquisition}
 use Rattle.flt_order.proofs.Places.{place_below, place_same, callback_within, point_within}
 
@@ -22,6 +22,13 @@ left_there : (left : List Bool) (l : LockNumber) → is_left left l ≡ true →
 left_there left l h = elim (cases_lt (place_of l) (length left)) [
   | inl there ↦ there
   | inr past ↦ let bad : false ≡ true = sym (get_or_past left (place_of l) false past) ∙ h in absurd (cc)
+]
+
+-- what isn't left after one is taken away wasn't left, or is that one
+pub was_not : (left : List Bool) (l m : LockNumber) → is_left (set left (place_of l) false) m ≡ false → (m ≡ l) ⊎ (is_left left m ≡ false)
+was_not left l m h = elim (cases_eq (place_of m) (place_of l)) [
+  | inl same ↦ inl (place_same m l same)
+  | inr ne ↦ inr (sym (get_or-set_other left (place_of l) (place_of m) false false ne) ∙ h)
 ]
 
 -- one less is left
@@ -48,13 +55,18 @@ not_held_left left (x ∷ locks) l none h = by (place_of l == place_of x.lock) r
     by false e h later = later h
 
 -- whoever takes a free lock holds none that is left
-free_holds : (g : Graph) (k : Certificate) (left : List Bool) (l : LockNumber) → IsFree g k left l → (a : Acquisition) → IsAcquired g k a →
+pub free_holds : (g : Graph) (k : Certificate) (left : List Bool) (l : LockNumber) → IsFree g k left l → (a : Acquisition) → IsAcquired g k a →
     a.taken ≡ l → is_left left a.holding ≡ false
 free_holds g k left l free a q same =
     let here = free a.callback (callback_within k a.callback a.point q.state q.reached) a.point
     (point_within k a.callback a.point q.state q.reached) q.state q.reached
     (subst (λ m. taken_by (instruction_at g a.callback a.point) ≡ Some m) same q.takes) in
     not_held_left left q.state.locks a.holding here q.holds
+
+-- a free lock isn't taken while one that is left is held
+pub free_not_taken : (g : Graph) (k : Certificate) (left : List Bool) (l : LockNumber) → IsFree g k left l → IsTaken g k left l → ⊥
+free_not_taken g k left l free t =
+    let bad : true ≡ false = sym t.1.among ∙ free_holds g k left l free t.0 t.1.acquired t.1.taken in absurd (cc)
 
 module _ (g : Graph) (k : Certificate) (left : List Bool) (n : ℕ) (l : LockNumber) (among : is_left left l ≡ true) (free : IsFree g k left l)
     (r : AreRanked g k left n) where
@@ -131,9 +143,9 @@ order_of g k left n r none = record { rank = r.rank; ordered = λ a q. (r.ordere
 
 -- where one is left, each that is left is taken while one is held
 pub stuck_at : (g : Graph) (k : Certificate) (left : List Bool) (l : LockNumber) → is_left left l ≡ true →
-    (count_left left ≡ 0) ⊎ AreTakenBefore g k left 8 → IsStuck g k left
+    (count_left left ≡ 0) ⊎ AreTakenBefore g k left 8 → AreTakenBefore g k left 8
 stuck_at g k left l among (inl none) = absurd (none_counted left l none among)
-stuck_at g k left l among (inr taken) = record { some = l; among = among; taken = taken }
+stuck_at g k left l among (inr taken) = taken
 
 -- at first each lock is left
 pub all_left : (l : LockNumber) → is_left (true ∷ true ∷ true ∷ true ∷ true ∷ true ∷ true ∷ true ∷ []) l ≡ true
@@ -145,20 +157,3 @@ all_left L4 = refl
 all_left L5 = refl
 all_left L6 = refl
 all_left L7 = refl
-
--- ranks can't fall for ever
-falls : (g : Graph) (k : Certificate) (left : List Bool) → AreTakenBefore g k left 8 → (o : TakesInOrder g k) → (fuel : ℕ) (l : LockNumber) →
-    is_left left l ≡ true → o.rank (place_of l) ≤ fuel → ⊥
-falls g k left taken o zero l among h =
-    let t = taken l (place_below l) among in
-    let less = o.ordered t.0 t.1.acquired in
-    let same = ap (λ m. o.rank (place_of m)) t.1.taken in absurd (omega (arith, h, less, same))
-falls g k left taken o (suc fuel) l among h =
-    let t = taken l (place_below l) among in
-    let less = o.ordered t.0 t.1.acquired in
-    let same = ap (λ m. o.rank (place_of m)) t.1.taken in
-    falls g k left taken o fuel t.0.holding t.1.among (omega (arith, h, less, same))
-
--- stuck locks have no order
-pub stuck_have_no_order : StuckHaveNoOrder
-stuck_have_no_order g k left s o = falls g k left s.taken o (o.rank (place_of s.some)) s.some s.among (omega arith)

@@ -1,4 +1,4 @@
--- Which locks are taken while which are held, by a certificate, and that they are so in an order or in a circle.
+-- Which locks are taken while which are held, by a certificate, and what an order of them is. This project's own definitions.
 use Rattle.std.specs.Prelude.{◌≡◌, ℕ, ◌<◌, Bool, true, false, List, length, Option, Some, None, get_or, sum_by, if◌then◌else◌}
 use Rattle.flt_rules.specs.Call.{place_of}
 use Rattle.flt_rules.specs.Held.{holds_lock}
@@ -6,7 +6,7 @@ use Rattle.flt_rules.specs.declared.call.Call.{Call}
 use Rattle.flt_rules.specs.declared.call.Call.TheVariants as call
 use Rattle.flt_rules.specs.declared.call.LockNumber.{LockNumber}
 use Rattle.flt_rules.specs.declared.held.HeldLock.{HeldLock}
-use Rattle.flt_graph.specs.Graph.{instruction_at}
+use Rattle.flt_graph.specs.Graph.{instruction_at, line_at}
 use Rattle.flt_graph.specs.declared.graph.Graph.{Graph}
 use Rattle.flt_graph.specs.declared.instruction.Instruction.{Instruction}
 use Rattle.flt_graph.specs.declared.instruction.Instruction.TheVariants as instruction
@@ -15,7 +15,7 @@ use Rattle.flt_cert.specs.Format.{Certificate}
 use Rattle.flt_check.specs.Covering.{state_at, count_at}
 use Rattle.flt_order.specs.declared.order.Acquisition.{Acquisition}
 
--- the lock that a call takes, in either way
+-- the lock that a call takes, alone or shared
 abbrev pub taken_by_call : Call → Option LockNumber → Option LockNumber
 taken_by_call (call.AcquireLock kind) l = l
 taken_by_call call.AcquirePushLockShared l = l
@@ -26,12 +26,20 @@ abbrev pub taken_by : Instruction → Option LockNumber
 taken_by (instruction.Call c granted refused) = taken_by_call c.call c.lock
 taken_by _ = None
 
--- the callback takes the lock at the point while it holds the other one, by the certificate
+-- the callback takes the lock at the point, which is reached, while it holds the other one, by the certificate; the point is on the line
 pub record IsAcquired (g : Graph) (k : Certificate) (a : Acquisition) : Type 0 where
   pub state : State
   pub reached : state_at k a.callback a.point ≡ Some state
+  pub line : a.line ≡ line_at g a.callback a.point
   pub takes : taken_by (instruction_at g a.callback a.point) ≡ Some a.taken
   pub holds : holds_lock a.holding state.locks ≡ true
+
+-- locks are taken in an order: each has a rank, by its place, and whoever takes a lock holds only locks of smaller rank
+pub record TakesInOrder (g : Graph) (k : Certificate) : Type 0 where
+  pub rank : ℕ → ℕ
+  pub ordered : (a : Acquisition) → IsAcquired g k a → rank (place_of a.holding) < rank (place_of a.taken)
+
+-- ---- the search: locks get their ranks one after the other, and those that have none yet are left
 
 -- whether a lock is among those that are left, by place
 abbrev pub is_left : List Bool → LockNumber → Bool
@@ -56,15 +64,15 @@ abbrev pub FreeAt : Graph → Certificate → List Bool → LockNumber → ℕ �
 FreeAt g k left l callback point = (x : State) → state_at k callback point ≡ Some x → taken_by (instruction_at g callback point) ≡ Some l →
     NoneLeft left x.locks
 
--- so it is at each point before one
+-- the same at each point before the n-th
 abbrev pub FreeBefore : Graph → Certificate → List Bool → LockNumber → ℕ → ℕ → Type 0
 FreeBefore g k left l callback n = (point : ℕ) → point < n → FreeAt g k left l callback point
 
--- and at each point of the first n callbacks
+-- the same at each point of the first n callbacks
 abbrev pub FreeIn : Graph → Certificate → List Bool → LockNumber → ℕ → Type 0
 FreeIn g k left l n = (callback : ℕ) → callback < n → FreeBefore g k left l callback (count_at k callback)
 
--- the lock is taken only where none that is left is held
+-- the lock is free: it is taken only where none that is left is held
 abbrev pub IsFree : Graph → Certificate → List Bool → LockNumber → Type 0
 IsFree g k left l = FreeIn g k left l (length k)
 
@@ -76,14 +84,7 @@ IsTaken g k left l = (a : Acquisition) × IsFrom g k left l a
 abbrev pub AreTakenBefore : Graph → Certificate → List Bool → ℕ → Type 0
 AreTakenBefore g k left n = (l : LockNumber) → place_of l < n → is_left left l ≡ true → IsTaken g k left l
 
--- ---- orders
-
--- locks are taken in an order: each has a rank, by its place, and whoever takes a lock holds only locks of smaller rank
-pub record TakesInOrder (g : Graph) (k : Certificate) : Type 0 where
-  pub rank : ℕ → ℕ
-  pub ordered : (a : Acquisition) → IsAcquired g k a → rank (place_of a.holding) < rank (place_of a.taken)
-
--- so it is of the locks that aren't left, whose ranks are below n: whoever takes one of them holds none that is left
+-- the locks that aren't left are in an order, with ranks below n, and whoever takes one of them holds none that is left
 pub record AreRanked (g : Graph) (k : Certificate) (left : List Bool) (n : ℕ) : Type 0 where
   pub rank : ℕ → ℕ
   pub low : (l : LockNumber) → is_left left l ≡ false → rank (place_of l) < n
@@ -93,13 +94,3 @@ pub record AreRanked (g : Graph) (k : Certificate) (left : List Bool) (n : ℕ) 
 -- how many are left
 abbrev pub count_left : List Bool → ℕ
 count_left left = sum_by (λ (b : Bool). if b then 1 else 0) left
-
--- some lock is left, and each that is left is taken while another one is held: so there is a circle among them
-pub record IsStuck (g : Graph) (k : Certificate) (left : List Bool) : Type 0 where
-  pub some : LockNumber
-  pub among : is_left left some ≡ true
-  pub taken : AreTakenBefore g k left 8
-
--- such locks have no order: going back from one to the one that is held, ranks would fall for ever
-abbrev pub StuckHaveNoOrder : Type 0
-StuckHaveNoOrder = (g : Graph) (k : Certificate) (left : List Bool) → IsStuck g k left → TakesInOrder g k → ⊥

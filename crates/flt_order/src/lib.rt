@@ -1,6 +1,8 @@
-//! Whether a filter takes its locks in an order.
+//! Whether a filter takes its locks in an order, by its certificate, and where it doesn't, a circle of acquisitions that shows it.
 #![tactic(auto)]
 
+mod circle;
 mod order;
 
-pub use order::{Acquisition, find_stuck, stuck_have_no_order, taken_from};
+pub use circle::{Circle, circles_have_no_order, find_circle};
+pub use order::Acquisition;

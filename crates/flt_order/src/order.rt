@@ -1,4 +1,4 @@
-//! Searches for a lock that is taken while none of the others is held.
+//! The order of locks: one after the other gets its rank, each while none of those that have none yet is held where it is taken.
 
 ghost use Rattle.std.specs.Prelude.{◌≡◌, ◌<◌, ◌⊎◌, ℕ, length, slice_set, Some, true, false, IfSome, IfNone};
 ghost use Rattle.flt_order.specs.Order as spec;
@@ -10,11 +10,12 @@ use flt_cert::Cert;
 use flt_graph::{Graph, Instruction};
 use flt_rules::{Call, HeldLock, LockNumber};
 
-/// A callback takes a lock at a point while it holds another. Callbacks and points count from 0.
+/// A callback takes a lock at a point while it holds another. Callbacks and points count from 0, lines from 1.
 #[derive(Clone, Copy)]
 pub struct Acquisition {
     pub callback: usize,
     pub point: usize,
+    pub line: usize,
     pub taken: LockNumber,
     pub holding: LockNumber,
 }
@@ -34,7 +35,7 @@ fn taken_by(instruction: Instruction) -> Option<LockNumber>
 }
 
 /// Whether a lock is left.
-fn is_left(left: &[bool; 8], lock: LockNumber) -> bool
+pub(crate) fn is_left(left: &[bool; 8], lock: LockNumber) -> bool
     ensures { result ≡ spec.is_left left.now lock }
 {
     left.get(usize::from(lock.place()))
@@ -76,6 +77,7 @@ fn from_point(
     Some(Acquisition {
         callback,
         point,
+        line: graph.line(callback, point),
         taken,
         holding,
     })
@@ -100,9 +102,8 @@ fn from_callback(
     None
 }
 
-/// An acquisition of the lock that holds one that is left; none where it is taken only while none that is left is held. Of locks that are
-/// stuck there is one for each, and so a way back from one to another, which comes round after eight steps at most.
-pub fn taken_from(
+/// An acquisition of the lock that holds one that is left; none where it is taken only while none that is left is held.
+pub(crate) fn taken_from(
     graph: &Graph,
     cert: &Cert,
     left: &[bool; 8],
@@ -144,14 +145,14 @@ fn next_free(graph: &Graph, cert: &Cert, left: &[bool; 8]) -> Option<LockNumber>
 
 /// The lock is left no longer.
 #[tactic(auto, using(crate::proofs::Places::place_below))]
-fn remove(left: &mut [bool; 8], lock: LockNumber)
+pub(crate) fn remove(left: &mut [bool; 8], lock: LockNumber)
     ensures { left.new ≡ slice_set left.old (place_of lock) false }
 {
     left[usize::from(lock.place())] = false;
 }
 
 /// A lock that is left.
-fn any_left(left: &[bool; 8]) -> Option<LockNumber>
+pub(crate) fn any_left(left: &[bool; 8]) -> Option<LockNumber>
     ensures some { IfSome result (λ l. spec.is_left left.now l ≡ true) }
     ensures none { IfNone result ((l : LockNumber) → place_of l < 8 → spec.is_left left.now l ≡ false) }
 {
@@ -166,7 +167,7 @@ fn any_left(left: &[bool; 8]) -> Option<LockNumber>
 }
 
 /// What is left when locks are taken away one after the other, each only where none that is left is held while it is taken.
-fn reduce(graph: &Graph, cert: &Cert) -> [bool; 8]
+pub(crate) fn reduce(graph: &Graph, cert: &Cert) -> [bool; 8]
     ensures ranked { spec.AreRanked graph.now cert.now result 8 }
     ensures rest { (spec.count_left result ≡ 0) ⊎ spec.AreTakenBefore graph.now cert.now result 8 }
 {
@@ -179,21 +180,3 @@ fn reduce(graph: &Graph, cert: &Cert) -> [bool; 8]
     }
     left
 }
-
-/// Locks that are each taken while another one of them is held, by a certificate; none, and locks are taken in an order.
-pub fn find_stuck(graph: &Graph, cert: &Cert) -> Option<[bool; 8]>
-    ensures ordered { IfNone result (spec.TakesInOrder graph.now cert.now) }
-    ensures stuck { IfSome result (spec.IsStuck graph.now cert.now) }
-{
-    let left = reduce(graph, cert);
-    match any_left(&left) {
-        Some(_) => Some(left),
-        None => None,
-    }
-}
-
-/// Locks that are stuck have no order; so `find_stuck` finds none exactly where locks are taken in one. It does nothing: its clause is the
-/// law.
-pub fn stuck_have_no_order()
-    ensures { spec.StuckHaveNoOrder }
-{}

@@ -24,7 +24,7 @@ use Rattle.flt_tree.specs.declared.filter.PlainCall.TheVariants as plain_call
 use Rattle.flt_tree.specs.declared.filter.Statement.{Statement, out-Statement}
 use Rattle.flt_tree.specs.declared.filter.Statement.TheOpen.{Statement-F}
 use Rattle.flt_tree.specs.declared.filter.Test.TheVariants as test
-use Rattle.flt_graph.specs.Graph.{instruction_at}
+use Rattle.flt_graph.specs.Graph.{instruction_at, line_at}
 use Rattle.flt_graph.specs.Instruction.{plain}
 use Rattle.flt_graph.specs.Lowering.{IsLowered}
 use Rattle.flt_model.specs.Effects.{Step}
@@ -285,10 +285,12 @@ module _ (p : List Filter) (m : Moment) (r : Rests p m) where
         let called = call_here q w.line w.call w.layer in
         let takes : taken_by (instruction_at own.accepted.graph q.number q.point) ≡ Some w.lock =
         ap taken_by (same_here q own.accepted.graph low ∙ called.1) ∙ w.takes in
-        let acquired : Acquisition = record { callback = q.number; point = q.point; taken = w.lock; holding = l } in
+        let acquired : Acquisition =
+        record { callback = q.number; point = q.point; line = line_at own.accepted.graph q.number q.point; taken = w.lock; holding = l } in
         own.ordered.ordered acquired (record {
           state = meant.state;
           reached = meant.reached;
+          line = refl;
           takes = takes;
           holds = subst (λ locks. has_place (place_of l) locks ≡ true) (sym meant.means.locks) has;
         })
