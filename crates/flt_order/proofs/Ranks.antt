@@ -34,7 +34,8 @@ was_not left l m h = elim (cases_eq (place_of m) (place_of l)) [
 -- one less is left
 pub one_less : (left : List Bool) (l : LockNumber) → is_left left l ≡ true → count_left (set left (place_of l) false) + 1 ≡ count_left left
 one_less left l h =
-    let sum = rw h at (sum_by-set (λ (b : Bool). if b then 1 else 0) left (place_of l) false false (left_there left l h)) in omega (arith, sum)
+    let sum = rw h at (sum_by-set (λ (b : Bool). if b then 1 else 0) left (place_of l) false false (left_there left l h)) in omega
+    (arith, sum)
 
 -- where none is counted none is left
 pub none_counted : (left : List Bool) (l : LockNumber) → count_left left ≡ 0 → is_left left l ≡ true → ⊥
@@ -43,7 +44,8 @@ none_counted left l none h =
     absurd (omega (arith, one, none))
 
 -- of held locks none of which is left, one that is held isn't
-not_held_left : (left : List Bool) (locks : List HeldLock) (l : LockNumber) → NoneLeft left locks → holds_lock l locks ≡ true → is_left left l ≡ false
+not_held_left : (left : List Bool) (locks : List HeldLock) (l : LockNumber) → NoneLeft left locks → holds_lock l locks ≡ true →
+    is_left left l ≡ false
 not_held_left left [] l none h = absurd (cc)
 not_held_left left (x ∷ locks) l none h = by (place_of l == place_of x.lock) refl h
     (λ h. not_held_left left locks l (λ i d below. none (suc i) d (omega (arith, below))) h)
@@ -55,7 +57,8 @@ not_held_left left (x ∷ locks) l none h = by (place_of l == place_of x.lock) r
     by false e h later = later h
 
 -- whoever takes a free lock holds none that is left
-pub free_holds : (g : Graph) (k : Certificate) (left : List Bool) (l : LockNumber) → IsFree g k left l → (a : Acquisition) → IsAcquired g k a →
+pub free_holds : (g : Graph) (k : Certificate) (left : List Bool) (l : LockNumber) → IsFree g k left l → (a : Acquisition) →
+    IsAcquired g k a →
     a.taken ≡ l → is_left left a.holding ≡ false
 free_holds g k left l free a q same =
     let here = free a.callback (callback_within k a.callback a.point q.state q.reached) a.point
@@ -68,7 +71,8 @@ pub free_not_taken : (g : Graph) (k : Certificate) (left : List Bool) (l : LockN
 free_not_taken g k left l free t =
     let bad : true ≡ false = sym t.1.among ∙ free_holds g k left l free t.0 t.1.acquired t.1.taken in absurd (cc)
 
-module _ (g : Graph) (k : Certificate) (left : List Bool) (n : ℕ) (l : LockNumber) (among : is_left left l ≡ true) (free : IsFree g k left l)
+module _ (g : Graph) (k : Certificate) (left : List Bool) (n : ℕ) (l : LockNumber) (among : is_left left l ≡ true)
+    (free : IsFree g k left l)
     (r : AreRanked g k left n) where
   -- the locks that are left after
   abbrev after : List Bool
@@ -116,11 +120,27 @@ module _ (g : Graph) (k : Certificate) (left : List Bool) (n : ℕ) (l : LockNum
     ];
     ordered = λ a q h. elim (was a.taken h) [
       | inl same ↦
-          let holds = free_holds g k left l free a q (place_same a.taken l same) in
-          (gone a.holding holds, omega (arith, rank_own (place_of a.taken) same, rank_other (place_of a.holding) (not_one a.holding holds), r.low a.holding holds))
+          let holds = free_holds g k left l free a q (place_same a.taken l same) in (
+            gone a.holding holds,
+            omega (
+              arith,
+              rank_own (place_of a.taken) same,
+              rank_other (place_of a.holding)
+                  (not_one a.holding holds),
+              r.low a.holding holds,
+            ),
+          )
       | inr old ↦
-          let was = r.ordered a q old in
-          (gone a.holding was.0, omega (arith, rank_other (place_of a.taken) (not_one a.taken old), rank_other (place_of a.holding) (not_one a.holding was.0), was.1))
+          let was = r.ordered a q old in (
+            gone a.holding was.0,
+            omega (
+              arith,
+              rank_other (place_of a.taken) (not_one a.taken old),
+              rank_other (place_of a.holding)
+                  (not_one a.holding was.0),
+              was.1,
+            ),
+          )
     ];
   }
 

@@ -36,8 +36,8 @@ AreOrderly filters = All IsOrderly filters
 abbrev pub can_go_on : List Filter → Moment → ℕ → Bool
 can_go_on filters m a = is_some (next filters m (Local a)) || is_some (next filters m (Board a true))
 
--- No deadlock: at each moment at which a callback hasn't ended, some callback that hasn't ended can make a step. (Locks alone make one wait,
--- and a filter's locks are its own.)
+-- No deadlock: at each moment at which a callback hasn't ended, some callback that hasn't ended can make a step. (Locks alone make one
+-- wait, and a filter's locks are its own.)
 abbrev pub NoDeadlock : Type 0
 NoDeadlock = (filters : List Filter) (transitions : List Transition) (m : Moment) (a : ℕ) → AreOrderly filters →
     run filters transitions ≡ Some m → (activation_at m.world a).ended ≡ false →
@@ -59,8 +59,8 @@ pub record CanEnd (filters : List Filter) (m : Moment) : Type 0 where
   pub leads : run_from filters m steps ≡ Some last
   pub ended : (a : ℕ) → (activation_at last.world a).ended ≡ true
 
--- A callback that started can end: at each moment the callbacks that run can all be brought to their ends, by their own steps alone. No move
--- of the filter manager and no new callback is needed for it.
+-- A callback that started can end: at each moment the callbacks that run can all be brought to their ends, by their own steps alone. No
+-- move of the filter manager and no new callback is needed for it.
 abbrev pub CallbacksCanEnd : Type 0
 CallbacksCanEnd = (filters : List Filter) (transitions : List Transition) (m : Moment) → AreOrderly filters →
     run filters transitions ≡ Some m → CanEnd filters m

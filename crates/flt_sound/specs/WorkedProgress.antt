@@ -44,7 +44,8 @@ one_lock =
 -- and the write its own
 abbrev pub two_locks : List Transition
 two_locks =
-    Make (moves.Arrive Read Irp 0) ∷ Make (moves.Arrive Write Irp 0) ∷ Make (moves.Pre 0) ∷ Make (moves.Pre 1) ∷ Board 0 true ∷ Board 1 true ∷ []
+    Make (moves.Arrive Read Irp 0) ∷ Make (moves.Arrive Write Irp 0) ∷ Make (moves.Pre 0) ∷ Make (moves.Pre 1) ∷ Board 0 true ∷ Board
+    1 true ∷ []
 
 -- two callbacks run, and neither can go on
 abbrev pub is_deadlock : List Filter → Moment → Bool
@@ -89,7 +90,8 @@ pub never_drained :
 unfolding computed
 never_drained = refl
 
-pub still_there : option_map (λ m. is_done m.world.store 0) (run twins (kept_read ++ Make (moves.Detach 100) ∷ Make (moves.Detached 100) ∷ []))
+pub still_there : option_map (λ m. is_done m.world.store 0) (run twins (kept_read ++ Make (moves.Detach 100) ∷ Make
+    (moves.Detached 100) ∷ []))
     ≡ Some false
 unfolding computed
 still_there = refl

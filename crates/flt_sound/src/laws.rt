@@ -37,8 +37,8 @@ pub fn accepted_runs_break_nothing()
 }
 
 /// An unload of an accepted filter leaks nothing: at each moment of a run of accepted filters at which one is detached, no frame, queue
-/// entry, work item, link or running callback of it is left, its visits are settled, its contexts are freed and its locks given up, and none
-/// comes again. It does nothing: its clause is the law.
+/// entry, work item, link or running callback of it is left, its visits are settled, its contexts are freed and its locks given up, and
+/// none comes again. It does nothing: its clause is the law.
 pub fn unloading_leaks_nothing()
     ensures { UnloadingLeaksNothing }
 {

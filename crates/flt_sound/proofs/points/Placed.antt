@@ -213,7 +213,8 @@ module _ {p : List Filter} {f : ℕ} {place : Place} {rest : List Statement} {t 
 -- ---- the filter's graph is one
 
 -- two graphs of a callback have one point where a list of its text stands
-same_at : (all : List Callback) (c : Callback) (g h : CallbackGraph) (n : ℕ) (list : List Statement) → IsGraphOf all c g → IsGraphOf all c h →
+same_at : (all : List Callback) (c : Callback) (g h : CallbackGraph) (n : ℕ) (list : List Statement) → IsGraphOf all c g →
+    IsGraphOf all c h →
     Stands c.body n list → point_in g n ≡ point_in h n
 same_at all c g h n list x y end = x.end ∙ sym y.end
 same_at all c g h n list x y (before i) = x.statements _ _ _ _ _ i ∙ sym (y.statements _ _ _ _ _ i)

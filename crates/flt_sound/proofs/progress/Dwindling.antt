@@ -83,6 +83,7 @@ abbrev pub before_by : ℕ → ℕ → Stage → ℕ
 before_by f g stage.Pre = one_if g f
 before_by f g stage.Post = 0
 
+-- 1 where a visit is the filter's, from before the filters below, by its record
 abbrev pub before_is : ℕ → Visit → ℕ
 before_is f x = before_by f x.filter x.stage
 
@@ -92,6 +93,7 @@ open_in f [] settled = 0
 open_in f (x ∷ visits) [] = 0
 open_in f (x ∷ visits) (b ∷ settled) = (if b then 0 else before_is f x) + open_in f visits settled
 
+-- how many visits of the filter from before the filters below aren't settled
 abbrev pub open_of : ℕ → Store → ℕ
 open_of f s = open_in f s.visits s.settled
 
@@ -118,9 +120,11 @@ push_open f (y ∷ visits) (b ∷ settled) x e = omega (arith, push_open f visit
 
 -- ---- all that is counted
 
+-- how many entries its queue has
 abbrev pub entries_of : ℕ → Store → ℕ
 entries_of f s = sum_by (λ (e : Entry). 1) (queue_at s f)
 
+-- these visits, frames, entries, items and links of the filter, together
 abbrev pub size : ℕ → Store → ℕ
 size f s = open_of f s + frames_of f s + (entries_of f s + items_of f s + links_of f s)
 
@@ -136,6 +140,7 @@ apart_dwindles f s new h v t =
     let entries : entries_of f new ≡ entries_of f s = ap (λ q. sum_by (λ (e : Entry). 1) q) h.queue in
     record { presences = h.presences; less = omega (arith, visits, h.frames, entries, h.items, h.links) }
 
+-- what stays as it is doesn't grow
 pub same_dwindles : (f : ℕ) (s : Store) → Dwindles f s s
 same_dwindles f s = record { presences = refl; less = omega arith }
 
@@ -360,7 +365,8 @@ module _ (w : World) (a f : ℕ) (fit : (actor_at w a).filter ≡ f → is_attac
 
   enqueued_small : (granted refused : List Statement) (v : ℕ) (x : Option ℕ) → Small (enqueued w a granted refused v x)
   enqueued_small granted refused v x =
-      cases_small (is_attached (presence_at w.store own)) _ _ (λ e. by_apart _ (queue_apart f w.store own _ (other e)) refl refl) (λ e. same)
+      cases_small (is_attached (presence_at w.store own)) _ _ (λ e. by_apart _ (queue_apart f w.store own _ (other e)) refl refl)
+      (λ e. same)
 
   insert_small : (granted refused : List Statement) (v : Option ℕ) (c : Option (Option ℕ)) → Small (insert_by w a granted refused v c)
   insert_small granted refused None c = same

@@ -27,7 +27,8 @@ use Rattle.flt_sound.proofs.progress.Waiting.{modest_list, can_go_modestly, one_
 
 -- what flt_costs proves of steps: each spends
 pub record Spending : Type 0 where
-  pub local_spends : (p : List Filter) (t : List Event) (w : World) (a : ℕ) (s : Step) → local p t w a ≡ Some s → Spends w a s.world.activations
+  pub local_spends : (p : List Filter) (t : List Event) (w : World) (a : ℕ) (s : Step) → local p t w a ≡ Some s →
+      Spends w a s.world.activations
   pub board_spends : (p : List Filter) (t : List Event) (w : World) (a : ℕ) (grant : Bool) (s : Step) → board p t w a grant ≡ Some s →
       Spends w a s.world.activations
 

@@ -23,7 +23,8 @@ keeps_order rank (Some x) (Some l) = list_all (λ (h : HeldLock). nat_lt (rank (
 keeps_order rank _ _ = true
 
 -- each element of a list that passes
-passing : {X : Type 0} (test : X → Bool) (xs : List X) → list_all test xs ≡ true → (i : ℕ) (d : X) → i < length xs → test (get_or xs i d) ≡ true
+passing : {X : Type 0} (test : X → Bool) (xs : List X) → list_all test xs ≡ true → (i : ℕ) (d : X) → i < length xs →
+    test (get_or xs i d) ≡ true
 passing test [] h i d there = absurd (omega (arith, there))
 passing test (x ∷ xs) h zero d there = (and_parts _ _ h).0
 passing test (x ∷ xs) h (suc i) d there = passing test xs (and_parts _ _ h).1 i d (omega (arith, there))

@@ -44,7 +44,8 @@ at_once : (p : List Filter) (m : Moment) (Q : Moment → Type 0) → Q m → Rea
 at_once p m Q h = record { steps = []; winding_up = refl; last = m; leads = refl; holds = h }
 
 -- one step, and on
-by_step : (p : List Filter) (m : Moment) (Q : Moment → Type 0) (x : Transition) (s : Step) → is_winding_up x ≡ true → next p m x ≡ Some s → Reaches p (after m s) Q →
+by_step : (p : List Filter) (m : Moment) (Q : Moment → Type 0) (x : Transition) (s : Step) → is_winding_up x ≡ true →
+    next p m x ≡ Some s → Reaches p (after m s) Q →
     Reaches p m Q
 by_step p m Q x s w e r = record {
   steps = x ∷ r.steps;
@@ -188,7 +189,8 @@ module _ (spending : Spending) (laws : Laws) (p : List Filter) (ok : AreOrderly 
         by : (frames : List Frame) → (route_at s o).frames ≡ frames → is_empty frames ≡ true
         by [] e = refl
         by (x ∷ frames) e =
-            let none : frames_in x.filter (route_at s o) ≡ 0 = one_counts (frames_in x.filter) s.routes o no_route refl (empty x.filter).frames in
+            let none : frames_in x.filter (route_at s o) ≡ 0 = one_counts (frames_in x.filter) s.routes o no_route refl
+            (empty x.filter).frames in
             let some : frames_in x.filter (route_at s o) ≡ sum_by (frame_is x.filter) (x ∷ frames) =
             ap (λ l. sum_by (frame_is x.filter) l) e in
             absurd (omega (arith, none, some, sum_by-cons (frame_is x.filter) x frames, one_if-same x.filter))
@@ -313,6 +315,7 @@ module _ (spending : Spending) (laws : Laws) (p : List Filter) (ok : AreOrderly 
 
   -- ---- to the end
 
+  -- at rest all operations can be brought to their ends
   pub can_complete : (m : Moment) → Rests p m → CanComplete p m
   can_complete m r =
       let first = unload_all (length p) (omega arith) m r in

@@ -1,6 +1,6 @@
--- An unload can always complete. At a moment at which a filter is being detached and no callback runs, its teardown ends, or something of the
--- filter is left: then a move takes some of it away (`Loses`), and if that starts a callback, it ends, leaving no more than there was. So
--- the size of what is left says how often.
+-- An unload can always complete. At a moment at which a filter is being detached and no callback runs, its teardown ends, or something of
+-- the filter is left: then a move takes some of it away (`Loses`), and if that starts a callback, it ends, leaving no more than there
+-- was. So the size of what is left says how often.
 -- Here p is the program, m the moment, f the filter at an altitude, s the store, o an operation, n counts an element.
 use Rattle.std.proofs.Common.{◌≡◌, ◌≢◌, ℕ, zero, suc, ◌+◌, ◌-◌, ◌<◌, ◌≤◌, Bool, true, false, List, [], ◌∷◌, ◌++◌, length, Option, Some, None, ap, sym, subst, refl, ◌∙◌, arith, inl, inr, ◌⊎◌, sum_by}
 use Rattle.std.specs.Prelude.{not, ◌&&◌, ◌||◌, ◌==◌, if◌then◌else◌, find, position, option_and_then}
@@ -370,4 +370,5 @@ module _ (spending : Spending) (laws : Laws) (p : List Filter) (ok : AreOrderly 
 
 -- an unload can always complete
 pub filters_can_unload : Laws → Spending → FiltersCanUnload
-filters_can_unload laws spending p xs m altitude ok e = can_unload spending laws p ok altitude m (rests_after laws p (accepted_of p ok) xs m e)
+filters_can_unload laws spending p xs m altitude ok e =
+    can_unload spending laws p ok altitude m (rests_after laws p (accepted_of p ok) xs m e)

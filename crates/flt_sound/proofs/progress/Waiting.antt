@@ -1,5 +1,5 @@
--- Why callbacks can't deadlock. An activation that can't go on waits for a lock that another one of its filter holds; that one hasn't ended,
--- and if it waits too, it waits for a lock of greater rank. So the ranks say how often one can go from one to the next.
+-- Why callbacks can't deadlock. An activation that can't go on waits for a lock that another one of its filter holds; that one hasn't
+-- ended, and if it waits too, it waits for a lock of greater rank. So the ranks say how often one can go from one to the next.
 -- Here p is the program, m the moment, a and b are activations, g their filter, n a lock's place.
 use Rattle.std.proofs.Common.{◌≡◌, ℕ, zero, suc, ◌+◌, ◌<◌, ◌≤◌, Bool, true, false, List, [], ◌∷◌, length, Option, Some, None, ap, sym, subst, refl, ◌∙◌, arith, inl, inr, ◌⊎◌}
 use Rattle.std.specs.Prelude.{not, ◌&&◌, ◌||◌, ◌==◌, if◌then◌else◌, option_map, is_some}
@@ -117,7 +117,8 @@ module _ (p : List Filter) (m : Moment) (a : ℕ) where
     -- a lock is free, or isn't
     lock_goes : (line : ℕ) (c : PlainCall) → out-Statement st ≡ Statement-F.Call line c → (l : LockNumber) (access : Access) →
         taken_by_call (plain c).call (plain c).lock ≡ Some l → (b : Bool) → may_take m.world a l access ≡ b → (s : Step) →
-        ((some_step None (if true && b then Some s else None) ≡ true) × (some_step None (if true && b then Some s else None) ≡ true)) ⊎ Waits
+        ((some_step None (if true && b then Some s else None) ≡ true) × (some_step None (if true && b then Some s else None) ≡ true))
+        ⊎ Waits
     lock_goes line c e l access takes true free s = inl (refl, refl)
     lock_goes line c e l access takes false free s = inr (record {
       statement = st;
@@ -246,7 +247,8 @@ module _ (p : List Filter) (m : Moment) (r : Rests p m) where
       by false e = refl
       by true e =
           let idle = k.idle h.activation (sym (ap (λ (act : Activation). act.ended) (is_plain h.activation)) ∙ e) in
-          let none : (activation_at m.world h.activation).locks ≡ [] = ap (λ (act : Activation). act.locks) (is_plain h.activation) ∙ idle.locks in
+          let none : (activation_at m.world h.activation).locks ≡ [] = ap (λ (act : Activation). act.locks) (is_plain h.activation) ∙
+          idle.locks in
           let bad : false ≡ true = sym (ap (has_place n) none) ∙ one.has in absurd (cc)
 
   -- another activation of the filter holds the lock for which one waits
@@ -256,6 +258,7 @@ module _ (p : List Filter) (m : Moment) (r : Rests p m) where
     pub runs : (activation_at m.world by).ended ≡ false
     pub has : has_place n (activation_at m.world by).locks ≡ true
 
+  -- the lock for which one waits is held by another that runs
   pub held_by : (a : ℕ) (w : Waits p m a) → HasIt a (place_of w.lock)
   held_by a w =
       let g = (actor_at m.world a).filter in

@@ -65,6 +65,7 @@ layer_locks draining act rest (Statement-F.If line asked granted refused) new e 
 layer_locks draining act rest (Statement-F.Repeat line turns block) new e =
     let same : goes_on_to (turns_left line turns block rest) act ≡ new = cc in ap (λ (b : Activation). b.locks) (sym same)
 
+-- a local step leaves the locks of its activation
 pub local_locks : (draining : Bool) (act : Activation) (list : List Statement) (new : Activation) →
     local_step draining act list ≡ Some new → new.locks ≡ act.locks
 local_locks draining act [] new e = absurd (cc)
@@ -108,7 +109,8 @@ module _ (p : List Filter) (m : Moment) (k : Kept p m) (f : ℕ) where
       (λ d. let bad : true ≡ false = ap (λ (act : Activation). act.ended) (sym d) ∙ on in absurd (cc))
 
   -- a step of another filter's activation leaves nothing of the filter
-  left_passes : (a : ℕ) (ne : (actor_at w a).filter ≢ f) (there : a < length w.activations) (s : Step) → LeavesIt w a f ne there s → Passes f w s.world
+  left_passes : (a : ℕ) (ne : (actor_at w a).filter ≢ f) (there : a < length w.activations) (s : Step) → LeavesIt w a f ne there s →
+      Passes f w s.world
   left_passes a ne there s l = passes_by f w as_many s.world l.apart.presences l.held l.visited (λ d e. record {
     frames = omega (arith, e.frames, l.apart.frames);
     queue = l.apart.queue ∙ e.queue;

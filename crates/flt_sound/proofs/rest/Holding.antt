@@ -1,5 +1,5 @@
--- Who holds a lock by the store holds it by its own list, and is of the lock's filter. Each step keeps that: a lock that is taken comes into
--- both, one that is given up leaves both, and no other step touches either.
+-- Who holds a lock by the store holds it by its own list, and is of the lock's filter. Each step keeps that: a lock that is taken comes
+-- into both, one that is given up leaves both, and no other step touches either.
 -- Here w, u are worlds, f is a filter, n a lock's place, h a holder, a and b are activations.
 use Rattle.std.proofs.Common.{◌≡◌, ◌≢◌, ℕ, ◌<◌, Bool, true, false, List, [], ◌∷◌, ◌++◌, length, ap, sym, subst, refl, ◌∙◌, arith, inl, inr}
 use Rattle.std.specs.Prelude.{not, ◌&&◌, ◌||◌, ◌==◌, if◌then◌else◌, filter}
@@ -138,11 +138,16 @@ module _ (w : World) (a : ℕ) (there : a < length w.activations) where
       (holds_after act s f n (λ e h. ap (has_place n) same ∙ more_has l access n h)) (k f n) in
       holders_set (Holds u) w.store own l (holders_of w.store own l ++ record { activation = a; access = access } ∷ [])
       (each_push (Holds u own (place_of l)) (holders_of w.store own l) (record { activation = a; access = access }) (old own (place_of l))
-      (record { of = refl; has = rw (get_or-set_same w.activations a act nobody there) (ap (has_place (place_of l)) same ∙ new_has l access) }))
+      (record {
+        of = refl;
+        has = rw (get_or-set_same w.activations a act nobody there)
+            (ap (has_place (place_of l)) same ∙ new_has l access);
+      }))
       (λ f n ne. old f n)
 
   -- another lock stays in the list
-  other_stays : (l : LockNumber) (n : ℕ) → n ≢ place_of l → (ls : List HeldLock) → has_place n ls ≡ true → has_place n (without_last l ls) ≡ true
+  other_stays : (l : LockNumber) (n : ℕ) → n ≢ place_of l → (ls : List HeldLock) → has_place n ls ≡ true →
+      has_place n (without_last l ls) ≡ true
   other_stays l n ne [] h = h
   other_stays l n ne (k ∷ ls) h =
       by (n == place_of k.lock) refl (same_lock l k.lock && not (holds_lock l ls)) refl (other_stays l n ne ls) h

@@ -125,7 +125,8 @@ end_apart {p} {m} {a} s at f ne there = returns_apart m.world a f ne there p m.t
     ne (sym (given_visit at u value).filter_is ∙ h))
 
 list_apart : {p : List Filter} {m : Moment} {a : ℕ} (s : Shadow) (list : List Statement) (grant : Bool) (at : IsAt p m a (with_rest s list))
-    (f : ℕ) (ne : (actor_at m.world a).filter ≢ f) (there : a < length m.world.activations) → AfterStep (list_step p m.trace m.world a list grant) (LeavesIt m.world a f ne there)
+    (f : ℕ) (ne : (actor_at m.world a).filter ≢ f) (there : a < length m.world.activations) → AfterStep
+    (list_step p m.trace m.world a list grant) (LeavesIt m.world a f ne there)
 list_apart s [] true at f ne there = end_apart (with_rest s []) at f ne there
 list_apart s [] false at f ne there = tt
 list_apart {m = m} {a = a} s (st ∷ rest) grant at f ne there =

@@ -56,9 +56,11 @@ module _ (f : ℕ) (s : Store) where
     links = set_fewer (linked_is f) s.contexts x c no_context h;
   }
 
+  -- a reference more to a context
   pub more_apart : (x : ℕ) → Apart f s (add_reference s x)
   more_apart x = context_apart x _ (omega arith)
 
+  -- a reference less
   pub less_apart : (x : ℕ) → Apart f s (drop_reference s x)
   less_apart x = context_apart x _ (omega arith)
 
@@ -68,6 +70,7 @@ module _ (f : ℕ) (s : Store) where
   link_apart : (x : ℕ) (l : Link) → l.filter ≢ f → Apart f s (with_link s x (Some l))
   link_apart x l ne = let zero = one_if-other l.filter f ne in context_apart x _ (omega (arith, zero))
 
+  -- a context's value is written
   pub value_apart : (x value : ℕ) → Apart f s (put_value s x value)
   value_apart x value = by (is_freed (context_at s x))
     where
@@ -144,8 +147,10 @@ pub settled_apart : (f : ℕ) (s : Store) (v : ℕ) (x : Option ℕ) (way : Way)
 settled_apart f s v x way ne = mark (settles_visit way)
   where
     led_apart : (b : Bool) →
-        Apart f s (if b then with_route s (visit_at s v).operation (led (visit_at s v).filter x way (route_at s (visit_at s v).operation)) else s)
-    led_apart true = route_apart f s (visit_at s v).operation _ (led_fewer f (visit_at s v).filter x way (route_at s (visit_at s v).operation) ne)
+        Apart f s (if b then with_route s (visit_at s v).operation (led (visit_at s v).filter x way
+        (route_at s (visit_at s v).operation)) else s)
+    led_apart true =
+        route_apart f s (visit_at s v).operation _ (led_fewer f (visit_at s v).filter x way (route_at s (visit_at s v).operation) ne)
     led_apart false = same_apart f s s refl refl refl refl refl
 
     mark : (b : Bool) → Apart f s (if b then record (lead s v x way) { settled = set (lead s v x way).settled v true } else s)
@@ -154,6 +159,7 @@ settled_apart f s v x way ne = mark (settles_visit way)
 
 -- ---- what leaves all holders of locks
 
+-- a link that goes leaves the holders of locks
 pub unlink_holders : (s : Store) (y : ℕ) (old : Option ContextVariable) → (after_unlink s y old).holders ≡ s.holders
 unlink_holders s y None = refl
 unlink_holders s y (Some d) = refl
@@ -169,7 +175,8 @@ settled_holders : (s : Store) (v : ℕ) (x : Option ℕ) (way : Way) → (settle
 settled_holders s v x way = mark (settles_visit way)
   where
     led_same : (b : Bool) →
-        (if b then with_route s (visit_at s v).operation (led (visit_at s v).filter x way (route_at s (visit_at s v).operation)) else s).holders
+        (if b then with_route s (visit_at s v).operation (led (visit_at s v).filter x way (route_at s (visit_at s v).operation)) else
+        s).holders
         ≡ s.holders
     led_same true = refl
     led_same false = refl
@@ -178,6 +185,7 @@ settled_holders s v x way = mark (settles_visit way)
     mark true = led_same (is_led s v)
     mark false = refl
 
+-- and the visits of operations
 pub unlink_visited : (s : Store) (y : ℕ) (old : Option ContextVariable) → AreVisited s → AreVisited (after_unlink s y old)
 unlink_visited s y None = same_visited s (after_unlink s y None) refl refl refl
 unlink_visited s y (Some d) = same_visited s (with_link s y None) refl refl refl
@@ -260,42 +268,53 @@ module _ (w : World) (a f : ℕ) (ne : (actor_at w a).filter ≢ f) (on : a < le
 
   there_apart : (existing : Existing) (old : Option ContextVariable) (granted refused : List Statement) (x : ℕ) (l : Link) (y : Option ℕ) →
       l.filter ≢ f → LeavesIt (set_there w a existing old granted refused x l y)
-  there_apart existing old granted refused x l None h = goes _ _ (put_apart f w.store x l h) refl (old_locks _ old None) (visits_stay _ refl refl refl)
+  there_apart existing old granted refused x l None h =
+      goes _ _ (put_apart f w.store x l h) refl (old_locks _ old None) (visits_stay _ refl refl refl)
   there_apart Keep old granted refused x l (Some y) h = kept_apart old refused y
   there_apart Replace old granted refused x l (Some y) h =
-      goes _ _ (both_apart f w.store (after_unlink w.store y old) _ (unlink_apart f w.store y old) (put_apart f (after_unlink w.store y old) x l h)) (unlink_holders w.store y old) (old_locks _ old (Some y)) (λ k. same_visited (after_unlink w.store y old) (put_link (after_unlink w.store y old) x l) refl refl refl (unlink_visited w.store y old k))
+      goes _ _ (both_apart f w.store (after_unlink w.store y old) _ (unlink_apart f w.store y old)
+      (put_apart f (after_unlink w.store y old) x l h)) (unlink_holders w.store y old) (old_locks _ old (Some y))
+      (λ k. same_visited (after_unlink w.store y old) (put_link (after_unlink w.store y old) x l) refl refl refl
+      (unlink_visited w.store y old k))
 
   set_apart : (existing : Existing) (old : Option ContextVariable) (granted refused : List Statement) (x : Option ℕ) (l : Option Link) →
       ((j : Link) → l ≡ Some j → j.filter ≢ f) → LeavesIt (set_by w a existing old granted refused x l)
   set_apart existing old granted refused None l h = still _ refl
   set_apart existing old granted refused (Some x) None h = still _ refl
   set_apart existing old granted refused (Some x) (Some l) h =
-      if_apart (cannot_set w a x) _ _ (still _ (old_locks _ old None)) (there_apart existing old granted refused x l (linked_at w.store l) (h l refl))
+      if_apart (cannot_set w a x) _ _ (still _ (old_locks _ old None)) (there_apart existing old granted refused x l
+      (linked_at w.store l) (h l refl))
 
   unlinked_apart : (old : Option ContextVariable) (granted refused : List Statement) (y : Option ℕ) →
       LeavesIt (unlinked w a old granted refused y)
   unlinked_apart old granted refused None = still _ (old_locks _ old None)
-  unlinked_apart old granted refused (Some y) = goes _ _ (unlink_apart f w.store y old) (unlink_holders w.store y old) (old_locks _ old (Some y)) (unlink_visited w.store y old)
+  unlinked_apart old granted refused (Some y) = goes _ _ (unlink_apart f w.store y old) (unlink_holders w.store y old)
+      (old_locks _ old (Some y)) (unlink_visited w.store y old)
 
   delete_by_apart : (old : Option ContextVariable) (granted refused : List Statement) (l : Option Link) →
       LeavesIt (delete_by w a old granted refused l)
   delete_by_apart old granted refused None = still _ refl
   delete_by_apart old granted refused (Some l) = unlinked_apart old granted refused (linked_at w.store l)
 
+  -- a context is deleted
   pub deleted_apart : (rest : List Statement) (x : Option ℕ) → LeavesIt (deleted w a rest x)
   deleted_apart rest None = still _ refl
-  deleted_apart rest (Some x) = if_apart (is_some (context_at w.store x).link) _ _ (goes _ _ (unlink_apart f w.store x None) (unlink_holders w.store x None) refl (unlink_visited w.store x None)) (still _ refl)
+  deleted_apart rest (Some x) = if_apart (is_some (context_at w.store x).link) _ _
+      (goes _ _ (unlink_apart f w.store x None) (unlink_holders w.store x None) refl (unlink_visited w.store x None)) (still _ refl)
 
+  -- a context gets one more name
   pub referenced_apart : (d : ContextVariable) (rest : List Statement) (x : Option ℕ) → LeavesIt (referenced w a d rest x)
   referenced_apart d rest None = still _ refl
   referenced_apart d rest (Some x) = got_apart d rest rest (Some x)
 
+  -- a context is released
   pub released_apart : (rest : List Statement) (x : Option ℕ) → LeavesIt (released w a rest x)
   released_apart rest None = still _ refl
   released_apart rest (Some x) = goes _ _ (less_apart f w.store x) refl refl (visits_stay _ refl refl refl)
 
   -- ---- locks
 
+  -- a lock is taken
   pub taken_apart : (l : LockNumber) (access : Access) (rest : List Statement) → LeavesIt (taken w a l access rest)
   taken_apart l access rest = if_apart (holds_lock l here.locks) _ _ (still _ refl) (record {
     actors = refl;
@@ -305,6 +324,7 @@ module _ (w : World) (a f : ℕ) (ne : (actor_at w a).filter ≢ f) (on : a < le
     visited = visits_stay _ refl refl refl;
   })
 
+  -- a lock is given up
   pub given_up_apart : (l : LockNumber) (rest : List Statement) → LeavesIt (given_up w a l rest)
   given_up_apart l rest = if_apart (holds_lock l here.locks) _ _ (record {
     actors = refl;
@@ -318,7 +338,8 @@ module _ (w : World) (a f : ℕ) (ne : (actor_at w a).filter ≢ f) (on : a < le
 
   enqueued_apart : (granted refused : List Statement) (v : ℕ) (x : Option ℕ) → LeavesIt (enqueued w a granted refused v x)
   enqueued_apart granted refused v x =
-      if_apart (is_attached (presence_at w.store own)) _ _ (goes _ _ (queue_apart f w.store own _ ne) refl refl (visits_stay _ refl refl refl)) (still _ refl)
+      if_apart (is_attached (presence_at w.store own)) _ _ (goes _ _ (queue_apart f w.store own _ ne) refl refl
+      (visits_stay _ refl refl refl)) (still _ refl)
 
   insert_apart : (granted refused : List Statement) (v : Option ℕ) (c : Option (Option ℕ)) → LeavesIt (insert_by w a granted refused v c)
   insert_apart granted refused None c = still _ refl
@@ -335,29 +356,37 @@ module _ (w : World) (a f : ℕ) (ne : (actor_at w a).filter ≢ f) (on : a < le
       LeavesIt (defer_by w a routine grant granted refused v c)
   defer_apart routine grant granted refused None c = still _ refl
   defer_apart routine grant granted refused (Some v) (Some None) = still _ refl
-  defer_apart routine grant granted refused (Some v) (Some (Some x)) = if_apart grant _ _ (goes _ _ (item_apart f w.store _ ne) refl refl (visits_stay _ refl refl refl)) (still _ refl)
-  defer_apart routine grant granted refused (Some v) None = if_apart grant _ _ (goes _ _ (item_apart f w.store _ ne) refl refl (visits_stay _ refl refl refl)) (still _ refl)
+  defer_apart routine grant granted refused (Some v) (Some (Some x)) =
+      if_apart grant _ _ (goes _ _ (item_apart f w.store _ ne) refl refl (visits_stay _ refl refl refl)) (still _ refl)
+  defer_apart routine grant granted refused (Some v) None =
+      if_apart grant _ _ (goes _ _ (item_apart f w.store _ ne) refl refl (visits_stay _ refl refl refl)) (still _ refl)
 
   generic_apart : (routine : ℕ) (grant : Bool) (granted refused : List Statement) (c : Option (Option ℕ)) →
       LeavesIt (queue_by w a routine grant granted refused c)
   generic_apart routine grant granted refused (Some None) = still _ refl
-  generic_apart routine grant granted refused (Some (Some x)) = if_apart grant _ _ (goes _ _ (item_apart f w.store _ ne) refl refl (visits_stay _ refl refl refl)) (still _ refl)
-  generic_apart routine grant granted refused None = if_apart grant _ _ (goes _ _ (item_apart f w.store _ ne) refl refl (visits_stay _ refl refl refl)) (still _ refl)
+  generic_apart routine grant granted refused (Some (Some x)) =
+      if_apart grant _ _ (goes _ _ (item_apart f w.store _ ne) refl refl (visits_stay _ refl refl refl)) (still _ refl)
+  generic_apart routine grant granted refused None =
+      if_apart grant _ _ (goes _ _ (item_apart f w.store _ ne) refl refl (visits_stay _ refl refl refl)) (still _ refl)
 
   -- ---- reads
 
+  -- a context's value is read
   pub value_read : (n : NumberVariable) (rest : List Statement) (x : Option ℕ) → LeavesIt (read_value_of w a n rest x)
   value_read n rest None = still _ refl
   value_read n rest (Some x) = still _ refl
 
+  -- a context's value is written by a callback
   pub value_written : (value : Atom) (rest : List Statement) (x : Option ℕ) → LeavesIt (write_value_of w a value rest x)
   value_written value rest None = still _ refl
   value_written value rest (Some x) = goes _ _ (value_apart f w.store x _) (value_holders w.store x _) refl (value_visited w.store x _)
 
+  -- an operation's file is read
   pub file_read : (n : NumberVariable) (rest : List Statement) (v : Option ℕ) → LeavesIt (read_file_of w a n rest v)
   file_read n rest None = still _ refl
   file_read n rest (Some v) = still _ refl
 
+  -- an operation's mode is tested
   pub irp_tested : (holds fails : List Statement) (v : Option ℕ) → LeavesIt (test_irp_of w a holds fails v)
   irp_tested holds fails None = still _ refl
   irp_tested holds fails (Some v) = still _ refl
@@ -378,18 +407,22 @@ module _ (w : World) (a f : ℕ) (ne : (actor_at w a).filter ≢ f) (on : a < le
     complete_apart d st rest None c h = still _ refl
     complete_apart d st rest (Some v) (Some None) h = still _ refl
     complete_apart d st rest (Some v) (Some (Some x)) h =
-        goes _ _ (settled_apart f w.store v (Some x) (way_of p w.store v (CompletesPre (whose d) v st)) (h v refl)) (settled_holders w.store v _ _) refl (settled_visited w.store v _ _)
-    complete_apart d st rest (Some v) None h = goes _ _ (settled_apart f w.store v None (way_of p w.store v (CompletesPre (whose d) v st)) (h v refl)) (settled_holders w.store v _ _) refl (settled_visited w.store v _ _)
+        goes _ _ (settled_apart f w.store v (Some x) (way_of p w.store v (CompletesPre (whose d) v st)) (h v refl))
+        (settled_holders w.store v _ _) refl (settled_visited w.store v _ _)
+    complete_apart d st rest (Some v) None h = goes _ _ (settled_apart f w.store v None
+        (way_of p w.store v (CompletesPre (whose d) v st)) (h v refl)) (settled_holders w.store v _ _) refl (settled_visited w.store v _ _)
 
     pub complete_post_apart : (rest : List Statement) (v : Option ℕ) → ((u : ℕ) → v ≡ Some u → (visit_at w.store u).filter ≢ f) →
         LeavesIt (complete_post_by w a p rest v)
     complete_post_apart rest None h = still _ refl
-    complete_post_apart rest (Some v) h = goes _ _ (settled_apart f w.store v None (way_of p w.store v (CompletesPost v)) (h v refl)) (settled_holders w.store v _ _) refl (settled_visited w.store v _ _)
+    complete_post_apart rest (Some v) h = goes _ _ (settled_apart f w.store v None (way_of p w.store v (CompletesPost v)) (h v refl))
+        (settled_holders w.store v _ _) refl (settled_visited w.store v _ _)
 
     module _ (t : List Event) where
       returned_apart : (st : Option Status) (b : Bool) (v : Option ℕ) → ((u : ℕ) → v ≡ Some u → (visit_at w.store u).filter ≢ f) →
           LeavesIt (returned p t w a st b v)
-      returned_apart st true (Some v) h = goes _ _ (settled_apart f w.store v _ (way_of p w.store v (Returned st)) (h v refl)) (settled_holders w.store v _ _) refl (settled_visited w.store v _ _)
+      returned_apart st true (Some v) h = goes _ _ (settled_apart f w.store v _ (way_of p w.store v (Returned st)) (h v refl))
+          (settled_holders w.store v _ _) refl (settled_visited w.store v _ _)
       returned_apart st true None h = still _ refl
       returned_apart st false v h = still _ refl
 

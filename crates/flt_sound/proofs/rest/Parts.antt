@@ -42,9 +42,11 @@ linked_is f c = link_is f c.link
 abbrev pub frames_of : ℕ → Store → ℕ
 frames_of f s = sum_by (frames_in f) s.routes
 
+-- how many work items of the filter are there
 abbrev pub items_of : ℕ → Store → ℕ
 items_of f s = sum_by (item_is f) s.items
 
+-- how many links of the filter are there
 abbrev pub links_of : ℕ → Store → ℕ
 links_of f s = sum_by (linked_is f) s.contexts
 
@@ -177,7 +179,8 @@ drained_by f w k =
     (not_false _ (none_passes (has_frame f) (frames_in f) (counts_frame f) w.store.routes k.frames))
     (rw k.queue refl))
     (not_false _ (none_passes (is_item_of f) (item_is f) (counts_item f) w.store.items k.items)))
-    (not_false _ (none_passes (λ (c : world.Context). is_linked_by f c.link) (linked_is f) (λ c. counts_link f c.link) w.store.contexts k.links)))
+    (not_false _ (none_passes (λ (c : world.Context). is_linked_by f c.link) (linked_is f) (λ c. counts_link f c.link)
+    w.store.contexts k.links)))
     (not_false _ (active_none f w.actors w.activations k.active))
 
 -- ---- changes that add nothing

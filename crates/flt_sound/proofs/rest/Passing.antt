@@ -101,7 +101,13 @@ module _ (f : ℕ) (w : World) (long : length w.actors ≡ length w.activations)
       (AreVisited w.store → AreVisited u.store) → (presence_at w.store f ≡ Detached → IsEmpty f w → IsEmpty f u) → Passes f w u
   passes_by u same held visited h =
       let here : presence_at u.store f ≡ presence_at w.store f = ap (λ l. get_or l f Detached) same in
-      record { stays = λ e. here ∙ e; empty = λ k e. let was = sym here ∙ e in h was (k was); held = held; visited = visited; filters = ap length same }
+      record {
+        stays = λ e. here ∙ e;
+        empty = λ k e. let was = sym here ∙ e in h was (k was);
+        held = held;
+        visited = visited;
+        filters = ap length same;
+      }
 
   -- another store with the same holders of locks
   store_held : (s : Store) → s.holders ≡ w.store.holders → AreHeld w → AreHeld (record w { store = s })
@@ -119,8 +125,10 @@ module _ (f : ℕ) (w : World) (long : length w.actors ≡ length w.activations)
   })
 
   -- an activation of another filter starts
-  pub starts_pass : (s : Store) (actor : Actor) (body : List Statement) (given arg : Option ℕ) → Apart f w.store s → s.holders ≡ w.store.holders →
-      (AreVisited w.store → AreVisited s) → (presence_at w.store f ≡ Detached → IsEmpty f w → actor.filter ≢ f) → Passes f w (starts w s actor body given arg).world
+  pub starts_pass : (s : Store) (actor : Actor) (body : List Statement) (given arg : Option ℕ) → Apart f w.store s →
+      s.holders ≡ w.store.holders →
+      (AreVisited w.store → AreVisited s) → (presence_at w.store f ≡ Detached → IsEmpty f w → actor.filter ≢ f) → Passes f w
+      (starts w s actor body given arg).world
   starts_pass s actor body given arg a same visited ne =
       passes_by (starts w s actor body given arg).world a.presences (held_more w s actor (starting body given arg) long same)
       visited (λ d k. record {
@@ -130,7 +138,11 @@ module _ (f : ℕ) (w : World) (long : length w.actors ≡ length w.activations)
         links = omega (arith, k.links, a.links);
         active = λ b. elim (cases_eq b (length w.actors)) [
           | inl e ↦ rw (e, get_or-append_seam w.actors actor [] no_actor) (λ h. absurd (ne d k h))
-          | inr older ↦ rw (get_or-other w.actors actor no_actor b older, get_or-other w.activations (starting body given arg) nobody b (λ e. older (e ∙ sym long)))
+          | inr older ↦ rw (
+            get_or-other w.actors actor no_actor b older,
+            get_or-other w.activations (starting body given arg) nobody
+                b (λ e. older (e ∙ sym long)),
+          )
               (k.active b)
         ];
       })
@@ -170,7 +182,8 @@ module _ (p : List Filter) (f : ℕ) (w : World) (long : length w.actors ≡ len
       (arrival_visited s (with_arrival s (record { kind = kind; mode = mode; file = file })) _ refl refl refl refl))
 
   -- a visit more, and another route of its operation
-  visit_apart : (o : ℕ) (r : Route) (x : world.Visit) → frames_in f r ≤ frames_in f (route_at s o) → Apart f s (with_visit (with_route s o r) x)
+  visit_apart : (o : ℕ) (r : Route) (x : world.Visit) → frames_in f r ≤ frames_in f (route_at s o) →
+      Apart f s (with_visit (with_route s o r) x)
   visit_apart o r x h =
       both_apart f s (with_route s o r) (with_visit (with_route s o r) x) (route_apart f s o r h)
       (same_apart f (with_route s o r) (with_visit (with_route s o r) x) refl refl refl refl refl)
@@ -187,12 +200,14 @@ module _ (p : List Filter) (f : ℕ) (w : World) (long : length w.actors ≡ len
   pre_passes o kind Up = tt
 
   skip_passes : (o : ℕ) (kind : Operation) (at : Position) → AfterStep (skip_at p w o kind at) Pass
-  skip_passes o kind (Down g) = when Pass (nat_lt g (length p) && not (calls_pre p s g kind)) _ (λ h. route_passes o _ (omega arith) (λ h. absurd (cc)) [])
+  skip_passes o kind (Down g) =
+      when Pass (nat_lt g (length p) && not (calls_pre p s g kind)) _ (λ h. route_passes o _ (omega arith) (λ h. absurd (cc)) [])
   skip_passes o kind Visiting = tt
   skip_passes o kind Up = tt
 
   lower_passes : (o : ℕ) (at : Position) → AfterStep (lower_at p w o at) Pass
-  lower_passes o (Down g) = unless Pass (nat_lt g (length p)) _ (λ h. route_passes o (carried_out (route_at s o)) (omega arith) (λ h. absurd (cc)) [])
+  lower_passes o (Down g) =
+      unless Pass (nat_lt g (length p)) _ (λ h. route_passes o (carried_out (route_at s o)) (omega arith) (λ h. absurd (cc)) [])
   lower_passes o Visiting = tt
   lower_passes o Up = tt
 
@@ -223,7 +238,8 @@ module _ (p : List Filter) (f : ℕ) (w : World) (long : length w.actors ≡ len
       post_of_passes o frame true _ (others_sum (frame_is f) (is_frame_of g) (route_at s o).frames frame e) (λ h. inr h)
 
   drain_passes : (g o : ℕ) → AfterStep (drain p w g o) Pass
-  drain_passes g o = when Pass (is_detaching (presence_at s g)) _ (λ h. drain_by_passes g o (find (is_frame_of g) (route_at s o).frames) refl)
+  drain_passes g o =
+      when Pass (is_detaching (presence_at s g)) _ (λ h. drain_by_passes g o (find (is_frame_of g) (route_at s o).frames) refl)
 
   -- an entry is taken out: of another filter's queue, since the filter's has none
   canceled_by_passes : (g o : ℕ) (x : Option Entry) → find (is_entry_of s o) (queue_at s g) ≡ x → AfterStep (canceled_by p w g o x) Pass
@@ -261,7 +277,8 @@ module _ (p : List Filter) (f : ℕ) (w : World) (long : length w.actors ≡ len
   -- a link goes
   unlink_by_passes : (x : Option ℕ) → AfterStep (unlink_by w x) Pass
   unlink_by_passes None = tt
-  unlink_by_passes (Some x) = stores_pass f w long (after_unlink s x None) (freed_by_drop s x) (unlink_apart f s x None) (unlink_holders s x None)
+  unlink_by_passes (Some x) =
+      stores_pass f w long (after_unlink s x None) (freed_by_drop s x) (unlink_apart f s x None) (unlink_holders s x None)
       (unlink_visited s x None)
 
   -- ---- moves that change whether a filter is there
@@ -282,7 +299,14 @@ module _ (p : List Filter) (f : ℕ) (w : World) (long : length w.actors ≡ len
   other_passes : (g : ℕ) (x : Presence) → g ≢ f → Pass (stores w (with_presence s g x) [])
   other_passes g x ne =
       let same : presence_at (with_presence s g x) f ≡ presence_at s f = get_or-set_other s.presences g f x Detached (λ e. ne (sym e)) in
-      record { stays = λ e. same ∙ e; empty = λ k e. same_parts g x (k (sym same ∙ e)); held = presence_held g x; visited = presence_visited g x; filters = length-set s.presences g x }
+      record {
+        stays = λ e. same ∙ e;
+        empty = λ k e. same_parts g x (k (sym same ∙ e));
+        held = presence_held g x;
+        visited =
+            presence_visited g x;
+        filters = length-set s.presences g x;
+      }
 
   detach_passes : (g : ℕ) → AfterStep (detach w g) Pass
   detach_passes g = when Pass (is_attached (presence_at s g)) _ (λ h. elim (cases_eq g f) [

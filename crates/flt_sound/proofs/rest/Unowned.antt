@@ -99,7 +99,8 @@ module _ (p : List Filter) (m : Moment) (k : Kept p m) (f : ℕ) (e : IsEmpty f 
         g = (actor_at m.world a).filter
 
         removed : (o : RemovedVariable) → own v (operation_slot (shadow_at k.shadows a) (Removed o)) ≡ 0
-        removed o = slot_free (operation_slot (shadow_at k.shadows a) (Removed o)) g (λ u h. (stood.removed o u h).filter) (other_filter a on)
+        removed o = slot_free (operation_slot (shadow_at k.shadows a) (Removed o)) g (λ u h. (stood.removed o u h).filter)
+            (other_filter a on)
 
         data_given : (u : ℕ) → operation_slot (shadow_at k.shadows a) Data ≡ Owns u → (visit_at s u).filter ≡ g
         data_given u h =

@@ -120,6 +120,7 @@ led_away g x (Ends outcome) r h = refl
 led_away g x Rises r h = refl
 led_away g x Stays r h = absurd (cc)
 
+-- settling a visit keeps that each operation at a filter has one that isn't settled
 pub settled_visited : (s : Store) (v : ℕ) (x : Option ℕ) (way : Way) → AreVisited s → AreVisited (settled_by s v x way)
 settled_visited s v x way k = mark (settles_visit way) refl
   where

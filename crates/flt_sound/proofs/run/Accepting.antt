@@ -190,7 +190,8 @@ unfolding computed
 ordered_all = refl
 
 -- as many points as the certificate has
-count_all : Covers worked_graph certificate → (c p : ℕ) (x : State) → state_at certificate c p ≡ Some x → (c < 5) × (p < points_at worked_graph c)
+count_all : Covers worked_graph certificate → (c p : ℕ) (x : State) → state_at certificate c p ≡ Some x →
+    (c < 5) × (p < points_at worked_graph c)
 count_all cov c p x e =
     let callback = callback_within certificate c p x e in
     let point = reached_within (slice_index_or certificate c []) p x e in
