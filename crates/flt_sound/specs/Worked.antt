@@ -1,10 +1,9 @@
--- One accepted filter, so that the theorem says something: it queues reads and lets a worker complete them, takes a lock in its
--- pre callback
--- of writes, and hands a context to its post callback.
+-- One accepted filter, so that the theorems say something: it queues reads and lets a worker complete them, takes two locks in their order
+-- in its pre callback of writes, and hands a context to its post callback.
 use Rattle.std.specs.Prelude.{ℕ, List, [], ◌∷◌, map, Option, Some, None}
 use Rattle.flt_rules.specs.Held.{held}
 use Rattle.flt_rules.specs.declared.call.LockKind.TheVariants.{Push}
-use Rattle.flt_rules.specs.declared.call.LockNumber.TheVariants.{L0}
+use Rattle.flt_rules.specs.declared.call.LockNumber.TheVariants.{L0, L1}
 use Rattle.flt_rules.specs.declared.held.Access.TheVariants.{Exclusive}
 use Rattle.flt_rules.specs.declared.held.HeldLock.{HeldLock}
 use Rattle.flt_rules.specs.declared.place.Operation.TheVariants.{Read, Write}
@@ -45,10 +44,12 @@ reads = on (head.Pre Read)
     ∷ []) []
     ∷ return status.NoCallback ∷ [])
 
--- a write hands a new context to its post callback, if it gets one
+-- a write takes two locks, and hands a new context to its post callback, if it gets one
 abbrev pub writes : Callback
 writes = on (head.Pre Write)
     (call (plain.AcquireLock Push L0)
+    ∷ call (plain.AcquireLock Push L1)
+    ∷ call (plain.ReleaseLock Push L1)
     ∷ call (plain.ReleaseLock Push L0)
     ∷ if_call (fallible.AllocateContext C0) (return (status.WithCallback (Some C0)) ∷ []) []
     ∷ return status.NoCallback ∷ [])
@@ -70,7 +71,7 @@ abbrev pub worked : Filter
 worked = record {
   name = 102 ∷ [];
   altitude = 100;
-  locks = record { kind = Push; name = 108 ∷ [] } ∷ [];
+  locks = record { kind = Push; name = 108 ∷ [] } ∷ record { kind = Push; name = 109 ∷ [] } ∷ [];
   queue = Some corner;
   callbacks = reads ∷ writes ∷ cleans_up Write ∷ works ∷ cancels ∷ [];
 }
@@ -94,7 +95,7 @@ returns_with st = point (instruction.Return (Some st))
 
 abbrev pub worked_graph : Graph
 worked_graph = record {
-  locks = Push ∷ [];
+  locks = Push ∷ Push ∷ [];
   callbacks =
       record {
         place = place.Pre Read;
@@ -104,7 +105,8 @@ worked_graph = record {
       }
       ∷ record {
         place = place.Pre Write;
-        points = does (plain.AcquireLock Push L0) 1 ∷ does (plain.ReleaseLock Push L0) 2 ∷ asks (fallible.AllocateContext C0) 3 4
+        points = does (plain.AcquireLock Push L0) 1 ∷ does (plain.AcquireLock Push L1) 2 ∷ does (plain.ReleaseLock Push L1) 3
+            ∷ does (plain.ReleaseLock Push L0) 4 ∷ asks (fallible.AllocateContext C0) 5 6
             ∷ returns_with (status.WithCallback (Some C0)) ∷ returns_with status.NoCallback ∷ point instruction.End ∷ [];
       }
       ∷ record {
@@ -153,6 +155,8 @@ certificate =
     ∷ state 1 1 1 2 either_way no_alone []
     ∷ None ∷ [])
     ∷ (state 1 1 1 2 either_way no_alone []
+    ∷ state 1 1 1 2 either_way no_alone (held L0 Exclusive ∷ [])
+    ∷ state 1 1 1 2 either_way no_alone (held L0 Exclusive ∷ held L1 Exclusive ∷ [])
     ∷ state 1 1 1 2 either_way no_alone (held L0 Exclusive ∷ [])
     ∷ state 1 1 1 2 either_way no_alone []
     ∷ state 2 1 1 2 either_way no_alone []

@@ -1,18 +1,17 @@
 -- The order of locks by computing, point by point.
 -- Here g is a graph, k a certificate, a an acquisition, n a lock's place.
-use Rattle.std.proofs.Common.{◌≡◌, ℕ, zero, suc, ◌<◌, ◌≤◌, Bool, true, List, [], ◌∷◌, length, Option, Some, ap, subst, arith}
+use Rattle.std.proofs.Common.{◌≡◌, ℕ, zero, suc, ◌<◌, Bool, true, List, [], ◌∷◌, length, Option, Some, subst, arith}
 use Rattle.std.specs.Prelude.{nat_lt}
 use Rattle.std.specs.List.{All, list_all}
 use Rattle.std.proofs.Math.ListN.{get_or}
-use Rattle.std.proofs.lemmas.Bool.{and_parts, eqb-true, ltb-true}
+use Rattle.std.proofs.lemmas.Bool.{and_parts, ltb-true}
 use Rattle.flt_rules.specs.Call.{place_of}
 use Rattle.flt_rules.specs.declared.call.LockNumber.{LockNumber}
 use Rattle.flt_rules.specs.declared.held.HeldLock.{HeldLock}
 use Rattle.flt_graph.specs.declared.graph.Graph.{Graph}
 use Rattle.flt_abs.specs.State.{State}
 use Rattle.flt_cert.specs.Format.{Certificate}
-use Rattle.flt_order.specs.Order.{taken_by, TakesInOrder, IsAcquired}
-use Rattle.flt_order.specs.declared.order.Acquisition.{Acquisition}
+use Rattle.flt_order.specs.Order.{taken_by, TakesInOrder}
 use Rattle.flt_sound.proofs.progress.Waiting.{below_by}
 use Rattle.flt_check.specs.Covering.{state_at}
 use Rattle.flt_graph.specs.Graph.{instruction_at}

@@ -20,7 +20,7 @@ use Rattle.flt_check.specs.Covering.{Covers, state_at}
 use Rattle.flt_abs.specs.State.{State}
 use Rattle.flt_model.specs.WorkedParts.{computed, release_if}
 use Rattle.flt_rules.specs.declared.call.LockKind.TheVariants.{Push}
-use Rattle.flt_rules.specs.declared.call.LockNumber.TheVariants.{L0}
+use Rattle.flt_rules.specs.declared.call.LockNumber.TheVariants.{L0, L1}
 use Rattle.flt_tree.specs.Measures.{are_small, points_of, points_step, cost_of, cost_step}
 use Rattle.flt_tree.specs.Declarations.{same_lock_kind, AreWhole, statement_finds, finds_step}
 use Rattle.flt_tree.specs.declared.filter.Lock.{Lock}
@@ -41,9 +41,13 @@ module _ {locks : List Lock} {d r : ℕ} where
   releases : (c : ContextVariable) → IsStatement locks true (suc d) r (release_if c)
   releases c = fine.choice tt (fine.block (fine.go_on (fine.call tt) fine.empty)) fine.no_else
 
-lock_declared : IsPlain worked.locks (plain.AcquireLock Push L0)
+first_declared : IsPlain worked.locks (plain.AcquireLock Push L0)
 unfolding same_lock_kind
-lock_declared = (refl, refl)
+first_declared = (refl, refl)
+
+second_declared : IsPlain worked.locks (plain.AcquireLock Push L1)
+unfolding same_lock_kind
+second_declared = (refl, refl)
 
 bodies : AreCallbacks worked.locks true worked.callbacks
 bodies = (
@@ -57,9 +61,11 @@ bodies = (
       (fine.go_on fine.return fine.empty),
   (
     tt,
-    fine.go_on (fine.call lock_declared)
-        (fine.go_on (fine.call lock_declared)
-        (fine.go_on (fine.choice tt (fine.block (fine.go_on fine.return fine.empty)) fine.no_else) (fine.go_on fine.return fine.empty))),
+    fine.go_on (fine.call first_declared)
+        (fine.go_on (fine.call second_declared)
+        (fine.go_on (fine.call second_declared)
+        (fine.go_on (fine.call first_declared)
+        (fine.go_on (fine.choice tt (fine.block (fine.go_on fine.return fine.empty)) fine.no_else) (fine.go_on fine.return fine.empty))))),
     (
       tt,
       fine.go_on (releases Arg) (fine.go_on fine.return fine.empty),
@@ -99,7 +105,7 @@ well_formed = record {
   low = lit≤ tt;
   high = lit≤ tt;
   few_locks = lit≤ tt;
-  new_locks = (refl, tt);
+  new_locks = (refl, (refl, tt));
   some_callbacks = lit≤ tt;
   few_callbacks = lit≤ tt;
   new_callbacks = (refl, (refl, (refl, (refl, (refl, tt)))));
@@ -182,7 +188,7 @@ worked_accepted have cover = record {
   covers = cover worked_graph certificate is_certificate_there faultless;
 }
 
--- ---- it takes its lock in an order: it has one
+-- ---- it takes its locks in an order, that of their places
 
 ordered_all : all_below 5 (λ c. all_below (points_at worked_graph c) (λ p.
     keeps_order (λ n. n) (state_at certificate c p) (taken_by (instruction_at worked_graph c p)))) ≡ true
