@@ -79,8 +79,8 @@ pub fn accepted_journals_break_nothing()
     first_faults_are_told();
 }
 
-/// The worked filter, which queues, takes two locks, hands a context over and asks for a worker, is accepted, takes its locks in an order, and no run
-/// of it breaks anything. It does nothing: its clauses are the law.
+/// The worked filter, which queues, takes two locks, hands a context over and asks for a worker, is accepted, takes its locks in an order,
+/// and no run of it breaks anything. It does nothing: its clauses are the law.
 pub fn worked_filter_breaks_nothing()
     ensures accepted { IsAccepted worked }
     ensures orderly { IsOrderly worked }
