@@ -2,6 +2,7 @@
 
 use crate::scene::{Scene, finding};
 use crate::texts;
+use flt_machine::ApplyFault;
 use flt_model::{JournalEntry, Move, Subject};
 use flt_rules::{Mode, Operation};
 use flt_run::Choices;
@@ -9,122 +10,129 @@ use std::alloc::{AllocError, Global};
 use std::collections::VecDeque;
 use std::test::Fail;
 
-/// What is asked for at a moment: after how many entries the move comes, or which of the system's choices is refused.
-#[derive(Clone, Copy)]
-enum Asked {
-    Move(Move),
-    Refusal,
-}
-
-/// Operations that arrive one after the other, each once no ticket is left, and what is asked for besides, at each moment in turn.
+/// Operations that arrive one after the other, each once no ticket is left, and what is asked for besides, each time in a run of its own.
 struct Case {
     texts: &'static [&'static str],
     arrivals: &'static [Operation],
-    asked: Asked,
-    /// How many entries the run has at the end, by the moment; 0 where the move isn't enabled then. Of further moments it isn't said.
-    entries: &'static [usize],
+    /// How many entries the run has where nothing is asked for.
+    entries: usize,
+    /// How many it has where a grant choice is refused, by the choice.
+    refused: &'static [usize],
+    asked: &'static [Asked],
 }
 
-const CANCEL: Asked = Asked::Move(Move::Cancel { serial: 0 });
+/// A move that is made once a run has so many entries.
+struct Asked {
+    step: Move,
+    /// How many entries the run has at the end where it had none, one, two and so on, up to all; 0 where the move isn't enabled then.
+    entries: &'static [usize],
+    /// From which moment on the first operation ends as cancelled.
+    cancelled: usize,
+}
 
-const CANCEL_SECOND: Asked = Asked::Move(Move::Cancel { serial: 1 });
+const CANCEL: Move = Move::Cancel { serial: 0 };
 
-const DETACH: Asked = Asked::Move(Move::Detach { altitude: 100 });
+const CANCEL_SECOND: Move = Move::Cancel { serial: 1 };
 
-const DETACH_UPPER: Asked = Asked::Move(Move::Detach { altitude: 200 });
+const DETACH: Move = Move::Detach { altitude: 100 };
 
-const TWO_FILTERS: &[&str] = &[texts::UPPER, texts::LOWER];
+const DETACH_UPPER: Move = Move::Detach { altitude: 200 };
 
-static CASES: [Case; 14] = [
+const NEVER: usize = usize::MAX;
+
+static CASES: [Case; 4] = [
+    // Two filters see a read on its way down and up.
+    Case {
+        texts: &[texts::UPPER, texts::LOWER],
+        arrivals: &[Operation::Read],
+        entries: 10,
+        refused: &[],
+        asked: &[
+            Asked {
+                step: CANCEL,
+                entries: &[0, 11, 11, 11, 11, 11, 11, 11, 11, 11, 0],
+                cancelled: NEVER,
+            },
+            Asked {
+                step: DETACH,
+                entries: &[9, 9, 9, 9, 12, 12, 12, 12, 12, 12, 12],
+                cancelled: NEVER,
+            },
+            Asked {
+                step: DETACH_UPPER,
+                entries: &[9, 9, 12, 12, 12, 12, 12, 12, 12, 12, 12],
+                cancelled: NEVER,
+            },
+        ],
+    },
     // A pended read ends with its cancellation, however early that comes.
     Case {
         texts: &[texts::PENDS],
         arrivals: &[Operation::Read],
-        asked: CANCEL,
-        entries: &[0, 9, 9, 9, 9, 9],
+        entries: 5,
+        refused: &[],
+        asked: &[
+            Asked {
+                step: CANCEL,
+                entries: &[0, 9, 9, 9, 9, 9],
+                cancelled: 1,
+            },
+            Asked {
+                step: DETACH,
+                entries: &[5, 5, 8, 8, 10, 10],
+                cancelled: 4,
+            },
+        ],
     },
+    // A drain with a completion context, a link and a queue.
     Case {
-        texts: &[texts::PENDS],
-        arrivals: &[Operation::Read],
-        asked: DETACH,
-        entries: &[5, 5, 8, 8, 10, 10],
-    },
-    Case {
-        texts: &[texts::PENDS],
-        arrivals: &[Operation::Read],
-        asked: Asked::Refusal,
-        entries: &[5],
-    },
-    Case {
-        texts: TWO_FILTERS,
-        arrivals: &[Operation::Read],
-        asked: CANCEL,
-        entries: &[0],
-    },
-    Case {
-        texts: TWO_FILTERS,
-        arrivals: &[Operation::Read],
-        asked: DETACH,
-        entries: &[],
-    },
-    Case {
-        texts: TWO_FILTERS,
-        arrivals: &[Operation::Read],
-        asked: DETACH_UPPER,
-        entries: &[],
-    },
-    Case {
-        texts: &[texts::REMOVES],
+        texts: &[texts::LINKS],
         arrivals: &[Operation::Read, Operation::Write],
-        asked: CANCEL,
-        entries: &[0],
+        entries: 14,
+        refused: &[10],
+        asked: &[
+            Asked {
+                step: CANCEL,
+                entries: &[0, 18, 18, 18, 18, 18, 18, 18, 18, 18, 18, 18, 18, 18, 18],
+                cancelled: 1,
+            },
+            Asked {
+                step: CANCEL_SECOND,
+                entries: &[0, 0, 0, 0, 0, 0, 15, 15, 15, 15, 15, 15, 15, 15, 0],
+                cancelled: NEVER,
+            },
+            Asked {
+                step: DETACH,
+                entries: &[8, 8, 11, 11, 13, 13, 13, 19, 19, 20, 20, 20, 20, 20, 20],
+                cancelled: 4,
+            },
+        ],
     },
-    Case {
-        texts: &[texts::REMOVES],
-        arrivals: &[Operation::Read, Operation::Write],
-        asked: CANCEL_SECOND,
-        entries: &[0, 0, 0, 0, 0],
-    },
-    Case {
-        texts: &[texts::REMOVES],
-        arrivals: &[Operation::Read, Operation::Write],
-        asked: DETACH,
-        entries: &[],
-    },
-    Case {
-        texts: &[texts::REMOVES],
-        arrivals: &[Operation::Read, Operation::Write],
-        asked: Asked::Refusal,
-        entries: &[],
-    },
+    // The first read gives the stream a context, which the second one finds.
     Case {
         texts: &[texts::MARKS],
         arrivals: &[Operation::Read, Operation::Read],
-        asked: CANCEL,
-        entries: &[0],
-    },
-    Case {
-        texts: &[texts::MARKS],
-        arrivals: &[Operation::Read, Operation::Read],
-        asked: CANCEL_SECOND,
-        entries: &[0],
-    },
-    Case {
-        texts: &[texts::MARKS],
-        arrivals: &[Operation::Read, Operation::Read],
-        asked: DETACH,
-        entries: &[],
-    },
-    Case {
-        texts: &[texts::MARKS],
-        arrivals: &[Operation::Read, Operation::Read],
-        asked: Asked::Refusal,
-        entries: &[],
+        entries: 14,
+        refused: &[14],
+        asked: &[
+            Asked {
+                step: CANCEL,
+                entries: &[0, 15, 15, 15, 15, 15, 15, 15, 0, 0, 0, 0, 0, 0, 0],
+                cancelled: NEVER,
+            },
+            Asked {
+                step: CANCEL_SECOND,
+                entries: &[0, 0, 0, 0, 0, 0, 0, 0, 0, 15, 15, 15, 15, 15, 0],
+                cancelled: NEVER,
+            },
+            Asked {
+                step: DETACH,
+                entries: &[8, 8, 13, 13, 13, 14, 14, 14, 14, 14, 17, 17, 17, 17, 17],
+                cancelled: NEVER,
+            },
+        ],
     },
 ];
-
-/// How many moments are tried: more than the longest of these runs has.
-const MOMENTS: usize = 30;
 
 /// How many turns a run has at most.
 const TURNS: usize = 100;
@@ -147,15 +155,13 @@ impl Player {
         }
     }
 
-    /// Makes a move, if it is enabled. What gets a ticket by it comes behind the others.
-    fn make(&mut self, scene: &mut Scene, alloc: Global, step: Move) -> Result<bool, AllocError> {
-        let Some(next) = scene.tickets_of_move(alloc, step)? else {
-            return Ok(false);
-        };
+    /// Makes a move. What gets a ticket by it comes behind the others.
+    fn make(&mut self, scene: &mut Scene, alloc: Global, step: Move) -> Result<(), ApplyFault> {
+        let next = scene.tickets_of_move(alloc, step)?;
         for subject in next.as_slice() {
-            self.subjects.push_back(*subject)?;
+            self.subjects.push_back(*subject).map_err(AllocError::from)?;
         }
-        Ok(true)
+        Ok(())
     }
 
     /// Takes a turn, or lets the next operation arrive. It answers false where nothing is left.
@@ -177,86 +183,143 @@ impl Player {
             mode: Mode::Irp,
             file: 0,
         };
-        Ok(self.make(scene, alloc, arrive)?)
+        self.make(scene, alloc, arrive)?;
+        Ok(true)
     }
 
-    /// Goes on until nothing is left, or until there are so many entries.
+    /// Goes on until there are so many entries, or nothing is left: whether nothing is.
     fn goes_to(
         &mut self,
         scene: &mut Scene,
         alloc: Global,
         arrivals: &[Operation],
         entries: usize,
-    ) -> Result<(), Fail> {
+    ) -> Result<bool, Fail> {
         for _ in 0..TURNS {
-            if scene.board().journal().len() == entries || !self.goes_on(scene, alloc, arrivals)? {
-                return Ok(());
+            if scene.board().journal().len() == entries {
+                return Ok(false);
+            }
+            if !self.goes_on(scene, alloc, arrivals)? {
+                return Ok(true);
             }
         }
-        Ok(())
+        Ok(false)
     }
 
-    /// Asks at a moment. It answers false where the run is shorter, or the move isn't enabled.
-    fn asks(
-        &mut self,
-        scene: &mut Scene,
-        alloc: Global,
-        case: &Case,
-        moment: usize,
-    ) -> Result<bool, Fail> {
-        match case.asked {
-            Asked::Refusal => {
-                self.choices.refused.insert(moment as u64)?;
-                Ok(true)
-            }
-            Asked::Move(step) => {
-                self.goes_to(scene, alloc, case.arrivals, moment)?;
-                Ok(scene.board().journal().len() == moment && self.make(scene, alloc, step)?)
-            }
+    /// Makes a move, if it is enabled: whether it is.
+    fn tries(&mut self, scene: &mut Scene, alloc: Global, step: Move) -> Result<bool, ApplyFault> {
+        match self.make(scene, alloc, step) {
+            Err(ApplyFault::NotEnabled) => Ok(false),
+            made => made.map(|()| true),
         }
+    }
+
+    /// Goes on until nothing is left: whether that is so in the end, and the journal is legal.
+    fn ends(&mut self, scene: &mut Scene, alloc: Global, case: &Case) -> Result<bool, Fail> {
+        Ok(
+            self.goes_to(scene, alloc, case.arrivals, usize::MAX)?
+                && finding(alloc, case.texts, scene.board().journal())?.is_none(),
+        )
     }
 }
 
+/// How many grant choices a journal says were refused.
+fn refusals(entries: &[JournalEntry]) -> usize {
+    entries
+        .iter()
+        .filter(|entry| matches!(entry, JournalEntry::Go { grant: false, .. }))
+        .count()
+}
+
 /// Whether a filter that was to be detached is detached in the end.
-fn is_detached(entries: &[JournalEntry], asked: Asked) -> bool {
-    match asked {
-        Asked::Move(Move::Detach { altitude }) => entries.iter().any(|entry| *entry
+fn is_detached(entries: &[JournalEntry], step: Move) -> bool {
+    match step {
+        Move::Detach { altitude } => entries.iter().any(|entry| *entry
             == JournalEntry::Move(Move::Detached { altitude })),
         _ => true,
     }
 }
 
-/// Whether the first operation was cancelled, where it was to be and waits in a queue.
-fn is_cancelled(scene: &Scene, case: &Case) -> bool {
-    match case.asked {
-        Asked::Move(Move::Cancel { serial: 0 }) if case.entries.len() > 1 => {
-            scene.look().ends[0] == 4
-        }
-        _ => true,
-    }
+/// Whether a board's run has the move at its moment, and goes on from there as the case says.
+fn has_move(scene: &Scene, asked: &Asked, moment: usize) -> bool {
+    let journal = scene.board().journal();
+    asked.entries.get(moment) == Some(&journal.len())
+        && journal.entry(moment) == Some(JournalEntry::Move(asked.step))
+        && is_detached(journal.entries(), asked.step)
+        && (scene.look().ends[0] == 4) == (moment >= asked.cancelled)
 }
 
-/// Whether a run on a board goes as the case says where it is asked at a moment.
-fn goes_so(scene: &mut Scene, alloc: Global, case: &Case, moment: usize) -> Result<bool, Fail> {
+/// What is asked for in a run.
+#[derive(Clone, Copy)]
+enum Wish {
+    Nothing,
+    /// A grant choice is refused.
+    Refusal(usize),
+    /// One of the case's moves is made at a moment.
+    Move(usize, usize),
+}
+
+/// Whether a run on a board goes as the case says where nothing is asked for.
+fn goes_alone(scene: &mut Scene, alloc: Global, case: &Case) -> Result<bool, Fail> {
     let mut player = Player::new(alloc);
-    if !player.asks(scene, alloc, case, moment)? {
-        return Ok(case.entries.get(moment).copied().unwrap_or(0) == 0);
-    }
-    player.goes_to(scene, alloc, case.arrivals, usize::MAX)?;
-    let journal = scene.board().journal();
     Ok(
-        case.entries.get(moment).copied().unwrap_or(journal.len()) == journal.len()
-            && is_detached(journal.entries(), case.asked)
-            && is_cancelled(scene, case)
-            && finding(alloc, case.texts, journal)?.is_none(),
+        player.ends(scene, alloc, case)?
+            && scene.board().journal().len() == case.entries
+            && player.choices.made == case.refused.len() as u64,
     )
 }
 
+/// The same where a grant choice is refused: the journal says so, once.
+fn goes_refused(
+    scene: &mut Scene,
+    alloc: Global,
+    case: &Case,
+    number: usize,
+) -> Result<bool, Fail> {
+    let mut player = Player::new(alloc);
+    player.choices.refused.insert(number as u64)?;
+    let fine = player.ends(scene, alloc, case)?;
+    let entries = scene.board().journal().entries();
+    Ok(fine && case.refused.get(number) == Some(&entries.len()) && refusals(entries) == 1)
+}
+
+/// The same where a move is asked for at a moment. A move that isn't enabled changes nothing.
+fn goes_moved(
+    scene: &mut Scene,
+    alloc: Global,
+    case: &Case,
+    asked: &Asked,
+    moment: usize,
+) -> Result<bool, Fail> {
+    let mut player = Player::new(alloc);
+    player.goes_to(scene, alloc, case.arrivals, moment)?;
+    let made = player.tries(scene, alloc, asked.step)?;
+    let fine = player.ends(scene, alloc, case)?;
+    let as_said = if made {
+        has_move(scene, asked, moment)
+    } else {
+        asked.entries.get(moment) == Some(&0) && scene.board().journal().len() == case.entries
+    };
+    Ok(fine && as_said)
+}
+
+/// Whether a run on a board goes as the case says.
+fn goes_so(scene: &mut Scene, alloc: Global, case: &Case, wish: Wish) -> Result<bool, Fail> {
+    match wish {
+        Wish::Nothing => goes_alone(scene, alloc, case),
+        Wish::Refusal(number) => goes_refused(scene, alloc, case, number),
+        Wish::Move(row, moment) => match case.asked.get(row) {
+            Some(asked) => goes_moved(scene, alloc, case, asked, moment),
+            None => Ok(false),
+        },
+    }
+}
+
 /// The same of a new board.
-fn plays_so(alloc: Global, case: &Case, moment: usize) -> Result<bool, Fail> {
+fn plays_so(alloc: Global, case: &Case, wish: Wish) -> Result<bool, Fail> {
     match Scene::new(alloc, case.texts) {
         Ok(mut scene) => {
-            let fine = goes_so(&mut scene, alloc, case, moment);
+            let fine = goes_so(&mut scene, alloc, case, wish);
             scene.end();
             fine
         }
@@ -264,13 +327,50 @@ fn plays_so(alloc: Global, case: &Case, moment: usize) -> Result<bool, Fail> {
     }
 }
 
-/// The first case and moment of which the run goes otherwise.
-fn first_wrong(alloc: Global, cases: &[Case]) -> Result<Option<(usize, usize)>, Fail> {
-    for (row, case) in cases.iter().enumerate() {
-        for moment in 0..MOMENTS {
-            if !plays_so(alloc, case, moment)? {
-                return Ok(Some((row, moment)));
-            }
+/// Whether the case says of each moment of its run what comes of a move then.
+fn has_all_moments(case: &Case, row: usize) -> bool {
+    match case.asked.get(row) {
+        Some(asked) => asked.entries.len().checked_sub(1) == Some(case.entries),
+        None => false,
+    }
+}
+
+/// Whether each moment of a run comes to what the case says of it.
+fn moments_go_so(alloc: Global, case: &Case, row: usize) -> Result<bool, Fail> {
+    for moment in 0..=case.entries {
+        if !plays_so(alloc, case, Wish::Move(row, moment))? {
+            return Ok(false);
+        }
+    }
+    Ok(has_all_moments(case, row))
+}
+
+/// The first of a case's moves that comes to anything else at some moment.
+fn first_wrong_move(alloc: Global, case: &Case) -> Result<Option<usize>, Fail> {
+    for row in 0..case.asked.len() {
+        if !moments_go_so(alloc, case, row)? {
+            return Ok(Some(row));
+        }
+    }
+    Ok(None)
+}
+
+/// Whether each refusal comes to what the case says of it, and there are no more grant choices.
+fn refusals_go_so(alloc: Global, case: &Case) -> Result<bool, Fail> {
+    for number in 0..case.refused.len() {
+        if !plays_so(alloc, case, Wish::Refusal(number))? {
+            return Ok(false);
+        }
+    }
+    plays_so(alloc, case, Wish::Nothing)
+}
+
+/// The first case that comes to anything else: its number, and that of the move, where it is one.
+fn first_wrong(alloc: Global, cases: &[Case]) -> Result<Option<(usize, Option<usize>)>, Fail> {
+    for (number, case) in cases.iter().enumerate() {
+        let wrong = first_wrong_move(alloc, case)?;
+        if wrong.is_some() || !refusals_go_so(alloc, case)? {
+            return Ok(Some((number, wrong)));
         }
     }
     Ok(None)
@@ -285,6 +385,6 @@ fn each_moment_comes_to_a_legal_run(rt: HostRuntime) -> Result<(), Fail> {
 /// `tools/refuse-allocations.sh tests flt_machine_tests memory` refuses each request for memory in turn.
 #[test]
 fn turns_are_taken_within_memory(rt: HostRuntime) -> Result<(), Fail> {
-    assert!(rt; plays_so(rt.alloc(), &CASES[0], 3)?);
+    assert!(rt; plays_so(rt.alloc(), &CASES[2], Wish::Move(2, 8))?);
     Ok(())
 }

@@ -14,7 +14,7 @@ use flt_rules::FinalStatus;
 use flt_run::one::turn;
 use flt_run::{Choices, TurnFault};
 use flt_syntax::{Tree, parse};
-use std::alloc::{AllocError, Global};
+use std::alloc::Global;
 use std::collections::VecDeque;
 use std::marker::Model;
 use std::test::Fail;
@@ -254,17 +254,14 @@ impl Scene {
         }
     }
 
-    /// Makes a move: what gets a ticket by it; none where it isn't made for another reason than memory.
+    /// Makes a move: what gets a ticket by it.
     pub(crate) fn tickets_of_move(
         &mut self,
         alloc: Global,
         step: Move,
-    ) -> Result<Option<Vec<Subject>>, AllocError> {
-        match self.board.apply(alloc, &self.loaded, step) {
-            Ok(events) => Ok(Some(events.next)),
-            Err(ApplyFault::OutOfMemory) => Err(AllocError),
-            Err(ApplyFault::NotEnabled | ApplyFault::Full) => Ok(None),
-        }
+    ) -> Result<Vec<Subject>, ApplyFault> {
+        let events = self.board.apply(alloc, &self.loaded, step)?;
+        Ok(events.next)
     }
 
     /// The same of an activation that goes on, by so many steps.
@@ -303,7 +300,7 @@ impl Scene {
         entry: JournalEntry,
     ) -> Option<Vec<Subject>> {
         match entry {
-            JournalEntry::Move(step) => self.tickets_of_move(alloc, step).unwrap_or(None),
+            JournalEntry::Move(step) => self.tickets_of_move(alloc, step).ok(),
             JournalEntry::Go {
                 activation,
                 steps,
