@@ -1,8 +1,9 @@
-//! The most entries that there may be. The most operations stand in `examples/cases/runs.cases`.
+//! The most entries and operations that there may be. `examples/cases/limits.cases` has them by `run`.
 
 use crate::scene::{Answer, Scene, finding};
 use crate::texts;
-use flt_model::{Journal, JournalEntry, Move};
+use flt_machine::ApplyFault;
+use flt_model::{Journal, JournalEntry, Move, Subject};
 use flt_rules::{Mode, Operation};
 use std::alloc::Global;
 use std::process::Abort;
@@ -112,4 +113,53 @@ fn entries_are_made(rt: &impl Abort, alloc: Global) -> Result<(), Fail> {
 #[test]
 fn a_journal_has_a_million_entries_and_no_more(rt: HostRuntime) -> Result<(), Fail> {
     entries_are_made(&rt, rt.alloc())
+}
+
+/// A read arrives: what gets a ticket by it.
+fn ticket_of_read(scene: &mut Scene, alloc: Global) -> Result<Option<Subject>, ApplyFault> {
+    let next = scene.tickets_of_move(alloc, READ)?;
+    Ok(next.first().copied())
+}
+
+/// The first of so many reads that gets another ticket than that of its number.
+fn first_without_ticket(
+    scene: &mut Scene,
+    alloc: Global,
+    reads: u32,
+) -> Result<Option<u32>, ApplyFault> {
+    for serial in 0..reads {
+        if ticket_of_read(scene, alloc)? != Some(Subject::Operation(serial)) {
+            return Ok(Some(serial));
+        }
+    }
+    Ok(None)
+}
+
+/// Whether no operation more arrives and nothing changes, and the last one goes on.
+fn no_operation_more(scene: &mut Scene, alloc: Global) -> bool {
+    let before = scene.look();
+    scene.apply(alloc, READ) == Answer::Full
+        && scene.look() == before
+        && before.entries == 65_536
+        && scene.board().operations() == 65_536
+        && scene.apply(alloc, Move::Pre { serial: 65_535 }) == Answer::Went
+}
+
+/// As many reads arrive on a new board as there may be.
+fn operations_arrive(alloc: Global) -> Result<bool, Fail> {
+    match Scene::new(alloc, &[texts::PASSES]) {
+        Ok(mut scene) => {
+            let first = first_without_ticket(&mut scene, alloc, 65_536);
+            let fine = no_operation_more(&mut scene, alloc);
+            scene.end();
+            Ok(first?.is_none() && fine)
+        }
+        Err(fail) => Err(fail),
+    }
+}
+
+#[test]
+fn a_board_has_65536_operations_and_no_more(rt: HostRuntime) -> Result<(), Fail> {
+    assert!(rt; operations_arrive(rt.alloc())?);
+    Ok(())
 }
