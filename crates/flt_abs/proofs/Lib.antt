@@ -2,6 +2,7 @@ pub mod LockLemmas
 pub mod Monotone
 pub mod Order
 pub mod Outcomes
+pub mod ProperStates
 pub mod Registrations
 pub mod SetLemmas
 pub mod Stays

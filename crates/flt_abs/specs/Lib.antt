@@ -4,6 +4,7 @@ pub mod Leads
 pub mod LockLaws
 pub mod Locks
 pub mod Outcome
+pub mod Proper
 pub mod SetLaws
 pub mod Sets
 pub mod Setting

@@ -25,4 +25,7 @@ pub use setting::{Setting, graphs_are_registered_alike};
 pub use state::{
     Abs, CONTEXTS, LocksDiffer, OPERATIONS, is_partial_order, join, joins_are_least, leq,
 };
-pub use step::{Successor, Successors, transfer, transfer_into, transfer_is_monotone};
+pub use step::{
+    Successor, Successors, transfer, transfer_into, transfer_is_monotone,
+    transfer_keeps_states_proper,
+};

@@ -1,6 +1,7 @@
 //! What an instruction makes of a state.
 
 ghost use Rattle.std.specs.Prelude.{◌≡◌, ℕ, true, false, None, Some, Ok, Err, IfSome, IfNone, IsTrue, IsFalse};
+ghost use Rattle.flt_abs.specs.Proper.{AreProper};
 ghost use Rattle.flt_abs.specs.Setting.{setting_of};
 ghost use Rattle.flt_abs.specs.Sets as sets;
 ghost use Rattle.flt_abs.specs.Step as spec;
@@ -8,6 +9,7 @@ ghost use Rattle.flt_graph.specs.declared.graph.Graph.{Graph};
 ghost use Rattle.flt_graph.specs.declared.instruction.Instruction.TheVariants as variant;
 ghost use Rattle.flt_rules.specs.Table.{row as row_of};
 ghost use Rattle.flt_abs.specs.State.{State, is_below, is_proper};
+ghost use Rattle.flt_abs.specs.declared.step.Successors.{Successors};
 
 use crate::breaks::{first_of_action, first_of_call, first_of_return, first_of_test};
 use crate::leads::Leads;
@@ -397,4 +399,10 @@ pub fn transfer(
 pub fn transfer_is_monotone()
     ensures { (g : Graph) (callback point : ℕ) (x y : State) → IsTrue (is_proper x) → IsTrue (is_below x y) →
         spec.IsOutcomeBelow (spec.transfer g callback point x) (spec.transfer g callback point y) }
+{}
+
+/// Where no rule is broken, a state without an empty set leads to states without one. It does nothing: its clause is the law.
+pub fn transfer_keeps_states_proper()
+    ensures { (g : Graph) (callback point : ℕ) (x : State) (next : Successors) → IsTrue (is_proper x) →
+        spec.transfer g callback point x ≡ Ok next → AreProper next }
 {}

@@ -8,5 +8,6 @@ pub mod PointsOfText
 pub mod Reading
 pub mod Remaining
 pub mod RemainingTurns
+pub mod Rising
 pub mod Routines
 pub mod Segments

@@ -31,6 +31,7 @@ use Rattle.flt_tree.specs.declared.filter.Statement.TheVariants as tree
 use Rattle.flt_tree.specs.declared.filter.Statement.TheViews.{outs-Act, outs-Call, outs-Return, outs-If, outs-Repeat}
 use Rattle.flt_graph.specs.Graph.{callback_at, place_at, instruction_at, point_in, no_callback, no_point}
 use Rattle.flt_graph.specs.Instruction.{plain, fallible}
+use Rattle.flt_graph.specs.Kept.{edges_of, is_repeat, IsRising}
 use Rattle.flt_graph.specs.Lowering.{IsGraphOf, AreGraphsOf, IsLowered, end_of}
 use Rattle.flt_graph.specs.Points.{In, top, later, granted_block, refused_block, turn, entry, choice, instruction_of}
 use Rattle.flt_graph.specs.Served.{IsCallServed, IsInstructionServed}
@@ -39,7 +40,14 @@ use Rattle.flt_graph.specs.declared.graph.Graph.{Graph}
 use Rattle.flt_graph.specs.declared.graph.Point.{Point}
 use Rattle.flt_graph.proofs.Codes.{out_points, points_cons}
 use Rattle.flt_graph.proofs.Remaining.{callbacks_there, callbacks_counted}
+use Rattle.flt_graph.proofs.Rising.{Rises, statement_rises}
 use Rattle.flt_graph.proofs.Routines.{deferred_there, generic_there}
+
+-- no edge leads out of an end
+none_out : (p q : Point) (to : ℕ) → p ≡ q → 0 < edges_of p.instruction to → edges_of q.instruction to ≡ 0 → ⊥
+none_out p q to e h none =
+    let some : 0 < edges_of q.instruction to = subst (λ (x : Point). 0 < edges_of x.instruction to) e h in
+    absurd (omega arith)
 
 -- ---- one statement
 
@@ -207,6 +215,25 @@ module _ (cs : List Callback) (locks : List Lock) (queue : Bool) (from : Head)
         ]
       ]
 
+  -- each edge of a callback leads onwards, or to a `repeat`
+  body_rises : {d r : ℕ} (c : Callback) (g : CallbackGraph) → IsGraphOf cs c g → AreStatements locks queue d r c.body →
+      finds_routines cs from c.body ≡ true →
+      (m to : ℕ) → 0 < edges_of (point_in g m).instruction to → Rises g m to
+  body_rises c g made p e m to h =
+      elim (cases_lt m (points c.body)) [
+        | inl below ↦
+            let q = body_points c.body p e m below in
+            statement_rises cs c g made q.statement q.rest q.follows m q.after to q.within h
+        | inr above ↦ elim (cases_eq m (points c.body)) [
+          | inl same ↦
+              let point : point_in g m ≡ end_of c = ap (point_in g) same ∙ made.end in
+              absurd (none_out (point_in g m) (end_of c) to point h refl)
+          | inr other ↦
+              let point : point_in g m ≡ no_point = get_or_past g.points m no_point (omega (arith, made.count)) in
+              absurd (none_out (point_in g m) no_point to point h refl)
+        ]
+      ]
+
   -- two graphs of a callback are one
   callback_once : {d r : ℕ} (c : Callback) (g h : CallbackGraph) → IsGraphOf cs c g → IsGraphOf cs c h →
       AreStatements locks queue d r c.body → finds_routines cs from c.body ≡ true → g ≡ h
@@ -272,6 +299,30 @@ at_callback f g k n w low (Some c) e =
 pub instructions_served : (f : Filter) (g : Graph) (k n : ℕ) → IsWellFormed f → IsLowered f g →
     IsInstructionServed f.callbacks (place_at g k) (instruction_at g k n)
 instructions_served f g k n w low = at_callback f g k n w low (slice_get f.callbacks k) refl
+
+-- ---- edges
+
+rises_at : (f : Filter) (g : Graph) (k n to : ℕ) → IsWellFormed f → IsLowered f g → (found : Option Callback) →
+    slice_get f.callbacks k ≡ found → 0 < edges_of (instruction_at g k n) to → Rises (callback_at g k) n to
+rises_at f g k n to w low None e h =
+    let none : callback_at g k ≡ no_callback =
+    get_or_past g.callbacks k no_callback (omega (arith, callbacks_counted f g low, past f.callbacks k e)) in
+    let point : point_in (callback_at g k) n ≡ point_in no_callback n = ap (λ (x : CallbackGraph). point_in x n) none in
+    absurd (none_out (point_in (callback_at g k) n) (point_in no_callback n) to point h refl)
+  where
+    past : (cs : List Callback) (i : ℕ) → slice_get cs i ≡ None → length cs ≤ i
+    past [] i e = omega arith
+    past (c ∷ cs) zero e = absurd (cc)
+    past (c ∷ cs) (suc i) e = let h = past cs i e in omega arith
+rises_at f g k n to w low (Some c) e h =
+    let made = callbacks_there f g k c low e in
+    body_rises f.callbacks f.locks (is_some f.queue) c.head (has_canceled f.queue f.callbacks w.served) w.new_callbacks c
+    (callback_at g k) made
+    (body_at f.locks (is_some f.queue) f.callbacks k c w.bodies e) (whole_at f.callbacks f.callbacks k c w.whole e) n to h
+
+-- each edge of a well-formed filter's graph leads onwards, or to a `repeat`
+pub edges_rise : (f : Filter) (g : Graph) → IsWellFormed f → IsLowered f g → IsRising g
+edges_rise f g w low k n to h = rises_at f g k n to w low (slice_get f.callbacks k) refl h
 
 -- ---- one graph
 

@@ -15,7 +15,7 @@ pub use graph::{CallbackGraph, Graph, Point};
 pub use instruction::{Instruction, Invocation};
 pub use lowering::lower;
 pub use points::{
-    callbacks_have_graphs, filters_have_graphs, instructions_are_served, lists_have_points,
-    one_graph_at_most,
+    callbacks_have_graphs, edges_lead_onwards, filters_have_graphs, instructions_are_served,
+    lists_have_points, one_graph_at_most,
 };
 pub use turns::{Turn, lists_have_turns};

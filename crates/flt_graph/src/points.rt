@@ -2,6 +2,7 @@
 
 ghost use Rattle.std.specs.Prelude.{◌≡◌, ℕ, List, Bool, Some, length, slice_get};
 ghost use Rattle.flt_graph.specs.Graph.{point_in, callback_at, place_at, instruction_at};
+ghost use Rattle.flt_graph.specs.Kept.{IsRising};
 ghost use Rattle.flt_graph.specs.Lowering.{IsGraphOf, IsLowered, end_of, graph_of};
 ghost use Rattle.flt_graph.specs.Points as spec;
 ghost use Rattle.flt_graph.specs.Served.{IsInstructionServed};
@@ -45,4 +46,9 @@ pub fn one_graph_at_most()
 pub fn instructions_are_served()
     ensures { (f : Filter) (g : Graph) (k n : ℕ) → IsWellFormed f → IsLowered f g →
         IsInstructionServed f.callbacks (place_at g k) (instruction_at g k n) }
+{}
+
+/// Each edge of a well-formed filter's graph leads onwards, or to a `repeat`. It does nothing: its clause is the law.
+pub fn edges_lead_onwards()
+    ensures { (f : Filter) (g : Graph) → IsWellFormed f → IsLowered f g → IsRising g }
 {}
