@@ -35,16 +35,16 @@ use Rattle.flt_syntax.proofs.CompleteStatements.{statements_again, statements_le
 
 -- ---- heads
 
-operation_again : {i o : Input} {op : Operation} → Meant operation_of i op o → operation i ≡ Ok (op, o)
+pub operation_again : {i o : Input} {op : Operation} → Meant operation_of i op o → operation i ≡ Ok (op, o)
 unfolding operation
 operation_again {i = i} p = known_again (refusal i) p
 
-head_at : {kd : Kind} {i j : Input} (text : Text) (found : List Callback) → Next kd i j →
+pub head_at : {kd : Kind} {i j : Input} (text : Text) (found : List Callback) → Next kd i j →
     new_head text found i ≡ new_head_by text found kd i
 unfolding new_head
 head_at {i = i} text found n = ap (λ x. new_head_by text found x i) (kind_is n)
 
-event_at : {kd : Kind} {i j : Input} → Next kd i j → event i ≡ event_by kd i
+pub event_at : {kd : Kind} {i j : Input} → Next kd i j → event i ≡ event_by kd i
 unfolding event
 event_at {i = i} n = ap (λ x. event_by x i) (kind_is n)
 
@@ -71,7 +71,7 @@ new_head_again {text = text} found (g.deferred_pre n p) fresh = head_at text fou
 new_head_again {text = text} found (g.deferred_post n p) fresh = head_at text found n ∙ then_again _ (routine_again found n p fresh) refl
 new_head_again {text = text} found (g.generic n p) fresh = head_at text found n ∙ then_again _ (routine_again found n p fresh) refl
 
-head_again : {text : Text} {i o : Input} {h : Head} (found : List Callback) → HeadAt text i h o → is_declared h found ≡ false →
+pub head_again : {text : Text} {i o : Input} {h : Head} (found : List Callback) → HeadAt text i h o → is_declared h found ≡ false →
     length found < max_callbacks →
     head text found i ≡ Ok (h, o)
 unfolding head
@@ -95,7 +95,7 @@ head_less (g.generic n p) = omega (arith, next_less n, name_less p)
 
 -- ---- callbacks
 
-callback_again : {scope : Scope} {i o : Input} {c : Callback} (found : List Callback) → CallbackAt scope i c o →
+pub callback_again : {scope : Scope} {i o : Input} {c : Callback} (found : List Callback) → CallbackAt scope i c o →
     is_declared c.head found ≡ false →
     length found < max_callbacks → is_small c ≡ true → callback scope found i ≡ Ok (c, o)
 unfolding callback
@@ -103,7 +103,7 @@ callback_again found (g.callback p n q m) fresh few small =
     then_again _ (head_again found p fresh few)
     (then_again _ (expect_again n) (then_again _ (statements_again q m) (then_again _ (expect_again m) (rw small refl))))
 
-callback_less : {scope : Scope} {i o : Input} {c : Callback} → CallbackAt scope i c o → length o < length i
+pub callback_less : {scope : Scope} {i o : Input} {c : Callback} → CallbackAt scope i c o → length o < length i
 callback_less (g.callback p n q m) = omega (arith, head_less p, next_less n, statements_less q, next_less m)
 
 callbacks_begin : {scope : Scope} {i o : Input} {cs : List Callback} → CallbacksAt scope i cs o → begins_head (kind i) ≡ true
@@ -138,7 +138,7 @@ at_end : (o : Input) → kind o ≡ k.End → sees k.End o ≡ true
 unfolding same_kind
 at_end o e = rw e refl
 
-one_less : {A : Type 0} (found cs : List A) (c : A) (n : ℕ) → length found + length (c ∷ cs) ≤ n → length (found ++ c ∷ []) + length cs ≤ n
+pub one_less : {A : Type 0} (found cs : List A) (c : A) (n : ℕ) → length found + length (c ∷ cs) ≤ n → length (found ++ c ∷ []) + length cs ≤ n
 one_less found cs c n h = omega (arith, length-append found (c ∷ []))
 
 both_true : (a b : Bool) → (a && b) ≡ true → (a ≡ true) × (b ≡ true)
@@ -170,11 +170,11 @@ callbacks_again {i = i} p end fresh few small = callbacks_from_again p end (leng
 
 -- ---- locks
 
-lock_kind_again : {i o : Input} {x : LockKind} → Meant lock_kind_of i x o → lock_kind i ≡ Ok (x, o)
+pub lock_kind_again : {i o : Input} {x : LockKind} → Meant lock_kind_of i x o → lock_kind i ≡ Ok (x, o)
 unfolding lock_kind
 lock_kind_again {i = i} p = known_again (refusal i) p
 
-lock_again : {text name : Text} {i b o : Input} {lk : LockKind} (found : List Lock) → Meant lock_kind_of i lk b →
+pub lock_again : {text name : Text} {i b o : Input} {lk : LockKind} (found : List Lock) → Meant lock_kind_of i lk b →
     NameAt text b name o → has_lock name found ≡ false →
     length found < max_locks → lock text found i ≡ Ok (record { kind = lk; name = name }, o)
 unfolding lock
@@ -211,13 +211,13 @@ unfolding same_kind
 queue_no_lock (g.no_queue {i = i}) e = no_lock i e
 queue_no_lock (g.some_queue n) e = rw (kind_is n) refl
 
-queue_less : {i o : Input} {q : Option Position} → QueueAt i q o → length o ≤ length i
+pub queue_less : {i o : Input} {q : Option Position} → QueueAt i q o → length o ≤ length i
 queue_less g.no_queue = omega arith
 queue_less (g.some_queue n) = omega (arith, next_less n)
 
 -- ---- the file
 
-file_at : {text : Text} {i : Input} {f : Filter} → FileAt text i f → 1 ≤ f.altitude → f.altitude ≤ max_altitude →
+pub file_at : {text : Text} {i : Input} {f : Filter} → FileAt text i f → 1 ≤ f.altitude → f.altitude ≤ max_altitude →
     AreNewLocks [] f.locks → length f.locks ≤ max_locks →
     AreNewCallbacks [] f.callbacks → length f.callbacks ≤ max_callbacks → IsTrue (are_small f) → (o : Input) × (file text i ≡ Ok (f, o))
 unfolding file

@@ -272,7 +272,7 @@ condition_less (g.succeeds p) = fallible_less p
 -- ---- statements
 
 mutual
-  statement_less : {scope : Scope} {d r : ℕ} {i o : Input} {s : Statement} → StatementAt scope d r i s o → length o < length i
+  pub statement_less : {scope : Scope} {d r : ℕ} {i o : Input} {s : Statement} → StatementAt scope d r i s o → length o < length i
   statement_less (s.act p) = action_less p
   statement_less (s.call p) = plain_less p
   statement_less (s.return n p) = omega (arith, next_less n, optional_status_less p)

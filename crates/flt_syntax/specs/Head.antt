@@ -1,5 +1,5 @@
 -- How the heads of callbacks are read.
-use Rattle.std.specs.Prelude.{Bool, true, false, if◌then◌else◌, nat_lt, List, length, Option, Some, None, option_map, Ok, Err}
+use Rattle.std.specs.Prelude.{Bool, false, if◌then◌else◌, nat_lt, List, length, Option, Some, None, option_map, Ok, Err}
 use Rattle.flt_rules.specs.declared.place.Operation.{Operation}
 use Rattle.flt_syntax.specs.Cursor.{Input, Parser, and_then, ◌>>=◌, ◌>>◌, pure, ◌<$>◌, kind, next, refusal, refuse, fault_at, fail, peek, take_token, known_or}
 use Rattle.flt_tree.specs.Declarations.{has_event, has_routine}
@@ -13,6 +13,7 @@ use Rattle.flt_tree.specs.declared.filter.Head.{Head}
 use Rattle.flt_tree.specs.declared.filter.Head.TheVariants.{Pre, Post, Canceled, DeferredPre, DeferredPost, Generic}
 use Rattle.flt_syntax.specs.declared.token.Kind.{Kind}
 use Rattle.flt_syntax.specs.declared.token.Kind.TheVariants as k
+pub use Rattle.flt_syntax.specs.FirstWords.{begins_head}
 pub use Rattle.flt_syntax.specs.Tables.{operation_of}
 
 -- OP
@@ -72,16 +73,6 @@ is_among (Some head) found = has_event head found
 -- whether two words name an event that one of the callbacks is for
 abbrev pub is_taken : Kind → Kind → List Callback → Bool
 is_taken first second = is_among (event_of first second)
-
--- the first words of a head
-abbrev pub begins_head : Kind → Bool
-begins_head k.Pre = true
-begins_head k.Post = true
-begins_head k.Canceled = true
-begins_head k.DeferredPre = true
-begins_head k.DeferredPost = true
-begins_head k.Generic = true
-begins_head _ = false
 
 -- why no head is read behind callbacks enough: an event a second time comes before the limit, at the same word
 unfoldable pub crowded : List Callback → Input → SyntaxFault

@@ -1,5 +1,5 @@
 -- How callback statuses are read.
-use Rattle.std.specs.Prelude.{Bool, true, false, ◌||◌, is_some, if◌then◌else◌, Option, Some, None, Ok}
+use Rattle.std.specs.Prelude.{if◌then◌else◌, Option, Some, None, Ok}
 use Rattle.flt_rules.specs.declared.status.FinalStatus.{FinalStatus}
 use Rattle.flt_syntax.specs.Cursor.{Parser, ◌>>=◌, ◌>>◌, ◌<$>◌, kind, refusal, peek, take_token, known_or}
 use Rattle.flt_syntax.specs.Operand.{with_context}
@@ -7,6 +7,7 @@ use Rattle.flt_tree.specs.declared.filter.Status.{Status}
 use Rattle.flt_tree.specs.declared.filter.Status.TheVariants as statuses
 use Rattle.flt_syntax.specs.declared.token.Kind.{Kind}
 use Rattle.flt_syntax.specs.declared.token.Kind.TheVariants as k
+pub use Rattle.flt_syntax.specs.FirstWords.{has_more, begins_status}
 pub use Rattle.flt_syntax.specs.Tables.{final_status_of, bare_status_of}
 
 -- S
@@ -27,17 +28,6 @@ status_by _ = bare_status
 -- status
 unfoldable pub status : Parser Status
 status = peek >>= status_by
-
--- the statuses with something behind their word
-abbrev pub has_more : Kind → Bool
-has_more k.WithCallback = true
-has_more k.Synchronize = true
-has_more k.Complete = true
-has_more _ = false
-
--- the first words of a status
-abbrev pub begins_status : Kind → Bool
-begins_status kind = has_more kind || is_some (bare_status_of kind)
 
 -- [ status ]
 unfoldable pub optional_status : Parser (Option Status)

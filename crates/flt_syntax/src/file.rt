@@ -8,6 +8,7 @@ ghost use Rattle.flt_tree.specs.Names.{lock_names, names_of, routine_names};
 ghost use Rattle.flt_tree.specs.WellFormed.{IsWellFormed};
 ghost use Rattle.flt_syntax.specs.Scope.{scope_of};
 ghost use Rattle.flt_syntax.specs.Spelling.{Spells, SpelledIsWellFormed, SpellsAtMostOne};
+ghost use Rattle.flt_syntax.specs.TextFails.{IsWhereItFails};
 ghost use Rattle.std.specs.List.{list_all};
 ghost use Rattle.std.specs.Prelude.{◌≡◌, ◌≤◌, [], ◌∷◌, ◌++◌, length, IsTrue, IfOk, IfErr, MatchResult, Ok};
 
@@ -245,7 +246,7 @@ pub fn parse(alloc: Global, text: &[u8]) -> Result<Tree, ParseError>
     ensures well_formed { IfOk result (λ t. IsWellFormed t.filter) }
     ensures read { (f : Filter) → Spells text.now f → MatchResult result (λ t. t.filter ≡ f) (λ e. e ≡ ParseError.OutOfMemory) }
     ensures value { IfOk result (λ t. spec.filter_of text.now ≡ Ok t.filter) }
-    ensures fault { IfErr result (spec.IsFaultOf (spec.filter_of text.now)) }
+    ensures fault { IfErr result (IsWhereItFails text.now) }
 {
     read_text(alloc, text)
 }

@@ -5,6 +5,7 @@ mod action;
 mod call;
 mod condition;
 mod cursor;
+mod fails;
 mod fault;
 mod file;
 mod head;
@@ -22,6 +23,7 @@ mod whole;
 mod words;
 
 pub use cursor::bytes_of;
+pub use fails::{fails_exactly_where_nothing_is_spelled, the_fault_is_the_one_told};
 pub use fault::{FaultKind, ParseError, SyntaxFault};
 pub use file::{parse, spelled_is_well_formed, spells_at_most_one};
 pub use flt_tree::{

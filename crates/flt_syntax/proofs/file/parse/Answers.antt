@@ -1,3 +1,4 @@
+use Rattle.flt_syntax.proofs.Exact.{fault_result}
 use Rattle.flt_syntax.proofs.Laws.{found_result, well_formed_result}
 use Rattle.flt_syntax.proofs.file.parse.Goals as goal
 
@@ -6,3 +7,6 @@ returns-clause-well_formed c = well_formed_result c.args.text.now c.read_text.re
 
 pub returns-clause-read : goal.returns-clause-read
 returns-clause-read c = found_result c.args.text.now c.read_text.result c.read_text.ensures.value c.read_text.ensures.fault
+
+pub returns-clause-fault : goal.returns-clause-fault
+returns-clause-fault c = fault_result c.args.text.now c.read_text.result c.read_text.ensures.fault

@@ -1,0 +1,246 @@
+-- Each reader ends: what it gives is spelled and over, and its fault is one by the relation beside the grammar. Statuses and calls.
+use Rattle.std.proofs.Common.{◌≡◌, Bool, true, false, Ok, refl, sym, ap, subst}
+use Rattle.std.specs.Prelude.{Option, Some, None, if◌then◌else◌, ◌||◌, is_some}
+use Rattle.flt_rules.specs.declared.call.LockKind.{LockKind}
+use Rattle.flt_rules.specs.declared.call.LockKind.TheVariants.{Spin, Fast, Push}
+use Rattle.flt_rules.specs.declared.call.LockNumber.{LockNumber}
+use Rattle.flt_syntax.specs.declared.token.Kind.{Kind}
+use Rattle.flt_syntax.specs.declared.token.Kind.TheVariants as k
+use Rattle.flt_syntax.specs.declared.token.Token.{Token}
+use Rattle.flt_syntax.specs.declared.fault.FaultKind.TheVariants.{E04}
+use Rattle.flt_tree.specs.declared.filter.FallibleCall.{FallibleCall}
+use Rattle.flt_tree.specs.declared.filter.PlainCall.{PlainCall}
+use Rattle.flt_tree.specs.declared.filter.Status.{Status}
+use Rattle.flt_syntax.specs.Lex.{same_kind}
+use Rattle.flt_syntax.specs.CallGrammar as g
+use Rattle.flt_syntax.specs.CallGrammar.{StatusAt, OptionalStatusAt, RoutineAt, LockAt, FallibleAt, PlainAt}
+use Rattle.flt_syntax.specs.Words.{Next, Meant}
+use Rattle.flt_syntax.specs.Operand.{removed_variable, removed_variable_of, operation_variable, operation_variable_of}
+use Rattle.flt_syntax.specs.Scope.{Scope, lock_named, routine}
+use Rattle.flt_tree.specs.Declarations.{lock_number}
+use Rattle.flt_syntax.specs.Status.{final_status_of, final_status, bare_status_of, bare_status, status_by, status, has_more, begins_status, optional_status}
+use Rattle.flt_syntax.specs.Call.{existing_of, existing, get_context, set_context, delete_context_of, insert_io, remove_next_io, queue_call, queue_deferred, queue_generic, fallible_by, fallible_call, reference_context, acquire_lock, acquire_shared, release_lock, complete_pre, complete_post, plain_by, plain_call}
+use Rattle.flt_syntax.specs.Cursor.{Input, ◌<$>◌, kind, next, bytes_of, refusal, fault_at, fail, sees, found_or, known_or}
+use Rattle.flt_syntax.proofs.Sound.{took, meant_at, WordAt, name_of}
+use Rattle.flt_syntax.specs.FirstWords.{begins_fallible, begins_plain}
+use Rattle.flt_syntax.specs.Over.{StatusOver, OptionalStatusOver, FallibleOver, PlainOver}
+use Rattle.flt_syntax.specs.WordFails.{NameFails, KnownFails, MeantFails}
+use Rattle.flt_syntax.specs.CallFails as bad
+use Rattle.flt_syntax.specs.CallFails.{StatusFails, OptionalStatusFails, LockFails, FallibleFails, PlainFails}
+use Rattle.flt_syntax.proofs.Ends.{Ends, gives, fails, then_ends, refused, expect_ends, meant_ends, known_ends, context_ends, word_ends, spelled_ends, other_ends, with_context_ends, old_ends, other_old_ends}
+
+-- ---- variables
+
+pub removed_ends : (i : Input) → Ends (Meant removed_variable_of i) (KnownFails removed_variable_of i) (removed_variable i)
+unfolding removed_variable
+removed_ends i = known_ends removed_variable_of i _ refl refl
+
+pub operation_ends : (i : Input) → Ends (Meant operation_variable_of i) (KnownFails operation_variable_of i) (operation_variable i)
+unfolding operation_variable
+operation_ends i = known_ends operation_variable_of i _ refl refl
+
+-- ---- statuses
+
+abbrev pub StatusHere : Input → Status → Input → Type 0
+StatusHere i s o = (p : StatusAt i s o) × StatusOver p
+
+final_ends : (i : Input) → Ends (Meant final_status_of i) (MeantFails final_status_of i) (final_status i)
+unfolding final_status
+final_ends i = meant_ends final_status_of i _ refl refl
+
+neither : (a b : Bool) → a ≡ false → b ≡ false → (a || b) ≡ false
+neither a b e h = rw (e, h) refl
+
+bare_by : (i : Input) (m : Option Status) → has_more (kind i) ≡ false → bare_status_of (kind i) ≡ m →
+    Ends (StatusHere i) (StatusFails i) (known_or (refusal i) m i)
+bare_by i None h e = fails (bad.no_status (neither _ _ h (ap is_some e)) (refused i))
+bare_by i (Some s) h e = gives (g.bare (meant_at bare_status_of i s refl e), tt)
+
+bare_ends : (i : Input) → has_more (kind i) ≡ false → Ends (StatusHere i) (StatusFails i) (bare_status i)
+unfolding bare_status
+bare_ends i h = bare_by i (bare_status_of (kind i)) h refl
+
+status_by_ends : (i : Input) (kd : Kind) → kind i ≡ kd → Ends (StatusHere i) (StatusFails i) (status_by kd i)
+unfolding same_kind
+status_by_ends i k.WithCallback e =
+    let n = took i k.WithCallback refl e in
+    then_ends _ (with_context_ends (next i)) (λ x h. bad.with_callback n h) (λ c o p. gives (g.with_callback n p.0, p.1))
+status_by_ends i k.Synchronize e =
+    let n = took i k.Synchronize refl e in
+    then_ends _ (with_context_ends (next i)) (λ x h. bad.synchronize n h) (λ c o p. gives (g.synchronize n p.0, p.1))
+status_by_ends i k.Complete e =
+    let n = took i k.Complete refl e in
+    then_ends _ (final_ends (next i)) (λ x h. bad.complete n h) (λ c o p. gives (g.complete n p, tt))
+status_by_ends i _ e = bare_ends i (ap has_more e)
+
+pub status_ends : (i : Input) → Ends (StatusHere i) (StatusFails i) (status i)
+unfolding status
+status_ends i = status_by_ends i (kind i) refl
+
+abbrev pub OptionalStatusHere : Input → Option Status → Input → Type 0
+OptionalStatusHere i s o = (p : OptionalStatusAt i s o) × OptionalStatusOver p
+
+optional_status_by : (i : Input) (b : Bool) → begins_status (kind i) ≡ b →
+    Ends (OptionalStatusHere i) (OptionalStatusFails i) (if b then (Some <$> status) i else Ok (None, i))
+optional_status_by i true e =
+    then_ends _ (status_ends i) (λ x h. bad.some e h) (λ s o p. gives (g.some_status p.0, p.1))
+optional_status_by i false e = gives (g.no_status, e)
+
+pub optional_status_ends : (i : Input) → Ends (OptionalStatusHere i) (OptionalStatusFails i) (optional_status i)
+unfolding optional_status
+optional_status_ends i = optional_status_by i (begins_status (kind i)) refl
+
+-- ---- names
+
+routine_ends : (scope : Scope) (i : Input) → Ends (RoutineAt scope.text i) (NameFails i) (routine scope i)
+unfolding routine
+routine_ends scope i = then_ends _ (spelled_ends scope.text i) (λ x h. h) (λ x o p. gives (g.routine p))
+
+lock_by : (scope : Scope) (lk : LockKind) (i : Input) (t : Token) (o : Input) (m : Option LockNumber) → WordAt i t o →
+    lock_number lk (bytes_of scope.text t) scope.locks ≡ m → Ends (LockAt scope lk i) (LockFails scope lk i) (found_or (fault_at E04 i) m o)
+lock_by scope lk i t o None p e = fails (bad.unknown_lock (name_of scope.text p) e)
+lock_by scope lk i t o (Some l) p e = gives (g.lock (name_of scope.text p) e)
+
+lock_ends : (scope : Scope) (lk : LockKind) (i : Input) → Ends (LockAt scope lk i) (LockFails scope lk i) (lock_named scope lk i)
+unfolding lock_named
+lock_ends scope lk i = then_ends _ (word_ends i) (λ x h. bad.no_name h) (λ t o p. lock_by scope lk i t o _ p refl)
+
+-- ---- calls that can fail
+
+abbrev pub FallibleHere : Scope → Input → FallibleCall → Input → Type 0
+FallibleHere scope i c o = (p : FallibleAt scope i c o) × FallibleOver p
+
+existing_ends : (i : Input) → Ends (Meant existing_of i) (MeantFails existing_of i) (existing i)
+unfolding existing
+existing_ends i = meant_ends existing_of i _ refl refl
+
+insert_ends : (scope : Scope) (i : Input) → scope.queue ≡ true → Next k.InsertIo i (next i) →
+    Ends (FallibleHere scope i) (FallibleFails scope i) (insert_io i)
+unfolding insert_io same_kind
+insert_ends scope i q n =
+    then_ends _ (expect_ends (next i) k.Data refl) (λ x h. bad.insert_data q n h) (λ _ b m.
+    then_ends _ (with_context_ends b) (λ x h. bad.insert_context q n m h) (λ c o p. gives (g.insert_io q n m p.0, p.1)))
+
+remove_ends : (scope : Scope) (i : Input) → scope.queue ≡ true → Next k.RemoveNextIo i (next i) →
+    Ends (FallibleHere scope i) (FallibleFails scope i) (remove_next_io i)
+unfolding remove_next_io same_kind
+remove_ends scope i q n =
+    then_ends _ (removed_ends (next i)) (λ x h. bad.remove_operation q n h) (λ v b p.
+    then_ends _ (expect_ends b k.Context refl) (λ x h. bad.remove_word q n p h) (λ _ l m.
+    then_ends _ (context_ends l) (λ x h. bad.remove_context q n p m h) (λ c o r. gives (g.remove_next_io q n p m r, tt))))
+
+queue_insert : (scope : Scope) (i : Input) (q : Bool) → scope.queue ≡ q → kind i ≡ k.InsertIo →
+    Ends (FallibleHere scope i) (FallibleFails scope i)
+    (if q then (if sees k.InsertIo i then insert_io i else remove_next_io i) else fail E04 i)
+unfolding same_kind
+queue_insert scope i false h e = fails (bad.insert_unknown (took i k.InsertIo refl e) h)
+queue_insert scope i true h e =
+    subst (λ b. Ends (FallibleHere scope i) (FallibleFails scope i) (if b then insert_io i else remove_next_io i))
+    (sym (ap (λ x. same_kind x k.InsertIo) e)) (insert_ends scope i h (took i k.InsertIo refl e))
+
+queue_remove : (scope : Scope) (i : Input) (q : Bool) → scope.queue ≡ q → kind i ≡ k.RemoveNextIo →
+    Ends (FallibleHere scope i) (FallibleFails scope i)
+    (if q then (if sees k.InsertIo i then insert_io i else remove_next_io i) else fail E04 i)
+unfolding same_kind
+queue_remove scope i false h e = fails (bad.remove_unknown (took i k.RemoveNextIo refl e) h)
+queue_remove scope i true h e =
+    subst (λ b. Ends (FallibleHere scope i) (FallibleFails scope i) (if b then insert_io i else remove_next_io i))
+    (sym (ap (λ x. same_kind x k.InsertIo) e)) (remove_ends scope i h (took i k.RemoveNextIo refl e))
+
+fallible_by_ends : (scope : Scope) (i : Input) (kd : Kind) → kind i ≡ kd →
+    Ends (FallibleHere scope i) (FallibleFails scope i) (fallible_by scope kd i)
+unfolding same_kind get_context set_context delete_context_of queue_call queue_deferred queue_generic
+fallible_by_ends scope i k.AllocateContext e =
+    let n = took i k.AllocateContext refl e in
+    then_ends _ (context_ends (next i)) (λ x h. bad.allocate n h) (λ c o p. gives (g.allocate n p, tt))
+fallible_by_ends scope i k.GetStreamContext e =
+    let n = took i k.GetStreamContext refl e in
+    then_ends _ (context_ends (next i)) (λ x h. bad.get_stream n h) (λ c o p. gives (g.get_stream n p, tt))
+fallible_by_ends scope i k.GetInstanceContext e =
+    let n = took i k.GetInstanceContext refl e in
+    then_ends _ (context_ends (next i)) (λ x h. bad.get_instance n h) (λ c o p. gives (g.get_instance n p, tt))
+fallible_by_ends scope i k.SetStreamContext e =
+    let n = took i k.SetStreamContext refl e in
+    then_ends _ (existing_ends (next i)) (λ x h. bad.set_stream_existing n h) (λ y b p.
+    then_ends _ (context_ends b) (λ x h. bad.set_stream_context n p h) (λ c l q.
+    then_ends _ (other_old_ends c l) (λ x h. bad.set_stream_old n p q h) (λ d o r. gives (g.set_stream n p q r.0 r.2, r.1))))
+fallible_by_ends scope i k.SetInstanceContext e =
+    let n = took i k.SetInstanceContext refl e in
+    then_ends _ (existing_ends (next i)) (λ x h. bad.set_instance_existing n h) (λ y b p.
+    then_ends _ (context_ends b) (λ x h. bad.set_instance_context n p h) (λ c l q.
+    then_ends _ (other_old_ends c l) (λ x h. bad.set_instance_old n p q h) (λ d o r. gives (g.set_instance n p q r.0 r.2, r.1))))
+fallible_by_ends scope i k.DeleteStreamContext e =
+    let n = took i k.DeleteStreamContext refl e in
+    then_ends _ (old_ends (next i)) (λ x h. bad.delete_stream n h) (λ d o p. gives (g.delete_stream n p.0, p.1))
+fallible_by_ends scope i k.DeleteInstanceContext e =
+    let n = took i k.DeleteInstanceContext refl e in
+    then_ends _ (old_ends (next i)) (λ x h. bad.delete_instance n h) (λ d o p. gives (g.delete_instance n p.0, p.1))
+fallible_by_ends scope i k.InsertIo e = queue_insert scope i scope.queue refl e
+fallible_by_ends scope i k.RemoveNextIo e = queue_remove scope i scope.queue refl e
+fallible_by_ends scope i k.QueueDeferredIoWorkItem e =
+    let n = took i k.QueueDeferredIoWorkItem refl e in
+    then_ends _ (expect_ends (next i) k.Data refl) (λ x h. bad.deferred_data n h) (λ _ b m.
+    then_ends _ (routine_ends scope b) (λ x h. bad.deferred_name n m h) (λ y l p.
+    then_ends _ (with_context_ends l) (λ x h. bad.deferred_context n m p h) (λ c o q. gives (g.queue_deferred n m p q.0, q.1))))
+fallible_by_ends scope i k.QueueGenericWorkItem e =
+    let n = took i k.QueueGenericWorkItem refl e in
+    then_ends _ (routine_ends scope (next i)) (λ x h. bad.generic_name n h) (λ y b p.
+    then_ends _ (with_context_ends b) (λ x h. bad.generic_context n p h) (λ c o q. gives (g.queue_generic n p q.0, q.1)))
+fallible_by_ends scope i _ e = fails (bad.no_fallible (ap begins_fallible e) (refused i))
+
+pub fallible_ends : (scope : Scope) (i : Input) → Ends (FallibleHere scope i) (FallibleFails scope i) (fallible_call scope i)
+unfolding fallible_call
+fallible_ends scope i = fallible_by_ends scope i (kind i) refl
+
+-- ---- calls that always succeed
+
+abbrev pub PlainHere : Scope → Input → PlainCall → Input → Type 0
+PlainHere scope i c o = (p : PlainAt scope i c o) × PlainOver p
+
+plain_by_ends : (scope : Scope) (i : Input) (kd : Kind) → kind i ≡ kd →
+    Ends (PlainHere scope i) (PlainFails scope i) (plain_by scope kd i)
+unfolding same_kind reference_context acquire_lock acquire_shared release_lock complete_pre complete_post
+plain_by_ends scope i k.DeleteContext e =
+    let n = took i k.DeleteContext refl e in
+    then_ends _ (context_ends (next i)) (λ x h. bad.delete n h) (λ c o p. gives (g.delete n p, tt))
+plain_by_ends scope i k.ReferenceContext e =
+    let n = took i k.ReferenceContext refl e in
+    then_ends _ (context_ends (next i)) (λ x h. bad.reference_context n h) (λ c b p.
+    then_ends _ (expect_ends b k.As refl) (λ x h. bad.reference_word n p h) (λ _ l m.
+    then_ends _ (other_ends c l) (λ x h. bad.reference_copy n p m h) (λ d o q. gives (g.reference n p m q.0 q.1, tt))))
+plain_by_ends scope i k.ReleaseContext e =
+    let n = took i k.ReleaseContext refl e in
+    then_ends _ (context_ends (next i)) (λ x h. bad.release n h) (λ c o p. gives (g.release n p, tt))
+plain_by_ends scope i k.AcquireSpinLock e =
+    let n = took i k.AcquireSpinLock refl e in
+    then_ends _ (lock_ends scope Spin (next i)) (λ x h. bad.acquire_spin n h) (λ l o p. gives (g.acquire_spin n p, tt))
+plain_by_ends scope i k.ReleaseSpinLock e =
+    let n = took i k.ReleaseSpinLock refl e in
+    then_ends _ (lock_ends scope Spin (next i)) (λ x h. bad.release_spin n h) (λ l o p. gives (g.release_spin n p, tt))
+plain_by_ends scope i k.AcquireFastMutex e =
+    let n = took i k.AcquireFastMutex refl e in
+    then_ends _ (lock_ends scope Fast (next i)) (λ x h. bad.acquire_fast n h) (λ l o p. gives (g.acquire_fast n p, tt))
+plain_by_ends scope i k.ReleaseFastMutex e =
+    let n = took i k.ReleaseFastMutex refl e in
+    then_ends _ (lock_ends scope Fast (next i)) (λ x h. bad.release_fast n h) (λ l o p. gives (g.release_fast n p, tt))
+plain_by_ends scope i k.AcquirePushLock e =
+    let n = took i k.AcquirePushLock refl e in
+    then_ends _ (lock_ends scope Push (next i)) (λ x h. bad.acquire_push n h) (λ l o p. gives (g.acquire_push n p, tt))
+plain_by_ends scope i k.AcquirePushLockShared e =
+    let n = took i k.AcquirePushLockShared refl e in
+    then_ends _ (lock_ends scope Push (next i)) (λ x h. bad.acquire_push_shared n h) (λ l o p. gives (g.acquire_push_shared n p, tt))
+plain_by_ends scope i k.ReleasePushLock e =
+    let n = took i k.ReleasePushLock refl e in
+    then_ends _ (lock_ends scope Push (next i)) (λ x h. bad.release_push n h) (λ l o p. gives (g.release_push n p, tt))
+plain_by_ends scope i k.CompletePendedPreOperation e =
+    let n = took i k.CompletePendedPreOperation refl e in
+    then_ends _ (operation_ends (next i)) (λ x h. bad.complete_pre_operation n h) (λ d b p.
+    then_ends _ (status_ends b) (λ x h. bad.complete_pre_status n p h) (λ s o q. gives (g.complete_pre n p q.0, q.1)))
+plain_by_ends scope i k.CompletePendedPostOperation e =
+    let n = took i k.CompletePendedPostOperation refl e in
+    then_ends _ (expect_ends (next i) k.Data refl) (λ x h. bad.complete_post n h) (λ _ o m. gives (g.complete_post n m, tt))
+plain_by_ends scope i _ e = fails (bad.no_plain (ap begins_plain e) (refused i))
+
+pub plain_ends : (scope : Scope) (i : Input) → Ends (PlainHere scope i) (PlainFails scope i) (plain_call scope i)
+unfolding plain_call
+plain_ends scope i = plain_by_ends scope i (kind i) refl
