@@ -1,4 +1,4 @@
--- What is spelled is read: statuses and calls.
+-- What is spelled and over is read: statuses and calls.
 use Rattle.std.proofs.Common.{◌≡◌, ◌≢◌, ◌≤◌, ◌<◌, Bool, true, false, length, Ok, refl, ap, ◌∙◌, rules, arith}
 use Rattle.std.specs.Prelude.{Option, Some, is_some, ◌||◌}
 use denote.Enum.Bare.{false_same}
@@ -22,21 +22,25 @@ use Rattle.flt_syntax.specs.Lex.{same_kind}
 use Rattle.flt_syntax.specs.Words as words
 use Rattle.flt_syntax.specs.CallGrammar as g
 use Rattle.flt_syntax.specs.CallGrammar.{StatusAt, OptionalStatusAt, RoutineAt, LockAt, FallibleAt, PlainAt}
-use Rattle.flt_syntax.specs.Words.{Next, Meant, NameAt, ContextAt, OptionalAt}
+use Rattle.flt_syntax.specs.Words.{Next, Meant, ContextAt, OptionalAt}
 use Rattle.flt_syntax.specs.Operand.{context_variable, removed_variable, removed_variable_of, operation_variable, operation_variable_of, same_context, other_context, with_context}
 use Rattle.flt_syntax.specs.Scope.{Scope, lock_named, routine}
 use Rattle.flt_syntax.specs.Status.{final_status_of, final_status, bare_status_of, bare_status, status_by, status, has_more, begins_status, optional_status}
 use Rattle.flt_syntax.specs.Call.{existing_of, existing, old, other_old, get_context, set_context, delete_context_of, insert_io, remove_next_io, queue_call, queue_deferred, queue_generic, fallible_by, fallible_call, reference_context, acquire_lock, acquire_shared, release_lock, complete_pre, complete_post, plain_by, plain_call}
 use Rattle.flt_syntax.specs.Cursor.{Input, kind, refusal, unknown, expect, name}
-use Rattle.flt_syntax.proofs.Sound.{none_some}
-use Rattle.flt_syntax.proofs.Complete.{then_again, kind_is, rest_is, means, sees_it, expect_again, eat_again, eat_none, known_again, context_again, spelled_again, Follows, no_tail, no_status, is_plain, is_fallible, next_less, meant_less, name_less, optional_less}
+use Rattle.flt_syntax.proofs.TokenKinds.{none_some, not_seen}
+use Rattle.flt_syntax.specs.FirstWords.{begins_fallible, begins_plain}
+use Rattle.flt_syntax.specs.Over.{OptionalOver, StatusOver, OptionalStatusOver, FallibleOver, PlainOver}
+use Rattle.flt_syntax.proofs.Complete.{then_again, kind_is, rest_is, means, sees_it, expect_again, eat_again, eat_none, known_again, context_again, spelled_again, next_less, meant_less, name_less, optional_less}
 
 -- ---- variables
 
+-- O: what is spelled and over is read
 pub removed_again : {i o : Input} {x : RemovedVariable} → Meant removed_variable_of i x o → removed_variable i ≡ Ok (x, o)
 unfolding removed_variable
 removed_again {i = i} p = known_again (unknown i) p
 
+-- D: what is spelled and over is read
 pub operation_again : {i o : Input} {x : OperationVariable} → Meant operation_variable_of i x o → operation_variable i ≡ Ok (x, o)
 unfolding operation_variable
 operation_again {i = i} p = known_again (unknown i) p
@@ -50,20 +54,21 @@ other_again : {i o : Input} {c : ContextVariable} (first : ContextVariable) → 
 unfolding other_context
 other_again {c = c} first p h = then_again _ (context_again p) (rw (not_same c first h) refl)
 
-with_context_again : {i o : Input} {c : Option ContextVariable} → OptionalAt k.Context i c o → Follows o → with_context i ≡ Ok (c, o)
+with_context_again : {i o : Input} {c : Option ContextVariable} (p : OptionalAt k.Context i c o) → OptionalOver p →
+    with_context i ≡ Ok (c, o)
 unfolding with_context
-with_context_again (words.without {i = i}) f = then_again _ (eat_none k.Context i (no_tail k.Context i f refl)) refl
+with_context_again (words.without {i = i}) f = then_again _ (eat_none k.Context i (not_seen k.Context i f)) refl
 with_context_again (words.behind n p) f = then_again _ (eat_again n) (then_again _ (context_again p) refl)
 
-old_again : {i o : Input} {c : Option ContextVariable} → OptionalAt k.Old i c o → Follows o → old i ≡ Ok (c, o)
+old_again : {i o : Input} {c : Option ContextVariable} (p : OptionalAt k.Old i c o) → OptionalOver p → old i ≡ Ok (c, o)
 unfolding old
-old_again (words.without {i = i}) f = then_again _ (eat_none k.Old i (no_tail k.Old i f refl)) refl
+old_again (words.without {i = i}) f = then_again _ (eat_none k.Old i (not_seen k.Old i f)) refl
 old_again (words.behind n p) f = then_again _ (eat_again n) (then_again _ (context_again p) refl)
 
-other_old_again : {i o : Input} {d : Option ContextVariable} (first : ContextVariable) → OptionalAt k.Old i d o → d ≢ Some first →
-    Follows o → other_old first i ≡ Ok (d, o)
+other_old_again : {i o : Input} {d : Option ContextVariable} (first : ContextVariable) (p : OptionalAt k.Old i d o) → d ≢ Some first →
+    OptionalOver p → other_old first i ≡ Ok (d, o)
 unfolding other_old
-other_old_again first (words.without {i = i}) h f = then_again _ (eat_none k.Old i (no_tail k.Old i f refl)) refl
+other_old_again first (words.without {i = i}) h f = then_again _ (eat_none k.Old i (not_seen k.Old i f)) refl
 other_old_again first (words.behind n p) h f = then_again _ (eat_again n) (then_again _ (other_again first p (λ e. h (ap Some e))) refl)
 
 -- ---- statuses
@@ -82,7 +87,8 @@ by_bare i s k.Synchronize e = elim (none_some s e) [ ]
 by_bare i s k.Complete e = elim (none_some s e) [ ]
 by_bare i s _ e = refl
 
-status_at : {kd : Kind} {i j : Input} → Next kd i j → status i ≡ status_by kd i
+-- the rule for a word, at that word
+pub status_at : {kd : Kind} {i j : Input} → Next kd i j → status i ≡ status_by kd i
 unfolding status
 status_at {i = i} n = ap (λ x. status_by x i) (kind_is n)
 
@@ -90,7 +96,7 @@ bare_at : {i o : Input} {s : Status} → Meant bare_status_of i s o → status i
 unfolding status
 bare_at {i = i} {s = s} p = by_bare i s (kind i) (means p)
 
-pub status_again : {i o : Input} {s : Status} → StatusAt i s o → Follows o → status i ≡ Ok (s, o)
+status_again : {i o : Input} {s : Status} (p : StatusAt i s o) → StatusOver p → status i ≡ Ok (s, o)
 status_again (g.with_callback n p) f = status_at n ∙ then_again _ (ap with_context (rest_is n) ∙ with_context_again p f) refl
 status_again (g.synchronize n p) f = status_at n ∙ then_again _ (ap with_context (rest_is n) ∙ with_context_again p f) refl
 status_again (g.complete n p) f = status_at n ∙ then_again _ (ap final_status (rest_is n) ∙ final_again p) refl
@@ -106,40 +112,49 @@ status_begins (g.synchronize n p) = ap begins_status (kind_is n)
 status_begins (g.complete n p) = ap begins_status (kind_is n)
 status_begins {i = i} (g.bare p) = ap (λ m. has_more (kind i) || is_some m) (means p) ∙ or_true (has_more (kind i))
 
-pub optional_status_again : {i o : Input} {s : Option Status} → OptionalStatusAt i s o → Follows o → optional_status i ≡ Ok (s, o)
+-- [ status ]: what is spelled and over is read
+pub optional_status_again : {i o : Input} {s : Option Status} (p : OptionalStatusAt i s o) → OptionalStatusOver p →
+    optional_status i ≡ Ok (s, o)
 unfolding optional_status
-optional_status_again (g.no_status {i = i}) f = rw (no_status i f) refl
+optional_status_again (g.no_status {i = i}) f = rw f refl
 optional_status_again (g.some_status p) f = rw (status_begins p) (then_again _ (status_again p f) refl)
 
 -- ---- names
 
-routine_again : {i o : Input} {x : Routine} (scope : Scope) → RoutineAt scope.text i x o → routine scope i ≡ Ok (x, o)
+-- NAME of a routine: what is spelled and over is read
+pub routine_again : {i o : Input} {x : Routine} (scope : Scope) → RoutineAt scope.text i x o → routine scope i ≡ Ok (x, o)
 unfolding routine
 routine_again scope (g.routine p) = then_again _ (spelled_again p) refl
 
-lock_again : {scope : Scope} {lk : LockKind} {i o : Input} {l : LockNumber} → LockAt scope lk i l o → lock_named scope lk i ≡ Ok (l, o)
+-- NAME of a declared lock: what is spelled and over is read
+pub lock_again : {scope : Scope} {lk : LockKind} {i o : Input} {l : LockNumber} → LockAt scope lk i l o → lock_named scope lk i ≡ Ok (l, o)
 unfolding lock_named name
 lock_again (g.lock (words.name e) h) = rw e (rw h refl)
 
 -- ---- calls
 
-existing_again : {i o : Input} {x : Existing} → Meant existing_of i x o → existing i ≡ Ok (x, o)
+-- KEEP_IF_EXISTS or REPLACE_IF_EXISTS: what is spelled and over is read
+pub existing_again : {i o : Input} {x : Existing} → Meant existing_of i x o → existing i ≡ Ok (x, o)
 unfolding existing
 existing_again {i = i} p = known_again (refusal i) p
 
-fallible_at : {kd : Kind} {i j : Input} (scope : Scope) → Next kd i j → fallible_call scope i ≡ fallible_by scope kd i
+-- the rule for a word, at that word
+pub fallible_at : {kd : Kind} {i j : Input} (scope : Scope) → Next kd i j → fallible_call scope i ≡ fallible_by scope kd i
 unfolding fallible_call
 fallible_at {i = i} scope n = ap (λ x. fallible_by scope x i) (kind_is n)
 
-insert_at : {i j : Input} (scope : Scope) → scope.queue ≡ true → Next k.InsertIo i j → fallible_call scope i ≡ insert_io i
+-- with a queue FltCbdqInsertIo is read
+pub insert_at : {i j : Input} (scope : Scope) → scope.queue ≡ true → Next k.InsertIo i j → fallible_call scope i ≡ insert_io i
 unfolding queue_call
 insert_at scope q n = fallible_at scope n ∙ rw (q, sees_it n) refl
 
-remove_at : {i j : Input} (scope : Scope) → scope.queue ≡ true → Next k.RemoveNextIo i j → fallible_call scope i ≡ remove_next_io i
+-- with a queue FltCbdqRemoveNextIo is read
+pub remove_at : {i j : Input} (scope : Scope) → scope.queue ≡ true → Next k.RemoveNextIo i j → fallible_call scope i ≡ remove_next_io i
 unfolding queue_call same_kind
 remove_at scope q n = fallible_at scope n ∙ rw (q, kind_is n) refl
 
-pub fallible_again : {scope : Scope} {i o : Input} {c : FallibleCall} → FallibleAt scope i c o → Follows o →
+-- fallible: what is spelled and over is read
+pub fallible_again : {scope : Scope} {i o : Input} {c : FallibleCall} (p : FallibleAt scope i c o) → FallibleOver p →
     fallible_call scope i ≡ Ok (c, o)
 unfolding get_context set_context delete_context_of insert_io remove_next_io queue_deferred queue_generic
 fallible_again {scope = scope} (g.allocate n p) f = fallible_at scope n
@@ -167,11 +182,13 @@ fallible_again {scope = scope} (g.queue_deferred n m p q) f =
 fallible_again {scope = scope} (g.queue_generic n p q) f =
     fallible_at scope n ∙ then_again _ (ap (routine scope) (rest_is n) ∙ routine_again scope p) (then_again _ (with_context_again q f) refl)
 
-plain_at : {kd : Kind} {i j : Input} (scope : Scope) → Next kd i j → plain_call scope i ≡ plain_by scope kd i
+-- the rule for a word, at that word
+pub plain_at : {kd : Kind} {i j : Input} (scope : Scope) → Next kd i j → plain_call scope i ≡ plain_by scope kd i
 unfolding plain_call
 plain_at {i = i} scope n = ap (λ x. plain_by scope x i) (kind_is n)
 
-pub plain_again : {scope : Scope} {i o : Input} {c : PlainCall} → PlainAt scope i c o → Follows o → plain_call scope i ≡ Ok (c, o)
+-- plain: what is spelled and over is read
+pub plain_again : {scope : Scope} {i o : Input} {c : PlainCall} (p : PlainAt scope i c o) → PlainOver p → plain_call scope i ≡ Ok (c, o)
 unfolding reference_context acquire_lock acquire_shared release_lock complete_pre complete_post
 plain_again {scope = scope} (g.delete n p) f = plain_at scope n ∙ then_again _ (ap context_variable (rest_is n) ∙ context_again p) refl
 plain_again {scope = scope} (g.reference n p m q h) f =
@@ -198,32 +215,34 @@ plain_again {scope = scope} (g.complete_post n m) f = plain_at scope n ∙ then_
 
 -- ---- with what calls begin
 
-pub fallible_begins : {scope : Scope} {i o : Input} {c : FallibleCall} → FallibleAt scope i c o → is_fallible (kind i) ≡ true
-fallible_begins (g.allocate n _) = ap is_fallible (kind_is n)
-fallible_begins (g.get_stream n _) = ap is_fallible (kind_is n)
-fallible_begins (g.get_instance n _) = ap is_fallible (kind_is n)
-fallible_begins (g.set_stream n _ _ _ _) = ap is_fallible (kind_is n)
-fallible_begins (g.set_instance n _ _ _ _) = ap is_fallible (kind_is n)
-fallible_begins (g.delete_stream n _) = ap is_fallible (kind_is n)
-fallible_begins (g.delete_instance n _) = ap is_fallible (kind_is n)
-fallible_begins (g.insert_io _ n _ _) = ap is_fallible (kind_is n)
-fallible_begins (g.remove_next_io _ n _ _ _) = ap is_fallible (kind_is n)
-fallible_begins (g.queue_deferred n _ _ _) = ap is_fallible (kind_is n)
-fallible_begins (g.queue_generic n _ _) = ap is_fallible (kind_is n)
+-- with what words they begin
+pub fallible_begins : {scope : Scope} {i o : Input} {c : FallibleCall} → FallibleAt scope i c o → begins_fallible (kind i) ≡ true
+fallible_begins (g.allocate n _) = ap begins_fallible (kind_is n)
+fallible_begins (g.get_stream n _) = ap begins_fallible (kind_is n)
+fallible_begins (g.get_instance n _) = ap begins_fallible (kind_is n)
+fallible_begins (g.set_stream n _ _ _ _) = ap begins_fallible (kind_is n)
+fallible_begins (g.set_instance n _ _ _ _) = ap begins_fallible (kind_is n)
+fallible_begins (g.delete_stream n _) = ap begins_fallible (kind_is n)
+fallible_begins (g.delete_instance n _) = ap begins_fallible (kind_is n)
+fallible_begins (g.insert_io _ n _ _) = ap begins_fallible (kind_is n)
+fallible_begins (g.remove_next_io _ n _ _ _) = ap begins_fallible (kind_is n)
+fallible_begins (g.queue_deferred n _ _ _) = ap begins_fallible (kind_is n)
+fallible_begins (g.queue_generic n _ _) = ap begins_fallible (kind_is n)
 
-pub plain_begins : {scope : Scope} {i o : Input} {c : PlainCall} → PlainAt scope i c o → is_plain (kind i) ≡ true
-plain_begins (g.delete n _) = ap is_plain (kind_is n)
-plain_begins (g.reference n _ _ _ _) = ap is_plain (kind_is n)
-plain_begins (g.release n _) = ap is_plain (kind_is n)
-plain_begins (g.acquire_spin n _) = ap is_plain (kind_is n)
-plain_begins (g.release_spin n _) = ap is_plain (kind_is n)
-plain_begins (g.acquire_fast n _) = ap is_plain (kind_is n)
-plain_begins (g.release_fast n _) = ap is_plain (kind_is n)
-plain_begins (g.acquire_push n _) = ap is_plain (kind_is n)
-plain_begins (g.acquire_push_shared n _) = ap is_plain (kind_is n)
-plain_begins (g.release_push n _) = ap is_plain (kind_is n)
-plain_begins (g.complete_pre n _ _) = ap is_plain (kind_is n)
-plain_begins (g.complete_post n _) = ap is_plain (kind_is n)
+-- with what words they begin
+pub plain_begins : {scope : Scope} {i o : Input} {c : PlainCall} → PlainAt scope i c o → begins_plain (kind i) ≡ true
+plain_begins (g.delete n _) = ap begins_plain (kind_is n)
+plain_begins (g.reference n _ _ _ _) = ap begins_plain (kind_is n)
+plain_begins (g.release n _) = ap begins_plain (kind_is n)
+plain_begins (g.acquire_spin n _) = ap begins_plain (kind_is n)
+plain_begins (g.release_spin n _) = ap begins_plain (kind_is n)
+plain_begins (g.acquire_fast n _) = ap begins_plain (kind_is n)
+plain_begins (g.release_fast n _) = ap begins_plain (kind_is n)
+plain_begins (g.acquire_push n _) = ap begins_plain (kind_is n)
+plain_begins (g.acquire_push_shared n _) = ap begins_plain (kind_is n)
+plain_begins (g.release_push n _) = ap begins_plain (kind_is n)
+plain_begins (g.complete_pre n _ _) = ap begins_plain (kind_is n)
+plain_begins (g.complete_post n _) = ap begins_plain (kind_is n)
 
 -- ---- calls take tokens
 
@@ -233,6 +252,7 @@ status_less (g.synchronize n p) = omega (arith, next_less n, optional_less p)
 status_less (g.complete n p) = omega (arith, next_less n, meant_less p)
 status_less (g.bare p) = meant_less p
 
+-- [ status ]: fewer tokens are left behind it
 pub optional_status_less : {i o : Input} {s : Option Status} → OptionalStatusAt i s o → length o ≤ length i
 optional_status_less g.no_status = omega arith
 optional_status_less (g.some_status p) = omega (arith, status_less p)
@@ -243,6 +263,7 @@ routine_less (g.routine p) = name_less p
 lock_less : {scope : Scope} {lk : LockKind} {i o : Input} {l : LockNumber} → LockAt scope lk i l o → length o < length i
 lock_less (g.lock p e) = name_less p
 
+-- fallible: fewer tokens are left behind it
 pub fallible_less : {scope : Scope} {i o : Input} {c : FallibleCall} → FallibleAt scope i c o → length o < length i
 fallible_less (g.allocate n p) = omega (arith, next_less n, meant_less p)
 fallible_less (g.get_stream n p) = omega (arith, next_less n, meant_less p)
@@ -256,6 +277,7 @@ fallible_less (g.remove_next_io q n p m x) = omega (arith, next_less n, meant_le
 fallible_less (g.queue_deferred n m p q) = omega (arith, next_less n, next_less m, routine_less p, optional_less q)
 fallible_less (g.queue_generic n p q) = omega (arith, next_less n, routine_less p, optional_less q)
 
+-- plain: fewer tokens are left behind it
 pub plain_less : {scope : Scope} {i o : Input} {c : PlainCall} → PlainAt scope i c o → length o < length i
 plain_less (g.delete n p) = omega (arith, next_less n, meant_less p)
 plain_less (g.reference n p m q h) = omega (arith, next_less n, meant_less p, next_less m, meant_less q)

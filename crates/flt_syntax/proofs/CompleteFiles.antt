@@ -1,5 +1,5 @@
 -- What is spelled is read: heads, callbacks and whole texts.
-use Rattle.std.proofs.Common.{◌≡◌, ℕ, zero, suc, ◌+◌, ◌≤◌, ◌<◌, Bool, true, false, not, List, [], ◌∷◌, ◌++◌, length, length-append, Ok, refl, ap, ◌∙◌, append_assoc, arith}
+use Rattle.std.proofs.Common.{◌≡◌, ◌≢◌, ℕ, zero, suc, ◌+◌, ◌≤◌, ◌<◌, Bool, true, false, not, List, [], ◌∷◌, ◌++◌, length, length-append, Ok, refl, ap, ◌∙◌, append_assoc, arith}
 use Rattle.std.specs.Prelude.{Option, Some, None, IsTrue, ◌&&◌}
 use Rattle.std.specs.List.{list_all}
 use Rattle.std.proofs.lemmas.Bool.{lt-ltb, le-ltb}
@@ -17,7 +17,7 @@ use Rattle.flt_tree.specs.declared.filter.Position.{Position}
 use Rattle.flt_tree.specs.Names.{Text}
 use Rattle.flt_syntax.specs.Lex.{same_kind, tokens}
 use Rattle.flt_syntax.specs.Grammar as g
-use Rattle.flt_syntax.specs.Grammar.{line, HeadAt, CallbackAt, CallbacksAt, LocksAt, QueueAt, FileAt}
+use Rattle.flt_syntax.specs.Grammar.{HeadAt, CallbackAt, CallbacksAt, LocksAt, QueueAt, FileAt}
 use Rattle.flt_tree.specs.Declarations.{AreNewLocks, is_declared, AreNewCallbacks, AreWhole, IsServed, has_event, has_routine, lacks_pre, has_lock}
 use Rattle.flt_syntax.specs.Spelling.{Spells}
 use Rattle.flt_syntax.specs.Words.{Next, Meant, NameAt}
@@ -29,21 +29,25 @@ use Rattle.flt_syntax.specs.Whole.{missing, callback_fault, first_fault, queue_f
 use Rattle.flt_syntax.specs.File.{lock_kind_of, lock_kind, lock, locks_from, locks, queue, callback, callbacks_from, callbacks, file, unless_fault, whole, filter_of}
 use Rattle.flt_syntax.specs.Cursor.{Input, Outcome, kind, refusal, sees}
 use Rattle.flt_syntax.proofs.Routines.{none_missing}
-use Rattle.flt_syntax.proofs.Sound.{differ}
+use Rattle.flt_syntax.specs.Over.{QueueOver}
+use Rattle.flt_syntax.proofs.TokenKinds.{differ, apart_kinds, unseen, not_seen}
 use Rattle.flt_syntax.proofs.Complete.{then_again, kind_is, rest_is, expect_again, eat_again, eat_none, known_again, spelled_again, within_again, apart, next_less, meant_less, name_less}
 use Rattle.flt_syntax.proofs.CompleteStatements.{statements_again, statements_less}
 
 -- ---- heads
 
+-- OP: what is spelled and over is read
 pub operation_again : {i o : Input} {op : Operation} → Meant operation_of i op o → operation i ≡ Ok (op, o)
 unfolding operation
 operation_again {i = i} p = known_again (refusal i) p
 
+-- the rule for a word, at that word
 pub head_at : {kd : Kind} {i j : Input} (text : Text) (found : List Callback) → Next kd i j →
     new_head text found i ≡ new_head_by text found kd i
 unfolding new_head
 head_at {i = i} text found n = ap (λ x. new_head_by text found x i) (kind_is n)
 
+-- the rule for a word, at that word
 pub event_at : {kd : Kind} {i j : Input} → Next kd i j → event i ≡ event_by kd i
 unfolding event
 event_at {i = i} n = ap (λ x. event_by x i) (kind_is n)
@@ -71,13 +75,15 @@ new_head_again {text = text} found (g.deferred_pre n p) fresh = head_at text fou
 new_head_again {text = text} found (g.deferred_post n p) fresh = head_at text found n ∙ then_again _ (routine_again found n p fresh) refl
 new_head_again {text = text} found (g.generic n p) fresh = head_at text found n ∙ then_again _ (routine_again found n p fresh) refl
 
+-- a head: what is spelled and over is read
 pub head_again : {text : Text} {i o : Input} {h : Head} (found : List Callback) → HeadAt text i h o → is_declared h found ≡ false →
     length found < max_callbacks →
     head text found i ≡ Ok (h, o)
 unfolding head
 head_again found p fresh few = rw (lt-ltb _ _ few) (new_head_again found p fresh)
 
-head_begins : {text : Text} {i o : Input} {h : Head} → HeadAt text i h o → begins_head (kind i) ≡ true
+-- with what words heads begin
+pub head_begins : {text : Text} {i o : Input} {h : Head} → HeadAt text i h o → begins_head (kind i) ≡ true
 head_begins (g.pre n _) = ap begins_head (kind_is n)
 head_begins (g.post n _) = ap begins_head (kind_is n)
 head_begins (g.canceled n) = ap begins_head (kind_is n)
@@ -95,6 +101,7 @@ head_less (g.generic n p) = omega (arith, next_less n, name_less p)
 
 -- ---- callbacks
 
+-- a callback: what is spelled and over is read
 pub callback_again : {scope : Scope} {i o : Input} {c : Callback} (found : List Callback) → CallbackAt scope i c o →
     is_declared c.head found ≡ false →
     length found < max_callbacks → is_small c ≡ true → callback scope found i ≡ Ok (c, o)
@@ -103,6 +110,7 @@ callback_again found (g.callback p n q m) fresh few small =
     then_again _ (head_again found p fresh few)
     (then_again _ (expect_again n) (then_again _ (statements_again q m) (then_again _ (expect_again m) (rw small refl))))
 
+-- a callback: fewer tokens are left behind it
 pub callback_less : {scope : Scope} {i o : Input} {c : Callback} → CallbackAt scope i c o → length o < length i
 callback_less (g.callback p n q m) = omega (arith, head_less p, next_less n, statements_less q, next_less m)
 
@@ -138,7 +146,9 @@ at_end : (o : Input) → kind o ≡ k.End → sees k.End o ≡ true
 unfolding same_kind
 at_end o e = rw e refl
 
-pub one_less : {A : Type 0} (found cs : List A) (c : A) (n : ℕ) → length found + length (c ∷ cs) ≤ n → length (found ++ c ∷ []) + length cs ≤ n
+-- one more is found, one less is left
+pub one_less : {A : Type 0} (found cs : List A) (c : A) (n : ℕ) → length found + length (c ∷ cs) ≤ n →
+    length (found ++ c ∷ []) + length cs ≤ n
 one_less found cs c n h = omega (arith, length-append found (c ∷ []))
 
 both_true : (a b : Bool) → (a && b) ≡ true → (a ≡ true) × (b ≡ true)
@@ -170,53 +180,70 @@ callbacks_again {i = i} p end fresh few small = callbacks_from_again p end (leng
 
 -- ---- locks
 
+-- the kind of a lock: what is spelled and over is read
 pub lock_kind_again : {i o : Input} {x : LockKind} → Meant lock_kind_of i x o → lock_kind i ≡ Ok (x, o)
 unfolding lock_kind
 lock_kind_again {i = i} p = known_again (refusal i) p
 
+-- a lock: what is spelled and over is read
 pub lock_again : {text name : Text} {i b o : Input} {lk : LockKind} (found : List Lock) → Meant lock_kind_of i lk b →
     NameAt text b name o → has_lock name found ≡ false →
     length found < max_locks → lock text found i ≡ Ok (record { kind = lk; name = name }, o)
 unfolding lock
 lock_again found p q fresh few = then_again _ (lock_kind_again p) (then_again _ (spelled_again q) (rw (fresh, lt-ltb _ _ few) refl))
 
-locks_from_again : {text : Text} {i o : Input} {ls : List Lock} → LocksAt text i ls o → sees k.Lock o ≡ false → 0 < length o →
-    (n : ℕ) (found : List Lock) → length i ≤ n →
-    AreNewLocks found ls → length found + length ls ≤ max_locks → locks_from text n found i ≡ Ok (found ++ ls, o)
+locks_from_again : {text : Text} {i o : Input} {ls : List Lock} → LocksAt text i ls o → kind o ≢ k.Lock →
+    (n : ℕ) (found : List Lock) → 0 < n → length i ≤ n → AreNewLocks found ls → length found + length ls ≤ max_locks →
+    locks_from text n found i ≡ Ok (found ++ ls, o)
 unfolding locks_from
-locks_from_again g.no_lock e some zero found h fresh few = absurd (omega arith)
-locks_from_again (g.no_lock {i = i}) e some (suc n) found h fresh few = then_again _ (eat_none k.Lock i e) (rw append-nil refl)
-locks_from_again (g.one_lock m p q x) e some zero found h fresh few = absurd (omega (arith, next_less m))
-locks_from_again {o = o} (g.one_lock {kind = lk} {name = name} {ls = ls} m p q x) e some (suc n) found h fresh few =
+locks_from_again g.no_lock e zero found some fits fresh few = absurd (omega (arith, some))
+locks_from_again (g.no_lock {i = i}) e (suc n) found some fits fresh few =
+    then_again _ (eat_none k.Lock i (not_seen k.Lock i e)) (rw append-nil refl)
+locks_from_again (g.one_lock m p q x) e zero found some fits fresh few = absurd (omega (arith, some))
+locks_from_again {o = o} (g.one_lock {kind = lk} {name = name} {ls = ls} m p q x) e (suc n) found some fits fresh few =
     let l : Lock = record { kind = lk; name = name } in
+    let shorter = next_less m in let shorter2 = meant_less p in let shorter3 = name_less q in
     then_again _ (eat_again m)
-    (then_again _ (lock_again found p q fresh.0 (omega arith))
-    (locks_from_again x e some n (found ++ l ∷ []) (omega (arith, next_less m, meant_less p, name_less q)) fresh.1
-    (one_less found ls l max_locks few)
+    (then_again _ (lock_again found p q fresh.0 (omega (arith, few)))
+    (locks_from_again x e n (found ++ l ∷ []) (omega (arith, shorter, shorter2, shorter3, fits))
+    (omega (arith, shorter, shorter2, shorter3, fits)) fresh.1 (one_less found ls l max_locks few)
     ∙ ap (λ y. Ok (y, o)) (append_assoc found (l ∷ []) ls)))
 
-locks_again : {text : Text} {i o : Input} {ls : List Lock} → LocksAt text i ls o → sees k.Lock o ≡ false → 0 < length o →
-    AreNewLocks [] ls → length ls ≤ max_locks →
-    locks text i ≡ Ok (ls, o)
+-- locks: what is spelled and over is read
+pub locks_again : {text : Text} {i o : Input} {ls : List Lock} → LocksAt text i ls o → kind o ≢ k.Lock → AreNewLocks [] ls →
+    length ls ≤ max_locks → 0 < length i → locks text i ≡ Ok (ls, o)
 unfolding locks
-locks_again {i = i} p e some fresh few = locks_from_again p e some (length i) [] (omega arith) fresh (omega arith)
+locks_again {i = i} p e fresh few some = locks_from_again p e (length i) [] some (omega arith) fresh (omega (arith, few))
 
-queue_again : {i o : Input} {q : Option Position} → QueueAt i q o → begins_head (kind o) ≡ true → queue i ≡ Ok (q, o)
+-- locks: fewer tokens are left behind it
+pub locks_less : {text : Text} {i o : Input} {ls : List Lock} → LocksAt text i ls o → length o ≤ length i
+locks_less g.no_lock = omega arith
+locks_less (g.one_lock n p q x) = omega (arith, next_less n, meant_less p, name_less q, locks_less x)
+
+-- [ "queue" ]: what is spelled and over is read
+pub queue_again : {i o : Input} {q : Option Position} (p : QueueAt i q o) → QueueOver p → queue i ≡ Ok (q, o)
 unfolding queue
-queue_again (g.no_queue {i = i}) e = then_again _ (eat_none k.Queue i (no_queue i e)) refl
+queue_again (g.no_queue {i = i}) e = then_again _ (eat_none k.Queue i (not_seen k.Queue i e)) refl
 queue_again (g.some_queue n) e = then_again _ (eat_again n) refl
 
-queue_no_lock : {i o : Input} {q : Option Position} → QueueAt i q o → begins_head (kind o) ≡ true → sees k.Lock i ≡ false
-unfolding same_kind
-queue_no_lock (g.no_queue {i = i}) e = no_lock i e
-queue_no_lock (g.some_queue n) e = rw (kind_is n) refl
+-- before a callback it is over, and no lock stands there
+queue_over : {i o : Input} {q : Option Position} (p : QueueAt i q o) → begins_head (kind o) ≡ true → QueueOver p
+queue_over (g.no_queue {i = i}) e = unseen k.Queue i (no_queue i e)
+queue_over (g.some_queue n) e = tt
 
+queue_no_lock : {i o : Input} {q : Option Position} → QueueAt i q o → begins_head (kind o) ≡ true → kind i ≢ k.Lock
+unfolding same_kind
+queue_no_lock (g.no_queue {i = i}) e = unseen k.Lock i (no_lock i e)
+queue_no_lock (g.some_queue {i = i} n) e = apart_kinds (kind i) k.Queue k.Lock (kind_is n) refl
+
+-- [ "queue" ]: fewer tokens are left behind it
 pub queue_less : {i o : Input} {q : Option Position} → QueueAt i q o → length o ≤ length i
 queue_less g.no_queue = omega arith
 queue_less (g.some_queue n) = omega (arith, next_less n)
 
 -- ---- the file
 
+-- the tokens of a file are read to its end
 pub file_at : {text : Text} {i : Input} {f : Filter} → FileAt text i f → 1 ≤ f.altitude → f.altitude ≤ max_altitude →
     AreNewLocks [] f.locks → length f.locks ≤ max_locks →
     AreNewCallbacks [] f.callbacks → length f.callbacks ≤ max_callbacks → IsTrue (are_small f) → (o : Input) × (file text i ≡ Ok (f, o))
@@ -226,14 +253,16 @@ file_at (g.file {e = e} {l = l} {o = o} n m x p y q w end) low high new_locks fe
       o,
       then_again _ (expect_again n) (then_again _ (spelled_again m)
           (then_again _ (expect_again x) (then_again _ (within_again 1 max_altitude p low high)
-          (then_again _ (locks_again y (queue_no_lock q begins) (omega (arith, queue_less q, callbacks_less w)) new_locks few_locks)
-          (then_again _ (queue_again q begins)
+          (then_again _ (locks_again y (queue_no_lock q begins) new_locks few_locks
+          (omega (arith, locks_less y, queue_less q, callbacks_less w)))
+          (then_again _ (queue_again q (queue_over q begins))
           (then_again _ (callbacks_again w end new_callbacks few_callbacks small) refl)))))),
     )
 
 -- ---- the text
 
-no_queue_fault : (q : Option Position) (cs : List Callback) → IsServed q cs → queue_fault q cs ≡ None
+-- a queue that is served is no fault
+pub no_queue_fault : (q : Option Position) (cs : List Callback) → IsServed q cs → queue_fault q cs ≡ None
 no_queue_fault None cs e = refl
 no_queue_fault (Some at) cs e = rw e refl
 

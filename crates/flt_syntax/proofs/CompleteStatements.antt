@@ -1,5 +1,5 @@
--- What is spelled is read: tests, statements and blocks.
-use Rattle.std.proofs.Common.{◌≡◌, ℕ, zero, suc, ◌-◌, ◌≤◌, ◌<◌, Bool, true, false, List, [], ◌∷◌, ◌++◌, length, Ok, refl, sym, ap, ◌∙◌, append_assoc, arith}
+-- What is spelled and over is read: tests, statements and blocks.
+use Rattle.std.proofs.Common.{◌≡◌, ◌≢◌, ℕ, zero, suc, ◌-◌, ◌≤◌, ◌<◌, Bool, true, false, List, [], ◌∷◌, ◌++◌, length, Ok, refl, sym, ap, ◌∙◌, append_assoc, arith}
 use Rattle.std.specs.Prelude.{◌&&◌}
 use Rattle.std.proofs.lemmas.Bool.{ne_eqb}
 use Rattle.std.proofs.lemmas.List.{append-nil}
@@ -10,7 +10,6 @@ use Rattle.flt_tree.specs.declared.filter.Action.{Action}
 use Rattle.flt_tree.specs.declared.filter.Action.TheVariants.{SetNumber}
 use Rattle.flt_tree.specs.declared.filter.Condition.{Condition}
 use Rattle.flt_tree.specs.declared.filter.Condition.TheVariants as made
-use Rattle.flt_tree.specs.declared.filter.PlainCall.{PlainCall}
 use Rattle.flt_tree.specs.declared.filter.Statement.{Statement}
 use Rattle.flt_tree.specs.declared.filter.Statement.TheVariants as statements_made
 use Rattle.flt_tree.specs.declared.filter.Test.{Test}
@@ -25,7 +24,6 @@ use Rattle.flt_tree.specs.declared.variable.RemovedVariable.{RemovedVariable}
 use Rattle.flt_syntax.specs.Lex.{same_kind}
 use Rattle.flt_syntax.specs.ActionGrammar as g
 use Rattle.flt_syntax.specs.ActionGrammar.{AtomAt, ExpressionAt, ActionAt, TestAt, ConditionAt}
-use Rattle.flt_syntax.specs.CallGrammar.{PlainAt}
 use Rattle.flt_syntax.specs.Grammar as s
 use Rattle.flt_syntax.specs.Grammar.{line, StatementAt, ElseAt, BlockAt, StatementsAt}
 use Rattle.flt_syntax.specs.Words as words
@@ -38,11 +36,13 @@ use Rattle.flt_syntax.specs.Call.{fallible_call, plain_call}
 use Rattle.flt_syntax.specs.Condition.{context_test, operation_test, comparison_by, number_test, word_test_by, word_test, condition}
 use Rattle.flt_tree.specs.Limits.{max_turns}
 use Rattle.flt_syntax.specs.Statement.{otherwise, choice, repetition, statement_by, statement, statements_from, statements, block}
-use Rattle.flt_syntax.specs.Cursor.{Input, Parser, and_then, ◌<$>◌, kind, next, refusal, unknown, sees, expect, number_within}
-use Rattle.flt_syntax.proofs.Sound.{differ}
-use Rattle.flt_syntax.proofs.SoundStatements.{suc_some}
-use Rattle.flt_syntax.proofs.Complete.{then_again, kind_is, rest_is, left_is, means, sees_it, expect_again, eat_again, eat_none, context_again, within_again, apart, other, left_false, right_false, none_of, some_of, is_number, is_context, is_removed, goes_on, is_close, has_blocks, unstarted, not_simple, is_plain, is_fallible, number_simple, context_simple, removed_simple, plain_simple, context_number, number_context, removed_number, number_removed, removed_context, is_variable, plain_variable, fallible_variable, Follows, no_tail, follows_open, follows_close, next_less, meant_less, number_less}
+use Rattle.flt_syntax.specs.Cursor.{Input, Parser, and_then, ◌<$>◌, kind, next, refusal, unknown, expect, number_within}
+use Rattle.flt_syntax.specs.FirstWords.{begins_fallible, begins_plain, is_variable, is_test_word, begins_test, is_simple_word, has_blocks, begins_other}
+use Rattle.flt_syntax.specs.Over.{ExpressionOver, ActionOver, ConditionOver, ElseOver, StatementOver}
+use Rattle.flt_syntax.proofs.TokenKinds.{differ, suc_some, not_seen}
+use Rattle.flt_syntax.proofs.Complete.{then_again, kind_is, rest_is, left_is, means, sees_it, expect_again, eat_again, eat_none, context_again, within_again, other, left_false, right_false, none_of, some_of, is_number, is_context, is_removed, context_number, number_context, removed_number, number_removed, removed_context, next_less, meant_less, number_less}
 use Rattle.flt_syntax.proofs.CompleteCalls.{operation_again, fallible_again, plain_again, optional_status_again, fallible_begins, plain_begins, fallible_less, plain_less, optional_status_less}
+use Rattle.flt_syntax.proofs.Follows.{Follows, follows_open, condition_over, statement_over, action_simply, no_blocks, statement_stays, statements_follow}
 
 -- ---- atoms
 
@@ -58,36 +58,29 @@ atom_again : {i o : Input} {x : Atom} → AtomAt i x o → atom i ≡ Ok (x, o)
 unfolding atom
 atom_again {i = i} p = atom_by_again (unknown i) p
 
-leading_again : {i o : Input} {x : Atom} → AtomAt i x o → leading_atom i ≡ Ok (x, o)
+-- atom, where other words may stand: what is spelled and over is read
+pub leading_again : {i o : Input} {x : Atom} → AtomAt i x o → leading_atom i ≡ Ok (x, o)
 unfolding leading_atom
 leading_again {i = i} p = atom_by_again (refusal i) p
 
-atom_less : {i o : Input} {x : Atom} → AtomAt i x o → length o < length i
-atom_less (g.number p) = number_less p
-atom_less (g.variable p) = meant_less p
-
 -- ---- actions
 
-ends_there : (x : Atom) (o : Input) (a : Kind) → goes_on a ≡ false → expression_by x a o ≡ Ok (expressions.Atom x, o)
-ends_there x o k.Plus e = elim (differ (sym e)) [ ]
-ends_there x o k.Minus e = elim (differ (sym e)) [ ]
-ends_there x o _ e = refl
+ends_there : (x : Atom) (o : Input) (a : Kind) → a ≢ k.Plus → a ≢ k.Minus → expression_by x a o ≡ Ok (expressions.Atom x, o)
+ends_there x o k.Plus e h = elim (e refl) [ ]
+ends_there x o k.Minus e h = elim (h refl) [ ]
+ends_there x o _ e h = refl
 
-sign_at : {kd : Kind} {i o : Input} (x : Atom) → Next kd i o → expression_by x (kind i) i ≡ expression_by x kd i
+-- the rule for a sign, at that sign
+pub sign_at : {kd : Kind} {i o : Input} (x : Atom) → Next kd i o → expression_by x (kind i) i ≡ expression_by x kd i
 sign_at {i = i} x n = ap (λ y. expression_by x y i) (kind_is n)
 
-expression_again : {i o : Input} {x : Expression} → ExpressionAt i x o → Follows o → expression i ≡ Ok (x, o)
+expression_again : {i o : Input} {x : Expression} (p : ExpressionAt i x o) → ExpressionOver p → expression i ≡ Ok (x, o)
 unfolding expression
-expression_again {o = o} (g.one {x = x} p) f = then_again _ (leading_again p) (ends_there x o (kind o) f)
+expression_again (g.one {o = o} {x = x} p) f = then_again _ (leading_again p) (ends_there x o (kind o) f.0 f.1)
 expression_again (g.sum {x = x} p n q) f =
     then_again _ (leading_again p) (sign_at x n ∙ then_again _ (ap atom (rest_is n) ∙ atom_again q) refl)
 expression_again (g.difference {x = x} p n q) f =
     then_again _ (leading_again p) (sign_at x n ∙ then_again _ (ap atom (rest_is n) ∙ atom_again q) refl)
-
-expression_less : {i o : Input} {x : Expression} → ExpressionAt i x o → length o < length i
-expression_less (g.one p) = atom_less p
-expression_less (g.sum p n q) = omega (arith, atom_less p, next_less n, atom_less q)
-expression_less (g.difference p n q) = omega (arith, atom_less p, next_less n, atom_less q)
 
 abbrev is_word : Kind → Bool
 is_word k.Value = true
@@ -107,27 +100,37 @@ expression_no_word (g.one p) = atom_no_word p
 expression_no_word (g.sum p n q) = atom_no_word p
 expression_no_word (g.difference p n q) = atom_no_word p
 
-by_expression : (n : NumberVariable) (i : Input) (a : Kind) → is_word a ≡ false → number_by n a i ≡ (SetNumber n <$> expression) i
+-- what is no word of its own is an expression
+pub by_expression : (n : NumberVariable) (i : Input) (a : Kind) → is_word a ≡ false → number_by n a i ≡ (SetNumber n <$> expression) i
 by_expression n i k.Value e = elim (differ (sym e)) [ ]
 by_expression n i k.File e = elim (differ (sym e)) [ ]
 by_expression n i _ e = refl
 
-value_at : {kd : Kind} {i o : Input} (n : NumberVariable) → Next kd i o → number_by n (kind i) i ≡ number_by n kd i
+-- neither of two words
+pub no_words : (a : Kind) → a ≢ k.Value → a ≢ k.File → is_word a ≡ false
+no_words k.Value e h = elim (e refl) [ ]
+no_words k.File e h = elim (h refl) [ ]
+no_words _ e h = refl
+
+-- the rule for a word, at that word
+pub value_at : {kd : Kind} {i o : Input} (n : NumberVariable) → Next kd i o → number_by n (kind i) i ≡ number_by n kd i
 value_at {i = i} n m = ap (λ y. number_by n y i) (kind_is m)
 
--- of statements without blocks, those that begin with a variable
 module _ (scope : Scope) (l : ℕ) where
-  at_number : {i a : Input} {n : NumberVariable} → Meant number_variable_of i n a →
+  -- a statement that begins with N
+  pub at_number : {i a : Input} {n : NumberVariable} → Meant number_variable_of i n a →
       simple_statement scope l i ≡ (statements_made.Act l <$> set_number n) i
   unfolding simple_statement
   at_number p = rw (means p) refl
 
-  at_context : {i a : Input} {c : ContextVariable} → ContextAt i c a →
+  -- a statement that begins with C
+  pub at_context : {i a : Input} {c : ContextVariable} → ContextAt i c a →
       simple_statement scope l i ≡ (statements_made.Act l <$> clear_context c) i
   unfolding simple_statement
   at_context {i = i} p = rw (none_of _ (other is_context is_number (kind i) (context_number (kind i)) (some_of (means p))), means p) refl
 
-  at_removed : {i a : Input} {x : RemovedVariable} → Meant removed_variable_of i x a →
+  -- a statement that begins with O
+  pub at_removed : {i a : Input} {x : RemovedVariable} → Meant removed_variable_of i x a →
       simple_statement scope l i ≡ (statements_made.Act l <$> clear_operation x) i
   unfolding simple_statement
   at_removed {i = i} p =
@@ -143,20 +146,25 @@ module _ (scope : Scope) (l : ℕ) where
       let e1 = left_false (is_number (kind i)) _ e in let e2 = right_false (is_number (kind i)) _ e in
       rw (none_of _ e1, none_of _ (left_false (is_context (kind i)) _ e2), none_of _ (right_false (is_context (kind i)) _ e2)) refl
 
-  word_at : {kd : Kind} {i a : Input} → Next kd i a → is_variable kd ≡ false → simple_statement scope l i ≡ word_statement_by scope l kd i
+  -- the rule for a word, at that word
+  pub word_at : {kd : Kind} {i a : Input} → Next kd i a → is_variable kd ≡ false →
+      simple_statement scope l i ≡ word_statement_by scope l kd i
   unfolding word_statement
   word_at {i = i} n e = at_word i (ap is_variable (kind_is n) ∙ e) ∙ ap (λ x. word_statement_by scope l x i) (kind_is n)
 
-  by_plain : (i : Input) (a : Kind) → is_plain a ≡ true → word_statement_by scope l a i ≡ (statements_made.Call l <$> plain_call scope) i
-  by_plain i k.Value e = elim (differ e) [ ]
-  by_plain i k.Return e = elim (differ e) [ ]
+  by_plain : (i : Input) (a : Kind) → is_simple_word a ≡ false →
+      word_statement_by scope l a i ≡ (statements_made.Call l <$> plain_call scope) i
+  by_plain i k.Value e = elim (differ (sym e)) [ ]
+  by_plain i k.Return e = elim (differ (sym e)) [ ]
   by_plain i _ e = refl
 
-  at_plain : (i : Input) → is_plain (kind i) ≡ true → simple_statement scope l i ≡ (statements_made.Call l <$> plain_call scope) i
+  at_plain : (i : Input) → is_variable (kind i) ≡ false → is_simple_word (kind i) ≡ false →
+      simple_statement scope l i ≡ (statements_made.Call l <$> plain_call scope) i
   unfolding word_statement
-  at_plain i e = at_word i (other is_plain is_variable (kind i) (plain_variable (kind i)) e) ∙ by_plain i (kind i) e
+  at_plain i v e = at_word i v ∙ by_plain i (kind i) e
 
-  action_again : {i o : Input} {a : Action} → ActionAt i a o → Follows o → simple_statement scope l i ≡ Ok (statements_made.Act l a, o)
+  action_again : {i o : Input} {a : Action} (p : ActionAt i a o) → ActionOver p →
+      simple_statement scope l i ≡ Ok (statements_made.Act l a, o)
   unfolding set_number clear_context clear_operation write_value
   action_again (g.set_number {b = b} {n = n} p m q) f =
       at_number p ∙ then_again _ (then_again _ (ap (expect k.Assign) (left_is p) ∙ expect_again m)
@@ -177,38 +185,26 @@ module _ (scope : Scope) (l : ℕ) where
       at_removed p ∙ then_again _ (then_again _
       (then_again _ (ap (expect k.Assign) (left_is p) ∙ expect_again m) (expect_again n)) refl) refl
 
-action_simply : {i o : Input} {a : Action} → ActionAt i a o → not_simple (kind i) ≡ false
-action_simply {i = i} (g.set_number p m q) = other is_number not_simple (kind i) (number_simple (kind i)) (some_of (means p))
-action_simply {i = i} (g.read_value p m w q) = other is_number not_simple (kind i) (number_simple (kind i)) (some_of (means p))
-action_simply {i = i} (g.read_file p m w q) = other is_number not_simple (kind i) (number_simple (kind i)) (some_of (means p))
-action_simply (g.write_value n p m q) = ap not_simple (kind_is n)
-action_simply {i = i} (g.clear_context p m n) = other is_context not_simple (kind i) (context_simple (kind i)) (some_of (means p))
-action_simply {i = i} (g.clear_operation p m n) = other is_removed not_simple (kind i) (removed_simple (kind i)) (some_of (means p))
-
-action_less : {i o : Input} {a : Action} → ActionAt i a o → length o < length i
-action_less (g.set_number p m q) = omega (arith, meant_less p, next_less m, expression_less q)
-action_less (g.read_value p m w q) = omega (arith, meant_less p, next_less m, next_less w, meant_less q)
-action_less (g.read_file p m w q) = omega (arith, meant_less p, next_less m, next_less w, meant_less q)
-action_less (g.write_value n p m q) = omega (arith, next_less n, meant_less p, next_less m, atom_less q)
-action_less (g.clear_context p m n) = omega (arith, meant_less p, next_less m, next_less n)
-action_less (g.clear_operation p m n) = omega (arith, meant_less p, next_less m, next_less n)
-
 -- ---- tests
 
-comparison_at : {kd : Kind} {i o : Input} (n : NumberVariable) → Next kd i o → comparison_by n (kind i) i ≡ comparison_by n kd i
+-- the rule for a symbol, at that symbol
+pub comparison_at : {kd : Kind} {i o : Input} (n : NumberVariable) → Next kd i o → comparison_by n (kind i) i ≡ comparison_by n kd i
 comparison_at {i = i} n m = ap (λ y. comparison_by n y i) (kind_is m)
 
 module _ (scope : Scope) where
-  if_context : {i a : Input} {c : ContextVariable} → ContextAt i c a → condition scope i ≡ (made.Test <$> context_test c) i
+  -- a test that begins with C
+  pub if_context : {i a : Input} {c : ContextVariable} → ContextAt i c a → condition scope i ≡ (made.Test <$> context_test c) i
   unfolding condition
   if_context p = rw (means p) refl
 
-  if_removed : {i a : Input} {x : RemovedVariable} → Meant removed_variable_of i x a →
+  -- a test that begins with O
+  pub if_removed : {i a : Input} {x : RemovedVariable} → Meant removed_variable_of i x a →
       condition scope i ≡ (made.Test <$> operation_test x) i
   unfolding condition
   if_removed {i = i} p = rw (none_of _ (other is_removed is_context (kind i) (removed_context (kind i)) (some_of (means p))), means p) refl
 
-  if_number : {i a : Input} {n : NumberVariable} → Meant number_variable_of i n a → condition scope i ≡ (made.Test <$> number_test n) i
+  -- a test that begins with N
+  pub if_number : {i a : Input} {n : NumberVariable} → Meant number_variable_of i n a → condition scope i ≡ (made.Test <$> number_test n) i
   unfolding condition
   if_number {i = i} p =
       rw (
@@ -223,18 +219,20 @@ module _ (scope : Scope) where
       let e1 = left_false (is_number (kind i)) _ e in let e2 = right_false (is_number (kind i)) _ e in
       rw (none_of _ e1, none_of _ (left_false (is_context (kind i)) _ e2), none_of _ (right_false (is_context (kind i)) _ e2)) refl
 
-  if_at : {kd : Kind} {i a : Input} → Next kd i a → is_variable kd ≡ false → condition scope i ≡ word_test_by scope kd i
+  -- the rule for a word, at that word
+  pub if_at : {kd : Kind} {i a : Input} → Next kd i a → is_variable kd ≡ false → condition scope i ≡ word_test_by scope kd i
   unfolding word_test
   if_at {i = i} n e = if_word i (ap is_variable (kind_is n) ∙ e) ∙ ap (λ x. word_test_by scope x i) (kind_is n)
 
-  by_fallible : (i : Input) (a : Kind) → is_fallible a ≡ true → word_test_by scope a i ≡ (made.Succeeds <$> fallible_call scope) i
-  by_fallible i k.Irp e = elim (differ e) [ ]
-  by_fallible i k.Draining e = elim (differ e) [ ]
-  by_fallible i _ e = refl
+  by_call : (i : Input) (a : Kind) → is_test_word a ≡ false → word_test_by scope a i ≡ (made.Succeeds <$> fallible_call scope) i
+  by_call i k.Irp e = elim (differ (sym e)) [ ]
+  by_call i k.Draining e = elim (differ (sym e)) [ ]
+  by_call i _ e = refl
 
-  if_fallible : (i : Input) → is_fallible (kind i) ≡ true → condition scope i ≡ (made.Succeeds <$> fallible_call scope) i
+  -- a test that begins otherwise is a call
+  pub if_call : (i : Input) → begins_test (kind i) ≡ false → condition scope i ≡ (made.Succeeds <$> fallible_call scope) i
   unfolding word_test
-  if_fallible i e = if_word i (other is_fallible is_variable (kind i) (fallible_variable (kind i)) e) ∙ by_fallible i (kind i) e
+  if_call i e = if_word i (left_false (is_variable (kind i)) _ e) ∙ by_call i (kind i) (right_false (is_variable (kind i)) _ e)
 
   test_again : {i o : Input} {t : Test} → TestAt i t o → condition scope i ≡ Ok (made.Test t, o)
   unfolding context_test operation_test number_test
@@ -253,9 +251,72 @@ module _ (scope : Scope) where
   test_again (g.is_irp n m) = if_at n refl ∙ then_again _ (ap (expect k.Data) (rest_is n) ∙ expect_again m) refl
   test_again (g.is_draining n) = if_at n refl ∙ ap (λ x. Ok (made.Test IsDraining, x)) (rest_is n)
 
-  condition_again : {i o : Input} {c : Condition} → ConditionAt scope i c o → Follows o → condition scope i ≡ Ok (c, o)
+  fallible_test : (a : Kind) → (begins_fallible a && begins_test a) ≡ false
+  fallible_test k.OpenBrace = refl
+  fallible_test _ = refl
+
+  -- cond: what is spelled and over is read
+  pub condition_again : {i o : Input} {c : Condition} (p : ConditionAt scope i c o) → ConditionOver p → condition scope i ≡ Ok (c, o)
   condition_again (g.test p) f = test_again p
-  condition_again {i = i} (g.succeeds p) f = if_fallible i (fallible_begins p) ∙ then_again _ (fallible_again p f) refl
+  condition_again {i = i} (g.succeeds p) f =
+      if_call i (other begins_fallible begins_test (kind i) (fallible_test (kind i)) (fallible_begins p)) ∙ then_again _
+      (fallible_again p f) refl
+
+-- ---- statements
+
+plain_other : (a : Kind) → (begins_plain a && begins_other a) ≡ false
+plain_other k.OpenBrace = refl
+plain_other _ = refl
+
+by_simple : (scope : Scope) (inner : ℕ → Parser (List Statement)) (r : ℕ) (i : Input) (a : Kind) → has_blocks a ≡ false →
+    statement_by scope inner r a i ≡ simple_statement scope (line i) i
+by_simple scope inner r i k.If e = elim (differ (sym e)) [ ]
+by_simple scope inner r i k.Repeat e = elim (differ (sym e)) [ ]
+by_simple scope inner r i _ e = refl
+
+module _ (scope : Scope) (inner : ℕ → Parser (List Statement)) (r : ℕ) where
+  -- a statement without blocks
+  pub at_simple : (i : Input) → has_blocks (kind i) ≡ false → statement scope inner r i ≡ simple_statement scope (line i) i
+  unfolding statement
+  at_simple i e = by_simple scope inner r i (kind i) e
+
+  -- what begins no other statement is read as a call
+  pub at_call : (i : Input) → begins_other (kind i) ≡ false →
+      statement scope inner r i ≡ (statements_made.Call (line i) <$> plain_call scope) i
+  at_call i e =
+      let rest = right_false (is_variable (kind i)) _ e in
+      at_simple i (right_false (is_simple_word (kind i)) _ rest)
+      ∙ at_plain scope (line i) i (left_false (is_variable (kind i)) _ e) (left_false (is_simple_word (kind i)) _ rest)
+
+  -- the rule for a kind, at a token of that kind
+  pub statement_at : {kd : Kind} {i j : Input} → Next kd i j → statement scope inner r i ≡ statement_by scope inner r kd i
+  unfolding statement
+  statement_at {i = i} n = ap (λ x. statement_by scope inner r x i) (kind_is n)
+
+-- a `repeat` inside has one level less
+pub repeats_less : (scope : Scope) (inner : ℕ → Parser (List Statement)) (r : ℕ) (i : Input) → repetition scope inner (suc r) i ≡
+    and_then (number_within 0 max_turns (next i)) (λ q. and_then (inner r q.1) (λ x. Ok (statements_made.Repeat (line i) q.0 x.0, x.1)))
+unfolding repetition
+repeats_less scope inner r i = let e : suc r - 1 ≡ r = omega arith in rw (ne_eqb (suc r) 0 (suc_some r), e) refl
+
+-- ---- each takes a token
+
+atom_less : {i o : Input} {x : Atom} → AtomAt i x o → length o < length i
+atom_less (g.number p) = number_less p
+atom_less (g.variable p) = meant_less p
+
+expression_less : {i o : Input} {x : Expression} → ExpressionAt i x o → length o < length i
+expression_less (g.one p) = atom_less p
+expression_less (g.sum p n q) = omega (arith, atom_less p, next_less n, atom_less q)
+expression_less (g.difference p n q) = omega (arith, atom_less p, next_less n, atom_less q)
+
+action_less : {i o : Input} {a : Action} → ActionAt i a o → length o < length i
+action_less (g.set_number p m q) = omega (arith, meant_less p, next_less m, expression_less q)
+action_less (g.read_value p m w q) = omega (arith, meant_less p, next_less m, next_less w, meant_less q)
+action_less (g.read_file p m w q) = omega (arith, meant_less p, next_less m, next_less w, meant_less q)
+action_less (g.write_value n p m q) = omega (arith, next_less n, meant_less p, next_less m, atom_less q)
+action_less (g.clear_context p m n) = omega (arith, meant_less p, next_less m, next_less n)
+action_less (g.clear_operation p m n) = omega (arith, meant_less p, next_less m, next_less n)
 
 test_less : {i o : Input} {t : Test} → TestAt i t o → length o < length i
 test_less (g.context_is_some p m n) = omega (arith, meant_less p, next_less m, next_less n)
@@ -269,9 +330,8 @@ condition_less : {scope : Scope} {i o : Input} {c : Condition} → ConditionAt s
 condition_less (g.test p) = test_less p
 condition_less (g.succeeds p) = fallible_less p
 
--- ---- statements
-
 mutual
+  -- so reading goes on at fewer tokens behind a statement
   pub statement_less : {scope : Scope} {d r : ℕ} {i o : Input} {s : Statement} → StatementAt scope d r i s o → length o < length i
   statement_less (s.act p) = action_less p
   statement_less (s.call p) = plain_less p
@@ -286,88 +346,48 @@ mutual
   block_less : {scope : Scope} {d r : ℕ} {i o : Input} {ss : List Statement} → BlockAt scope d r i ss o → length o < length i
   block_less (s.block n p m) = omega (arith, next_less n, statements_less p, next_less m)
 
+  -- { stmt } up to its brace: fewer tokens are left behind it
   pub statements_less : {scope : Scope} {d r : ℕ} {i o : Input} {ss : List Statement} → StatementsAt scope d r i ss o → length o ≤ length i
   statements_less s.empty = omega arith
   statements_less (s.go_on p q) = omega (arith, statement_less p, statements_less q)
 
-plain_simply : {scope : Scope} {i o : Input} {c : PlainCall} → PlainAt scope i c o → not_simple (kind i) ≡ false
-plain_simply {i = i} p = other is_plain not_simple (kind i) (plain_simple (kind i)) (plain_begins p)
-
-starts_simply : (i : Input) → not_simple (kind i) ≡ false → unstarted (kind i) ≡ false
-starts_simply i e = left_false (unstarted (kind i)) (has_blocks (kind i)) e
-
-statement_starts : {scope : Scope} {d r : ℕ} {i o : Input} {s : Statement} → StatementAt scope d r i s o → unstarted (kind i) ≡ false
-statement_starts {i = i} (s.act p) = starts_simply i (action_simply p)
-statement_starts {i = i} (s.call p) = starts_simply i (plain_simply p)
-statement_starts (s.return n p) = ap unstarted (kind_is n)
-statement_starts (s.choice n _ _ _) = ap unstarted (kind_is n)
-statement_starts (s.repeat n _ _ _) = ap unstarted (kind_is n)
-
-statement_follows : {scope : Scope} {d r : ℕ} {i o : Input} {s : Statement} → StatementAt scope d r i s o → Follows i
-statement_follows {i = i} p = left_false (goes_on (kind i)) (is_close (kind i)) (statement_starts p)
-
-statement_stays : {scope : Scope} {d r : ℕ} {i o : Input} {s : Statement} → StatementAt scope d r i s o → sees k.CloseBrace i ≡ false
-statement_stays {i = i} p = apart is_close (kind i) k.CloseBrace
-    (right_false (goes_on (kind i)) (is_close (kind i)) (statement_starts p)) refl
-
-statements_follow : {scope : Scope} {d r : ℕ} {i o e : Input} {ss : List Statement} → StatementsAt scope d r i ss o →
-    Next k.CloseBrace o e → Follows i
-statements_follow s.empty n = follows_close n
-statements_follow (s.go_on p _) n = statement_follows p
-
-by_simple : (scope : Scope) (inner : ℕ → Parser (List Statement)) (r : ℕ) (i : Input) (a : Kind) → has_blocks a ≡ false →
-    statement_by scope inner r a i ≡ simple_statement scope (line i) i
-by_simple scope inner r i k.If e = elim (differ (sym e)) [ ]
-by_simple scope inner r i k.Repeat e = elim (differ (sym e)) [ ]
-by_simple scope inner r i _ e = refl
-
-at_simple : (scope : Scope) (inner : ℕ → Parser (List Statement)) (r : ℕ) (i : Input) → not_simple (kind i) ≡ false →
-    statement scope inner r i ≡ simple_statement scope (line i) i
-unfolding statement
-at_simple scope inner r i e = by_simple scope inner r i (kind i) (right_false (unstarted (kind i)) (has_blocks (kind i)) e)
-
--- the rule for a kind, at a token of that kind
-statement_at : {kd : Kind} {i j : Input} (scope : Scope) (inner : ℕ → Parser (List Statement)) (r : ℕ) → Next kd i j →
-    statement scope inner r i ≡ statement_by scope inner r kd i
-unfolding statement
-statement_at {i = i} scope inner r n = ap (λ x. statement_by scope inner r x i) (kind_is n)
-
-repeats_less : (scope : Scope) (inner : ℕ → Parser (List Statement)) (r : ℕ) (i : Input) → repetition scope inner (suc r) i ≡
-    and_then (number_within 0 max_turns (next i)) (λ q. and_then (inner r q.1) (λ x. Ok (statements_made.Repeat (line i) q.0 x.0, x.1)))
-unfolding repetition
-repeats_less scope inner r i = let e : suc r - 1 ≡ r = omega arith in rw (ne_eqb (suc r) 0 (suc_some r), e) refl
+-- ---- statements and blocks
 
 mutual
   unfolding otherwise choice block statements statements_from
 
-  statement_again : {scope : Scope} {d r : ℕ} {i o : Input} {s : Statement} → StatementAt scope d r i s o → Follows o →
+  -- a statement that is spelled and over is read
+  pub statement_again : {scope : Scope} {d r : ℕ} {i o : Input} {s : Statement} (p : StatementAt scope d r i s o) → StatementOver p →
       statement scope (block scope d) r i ≡ Ok (s, o)
-  statement_again {scope = scope} {d = d} {r = r} {i = i} (s.act p) f = at_simple scope (block scope d) r i (action_simply p)
-      ∙ action_again scope (line i) p f
+  statement_again {scope = scope} {d = d} {r = r} {i = i} (s.act p) f =
+      at_simple scope (block scope d) r i (no_blocks i (action_simply p)) ∙ action_again scope (line i) p f
   statement_again {scope = scope} {d = d} {r = r} {i = i} (s.call p) f =
-      at_simple scope (block scope d) r i (plain_simply p) ∙ at_plain scope (line i) i (plain_begins p)
+      at_call scope (block scope d) r i (other begins_plain begins_other (kind i) (plain_other (kind i)) (plain_begins p))
       ∙ then_again _ (plain_again p f) refl
   statement_again {scope = scope} {d = d} {r = r} {i = i} (s.return n p) f =
-      at_simple scope (block scope d) r i (ap not_simple (kind_is n)) ∙ word_at scope (line i) n refl
+      at_simple scope (block scope d) r i (ap has_blocks (kind_is n)) ∙ word_at scope (line i) n refl
       ∙ then_again _ (ap optional_status (rest_is n) ∙ optional_status_again p f) refl
   statement_again {scope = scope} {d = d} {r = r} (s.choice n p q x) f =
       statement_at scope (block scope d) r n ∙
-      then_again _ (ap (condition scope) (rest_is n) ∙ condition_again scope p (block_follows q))
+      then_again _ (ap (condition scope) (rest_is n) ∙ condition_again scope p (condition_over p (block_follows q)))
       (then_again _ (block_again q) (then_again _ (else_again x f) refl))
   statement_again {scope = scope} {d = d} (s.repeat {r = r} {i = i} n p h q) f =
       statement_at scope (block scope d) (suc r) n ∙ repeats_less scope (block scope d) r i ∙
       then_again _ (ap (number_within 0 max_turns) (rest_is n) ∙ within_again 0 max_turns p (omega arith) h)
       (then_again _ (block_again q) refl)
 
-  else_again : {scope : Scope} {d r : ℕ} {i o : Input} {ss : List Statement} → ElseAt scope d r i ss o → Follows o →
+  else_again : {scope : Scope} {d r : ℕ} {i o : Input} {ss : List Statement} (p : ElseAt scope d r i ss o) → ElseOver p →
       otherwise scope (block scope d) r i ≡ Ok (ss, o)
-  else_again (s.no_else {i = i}) f = then_again _ (eat_none k.Else i (no_tail k.Else i f refl)) refl
+  else_again (s.no_else {i = i}) f = then_again _ (eat_none k.Else i (not_seen k.Else i f)) refl
   else_again (s.some_else n p) f = then_again _ (eat_again n) (block_again p)
 
-  block_follows : {scope : Scope} {d r : ℕ} {i o : Input} {ss : List Statement} → BlockAt scope d r i ss o → Follows i
+  -- a block may follow
+  pub block_follows : {scope : Scope} {d r : ℕ} {i o : Input} {ss : List Statement} → BlockAt scope d r i ss o → Follows i
   block_follows (s.block n p m) = follows_open n
 
-  block_again : {scope : Scope} {d r : ℕ} {i o : Input} {ss : List Statement} → BlockAt scope d r i ss o → block scope d r i ≡ Ok (ss, o)
+  -- block: what is spelled and over is read
+  pub block_again : {scope : Scope} {d r : ℕ} {i o : Input} {ss : List Statement} → BlockAt scope d r i ss o →
+      block scope d r i ≡ Ok (ss, o)
   block_again (s.block {a = a} n p m) =
       then_again _ (expect_again n) (then_again _ (turns_again p m (length a) [] (omega arith)) (then_again _ (expect_again m) refl))
 
@@ -379,9 +399,10 @@ mutual
   turns_again (s.go_on p q) m zero found h = absurd (omega (arith, statement_less p))
   turns_again {o = o} (s.go_on {s = x} {ss = ss} p q) m (suc n) found h =
       rw (statement_stays p)
-      (then_again _ (statement_again p (statements_follow q m))
+      (then_again _ (statement_again p (statement_over p (statements_follow q m)))
       (turns_again q m n (found ++ x ∷ []) (omega (arith, statement_less p)) ∙ ap (λ z. Ok (z, o)) (append_assoc found (x ∷ []) ss)))
 
+-- statements up to a closing brace are read
 pub statements_again : {scope : Scope} {d r : ℕ} {i o e : Input} {ss : List Statement} → StatementsAt scope d r i ss o →
     Next k.CloseBrace o e →
     statements scope (block scope d) r i ≡ Ok (ss, o)

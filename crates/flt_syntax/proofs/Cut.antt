@@ -12,7 +12,7 @@ use Rattle.flt_syntax.specs.declared.token.Kind.{Kind}
 use Rattle.flt_syntax.specs.declared.token.Kind.TheVariants as k
 use Rattle.flt_syntax.specs.declared.token.Token.{Token}
 use Rattle.flt_syntax.specs.declared.token.Word.{Word}
-use Rattle.flt_syntax.proofs.Sound.{differ}
+use Rattle.flt_syntax.proofs.TokenKinds.{differ}
 use Rattle.flt_tree.specs.Names.{Text, is_word}
 use Rattle.flt_tree.specs.declared.filter.Position.{Position}
 

@@ -21,20 +21,21 @@ use Rattle.flt_tree.specs.Declarations.{lock_number}
 use Rattle.flt_syntax.specs.Status.{final_status_of, final_status, bare_status_of, bare_status, status_by, status, has_more, begins_status, optional_status}
 use Rattle.flt_syntax.specs.Call.{existing_of, existing, get_context, set_context, delete_context_of, insert_io, remove_next_io, queue_call, queue_deferred, queue_generic, fallible_by, fallible_call, reference_context, acquire_lock, acquire_shared, release_lock, complete_pre, complete_post, plain_by, plain_call}
 use Rattle.flt_syntax.specs.Cursor.{Input, ◌<$>◌, kind, next, bytes_of, refusal, fault_at, fail, sees, found_or, known_or}
-use Rattle.flt_syntax.proofs.Sound.{took, meant_at, WordAt, name_of}
+use Rattle.flt_syntax.proofs.TokenKinds.{took, meant_at}
 use Rattle.flt_syntax.specs.FirstWords.{begins_fallible, begins_plain}
 use Rattle.flt_syntax.specs.Over.{StatusOver, OptionalStatusOver, FallibleOver, PlainOver}
 use Rattle.flt_syntax.specs.WordFails.{NameFails, KnownFails, MeantFails}
 use Rattle.flt_syntax.specs.CallFails as bad
 use Rattle.flt_syntax.specs.CallFails.{StatusFails, OptionalStatusFails, LockFails, FallibleFails, PlainFails}
-use Rattle.flt_syntax.proofs.Ends.{Ends, gives, fails, then_ends, refused, expect_ends, meant_ends, known_ends, context_ends, word_ends, spelled_ends, other_ends, with_context_ends, old_ends, other_old_ends}
+use Rattle.flt_syntax.proofs.Ends.{WordAt, name_of, Ends, gives, fails, then_ends, refused, expect_ends, meant_ends, known_ends, context_ends, word_ends, spelled_ends, other_ends, with_context_ends, old_ends, other_old_ends}
 
 -- ---- variables
 
-pub removed_ends : (i : Input) → Ends (Meant removed_variable_of i) (KnownFails removed_variable_of i) (removed_variable i)
+removed_ends : (i : Input) → Ends (Meant removed_variable_of i) (KnownFails removed_variable_of i) (removed_variable i)
 unfolding removed_variable
 removed_ends i = known_ends removed_variable_of i _ refl refl
 
+-- D: what is read is spelled and over, else it fails so
 pub operation_ends : (i : Input) → Ends (Meant operation_variable_of i) (KnownFails operation_variable_of i) (operation_variable i)
 unfolding operation_variable
 operation_ends i = known_ends operation_variable_of i _ refl refl
@@ -48,7 +49,8 @@ final_ends : (i : Input) → Ends (Meant final_status_of i) (MeantFails final_st
 unfolding final_status
 final_ends i = meant_ends final_status_of i _ refl refl
 
-neither : (a b : Bool) → a ≡ false → b ≡ false → (a || b) ≡ false
+-- where neither holds
+pub neither : (a b : Bool) → a ≡ false → b ≡ false → (a || b) ≡ false
 neither a b e h = rw (e, h) refl
 
 bare_by : (i : Input) (m : Option Status) → has_more (kind i) ≡ false → bare_status_of (kind i) ≡ m →
@@ -73,7 +75,7 @@ status_by_ends i k.Complete e =
     then_ends _ (final_ends (next i)) (λ x h. bad.complete n h) (λ c o p. gives (g.complete n p, tt))
 status_by_ends i _ e = bare_ends i (ap has_more e)
 
-pub status_ends : (i : Input) → Ends (StatusHere i) (StatusFails i) (status i)
+status_ends : (i : Input) → Ends (StatusHere i) (StatusFails i) (status i)
 unfolding status
 status_ends i = status_by_ends i (kind i) refl
 
@@ -86,6 +88,7 @@ optional_status_by i true e =
     then_ends _ (status_ends i) (λ x h. bad.some e h) (λ s o p. gives (g.some_status p.0, p.1))
 optional_status_by i false e = gives (g.no_status, e)
 
+-- [ status ]: what is read is spelled and over, else it fails so
 pub optional_status_ends : (i : Input) → Ends (OptionalStatusHere i) (OptionalStatusFails i) (optional_status i)
 unfolding optional_status
 optional_status_ends i = optional_status_by i (begins_status (kind i)) refl
@@ -188,6 +191,7 @@ fallible_by_ends scope i k.QueueGenericWorkItem e =
     then_ends _ (with_context_ends b) (λ x h. bad.generic_context n p h) (λ c o q. gives (g.queue_generic n p q.0, q.1)))
 fallible_by_ends scope i _ e = fails (bad.no_fallible (ap begins_fallible e) (refused i))
 
+-- fallible: what is read is spelled and over, else it fails so
 pub fallible_ends : (scope : Scope) (i : Input) → Ends (FallibleHere scope i) (FallibleFails scope i) (fallible_call scope i)
 unfolding fallible_call
 fallible_ends scope i = fallible_by_ends scope i (kind i) refl
@@ -241,6 +245,7 @@ plain_by_ends scope i k.CompletePendedPostOperation e =
     then_ends _ (expect_ends (next i) k.Data refl) (λ x h. bad.complete_post n h) (λ _ o m. gives (g.complete_post n m, tt))
 plain_by_ends scope i _ e = fails (bad.no_plain (ap begins_plain e) (refused i))
 
+-- plain: what is read is spelled and over, else it fails so
 pub plain_ends : (scope : Scope) (i : Input) → Ends (PlainHere scope i) (PlainFails scope i) (plain_call scope i)
 unfolding plain_call
 plain_ends scope i = plain_by_ends scope i (kind i) refl

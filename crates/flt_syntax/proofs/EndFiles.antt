@@ -18,7 +18,7 @@ use Rattle.flt_tree.specs.declared.filter.Position.{Position}
 use Rattle.flt_tree.specs.Names.{Text}
 use Rattle.flt_syntax.specs.Lex.{same_kind}
 use Rattle.flt_syntax.specs.Grammar as g
-use Rattle.flt_syntax.specs.Grammar.{line, HeadAt, CallbackAt, CallbacksAt, LocksAt, QueueAt, FileAt}
+use Rattle.flt_syntax.specs.Grammar.{HeadAt, CallbackAt, CallbacksAt, LocksAt, QueueAt}
 use Rattle.flt_tree.specs.Declarations.{AreNewLocks, is_declared, AreNewCallbacks, same_event, has_event, has_routine, has_lock}
 use Rattle.flt_syntax.specs.Words.{Next, Meant, NameAt}
 use Rattle.flt_syntax.specs.Scope.{Scope}
@@ -27,15 +27,15 @@ use Rattle.flt_tree.specs.Limits.{max_callbacks, max_altitude, max_locks, max_de
 use Rattle.flt_syntax.specs.Head.{operation_of, operation, event_by, event, new_event, new_routine, new_head_by, new_head, is_among, is_taken, begins_head, crowded, head}
 use Rattle.flt_syntax.specs.File.{lock_kind_of, lock_kind, lock, locks_from, locks, queue, callback, callbacks_from, callbacks, file}
 use Rattle.flt_syntax.specs.Cursor.{Input, ◌>>=◌, pure, kind, next, position, refusal, fault, fault_at, fail, sees}
-use Rattle.flt_syntax.proofs.Sound.{differ, kind_same, took, meant_at}
+use Rattle.flt_syntax.proofs.TokenKinds.{differ, kind_same, apart_kinds, unseen, took, meant_at}
 use Rattle.flt_syntax.proofs.Complete.{kind_is, means, rest_is, next_less, meant_less, name_less}
 use Rattle.flt_syntax.specs.Over.{QueueOver}
 use Rattle.flt_syntax.specs.WordFails.{Refused, MeantFails}
 use Rattle.flt_syntax.specs.FileFails as bad
 use Rattle.flt_syntax.specs.FileFails.{NewNameFails, HeadFails, CallbackFails, CallbacksFails, LocksFails, FileFails}
 use Rattle.flt_syntax.specs.TextFails.{Reads}
-use Rattle.flt_syntax.proofs.Ends.{Ends, gives, fails, then_ends, ends_by, refused, unseen, expect_ends, Eaten, eaten, left, eat_ends, meant_ends, spelled_ends, within_ends}
-use Rattle.flt_syntax.proofs.EndStatements.{apart_kinds, is_there, statements_ends, block_ends}
+use Rattle.flt_syntax.proofs.Ends.{Ends, gives, fails, then_ends, ends_by, refused, expect_ends, Eaten, eaten, left, eat_ends, meant_ends, spelled_ends, within_ends}
+use Rattle.flt_syntax.proofs.EndStatements.{either, is_there, statements_ends, block_ends}
 use Rattle.flt_syntax.proofs.CompleteFiles.{callback_less}
 
 -- ---- heads
@@ -70,14 +70,17 @@ pub never : (h : Head) → ((x : Head) → same_event x h ≡ false) → (cs : L
 never h e [] = refl
 never h e (c ∷ cs) = rw (e c.head) (never h e cs)
 
+-- an event is no `deferred_pre`
 pub no_deferred_pre : (name : Text) (x : Head) → same_event x (DeferredPre name) ≡ false
 no_deferred_pre name (Pre op) = refl
 no_deferred_pre name _ = refl
 
+-- an event is no `deferred_post`
 pub no_deferred_post : (name : Text) (x : Head) → same_event x (DeferredPost name) ≡ false
 no_deferred_post name (Pre op) = refl
 no_deferred_post name _ = refl
 
+-- an event is no `generic`
 pub no_generic : (name : Text) (x : Head) → same_event x (Generic name) ≡ false
 no_generic name (Pre op) = refl
 no_generic name _ = refl
@@ -166,6 +169,7 @@ module _ (text : Text) (found : List Callback) where
   post_twice i None e h t = elim (differ t) [ ]
   post_twice i (Some op) e h t = (Post op, next (next i), g.post (took i k.Post refl e) (meant_at operation_of (next i) op refl h), t)
 
+  -- two words that name an event that is there are its head
   pub event_twice : (i : Input) (a : Kind) → kind i ≡ a → is_taken a (kind (next i)) found ≡ true → Twice i
   unfolding same_kind
   event_twice i k.Pre e t = pre_twice i (operation_of (kind (next i))) e refl t
@@ -268,7 +272,8 @@ go_on scope found i j c p all o m = record {
 
 module _ (scope : Scope) (n : ℕ) (rest : (found : List Callback) (i : Input) → length i ≤ n →
     Ends (ManyAt scope found i) (CallbacksFails scope found i) (callbacks_from scope n found i)) where
-  turn_ends : (found : List Callback) (i j : Input) (c : Callback) (b : Bool) → length i ≤ suc n → NewAt scope found i c j → sees k.End j ≡ b →
+  turn_ends : (found : List Callback) (i j : Input) (c : Callback) (b : Bool) → length i ≤ suc n → NewAt scope found i c j →
+      sees k.End j ≡ b →
       Ends (ManyAt scope found i) (CallbacksFails scope found i)
       (if b then Ok (found ++ c ∷ [], j) else callbacks_from scope n (found ++ c ∷ []) j)
   turn_ends found i j c true fits p e = gives (record {
@@ -404,10 +409,7 @@ end_no_queue i e = apart_kinds (kind i) k.End k.Queue (ap kind e) refl
 no_callbacks : (scope : Scope) (i : Input) (f : SyntaxFault) → i ≡ [] → Refused i f → CallbacksFails scope [] i f
 no_callbacks scope i f e h = bad.here (bad.head (bad.no_head (ap (λ x. begins_head (kind x)) e) h))
 
-either : {A B C : Type 0} → A ⊎ B → (A → C) → (B → C) → C
-either (inl a) f h = f a
-either (inr b) f h = h b
-
+-- a file: what is read is spelled and over, else it fails so
 pub file_ends : (text : Text) (i : Input) → Ends (λ f o. Reads text i f) (FileFails text i) (file text i)
 unfolding file same_kind
 file_ends text i =

@@ -1,10 +1,8 @@
 -- Each reader ends: what it gives is spelled and over, and its fault is one by the relation beside the grammar. Tests, statements, blocks.
 use Rattle.std.proofs.Common.{◌≡◌, ◌≢◌, ◌⊎◌, inl, inr, ℕ, zero, suc, ◌-◌, ◌≤◌, Bool, true, false, List, [], ◌∷◌, ◌++◌, length, Ok, Err, refl, sym, ap, subst, ◌∙◌, append_assoc, arith}
-use Rattle.std.specs.Prelude.{Option, Some, None, if◌then◌else◌, ◌||◌, is_some}
+use Rattle.std.specs.Prelude.{Option, Some, None, if◌then◌else◌, is_some}
 use Rattle.std.proofs.lemmas.Bool.{ne_eqb}
 use Rattle.std.proofs.lemmas.List.{append-nil}
-use denote.Enum.Bare.{true_same}
-use Rattle.flt_syntax.specs.contracts.token.Kind.{the_type}
 use Rattle.flt_syntax.specs.declared.token.Kind.{Kind}
 use Rattle.flt_syntax.specs.declared.token.Kind.TheVariants as k
 use Rattle.flt_syntax.specs.declared.fault.FaultKind.TheVariants.{E06}
@@ -33,32 +31,23 @@ use Rattle.flt_syntax.specs.Condition.{context_test, operation_test, comparison_
 use Rattle.flt_tree.specs.Limits.{max_turns}
 use Rattle.flt_syntax.specs.Statement.{otherwise, choice, repetition, statement_by, statement, statements_from, statements, braced, block}
 use Rattle.flt_syntax.specs.Cursor.{Input, and_then, ◌>>=◌, ◌<$>◌, pure, front, kind, next, refusal, unknown, fault_at, sees, expect, given, too_deep}
-use Rattle.flt_syntax.proofs.Sound.{differ, kind_same, took, meant_at}
-use Rattle.flt_syntax.proofs.SoundCalls.{number_at}
-use Rattle.flt_syntax.proofs.SoundStatements.{suc_some}
+use Rattle.flt_syntax.proofs.TokenKinds.{suc_some, kind_same, apart_kinds, unseen, took, meant_at, number_at}
 use Rattle.flt_syntax.proofs.Complete.{kind_is}
 use Rattle.flt_syntax.specs.FirstWords.{is_variable, is_test_word, is_simple_word, has_blocks}
 use Rattle.flt_syntax.specs.Over.{ExpressionOver, ActionOver, ConditionOver, ElseOver, StatementOver}
-use Rattle.flt_syntax.specs.WordFails as wordless
+use Rattle.flt_syntax.specs.WordFails as word_fails
 use Rattle.flt_syntax.specs.WordFails.{NextFails}
-use Rattle.flt_syntax.specs.CallFails as callless
+use Rattle.flt_syntax.specs.CallFails as call_fails
 use Rattle.flt_syntax.specs.ActionFails as bad
 use Rattle.flt_syntax.specs.ActionFails.{AtomFails, LeadingFails, ExpressionFails, ActionFails, ConditionFails}
-use Rattle.flt_syntax.specs.StatementFails as worse
+use Rattle.flt_syntax.specs.StatementFails as statement_fails
 use Rattle.flt_syntax.specs.StatementFails.{StatementFails, ElseFails, BlockFails, StatementsFails}
-use Rattle.flt_syntax.proofs.Ends.{Ends, gives, fails, then_ends, ends_by, refused, unknown_at, unseen, expect_ends, Eaten, eaten, left, eat_ends, context_ends, within_ends}
-use Rattle.flt_syntax.proofs.EndCalls.{operation_ends, optional_status_ends, fallible_ends, plain_ends}
+use Rattle.flt_syntax.proofs.Ends.{Ends, gives, fails, then_ends, ends_by, refused, unknown_at, expect_ends, Eaten, eaten, left, eat_ends, context_ends, within_ends}
+use Rattle.flt_syntax.proofs.EndCalls.{neither, operation_ends, optional_status_ends, fallible_ends, plain_ends}
 use Rattle.flt_syntax.proofs.CompleteStatements.{statement_less}
 
-pub neither : (a b : Bool) → a ≡ false → b ≡ false → (a || b) ≡ false
-neither a b e h = rw (e, h) refl
-
--- a kind is not another one
-pub apart_kinds : (a b c : Kind) → a ≡ b → same_kind b c ≡ false → a ≢ c
-unfolding same_kind
-apart_kinds a b c e h x = differ (sym h ∙ true_same the_type b c (sym e ∙ x))
-
-either : {A B C : Type 0} → A ⊎ B → (A → C) → (B → C) → C
+-- one of two
+pub either : {A B C : Type 0} → A ⊎ B → (A → C) → (B → C) → C
 either (inl a) f h = f a
 either (inr b) f h = h b
 
@@ -169,12 +158,12 @@ module _ (scope : Scope) (d r : ℕ) where
       Ends (StatementHere scope d r i) (StatementFails scope d r i) (word_statement_by scope (line i) kd i)
   unfolding same_kind
   word_statement_by_ends i k.Value e v b =
-      then_ends _ (write_value_ends i (took i k.Value refl e)) (λ f h. worse.act h) (λ a o p. gives (s.act p.0, p.1))
+      then_ends _ (write_value_ends i (took i k.Value refl e)) (λ f h. statement_fails.act h) (λ a o p. gives (s.act p.0, p.1))
   word_statement_by_ends i k.Return e v b =
       let n = took i k.Return refl e in
-      then_ends _ (optional_status_ends (next i)) (λ f h. worse.return n h) (λ x o p. gives (s.return n p.0, p.1))
+      then_ends _ (optional_status_ends (next i)) (λ f h. statement_fails.return n h) (λ x o p. gives (s.return n p.0, p.1))
   word_statement_by_ends i _ e v b =
-      then_ends _ (plain_ends scope i) (λ f h. worse.call (neither _ _ v (neither _ _ (ap is_simple_word e) b)) h)
+      then_ends _ (plain_ends scope i) (λ f h. statement_fails.call (neither _ _ v (neither _ _ (ap is_simple_word e) b)) h)
       (λ c o p. gives (s.call p.0, p.1))
 
   word_statement_ends : (i : Input) → is_variable (kind i) ≡ false → has_blocks (kind i) ≡ false →
@@ -190,11 +179,14 @@ module _ (scope : Scope) (d r : ℕ) where
       (given x (λ o. statements_made.Act (line i) <$> clear_operation o)
       (word_statement scope (line i)))) i)
   simple_by_ends i (Some n) c x e f h b =
-      then_ends _ (set_number_ends i n (meant_at number_variable_of i n refl e)) (λ y q. worse.act q) (λ a o p. gives (s.act p.0, p.1))
+      then_ends _ (set_number_ends i n (meant_at number_variable_of i n refl e)) (λ y q. statement_fails.act q)
+      (λ a o p. gives (s.act p.0, p.1))
   simple_by_ends i None (Some c) x e f h b =
-      then_ends _ (clear_context_ends i c (meant_at context_variable_of i c refl f)) (λ y q. worse.act q) (λ a o p. gives (s.act p.0, p.1))
+      then_ends _ (clear_context_ends i c (meant_at context_variable_of i c refl f)) (λ y q. statement_fails.act q)
+      (λ a o p. gives (s.act p.0, p.1))
   simple_by_ends i None None (Some x) e f h b =
-      then_ends _ (clear_operation_ends i x (meant_at removed_variable_of i x refl h)) (λ y q. worse.act q) (λ a o p. gives (s.act p.0, p.1))
+      then_ends _ (clear_operation_ends i x (meant_at removed_variable_of i x refl h)) (λ y q. statement_fails.act q)
+      (λ a o p. gives (s.act p.0, p.1))
   simple_by_ends i None None None e f h b =
       word_statement_ends i (neither _ _ (ap is_some e) (neither _ _ (ap is_some f) (ap is_some h))) b
 
@@ -272,7 +264,7 @@ module _ (scope : Scope) where
   condition_by_ends i None None None e f h =
       word_test_ends i (neither _ _ (ap is_some h) (neither _ _ (ap is_some e) (ap is_some f)))
 
-  pub condition_ends : (i : Input) → Ends (ConditionHere scope i) (ConditionFails scope i) (condition scope i)
+  condition_ends : (i : Input) → Ends (ConditionHere scope i) (ConditionFails scope i) (condition scope i)
   unfolding condition
   condition_ends i = condition_by_ends i _ _ _ refl refl refl
 
@@ -289,13 +281,15 @@ After scope d r found i all o = (ss : List Statement) × (all ≡ found ++ ss) �
 abbrev pub StatementsHere : Scope → ℕ → ℕ → Input → List Statement → Input → Type 0
 StatementsHere scope d r i ss o = StatementsAt scope d r i ss o × Next k.CloseBrace o (next o)
 
+-- a token of the kind is there, so it isn't missing
 pub is_there : {kd : Kind} {i o : Input} {f : SyntaxFault} → Next kd i o → NextFails kd i f → ⊥
-is_there n (wordless.missing e h) = e (kind_is n)
+is_there n (word_fails.missing e h) = e (kind_is n)
 
-module _ (scope : Scope) (d : ℕ) (inner : (r : ℕ) (i : Input) → Ends (BlockAt scope d r i) (BlockFails scope d r i) (block scope d r i)) where
+module _ (scope : Scope) (d : ℕ) (inner : (r : ℕ) (i : Input) → Ends (BlockAt scope d r i) (BlockFails scope d r i)
+    (block scope d r i)) where
   else_of : (r : ℕ) (i : Input) (b : Bool) (j : Input) → Eaten k.Else i b j →
       Ends (ElseHere scope d r i) (ElseFails scope d r i) ((if b then block scope d r else pure []) j)
-  else_of r i true j (eaten n) = ends_by (λ ss o p. (s.some_else n p, tt)) (λ f h. worse.behind n h) (inner r j)
+  else_of r i true j (eaten n) = ends_by (λ ss o p. (s.some_else n p, tt)) (λ f h. statement_fails.behind n h) (inner r j)
   else_of r i false j (left h) = gives (s.no_else, h)
 
   otherwise_ends : (r : ℕ) (i : Input) → Ends (ElseHere scope d r i) (ElseFails scope d r i) (otherwise scope (block scope d) r i)
@@ -306,19 +300,20 @@ module _ (scope : Scope) (d : ℕ) (inner : (r : ℕ) (i : Input) → Ends (Bloc
       Ends (StatementHere scope d r i) (StatementFails scope d r i) (choice scope (block scope d) r i)
   unfolding choice
   choice_ends r i n =
-      then_ends _ (condition_ends scope (next i)) (λ f h. worse.choice_test n h) (λ c b p.
-      then_ends _ (inner r b) (λ f h. worse.choice_granted n p.0 p.1 h) (λ granted l q.
-      then_ends _ (otherwise_ends r l) (λ f h. worse.choice_refused n p.0 q h) (λ refused o x. gives (s.choice n p.0 q x.0, x.1))))
+      then_ends _ (condition_ends scope (next i)) (λ f h. statement_fails.choice_test n h) (λ c b p.
+      then_ends _ (inner r b) (λ f h. statement_fails.choice_granted n p.0 p.1 h) (λ granted l q.
+      then_ends _ (otherwise_ends r l) (λ f h. statement_fails.choice_refused n p.0 q h)
+      (λ refused o x. gives (s.choice n p.0 q x.0, x.1))))
 
   repetition_ends : (r : ℕ) (i : Input) → Next k.Repeat i (next i) →
       Ends (StatementHere scope d r i) (StatementFails scope d r i) (repetition scope (block scope d) r i)
   unfolding repetition
-  repetition_ends zero i n = fails (worse.repeat_nested n)
+  repetition_ends zero i n = fails (statement_fails.repeat_nested n)
   repetition_ends (suc r) i n =
       let e : suc r - 1 ≡ r = omega arith in
       rw (ne_eqb (suc r) 0 (suc_some r), e)
-      (then_ends _ (within_ends 0 max_turns (next i)) (λ f h. worse.repeat_number n h) (λ turns b p.
-      then_ends _ (inner r b) (λ f h. worse.repeat_body n p.at p.up_to h) (λ body o q. gives (s.repeat n p.at p.up_to q, tt))))
+      (then_ends _ (within_ends 0 max_turns (next i)) (λ f h. statement_fails.repeat_number n h) (λ turns b p.
+      then_ends _ (inner r b) (λ f h. statement_fails.repeat_body n p.at p.up_to h) (λ body o q. gives (s.repeat n p.at p.up_to q, tt))))
 
   statement_by_ends : (r : ℕ) (i : Input) (kd : Kind) → kind i ≡ kd →
       Ends (StatementHere scope d r i) (StatementFails scope d r i) (statement_by scope (block scope d) r kd i)
@@ -340,18 +335,20 @@ module _ (scope : Scope) (d : ℕ) (inner : (r : ℕ) (i : Input) → Ends (Bloc
     unfolding same_kind
     turn_ends found i true fits e = gives ([], sym (append-nil found), s.empty, took i k.CloseBrace refl (kind_same _ _ e))
     turn_ends found i false fits e =
-        then_ends _ (statement_ends r i) (λ f h. worse.here (unseen k.CloseBrace i e) h) (λ x l p.
-        ends_by (λ all o a. (x ∷ a.0, a.1 ∙ append_assoc found (x ∷ []) a.0, s.go_on p.0 a.2, a.3)) (λ f h. worse.later p.0 p.1 h)
+        then_ends _ (statement_ends r i) (λ f h. statement_fails.here (unseen k.CloseBrace i e) h) (λ x l p.
+        ends_by (λ all o a. (x ∷ a.0, a.1 ∙ append_assoc found (x ∷ []) a.0, s.go_on p.0 a.2, a.3)) (λ f h. statement_fails.later p.0 p.1 h)
         (rest (found ++ x ∷ []) l (omega (arith, statement_less p.0, fits))))
 
   statements_from_ends : (n r : ℕ) (found : List Statement) (i : Input) → length i ≤ n →
       Ends (After scope d r found i) (StatementsFails scope d r i) (statements_from scope (block scope d) n r found i)
   unfolding statements_from same_kind
   statements_from_ends zero r found [] fits =
-      fails (worse.here (apart_kinds k.End k.End k.CloseBrace refl refl) (worse.call refl (callless.no_plain refl (refused []))))
+      fails (statement_fails.here (apart_kinds k.End k.End k.CloseBrace refl refl) (statement_fails.call refl (call_fails.no_plain refl
+      (refused []))))
   statements_from_ends zero r found (t ∷ i) fits = absurd (omega (arith, fits))
   statements_from_ends (suc n) r found i fits = turn_ends n r (statements_from_ends n r) found i (sees k.CloseBrace i) fits refl
 
+  -- { stmt } up to its brace: what is read is spelled and over, else it fails so
   pub statements_ends : (r : ℕ) (i : Input) →
       Ends (StatementsHere scope d r i) (StatementsFails scope d r i) (statements scope (block scope d) r i)
   unfolding statements
@@ -362,16 +359,17 @@ module _ (scope : Scope) (d : ℕ) (inner : (r : ℕ) (i : Input) → Ends (Bloc
   braced_ends : (r : ℕ) (i : Input) → Ends (BlockAt scope (suc d) r i) (BlockFails scope (suc d) r i) (braced scope (block scope d) r i)
   unfolding same_kind
   braced_ends r i =
-      then_ends _ (expect_ends i k.OpenBrace refl) (λ f h. worse.no_brace h) (λ _ a n.
-      then_ends _ (statements_ends r a) (λ f h. worse.body n h) (λ body b p.
+      then_ends _ (expect_ends i k.OpenBrace refl) (λ f h. statement_fails.no_brace h) (λ _ a n.
+      then_ends _ (statements_ends r a) (λ f h. statement_fails.body n h) (λ body b p.
       then_ends _ (expect_ends b k.CloseBrace refl) (λ f h. absurd (is_there p.1 h)) (λ _ o m. gives (s.block n p.0 m))))
 
 deep_by : (scope : Scope) (r : ℕ) (i : Input) (b : Bool) → sees k.OpenBrace i ≡ b →
     BlockFails scope zero r i (if b then fault_at E06 i else refusal i)
 unfolding same_kind
-deep_by scope r i true e = worse.too_deep (took i k.OpenBrace refl (kind_same _ _ e))
-deep_by scope r i false e = worse.no_brace (wordless.missing (unseen k.OpenBrace i e) (refused i))
+deep_by scope r i true e = statement_fails.too_deep (took i k.OpenBrace refl (kind_same _ _ e))
+deep_by scope r i false e = statement_fails.no_brace (word_fails.missing (unseen k.OpenBrace i e) (refused i))
 
+-- block: what is read is spelled and over, else it fails so
 pub block_ends : (scope : Scope) (d r : ℕ) (i : Input) → Ends (BlockAt scope d r i) (BlockFails scope d r i) (block scope d r i)
 unfolding block too_deep
 block_ends scope zero r i = fails (deep_by scope r i (sees k.OpenBrace i) refl)

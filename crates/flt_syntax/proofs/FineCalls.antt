@@ -34,7 +34,7 @@ use Rattle.flt_syntax.specs.declared.token.Kind.{Kind}
 use Rattle.flt_tree.specs.declared.variable.Atom.{Atom}
 use Rattle.flt_tree.specs.declared.variable.ContextVariable.{ContextVariable}
 use Rattle.flt_tree.specs.declared.variable.Expression.{Expression}
-use Rattle.flt_syntax.proofs.Sound.{none_some}
+use Rattle.flt_syntax.proofs.TokenKinds.{none_some}
 use Rattle.flt_syntax.proofs.TokenBytes.{AreTokens, more}
 
 -- ---- tokens

@@ -67,6 +67,7 @@ module _ (cs : List Callback) (from : Head) where
     statement_tells (bad.turns l n {body = b} h) =
         unrolled _ (missing_step cs from) (Repeat l n b) (Statement-F.Repeat l n b) (rolls-Repeat l n b) ∙ body_tells h
 
+    -- where a body misses a routine, the search finds that place
     pub body_tells : {body : List Statement} {at : Position} → BodyMisses cs from body at → missing cs from body ≡ Some at
     body_tells (bad.here h) = rw (statement_tells h) refl
     body_tells (bad.later {s = s} e h) = rw (statement_found s e) (body_tells h)
@@ -165,6 +166,7 @@ module _ (cs : List Callback) (from : Head) where
       (step_by y at (subst (λ z. missing_step cs from (map-Statement Statement (Option Position) (missing_of cs from) z) ≡ Some at) (sym is)
       (sym (fold-roll-Statement (Option Position) (missing_step cs from) x) ∙ e))))
 
+  -- and the other way round
   pub body_told : (body : List Statement) (at : Position) → missing cs from body ≡ Some at → BodyMisses cs from body at
   unfolding Told
   body_told [] at e = elim (none_some at e) [ ]

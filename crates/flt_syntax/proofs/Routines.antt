@@ -14,7 +14,7 @@ use Rattle.flt_tree.specs.declared.filter.Position.{Position}
 use Rattle.flt_tree.specs.declared.filter.Statement.{Statement}
 use Rattle.flt_tree.specs.declared.filter.Statement.TheOpen.{Statement-F}
 use Rattle.flt_tree.specs.declared.filter.Statement.TheFolds.{map-Statement, fold-roll-Statement, ind-Statement}
-use Rattle.flt_syntax.proofs.Sound.{differ}
+use Rattle.flt_syntax.proofs.TokenKinds.{differ}
 
 first_is_none : {A : Type 0} (a b : Option A) → is_none (first_of a b) ≡ (is_none a && is_none b)
 first_is_none None b = refl

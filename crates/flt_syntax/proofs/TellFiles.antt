@@ -1,8 +1,7 @@
 -- What fails by the relation beside the grammar, of that the reader says so: heads, callbacks, locks and files.
-use Rattle.std.proofs.Common.{◌≡◌, ◌≢◌, ℕ, zero, suc, ◌+◌, ◌≤◌, ◌<◌, Bool, true, false, nat_lt, List, [], ◌∷◌, ◌++◌, length, Ok, Err, refl, sym, ap, ◌∙◌, append_assoc, arith}
-use Rattle.std.specs.Prelude.{Option, if◌then◌else◌}
+use Rattle.std.proofs.Common.{◌≡◌, ℕ, zero, suc, ◌≤◌, ◌<◌, Bool, true, false, nat_lt, List, [], ◌∷◌, length, Ok, Err, refl, sym, ap, ◌∙◌, arith}
+use Rattle.std.specs.Prelude.{if◌then◌else◌}
 use Rattle.std.proofs.lemmas.Bool.{lt-ltb, le-ltb}
-use Rattle.std.proofs.lemmas.List.{append-nil}
 use Rattle.flt_syntax.specs.declared.token.Kind.{Kind}
 use Rattle.flt_syntax.specs.declared.token.Kind.TheVariants as k
 use Rattle.flt_syntax.specs.declared.fault.FaultKind.TheVariants.{E05}
@@ -11,28 +10,26 @@ use Rattle.flt_tree.specs.declared.filter.Callback.{Callback}
 use Rattle.flt_tree.specs.declared.filter.Head.{Head}
 use Rattle.flt_tree.specs.declared.filter.Head.TheVariants.{Canceled, DeferredPre, DeferredPost, Generic}
 use Rattle.flt_tree.specs.declared.filter.Lock.{Lock}
-use Rattle.flt_tree.specs.declared.filter.Position.{Position}
 use Rattle.flt_tree.specs.Names.{Text}
 use Rattle.flt_syntax.specs.Grammar as g
-use Rattle.flt_syntax.specs.Grammar.{HeadAt, CallbackAt, LocksAt, QueueAt}
-use Rattle.flt_tree.specs.Declarations.{AreNewLocks, has_event}
+use Rattle.flt_syntax.specs.Grammar.{HeadAt}
+use Rattle.flt_tree.specs.Declarations.{has_event}
 use Rattle.flt_syntax.specs.Words.{Next}
 use Rattle.flt_syntax.specs.Scope.{Scope}
-use Rattle.flt_tree.specs.Limits.{max_callbacks, max_altitude, max_locks}
+use Rattle.flt_tree.specs.Limits.{max_callbacks, max_altitude}
 use Rattle.flt_syntax.specs.Head.{operation_of, operation, event_by, event, new_event, new_name, new_routine, new_head_by, new_head, is_taken, begins_head, crowded, head}
-use Rattle.flt_syntax.specs.File.{lock_kind_of, lock_kind, lock, locks_from, locks, queue, callback, callbacks_from, callbacks, file}
+use Rattle.flt_syntax.specs.File.{lock_kind_of, lock_kind, lock, locks_from, locks, callback, callbacks_from, callbacks, file}
 use Rattle.flt_syntax.specs.Cursor.{Input, Outcome, and_then, kind, next, refusal, fault_at}
-use Rattle.flt_syntax.proofs.Sound.{differ}
-use Rattle.flt_syntax.proofs.Complete.{then_again, kind_is, rest_is, expect_again, eat_again, eat_none, spelled_again, within_again, next_less, meant_less, name_less}
-use Rattle.flt_syntax.proofs.CompleteStatements.{statements_again}
-use Rattle.flt_syntax.specs.Over.{QueueOver}
 use Rattle.flt_syntax.specs.WordFails.{MeantFails}
 use Rattle.flt_syntax.specs.FileFails as bad
 use Rattle.flt_syntax.specs.FileFails.{NewNameFails, HeadFails, CallbackFails, CallbacksFails, LocksFails, FileFails}
+use Rattle.flt_syntax.proofs.TokenKinds.{differ, not_seen}
+use Rattle.flt_syntax.proofs.Complete.{then_again, rest_is, expect_again, eat_again, spelled_again, within_again, next_less, meant_less, name_less}
+use Rattle.flt_syntax.proofs.CompleteStatements.{statements_again}
+use Rattle.flt_syntax.proofs.CompleteFiles.{operation_again, head_at, event_at, head_again, head_begins, callback_again, callback_less, lock_kind_again, lock_again, locks_again, locks_less, queue_again, queue_less}
 use Rattle.flt_syntax.proofs.Ends.{refused}
 use Rattle.flt_syntax.proofs.EndFiles.{never, no_deferred_pre, no_deferred_post, no_generic, event_twice, taken_is}
-use Rattle.flt_syntax.proofs.CompleteFiles.{operation_again, head_at, event_at, head_again, callback_again, callback_less, lock_kind_again, lock_again, one_less, queue_less}
-use Rattle.flt_syntax.proofs.Tells.{then_fails, not_seen, refuses, expect_tells, meant_tells, spelled_tells, within_tells}
+use Rattle.flt_syntax.proofs.Tells.{then_fails, same_error, refuses, expect_tells, meant_tells, spelled_tells, within_tells}
 use Rattle.flt_syntax.proofs.TellStatements.{statements_tell}
 
 -- ---- heads
@@ -45,7 +42,8 @@ new_routine_tells : {text : Text} {kd : Kind} {i j : Input} {f : SyntaxFault} (f
     NewNameFails text found j f → new_routine text found i ≡ Err f
 unfolding new_routine
 new_routine_tells {text = text} found n (bad.no_name h) = ap (new_name text found) (rest_is n) ∙ then_fails _ (spelled_tells _ h)
-new_routine_tells {text = text} found n (bad.name_twice p e) = ap (new_name text found) (rest_is n) ∙ then_again _ (spelled_again p) (rw e refl)
+new_routine_tells {text = text} found n (bad.name_twice p e) =
+    ap (new_name text found) (rest_is n) ∙ then_again _ (spelled_again p) (rw e refl)
 
 -- what begins no head
 no_head : (text : Text) (found : List Callback) (i : Input) (a : Kind) → begins_head a ≡ false →
@@ -61,7 +59,8 @@ no_event i k.Post e = elim (differ (sym e)) [ ]
 no_event i k.Canceled e = elim (differ (sym e)) [ ]
 no_event i _ e = refl
 
-no_head_tells : (text : Text) (found : List Callback) (i : Input) (f : SyntaxFault) (b : Bool) → begins_head (kind i) ≡ false → refusal i ≡ f →
+no_head_tells : (text : Text) (found : List Callback) (i : Input) (f : SyntaxFault) (b : Bool) → begins_head (kind i) ≡ false →
+    refusal i ≡ f →
     (if b then new_head text found i else Err (crowded found i)) ≡ Err f
 unfolding new_head new_event event crowded
 no_head_tells text found i f true e h =
@@ -70,25 +69,20 @@ no_head_tells text found i f false e h = rw e (ap (λ x. Err x) h)
 
 module _ (text : Text) (found : List Callback) where
   -- an event that is there is read, and told at its first word
-  event_told : {o : Input} {h : Head} (i : Input) → event i ≡ Ok (h, o) → has_event h found ≡ true → new_event found i ≡ Err (fault_at E05 i)
+  event_told : {o : Input} {h : Head} (i : Input) → event i ≡ Ok (h, o) → has_event h found ≡ true →
+      new_event found i ≡ Err (fault_at E05 i)
   unfolding new_event
   event_told i e t = then_again _ e (rw t refl)
 
   not_new : {i o : Input} {h : Head} → HeadAt text i h o → has_event h found ≡ true → new_head text found i ≡ Err (fault_at E05 i)
-  not_new (g.pre n p) t = head_at text found n ∙ event_told _ (event_at n ∙ then_again _ (ap operation (rest_is n) ∙ operation_again p) refl) t
-  not_new (g.post n p) t = head_at text found n ∙ event_told _ (event_at n ∙ then_again _ (ap operation (rest_is n) ∙ operation_again p) refl) t
+  not_new (g.pre n p) t =
+      head_at text found n ∙ event_told _ (event_at n ∙ then_again _ (ap operation (rest_is n) ∙ operation_again p) refl) t
+  not_new (g.post n p) t =
+      head_at text found n ∙ event_told _ (event_at n ∙ then_again _ (ap operation (rest_is n) ∙ operation_again p) refl) t
   not_new (g.canceled n) t = head_at text found n ∙ event_told _ (event_at n ∙ ap (λ x. Ok (Canceled, x)) (rest_is n)) t
   not_new (g.deferred_pre {name = name} n p) t = elim (differ (sym (never (DeferredPre name) (no_deferred_pre name) found) ∙ t)) [ ]
   not_new (g.deferred_post {name = name} n p) t = elim (differ (sym (never (DeferredPost name) (no_deferred_post name) found) ∙ t)) [ ]
   not_new (g.generic {name = name} n p) t = elim (differ (sym (never (Generic name) (no_generic name) found) ∙ t)) [ ]
-
-  head_begins : {i o : Input} {h : Head} → HeadAt text i h o → begins_head (kind i) ≡ true
-  head_begins (g.pre n _) = ap begins_head (kind_is n)
-  head_begins (g.post n _) = ap begins_head (kind_is n)
-  head_begins (g.canceled n) = ap begins_head (kind_is n)
-  head_begins (g.deferred_pre n _) = ap begins_head (kind_is n)
-  head_begins (g.deferred_post n _) = ap begins_head (kind_is n)
-  head_begins (g.generic n _) = ap begins_head (kind_is n)
 
   twice_tells : {i o : Input} {h : Head} (b : Bool) → HeadAt text i h o → has_event h found ≡ true →
       (if b then new_head text found i else Err (crowded found i)) ≡ Err (fault_at E05 i)
@@ -132,9 +126,6 @@ callback_tells {found = found} (bad.too_great (g.callback p n q m) fresh few big
     then_again _ (head_again found p fresh few)
     (then_again _ (expect_again n) (then_again _ (statements_again q m) (then_again _ (expect_again m) (rw big refl))))
 
-same_error : {A : Type 0} (f g : SyntaxFault) (r : Outcome A) → r ≡ Err f → r ≡ Err g → f ≡ g
-same_error f g r e h = cc
-
 -- at no token there is no callback
 none_there : (scope : Scope) (found : List Callback) → callback scope found [] ≡ Err (refusal [])
 none_there scope found = callback_tells (bad.head (bad.no_head refl (refused [])))
@@ -149,7 +140,8 @@ here_tells scope i f (suc n) found fits h = then_fails _ h
 callbacks_from_tell : {scope : Scope} {found : List Callback} {i : Input} {f : SyntaxFault} → CallbacksFails scope found i f →
     (n : ℕ) → length i ≤ n → callbacks_from scope n found i ≡ Err f
 unfolding callbacks_from
-callbacks_from_tell {scope = scope} {f = f} (bad.here {found = found} {i = i} h) n fits = here_tells scope i f n found fits (callback_tells h)
+callbacks_from_tell {scope = scope} {f = f} (bad.here {found = found} {i = i} h) n fits =
+    here_tells scope i f n found fits (callback_tells h)
 callbacks_from_tell (bad.later_callback p fresh few small e h) zero fits = absurd (omega (arith, callback_less p, fits))
 callbacks_from_tell (bad.later_callback {found = found} {j = j} p fresh few small e h) (suc n) fits =
     then_again _ (callback_again found p fresh few small)
@@ -189,42 +181,11 @@ locks_tell : {text : Text} {i : Input} {f : SyntaxFault} → LocksFails text [] 
 unfolding locks
 locks_tell {i = i} h = locks_from_tell h (length i) (omega arith)
 
-locks_from_over : {text : Text} {i o : Input} {ls : List Lock} → LocksAt text i ls o → kind o ≢ k.Lock →
-    (n : ℕ) (found : List Lock) → 0 < n → length i ≤ n → AreNewLocks found ls → length found + length ls ≤ max_locks →
-    locks_from text n found i ≡ Ok (found ++ ls, o)
-unfolding locks_from
-locks_from_over g.no_lock e zero found some fits fresh few = absurd (omega (arith, some))
-locks_from_over (g.no_lock {i = i}) e (suc n) found some fits fresh few =
-    then_again _ (eat_none k.Lock i (not_seen k.Lock i e)) (rw append-nil refl)
-locks_from_over (g.one_lock m p q x) e zero found some fits fresh few = absurd (omega (arith, some))
-locks_from_over {o = o} (g.one_lock {kind = lk} {name = name} {ls = ls} m p q x) e (suc n) found some fits fresh few =
-    let l : Lock = record { kind = lk; name = name } in
-    let shorter = next_less m in let shorter2 = meant_less p in let shorter3 = name_less q in
-    then_again _ (eat_again m)
-    (then_again _ (lock_again found p q fresh.0 (omega (arith, few)))
-    (locks_from_over x e n (found ++ l ∷ []) (omega (arith, shorter, shorter2, shorter3, fits))
-    (omega (arith, shorter, shorter2, shorter3, fits)) fresh.1 (one_less found ls l max_locks few)
-    ∙ ap (λ y. Ok (y, o)) (append_assoc found (l ∷ []) ls)))
-
-locks_over : {text : Text} {i o : Input} {ls : List Lock} → LocksAt text i ls o → kind o ≢ k.Lock → AreNewLocks [] ls →
-    length ls ≤ max_locks → 0 < length i → locks text i ≡ Ok (ls, o)
-unfolding locks
-locks_over {i = i} p e fresh few some = locks_from_over p e (length i) [] some (omega arith) fresh (omega (arith, few))
-
 no_locks : (text : Text) → locks text [] ≡ Err (refusal [])
 unfolding locks locks_from
 no_locks text = refl
 
-queue_over : {i o : Input} {q : Option Position} (p : QueueAt i q o) → QueueOver p → queue i ≡ Ok (q, o)
-unfolding queue
-queue_over (g.no_queue {i = i}) e = then_again _ (eat_none k.Queue i (not_seen k.Queue i e)) refl
-queue_over (g.some_queue n) e = then_again _ (eat_again n) refl
-
 -- ---- the file
-
-locks_less : {text : Text} {i o : Input} {ls : List Lock} → LocksAt text i ls o → length o ≤ length i
-locks_less g.no_lock = omega arith
-locks_less (g.one_lock n p q x) = omega (arith, next_less n, meant_less p, name_less q, locks_less x)
 
 no_callbacks : (scope : Scope) → callbacks scope [] ≡ Err (refusal [])
 unfolding callbacks callbacks_from
@@ -241,6 +202,7 @@ locks_stage : {A : Type 0} (text : Text) (d e : Input) (ls : List Lock) (f : Syn
 locks_stage text [] e ls f more some none h = then_fails _ (no_locks text ∙ ap (λ x. Err x) (sym (none (omega arith))))
 locks_stage text (t ∷ d) e ls f more some none h = then_again _ (some (omega arith)) h
 
+-- a file: where it fails, that is reported
 pub file_tells : {text : Text} {i : Input} {f : SyntaxFault} → FileFails text i f → file text i ≡ Err f
 unfolding file
 file_tells (bad.filter h) = then_fails _ (expect_tells h)
@@ -255,6 +217,6 @@ file_tells {text = text} {f = f} (bad.callbacks {d = d} {e = e} {l = l} {ls = ls
     let told = callbacks_tell h in
     then_again _ (expect_again n) (then_again _ (spelled_again m) (then_again _ (expect_again x)
     (then_again _ (within_again 1 max_altitude p low high)
-    (locks_stage text d e ls f _ (locks_over y over new few)
+    (locks_stage text d e ls f _ (locks_again y over new few)
     (λ none. at_nothing _ l f (omega (arith, locks_less y, queue_less z, none)) told)
-    (then_again _ (queue_over z v) (then_fails _ told))))))
+    (then_again _ (queue_again z v) (then_fails _ told))))))

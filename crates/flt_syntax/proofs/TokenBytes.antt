@@ -15,7 +15,7 @@ use Rattle.flt_syntax.specs.declared.token.Kind.TheVariants as k
 use Rattle.flt_syntax.specs.declared.token.Token.{Token}
 use Rattle.flt_syntax.specs.declared.token.Word.{Word}
 use Rattle.flt_syntax.proofs.Lexed.{bytes, one_on, lexed_gap}
-use Rattle.flt_syntax.proofs.Sound.{differ}
+use Rattle.flt_syntax.proofs.TokenKinds.{differ}
 
 -- a token of a text: if it is a word, its bytes are a name, and its value fits
 pub record IsToken (text : Text) (t : Token) : Type 0 where

@@ -1,5 +1,5 @@
 -- The faults of tests, and of statements that neither call nor branch: beside each production a constructor for each place where
--- it can fail.
+-- it can fail. What stands before that place is spelled by the grammar.
 use Rattle.std.specs.Prelude.{◌≡◌, ◌≢◌, false, None}
 use Rattle.flt_syntax.specs.CallFails.{FallibleFails}
 use Rattle.flt_syntax.specs.FirstWords.{begins_test}
@@ -78,5 +78,5 @@ pub data ConditionFails (scope : Scope) : Input → SyntaxFault → Type 0 where
       Meant number_variable_of i n a → Next k.Less a b → AtomFails b f → ConditionFails scope i f
   -- "irp" "data"
   irp_data : {i a : Input} {f : SyntaxFault} → Next k.Irp i a → NextFails k.Data a f → ConditionFails scope i f
-  -- fallible, which is what else may stand
+  -- fallible, where no other test begins
   call : {i : Input} {f : SyntaxFault} → begins_test (kind i) ≡ false → FallibleFails scope i f → ConditionFails scope i f

@@ -1,4 +1,5 @@
--- The faults of statuses and of calls: beside each production of their grammar a constructor for each place where it can fail.
+-- The faults of statuses and calls: beside each production a constructor for each place where it can fail. What stands before that
+-- place is spelled by the grammar.
 use Rattle.std.specs.Prelude.{◌≡◌, true, false, None}
 use Rattle.flt_rules.specs.declared.call.Existing.{Existing}
 use Rattle.flt_rules.specs.declared.call.LockKind.{LockKind}

@@ -1,5 +1,5 @@
--- The faults of heads, callbacks, locks and files: beside each production a constructor for each place where it can fail, given
--- what the text declares before.
+-- The faults of heads, callbacks, locks and files, behind what the text declares before them: beside each production a constructor
+-- for each place where it can fail. What stands before that place is spelled by the grammar.
 use Rattle.std.specs.Prelude.{◌≡◌, ◌≢◌, ◌≤◌, ◌<◌, ◌-◌, ℕ, true, false, List, [], ◌∷◌, ◌++◌, length, is_some, Option}
 use Rattle.flt_rules.specs.declared.call.LockKind.{LockKind}
 use Rattle.flt_syntax.specs.StatementFails.{StatementsFails}
@@ -26,7 +26,8 @@ use Rattle.flt_tree.specs.declared.filter.Position.{Position}
 -- NAME of a routine, behind the callbacks that were found
 pub data NewNameFails (text : Text) (found : List Callback) : Input → SyntaxFault → Type 0 where
   no_name : {i : Input} {f : SyntaxFault} → NameFails i f → NewNameFails text found i f
-  name_twice : {i o : Input} {name : Text} → NameAt text i name o → has_routine name found ≡ true → NewNameFails text found i (fault_at E05 i)
+  name_twice : {i o : Input} {name : Text} → NameAt text i name o → has_routine name found ≡ true →
+      NewNameFails text found i (fault_at E05 i)
 
 -- head, behind the callbacks that were found
 pub data HeadFails (text : Text) (found : List Callback) : Input → SyntaxFault → Type 0 where
@@ -37,7 +38,7 @@ pub data HeadFails (text : Text) (found : List Callback) : Input → SyntaxFault
   -- "post" OP
   post : {i a : Input} {f : SyntaxFault} → length found < max_callbacks → Next k.Post i a → MeantFails operation_of a f →
       HeadFails text found i f
-  -- an event a second time, told at the first word of its head, even where the callbacks are enough
+  -- an event a second time, at the first word of its head, even as the seventeenth callback
   event_twice : {i o : Input} {h : Head} → HeadAt text i h o → has_event h found ≡ true → HeadFails text found i (fault_at E05 i)
   -- "deferred_pre" NAME
   deferred_pre : {i a : Input} {f : SyntaxFault} → length found < max_callbacks → Next k.DeferredPre i a → NewNameFails text found a f →
@@ -48,7 +49,7 @@ pub data HeadFails (text : Text) (found : List Callback) : Input → SyntaxFault
   -- "generic" NAME
   generic : {i a : Input} {f : SyntaxFault} → length found < max_callbacks → Next k.Generic i a → NewNameFails text found a f →
       HeadFails text found i f
-  -- a seventeenth callback, told at its first word, unless it is an event a second time
+  -- a seventeenth callback, at its first word, unless it is an event a second time
   callback_too_many : {i : Input} → max_callbacks ≤ length found → begins_head (kind i) ≡ true →
       ((h : Head) (o : Input) → HeadAt text i h o → has_event h found ≡ false) → HeadFails text found i (fault_at E06 i)
 

@@ -1,4 +1,4 @@
--- With which words a production begins, where several may stand.
+-- The first words of productions, where several may stand.
 use Rattle.std.specs.Prelude.{Bool, true, false, ◌||◌, is_some}
 use Rattle.flt_syntax.specs.Tables.{number_variable_of, context_variable_of, removed_variable_of, bare_status_of}
 use Rattle.flt_syntax.specs.declared.token.Kind.{Kind}

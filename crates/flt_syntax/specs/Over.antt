@@ -1,5 +1,5 @@
--- Where what is spelled is over: the next token does not go on with it. Only a part at its end that may be left out can go on,
--- and it was left out; so the one question is whether the next token is the first of that part.
+-- Where what is spelled is over: the next token doesn't go on with it. Only an optional part at the end can go on, where it was left
+-- out; so the one question is whether the next token is the first of that part.
 use Rattle.std.specs.Prelude.{◌≡◌, ◌≢◌, ℕ, false, List, Option}
 use Rattle.flt_syntax.specs.ActionGrammar as acting
 use Rattle.flt_syntax.specs.ActionGrammar.{ExpressionAt, ActionAt, ConditionAt}

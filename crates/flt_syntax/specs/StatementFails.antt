@@ -1,4 +1,5 @@
--- The faults of statements and blocks: beside each production a constructor for each place where it can fail.
+-- The faults of statements and blocks: beside each production a constructor for each place where it can fail. What stands before that
+-- place is spelled by the grammar, and over where it can be longer or shorter.
 use Rattle.std.specs.Prelude.{◌≡◌, ◌≢◌, ◌≤◌, ℕ, zero, suc, false, List}
 use Rattle.flt_syntax.specs.ActionFails.{ActionFails, ConditionFails}
 use Rattle.flt_syntax.specs.CallFails.{PlainFails, OptionalStatusFails}
@@ -18,11 +19,11 @@ use Rattle.flt_tree.specs.declared.filter.Condition.{Condition}
 use Rattle.flt_tree.specs.declared.filter.Statement.{Statement}
 
 -- `StatementFails scope d r i f`: the tokens of i begin with no statement in which blocks nest at most d deep, and repeats at most
--- r; f is why, the first fault that is met from left to right.
+-- r; f is why, the first fault from left to right.
 mutual
   pub data StatementFails (scope : Scope) : ℕ → ℕ → Input → SyntaxFault → Type 0 where
     act : {d r : ℕ} {i : Input} {f : SyntaxFault} → ActionFails i f → StatementFails scope d r i f
-    -- plain, which is what else may stand
+    -- plain, where no other statement begins
     call : {d r : ℕ} {i : Input} {f : SyntaxFault} → begins_other (kind i) ≡ false → PlainFails scope i f → StatementFails scope d r i f
     -- "return" [ status ]
     return : {d r : ℕ} {i a : Input} {f : SyntaxFault} → Next k.Return i a → OptionalStatusFails a f → StatementFails scope d r i f
@@ -32,18 +33,18 @@ mutual
         Next k.If i a → (p : ConditionAt scope a c b) → ConditionOver p → BlockFails scope d r b f → StatementFails scope d r i f
     choice_refused : {d r : ℕ} {i a b l : Input} {c : Condition} {granted : List Statement} {f : SyntaxFault} →
         Next k.If i a → ConditionAt scope a c b → BlockAt scope d r b granted l → ElseFails scope d r l f → StatementFails scope d r i f
-    -- "repeat" NUMBER block: in four others, at its word; of more than 1000 turns, at the number
+    -- "repeat" NUMBER block: one too many, at its word; more than 1000 turns, at the number
     repeat_nested : {d : ℕ} {i a : Input} → Next k.Repeat i a → StatementFails scope d zero i (fault_at E06 i)
     repeat_number : {d r : ℕ} {i a : Input} {f : SyntaxFault} →
         Next k.Repeat i a → NumberFails 0 max_turns a f → StatementFails scope d (suc r) i f
     repeat_body : {d r n : ℕ} {i a b : Input} {f : SyntaxFault} →
         Next k.Repeat i a → NumberAt a n b → n ≤ max_turns → BlockFails scope d r b f → StatementFails scope d (suc r) i f
 
-  -- [ "else" block ]
+  -- [ "else" block ]: without its word it can't fail
   pub data ElseFails (scope : Scope) : ℕ → ℕ → Input → SyntaxFault → Type 0 where
     behind : {d r : ℕ} {i j : Input} {f : SyntaxFault} → Next k.Else i j → BlockFails scope d r j f → ElseFails scope d r i f
 
-  -- "{" { stmt } "}": the `}` can't be missing, since what stands in its place begins no statement either
+  -- "{" { stmt } "}": a brace too deep is reported there; what stands in place of `}` begins no statement either
   pub data BlockFails (scope : Scope) : ℕ → ℕ → Input → SyntaxFault → Type 0 where
     no_brace : {d r : ℕ} {i : Input} {f : SyntaxFault} → NextFails k.OpenBrace i f → BlockFails scope d r i f
     too_deep : {r : ℕ} {i a : Input} → Next k.OpenBrace i a → BlockFails scope zero r i (fault_at E06 i)

@@ -1,5 +1,4 @@
-use Rattle.flt_syntax.proofs.Exact.{fault_result}
-use Rattle.flt_syntax.proofs.Laws.{found_result, well_formed_result}
+use Rattle.flt_syntax.proofs.Laws.{fault_result, found_result, well_formed_result}
 use Rattle.flt_syntax.proofs.file.parse.Goals as goal
 
 pub returns-clause-well_formed : goal.returns-clause-well_formed

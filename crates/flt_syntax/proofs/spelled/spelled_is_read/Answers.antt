@@ -1,5 +1,5 @@
 use Rattle.flt_syntax.proofs.CompleteFiles.{is_found}
-use Rattle.flt_syntax.proofs.SoundFiles.{is_spelled}
+use Rattle.flt_syntax.proofs.EndTexts.{is_spelled}
 use Rattle.flt_syntax.proofs.spelled.spelled_is_read.Goals as goal
 
 pub returns : goal.returns
