@@ -1,0 +1,343 @@
+-- What is spelled spells the same before any other tokens: words, calls, statements and blocks.
+use Rattle.std.proofs.Common.{◌≡◌, ◌≢◌, ℕ, List, [], ◌∷◌, ◌++◌, refl, sym, ap, subst, ◌∙◌, append_assoc}
+use Rattle.std.specs.Prelude.{Option}
+use Rattle.flt_rules.specs.declared.call.LockKind.{LockKind}
+use Rattle.flt_rules.specs.declared.call.LockNumber.{LockNumber}
+use Rattle.flt_syntax.specs.declared.token.Kind.{Kind}
+use Rattle.flt_syntax.specs.declared.token.Kind.TheVariants as k
+use Rattle.flt_syntax.specs.declared.token.Token.{Token}
+use Rattle.flt_tree.specs.Names.{Text}
+use Rattle.flt_tree.specs.declared.filter.Action.{Action}
+use Rattle.flt_tree.specs.declared.filter.Condition.{Condition}
+use Rattle.flt_tree.specs.declared.filter.FallibleCall.{FallibleCall}
+use Rattle.flt_tree.specs.declared.filter.PlainCall.{PlainCall}
+use Rattle.flt_tree.specs.declared.filter.Routine.{Routine}
+use Rattle.flt_tree.specs.declared.filter.Statement.{Statement}
+use Rattle.flt_tree.specs.declared.filter.Statement.TheVariants.{Act, Call}
+use Rattle.flt_tree.specs.declared.filter.Status.{Status}
+use Rattle.flt_tree.specs.declared.filter.Test.{Test}
+use Rattle.flt_tree.specs.declared.variable.Atom.{Atom}
+use Rattle.flt_tree.specs.declared.variable.ContextVariable.{ContextVariable}
+use Rattle.flt_tree.specs.declared.variable.Expression.{Expression}
+use Rattle.flt_syntax.specs.ActionGrammar as acting
+use Rattle.flt_syntax.specs.ActionGrammar.{AtomAt, ExpressionAt, ActionAt, TestAt, ConditionAt}
+use Rattle.flt_syntax.specs.CallGrammar as calling
+use Rattle.flt_syntax.specs.CallGrammar.{StatusAt, OptionalStatusAt, RoutineAt, LockAt, FallibleAt, PlainAt}
+use Rattle.flt_syntax.specs.Grammar as grammar
+use Rattle.flt_syntax.specs.Grammar.{line, StatementAt, ElseAt, BlockAt, StatementsAt}
+use Rattle.flt_syntax.specs.Words as words
+use Rattle.flt_syntax.specs.Words.{Next, Meant, NameAt, NumberAt, OptionalAt}
+use Rattle.flt_syntax.specs.Scope.{Scope}
+use Rattle.flt_syntax.specs.FirstWords.{begins_status}
+use Rattle.flt_syntax.specs.Cursor.{Input, front, kind}
+use Rattle.flt_syntax.specs.Over.{OptionalOver, StatusOver, OptionalStatusOver, FallibleOver, PlainOver, ExpressionOver, ActionOver, ConditionOver, ElseOver, StatementOver}
+
+pub record Detached {A : Type 0} (R : Input → A → Input → Type 0) (i : Input) (x : A) (o : Input) : Type 0 where
+  pub taken : Input
+  pub parts : i ≡ taken ++ o
+  pub again : (z : Input) → R (taken ++ z) x z
+
+-- what is spelled behind something
+pub shift : {A : Type 0} {R : Input → A → Input → Type 0} {i a o : Input} {x : A} (taken : Input) → i ≡ taken ++ a →
+    Detached (λ j x z. R (taken ++ j) x z) a x o → Detached R i x o
+shift {R = R} {x = x} taken e d = record {
+  taken = taken ++ d.taken;
+  parts = e ∙ (ap (λ z. taken ++ z) d.parts ∙ sym (append_assoc taken d.taken _));
+  again = λ z. subst (λ j. R j x z) (sym (append_assoc taken d.taken z)) (d.again z);
+}
+
+-- what is made of it
+pub made : {A B : Type 0} {P : Input → A → Input → Type 0} {R : Input → B → Input → Type 0} {i o : Input} {x : A} {y : B} →
+    Detached P i x o → ((j z : Input) → P j x z → R j y z) → Detached R i y o
+made d h = record { taken = d.taken; parts = d.parts; again = λ z. h _ z (d.again z) }
+
+-- a part that is left out
+pub left_out : {A : Type 0} {R : Input → A → Input → Type 0} {i : Input} {x : A} → ((z : Input) → R z x z) → Detached R i x i
+left_out h = record { taken = []; parts = refl; again = h }
+
+-- a token of a kind
+abbrev NextAt : Kind → Input → Unit {0} → Input → Type 0
+NextAt kd i u o = Next kd i o
+
+-- a token of a kind
+pub next_free : {kd : Kind} {i o : Input} → Next kd i o → Detached (NextAt kd) i tt o
+next_free (words.next {t = t} e) = record { taken = t ∷ []; parts = refl; again = λ z. words.next e }
+
+-- a word of a table
+pub meant_free : {A : Type 0} {table : Kind → Option A} {i o : Input} {a : A} → Meant table i a o → Detached (Meant table) i a o
+meant_free (words.meant {t = t} e) = record { taken = t ∷ []; parts = refl; again = λ z. words.meant e }
+
+-- NAME
+pub name_free : {text name : Text} {i o : Input} → NameAt text i name o → Detached (NameAt text) i name o
+name_free (words.name {t = t} e) = record { taken = t ∷ []; parts = refl; again = λ z. words.name e }
+
+-- NUMBER
+pub number_free : {i o : Input} {n : ℕ} → NumberAt i n o → Detached NumberAt i n o
+number_free (words.number {t = t} e) = record { taken = t ∷ []; parts = refl; again = λ z. words.number e }
+
+-- where the next token is the same, it is over too
+abbrev Stays : Type 0 → Input → Type 0 → Input → Type 0
+Stays over o over_again z = over → front z ≡ front o → over_again
+
+-- a token of another kind stays one
+pub other_kind : (kd : Kind) (i z : Input) → kind i ≢ kd → front z ≡ front i → kind z ≢ kd
+other_kind kd i z n same e = n (sym (ap (λ (t : Token). t.word.kind) same) ∙ e)
+
+-- NAME of a routine
+pub routine_free : {text : Text} {i o : Input} {x : Routine} → RoutineAt text i x o → Detached (RoutineAt text) i x o
+routine_free (calling.routine (words.name {t = t} e)) = record { taken = t ∷ []; parts = refl; again = λ z. calling.routine (words.name e) }
+
+lock_free : {scope : Scope} {lk : LockKind} {i o : Input} {l : LockNumber} → LockAt scope lk i l o → Detached (LockAt scope lk) i l o
+lock_free (calling.lock p e) = made (name_free p) (λ j z q. calling.lock q e)
+
+optional_free : {kd : Kind} {i o : Input} {c : Option ContextVariable} (p : OptionalAt kd i c o) →
+    Detached (λ j c z. (q : OptionalAt kd j c z) × (OptionalOver p → front z ≡ front o → OptionalOver q)) i c o
+optional_free {kd = kd} (words.without {i = i}) = left_out (λ z. (words.without, λ over same. other_kind kd i z over same))
+optional_free (words.behind n p) =
+    let dn = next_free n in shift dn.taken dn.parts (made (meant_free p) (λ j z y. (words.behind (dn.again j) y, λ over same. tt)))
+
+status_free : {i o : Input} {s : Status} (p : StatusAt i s o) →
+    Detached (λ j s z. (q : StatusAt j s z) × (StatusOver p → front z ≡ front o → StatusOver q)) i s o
+status_free (calling.with_callback n p) =
+    let dn = next_free n in shift dn.taken dn.parts (made (optional_free p) (λ j z y. (calling.with_callback (dn.again j) y.0, y.1)))
+status_free (calling.synchronize n p) =
+    let dn = next_free n in shift dn.taken dn.parts (made (optional_free p) (λ j z y. (calling.synchronize (dn.again j) y.0, y.1)))
+status_free (calling.complete n p) =
+    let dn = next_free n in shift dn.taken dn.parts (made (meant_free p) (λ j z y. (calling.complete (dn.again j) y, λ over same. tt)))
+status_free (calling.bare p) =
+    made (meant_free p) (λ j z y. (calling.bare y, λ over same. tt))
+
+optional_status_free : {i o : Input} {s : Option Status} (p : OptionalStatusAt i s o) →
+    Detached (λ j s z. (q : OptionalStatusAt j s z) × (OptionalStatusOver p → front z ≡ front o → OptionalStatusOver q)) i s o
+optional_status_free (calling.no_status {i = i}) =
+    left_out (λ z. (calling.no_status, λ over same. ap (λ (t : Token). begins_status t.word.kind) same ∙ over))
+optional_status_free (calling.some_status p) =
+    made (status_free p) (λ j z y. (calling.some_status y.0, y.1))
+
+fallible_free : {scope : Scope} {i o : Input} {c : FallibleCall} (p : FallibleAt scope i c o) →
+    Detached (λ j c z. (q : FallibleAt scope j c z) × (FallibleOver p → front z ≡ front o → FallibleOver q)) i c o
+fallible_free (calling.allocate n p) =
+    let dn = next_free n in shift dn.taken dn.parts (made (meant_free p) (λ j z y. (calling.allocate (dn.again j) y, λ over same. tt)))
+fallible_free (calling.get_stream n p) =
+    let dn = next_free n in shift dn.taken dn.parts (made (meant_free p) (λ j z y. (calling.get_stream (dn.again j) y, λ over same. tt)))
+fallible_free (calling.get_instance n p) =
+    let dn = next_free n in shift dn.taken dn.parts (made (meant_free p) (λ j z y. (calling.get_instance (dn.again j) y, λ over same. tt)))
+fallible_free (calling.set_stream n p q x h) =
+    let dn = next_free n in let dp = meant_free p in let dq = meant_free q in
+    shift dn.taken dn.parts (shift dp.taken dp.parts (shift dq.taken dq.parts (made (optional_free x)
+    (λ j z y. (calling.set_stream (dn.again (dp.taken ++ (dq.taken ++ j))) (dp.again (dq.taken ++ j)) (dq.again j) y.0 h, y.1)))))
+fallible_free (calling.set_instance n p q x h) =
+    let dn = next_free n in let dp = meant_free p in let dq = meant_free q in
+    shift dn.taken dn.parts (shift dp.taken dp.parts (shift dq.taken dq.parts (made (optional_free x)
+    (λ j z y. (calling.set_instance (dn.again (dp.taken ++ (dq.taken ++ j))) (dp.again (dq.taken ++ j)) (dq.again j) y.0 h, y.1)))))
+fallible_free (calling.delete_stream n p) =
+    let dn = next_free n in shift dn.taken dn.parts (made (optional_free p) (λ j z y. (calling.delete_stream (dn.again j) y.0, y.1)))
+fallible_free (calling.delete_instance n p) =
+    let dn = next_free n in shift dn.taken dn.parts (made (optional_free p) (λ j z y. (calling.delete_instance (dn.again j) y.0, y.1)))
+fallible_free (calling.insert_io q n m p) =
+    let dn = next_free n in let dm = next_free m in shift dn.taken dn.parts (shift dm.taken dm.parts (made (optional_free p)
+    (λ j z y. (calling.insert_io q (dn.again (dm.taken ++ j)) (dm.again j) y.0, y.1))))
+fallible_free (calling.remove_next_io q n p m x) =
+    let dn = next_free n in let dp = meant_free p in let dm = next_free m in
+    shift dn.taken dn.parts (shift dp.taken dp.parts (shift dm.taken dm.parts (made (meant_free x)
+    (λ j z y. (
+      calling.remove_next_io q (dn.again (dp.taken ++ (dm.taken ++ j))) (dp.again (dm.taken ++ j))
+          (dm.again j) y,
+      λ over same. tt,
+    )))))
+fallible_free (calling.queue_deferred n m p q) =
+    let dn = next_free n in let dm = next_free m in let dp = routine_free p in
+    shift dn.taken dn.parts (shift dm.taken dm.parts (shift dp.taken dp.parts (made (optional_free q)
+    (λ j z y. (calling.queue_deferred (dn.again (dm.taken ++ (dp.taken ++ j))) (dm.again (dp.taken ++ j)) (dp.again j) y.0, y.1)))))
+fallible_free (calling.queue_generic n p q) =
+    let dn = next_free n in let dp = routine_free p in shift dn.taken dn.parts (shift dp.taken dp.parts (made (optional_free q)
+    (λ j z y. (calling.queue_generic (dn.again (dp.taken ++ j)) (dp.again j) y.0, y.1))))
+
+plain_free : {scope : Scope} {i o : Input} {c : PlainCall} (p : PlainAt scope i c o) →
+    Detached (λ j c z. (q : PlainAt scope j c z) × (PlainOver p → front z ≡ front o → PlainOver q)) i c o
+plain_free (calling.delete n p) =
+    let dn = next_free n in shift dn.taken dn.parts (made (meant_free p) (λ j z y. (calling.delete (dn.again j) y, λ over same. tt)))
+plain_free (calling.reference n p m q h) =
+    let dn = next_free n in let dp = meant_free p in let dm = next_free m in
+    shift dn.taken dn.parts (shift dp.taken dp.parts (shift dm.taken dm.parts (made (meant_free q)
+    (λ j z y. (calling.reference (dn.again (dp.taken ++ (dm.taken ++ j))) (dp.again (dm.taken ++ j)) (dm.again j) y h, λ over same. tt)))))
+plain_free (calling.release n p) =
+    let dn = next_free n in shift dn.taken dn.parts (made (meant_free p) (λ j z y. (calling.release (dn.again j) y, λ over same. tt)))
+plain_free (calling.acquire_spin n p) =
+    let dn = next_free n in shift dn.taken dn.parts (made (lock_free p) (λ j z y. (calling.acquire_spin (dn.again j) y, λ over same. tt)))
+plain_free (calling.release_spin n p) =
+    let dn = next_free n in shift dn.taken dn.parts (made (lock_free p) (λ j z y. (calling.release_spin (dn.again j) y, λ over same. tt)))
+plain_free (calling.acquire_fast n p) =
+    let dn = next_free n in shift dn.taken dn.parts (made (lock_free p) (λ j z y. (calling.acquire_fast (dn.again j) y, λ over same. tt)))
+plain_free (calling.release_fast n p) =
+    let dn = next_free n in shift dn.taken dn.parts (made (lock_free p) (λ j z y. (calling.release_fast (dn.again j) y, λ over same. tt)))
+plain_free (calling.acquire_push n p) =
+    let dn = next_free n in shift dn.taken dn.parts (made (lock_free p) (λ j z y. (calling.acquire_push (dn.again j) y, λ over same. tt)))
+plain_free (calling.acquire_push_shared n p) =
+    let dn = next_free n in shift dn.taken dn.parts (made (lock_free p)
+    (λ j z y. (calling.acquire_push_shared (dn.again j) y, λ over same. tt)))
+plain_free (calling.release_push n p) =
+    let dn = next_free n in shift dn.taken dn.parts (made (lock_free p) (λ j z y. (calling.release_push (dn.again j) y, λ over same. tt)))
+plain_free (calling.complete_pre n p q) =
+    let dn = next_free n in let dp = meant_free p in shift dn.taken dn.parts (shift dp.taken dp.parts (made (status_free q)
+    (λ j z y. (calling.complete_pre (dn.again (dp.taken ++ j)) (dp.again j) y.0, y.1))))
+plain_free (calling.complete_post n m) =
+    let dn = next_free n in shift dn.taken dn.parts (made (next_free m) (λ j z y. (calling.complete_post (dn.again j) y, λ over same. tt)))
+
+-- atom
+pub atom_free : {i o : Input} {x : Atom} → AtomAt i x o → Detached AtomAt i x o
+atom_free (acting.number p) = made (number_free p) (λ j z q. acting.number q)
+atom_free (acting.variable p) = made (meant_free p) (λ j z q. acting.variable q)
+
+expression_free : {i o : Input} {x : Expression} (p : ExpressionAt i x o) →
+    Detached (λ j x z. (q : ExpressionAt j x z) × (ExpressionOver p → front z ≡ front o → ExpressionOver q)) i x o
+expression_free (acting.one {o = o} p) =
+    made (atom_free p) (λ j z q. (acting.one q, λ over same. (other_kind k.Plus o z over.0 same, other_kind k.Minus o z over.1 same)))
+expression_free (acting.sum p n q) =
+    let dp = atom_free p in let dn = next_free n in shift dp.taken dp.parts (shift dn.taken dn.parts (made (atom_free q)
+    (λ j z y. (acting.sum (dp.again (dn.taken ++ j)) (dn.again j) y, λ over same. tt))))
+expression_free (acting.difference p n q) =
+    let dp = atom_free p in let dn = next_free n in shift dp.taken dp.parts (shift dn.taken dn.parts (made (atom_free q)
+    (λ j z y. (acting.difference (dp.again (dn.taken ++ j)) (dn.again j) y, λ over same. tt))))
+
+action_free : {i o : Input} {a : Action} (p : ActionAt i a o) →
+    Detached (λ j a z. (q : ActionAt j a z) × (ActionOver p → front z ≡ front o → ActionOver q)) i a o
+action_free (acting.set_number p m q) =
+    let dp = meant_free p in let dm = next_free m in shift dp.taken dp.parts (shift dm.taken dm.parts (made (expression_free q)
+    (λ j z y. (acting.set_number (dp.again (dm.taken ++ j)) (dm.again j) y.0, y.1))))
+action_free (acting.read_value p m w q) =
+    let dp = meant_free p in let dm = next_free m in let dw = next_free w in
+    shift dp.taken dp.parts (shift dm.taken dm.parts (shift dw.taken dw.parts (made (meant_free q)
+    (λ j z y. (acting.read_value (dp.again (dm.taken ++ (dw.taken ++ j))) (dm.again (dw.taken ++ j)) (dw.again j) y, λ over same. tt)))))
+action_free (acting.read_file p m w q) =
+    let dp = meant_free p in let dm = next_free m in let dw = next_free w in
+    shift dp.taken dp.parts (shift dm.taken dm.parts (shift dw.taken dw.parts (made (meant_free q)
+    (λ j z y. (acting.read_file (dp.again (dm.taken ++ (dw.taken ++ j))) (dm.again (dw.taken ++ j)) (dw.again j) y, λ over same. tt)))))
+action_free (acting.write_value n p m q) =
+    let dn = next_free n in let dp = meant_free p in let dm = next_free m in
+    shift dn.taken dn.parts (shift dp.taken dp.parts (shift dm.taken dm.parts (made (atom_free q)
+    (λ j z y. (acting.write_value (dn.again (dp.taken ++ (dm.taken ++ j))) (dp.again (dm.taken ++ j)) (dm.again j) y, λ over same. tt)))))
+action_free (acting.clear_context p m n) =
+    let dp = meant_free p in let dm = next_free m in shift dp.taken dp.parts (shift dm.taken dm.parts (made (next_free n)
+    (λ j z y. (acting.clear_context (dp.again (dm.taken ++ j)) (dm.again j) y, λ over same. tt))))
+action_free (acting.clear_operation p m n) =
+    let dp = meant_free p in let dm = next_free m in shift dp.taken dp.parts (shift dm.taken dm.parts (made (next_free n)
+    (λ j z y. (acting.clear_operation (dp.again (dm.taken ++ j)) (dm.again j) y, λ over same. tt))))
+
+test_free : {i o : Input} {t : Test} → TestAt i t o → Detached TestAt i t o
+test_free (acting.context_is_some p m n) =
+    let dp = meant_free p in let dm = next_free m in shift dp.taken dp.parts (shift dm.taken dm.parts (made (next_free n)
+    (λ j z y. acting.context_is_some (dp.again (dm.taken ++ j)) (dm.again j) y)))
+test_free (acting.operation_is_some p m n) =
+    let dp = meant_free p in let dm = next_free m in shift dp.taken dp.parts (shift dm.taken dm.parts (made (next_free n)
+    (λ j z y. acting.operation_is_some (dp.again (dm.taken ++ j)) (dm.again j) y)))
+test_free (acting.equal p m q) =
+    let dp = meant_free p in let dm = next_free m in shift dp.taken dp.parts (shift dm.taken dm.parts (made (atom_free q)
+    (λ j z y. acting.equal (dp.again (dm.taken ++ j)) (dm.again j) y)))
+test_free (acting.less p m q) =
+    let dp = meant_free p in let dm = next_free m in shift dp.taken dp.parts (shift dm.taken dm.parts (made (atom_free q)
+    (λ j z y. acting.less (dp.again (dm.taken ++ j)) (dm.again j) y)))
+test_free (acting.is_irp n m) =
+    let dn = next_free n in shift dn.taken dn.parts (made (next_free m) (λ j z y. acting.is_irp (dn.again j) y))
+test_free (acting.is_draining n) =
+    made (next_free n) (λ j z y. acting.is_draining y)
+
+-- cond, which stays over where the next token is the same
+pub condition_free : {scope : Scope} {i o : Input} {c : Condition} (p : ConditionAt scope i c o) →
+    Detached (λ j c z. (q : ConditionAt scope j c z) × (ConditionOver p → front z ≡ front o → ConditionOver q)) i c o
+condition_free (acting.test p) =
+    made (test_free p) (λ j z y. (acting.test y, λ over same. tt))
+condition_free (acting.succeeds p) =
+    made (fallible_free p) (λ j z y. (acting.succeeds y.0, y.1))
+
+-- ---- statements, which have the line of their first token
+
+-- no token spells nothing
+no_token : (t : Token) (o : Input) → t ∷ o ≡ [] → ⊥
+no_token t o e = cc
+
+-- a token is no end
+pub next_some : {kd : Kind} {i o : Input} → Next kd i o → i ≡ [] → ⊥
+next_some (words.next {t = t} {o = o} e) h = no_token t o h
+
+meant_some : {A : Type 0} {table : Kind → Option A} {i o : Input} {a : A} → Meant table i a o → i ≡ [] → ⊥
+meant_some (words.meant {t = t} {o = o} e) h = no_token t o h
+
+action_some : {i o : Input} {a : Action} → ActionAt i a o → i ≡ [] → ⊥
+action_some (acting.set_number p m q) h = meant_some p h
+action_some (acting.read_value p m w q) h = meant_some p h
+action_some (acting.read_file p m w q) h = meant_some p h
+action_some (acting.write_value n p m q) h = next_some n h
+action_some (acting.clear_context p m n) h = meant_some p h
+action_some (acting.clear_operation p m n) h = meant_some p h
+
+plain_some : {scope : Scope} {i o : Input} {c : PlainCall} → PlainAt scope i c o → i ≡ [] → ⊥
+plain_some (calling.delete n p) h = next_some n h
+plain_some (calling.reference n p m q d) h = next_some n h
+plain_some (calling.release n p) h = next_some n h
+plain_some (calling.acquire_spin n p) h = next_some n h
+plain_some (calling.release_spin n p) h = next_some n h
+plain_some (calling.acquire_fast n p) h = next_some n h
+plain_some (calling.release_fast n p) h = next_some n h
+plain_some (calling.acquire_push n p) h = next_some n h
+plain_some (calling.acquire_push_shared n p) h = next_some n h
+plain_some (calling.release_push n p) h = next_some n h
+plain_some (calling.complete_pre n p q) h = next_some n h
+plain_some (calling.complete_post n m) h = next_some n h
+
+-- what takes a token keeps its first one
+pub same_token : (taken z i o : Input) → i ≡ taken ++ o → (taken ≡ [] → ⊥) → front (taken ++ z) ≡ front i
+same_token [] z i o e some = elim (some refl) [ ]
+same_token (t ∷ taken) z i o e some = sym (ap front e)
+
+lined : {A : Type 0} {P : Input → A → Input → Type 0} {R : Input → Statement → Input → Type 0} {i o : Input} {x : A} (s : ℕ → Statement) →
+    ((j z : Input) → P j x z → j ≡ [] → ⊥) → Detached P i x o → ((j z : Input) → P j x z → R j (s (line j)) z) → Detached R i (s (line i)) o
+lined {R = R} {i = i} {o = o} s some d h = record {
+  taken = d.taken;
+  parts = d.parts;
+  again = λ z.
+      subst (λ (t : Token). R (d.taken ++ z) (s t.position.line) z)
+      (same_token d.taken z i o d.parts (λ e. some (d.taken ++ []) [] (d.again []) (ap (λ t. t ++ []) e))) (h (d.taken ++ z) z (d.again z));
+}
+
+mutual
+  -- stmt, which stays over where the next token is the same
+  pub statement_free : {scope : Scope} {d r : ℕ} {i o : Input} {s : Statement} (p : StatementAt scope d r i s o) →
+      Detached (λ j s z. (q : StatementAt scope d r j s z) × (StatementOver p → front z ≡ front o → StatementOver q)) i s o
+  statement_free (grammar.act {a = a} p) =
+      lined (λ l. Act l a) (λ j z y. action_some y.0) (action_free p) (λ j z y. (grammar.act y.0, y.1))
+  statement_free (grammar.call {c = c} p) =
+      lined (λ l. Call l c) (λ j z y. plain_some y.0) (plain_free p) (λ j z y. (grammar.call y.0, y.1))
+  statement_free (grammar.return (words.next {t = t} e) p) =
+      shift (t ∷ []) refl (made (optional_status_free p) (λ j z y. (grammar.return (words.next e) y.0, y.1)))
+  statement_free (grammar.choice (words.next {t = t} e) p q x) =
+      let dp = condition_free p in let dq = block_free q in
+      shift (t ∷ []) refl (shift dp.taken dp.parts (shift dq.taken dq.parts (made (else_free x)
+      (λ j z y. (grammar.choice (words.next e) (dp.again (dq.taken ++ j)).0 (dq.again j) y.0, y.1)))))
+  statement_free (grammar.repeat (words.next {t = t} e) p h q) =
+      let dp = number_free p in
+      shift (t ∷ []) refl (shift dp.taken dp.parts (made (block_free q)
+      (λ j z y. (grammar.repeat (words.next e) (dp.again j) h y, λ over same. tt))))
+
+  else_free : {scope : Scope} {d r : ℕ} {i o : Input} {ss : List Statement} (p : ElseAt scope d r i ss o) →
+      Detached (λ j ss z. (q : ElseAt scope d r j ss z) × (ElseOver p → front z ≡ front o → ElseOver q)) i ss o
+  else_free (grammar.no_else {i = i}) = left_out (λ z. (grammar.no_else, λ over same. other_kind k.Else i z over same))
+  else_free (grammar.some_else n p) =
+      let dn = next_free n in
+      shift dn.taken dn.parts (made (block_free p) (λ j z y. (grammar.some_else (dn.again j) y, λ over same. tt)))
+
+  -- block
+  pub block_free : {scope : Scope} {d r : ℕ} {i o : Input} {ss : List Statement} → BlockAt scope d r i ss o →
+      Detached (BlockAt scope d r) i ss o
+  block_free (grammar.block n p m) =
+      let dn = next_free n in let dp = statements_free p in
+      shift dn.taken dn.parts (shift dp.taken dp.parts (made (next_free m)
+      (λ j z y. grammar.block (dn.again (dp.taken ++ j)) (dp.again j) y)))
+
+  -- { stmt }
+  pub statements_free : {scope : Scope} {d r : ℕ} {i o : Input} {ss : List Statement} → StatementsAt scope d r i ss o →
+      Detached (StatementsAt scope d r) i ss o
+  statements_free grammar.empty = left_out (λ z. grammar.empty)
+  statements_free (grammar.go_on p q) =
+      let dp = statement_free p in
+      shift dp.taken dp.parts (made (statements_free q) (λ j z y. grammar.go_on (dp.again j).0 y))

@@ -1,0 +1,31 @@
+//! The two halves of the law of the viable prefix, and its exceptions.
+
+ghost use Rattle.flt_prefix.specs.Prefix.{NothingGoesOn, NothingGoesOnInTexts, CallbacksBegin, FileBegins, FileBeginsInTexts, NoLockCall, NoBlock};
+
+use flt_syntax::fails_exactly_where_nothing_is_spelled;
+
+/// With the tokens up to a fault E01 to E04, the one at fault among them, no filter is spelled. Of a text's E04 this holds where a
+/// variable, a call or a lock is unknown, not where a routine isn't there. It does nothing: its clauses are the law.
+pub fn nothing_goes_on_from_the_token()
+    ensures tokens { NothingGoesOn }
+    ensures texts { NothingGoesOnInTexts }
+{
+    fails_exactly_where_nothing_is_spelled();
+}
+
+/// The tokens before a fault E03 begin a file by the grammar, if blocks may nest however deep, and unless the fault stands behind
+/// the word of a lock's call. It does nothing: its clauses are the law.
+#[tactic(auto, using(crate::proofs::Finishes::callbacks_begin, crate::proofs::FinishesFiles::file_begins, crate::proofs::Prefixes::begins_in_texts))]
+pub fn something_begins_before_e03()
+    ensures callbacks { CallbacksBegin }
+    ensures files { FileBegins }
+    ensures texts { FileBeginsInTexts }
+{}
+
+/// Why there are exceptions. Where no lock is declared, no call begins with the word of a lock's call; and where no block may stand,
+/// no statement begins with `if` or `repeat`. It does nothing: its clauses are the law.
+#[tactic(auto, using(crate::proofs::Exceptions::no_lock_call, crate::proofs::Exceptions::no_block_statement))]
+pub fn nothing_begins_at_the_exceptions()
+    ensures lock { NoLockCall }
+    ensures block { NoBlock }
+{}
