@@ -11,6 +11,11 @@ pub(crate) const E01: &str = "E01: a byte that begins no token
 
   = syntax 3:9 E01
 
+| What is wrong | Reported at |
+|---|---|
+| a byte that begins no token, such as `;` or each byte of a letter that isn't ASCII | the byte |
+| a `!` with no `=` behind it | the `!` |
+
 | Text | Answer |
 |---|---|
 | `filter a altitude 100 pre read { return $ }` | `syntax 1:41 E01` |
@@ -27,6 +32,13 @@ pub(crate) const E02: &str = "E02: no word and no number
     }
 
   = syntax 3:8 E02
+
+| What is wrong | Reported at |
+|---|---|
+| a run that begins with a digit and isn't decimal digits alone | its first byte |
+| a number with a leading zero | the same |
+| a number of 2^64 or more | the same |
+| a word of more than 64 bytes | the same |
 
 | Text | Answer |
 |---|---|
@@ -45,6 +57,13 @@ pub(crate) const E03: &str = "E03: an unexpected token
     }
 
   = syntax 3:8 E03
+
+| What is wrong | Reported at |
+|---|---|
+| another word or symbol than the grammar allows there | the token |
+| a word or a symbol where only a NUMBER may stand | the token |
+| a number or a symbol where only a NAME or a variable may stand | the token |
+| the end of the text where more must follow | one column after the last byte |
 
 | Text | Answer | Why |
 |---|---|---|
@@ -72,8 +91,16 @@ pub(crate) const E04: &str = "E04: an unknown name
 
   = syntax 3:21 E04
 
-E04 is reported only where nothing but a name of one kind may stand: a variable in a call or behind `value` or `file`, the second
-atom of a sum or of a test, the atom of `value C = atom`, a lock, a routine. Where something else could stand, the fault is E03.
+E04 is reported only where nothing but a name of one kind may stand. Where something else could stand, the fault is E03.
+
+| What is unknown | Reported at |
+|---|---|
+| a word where only a context variable may stand: in a call, and behind `value`, `old` or `context` | the word |
+| a word where only an operation may stand: in a call, and behind `file` | the word |
+| a word where only a number or a number variable may stand: behind `+`, `-` or `<`, behind `==`, and behind `value C =` | the word |
+| a lock that isn't declared, or isn't of the call's kind | the name |
+| `FltCbdqInsertIo` or `FltCbdqRemoveNextIo` behind `if`, in a text without `queue` | the word |
+| a routine that the text doesn't declare, or not of the kind that the call takes | the name, when the whole text has been read |
 
 | Text | Answer | Why |
 |---|---|---|
@@ -98,6 +125,12 @@ pub(crate) const E05: &str = "E05: declared twice
 
   = syntax 3:11 E05
 
+| What is declared twice | Reported at |
+|---|---|
+| the name of a lock, of whatever kind | the second name |
+| the name of a routine, of whatever kind | the second name |
+| a `pre` or a `post` of one operation, or `canceled` | the second callback's first word, when its head has been read |
+
 | Text | Answer |
 |---|---|
 | `filter a altitude 100 pre read { } pre read { }` | `syntax 1:36 E05` |
@@ -118,12 +151,14 @@ pub(crate) const E06: &str = "E06: a limit is exceeded
 | Limit | Reported at |
 |---|---|
 | bytes of the text | 1:1, before everything else |
-| altitude, turns of a `repeat` | the number |
+| altitude, which is at least 1 and at most 4294967295 | the number |
+| turns of a `repeat` | the number |
 | ninth lock | its name (E05 if the name is already used) |
 | seventeenth callback | its first word (E05 if that `pre`, `post` or `canceled` is already there) |
 | 33rd nested block | its `{` |
 | fifth nested `repeat` | the word `repeat`, before its number is read |
-| points, cost | the callback's first word |
+| points of a callback | the callback's first word, when its closing brace has been read |
+| cost of a callback | the same |
 
 | Text | Answer |
 |---|---|
@@ -141,6 +176,11 @@ pub(crate) const E07: &str = "E07: a callback is missing
 
   = syntax 2:1 E07
 
+| What is missing | Reported at, when the whole text has been read |
+|---|---|
+| `canceled`, where the text has `queue` | the word `queue` |
+| the `pre` of the same operation, where the text has a `post` | the word `post` |
+
 | Text | Answer |
 |---|---|
 | `filter a altitude 100 queue pre read { return NO_CALLBACK }` | `syntax 1:23 E07` |
@@ -157,6 +197,11 @@ pub(crate) const E08: &str = "E08: a variable twice in a call
     }
 
   = syntax 4:31 E08
+
+| What stands twice | Reported at |
+|---|---|
+| the context variable of `FltReferenceContext C as D` | D |
+| the context variable of a set, behind `old` | the variable behind `old` |
 
 | Text | Answer |
 |---|---|
