@@ -130,6 +130,11 @@ impl<'a> Choices<'a> {
         }
     }
 
+    /// Whether nothing may stand there.
+    pub(crate) fn are_none(&self) -> bool {
+        self.expected.is_empty() && !self.takes_number && !self.takes_name && self.names.is_empty()
+    }
+
     /// Whether a word or symbol of a kind may stand there.
     pub(crate) fn takes(&self, kind: Kind) -> bool {
         self.expected.as_slice().iter().any(|e| e.kind == kind)

@@ -43,6 +43,9 @@ pub enum Hint {
     MissingBrace,
     // Of names.
     NeedsQueue,
+    NeedsSpinLock,
+    NeedsFastMutex,
+    NeedsPushLock,
     OtherKind,
     NameTwice,
     CallbackTwice,
@@ -104,6 +107,12 @@ impl Hint {
             Hint::MissingBrace => "a `}` is missing before this",
             Hint::NeedsQueue =>
                 "this call needs the filter's queue: write `queue` before the callbacks",
+            Hint::NeedsSpinLock =>
+                "the filter has no spin lock: declare one after the altitude, `lock spin NAME`",
+            Hint::NeedsFastMutex =>
+                "the filter has no fast mutex: declare one after the altitude, `lock fast NAME`",
+            Hint::NeedsPushLock =>
+                "the filter has no push lock: declare one after the altitude, `lock push NAME`",
             Hint::OtherKind => "this name is declared, but isn't of the kind that the call takes",
             Hint::NameTwice => "this name is declared before: choose another",
             Hint::CallbackTwice =>

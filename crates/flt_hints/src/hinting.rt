@@ -2,7 +2,10 @@
 
 use crate::choices::Choices;
 use crate::hint::Hint;
-use crate::kinds::{begins_callback, is_context_variable, is_fallible, is_plain};
+use crate::kinds::{
+    begins_callback, is_context_variable, is_fallible, is_plain, takes_fast_mutex, takes_push_lock,
+    takes_spin_lock,
+};
 use crate::names::has_name;
 use flt_syntax::{FaultKind, Kind, Token};
 
@@ -127,9 +130,22 @@ fn statement_hint(scene: Scene<'_>, choices: &Choices<'_>) -> Option<Hint> {
     }
 }
 
+/// Of what stands in place of a lock's name, where the filter declares no lock that the call takes: nothing may stand there.
+fn lock_hint(scene: Scene<'_>, choices: &Choices<'_>) -> Option<Hint> {
+    match scene.before {
+        _ if !choices.are_none() => None,
+        kind if takes_spin_lock(kind) => Some(Hint::NeedsSpinLock),
+        kind if takes_fast_mutex(kind) => Some(Hint::NeedsFastMutex),
+        kind if takes_push_lock(kind) => Some(Hint::NeedsPushLock),
+        _ => None,
+    }
+}
+
 /// Of a token that the grammar doesn't have there.
 fn token_hint(scene: Scene<'_>, choices: &Choices<'_>) -> Option<Hint> {
+    let lock = lock_hint(scene, choices);
     match scene.found {
+        _ if lock.is_some() => lock,
         Kind::Name => name_hint(scene.bytes, choices),
         Kind::Equal | Kind::Assign | Kind::NotEqual | Kind::Plus | Kind::Minus => {
             operator_hint(scene.found, choices)
@@ -139,11 +155,11 @@ fn token_hint(scene: Scene<'_>, choices: &Choices<'_>) -> Option<Hint> {
 }
 
 /// Of a name that isn't known there.
-fn unknown_hint(scene: Scene<'_>) -> Option<Hint> {
+fn unknown_hint(scene: Scene<'_>, choices: &Choices<'_>) -> Option<Hint> {
     match scene.found {
         Kind::InsertIo | Kind::RemoveNextIo => Some(Hint::NeedsQueue),
         _ if has_name(scene.names, scene.bytes) => Some(Hint::OtherKind),
-        _ => None,
+        _ => lock_hint(scene, choices),
     }
 }
 
@@ -165,7 +181,7 @@ pub(crate) fn hint(kind: FaultKind, scene: Scene<'_>, choices: &Choices<'_>) -> 
         FaultKind::E01 => stray_hint(scene),
         FaultKind::E02 => Some(malformed_hint(scene.bytes)),
         FaultKind::E03 => token_hint(scene, choices),
-        FaultKind::E04 => unknown_hint(scene),
+        FaultKind::E04 => unknown_hint(scene, choices),
         FaultKind::E05 if begins_callback(scene.found) && !begins_callback(scene.before) => {
             Some(Hint::CallbackTwice)
         }

@@ -37,6 +37,21 @@ pub(crate) fn is_plain(kind: Kind) -> bool {
     )
 }
 
+pub(crate) fn takes_spin_lock(kind: Kind) -> bool {
+    matches!(kind, Kind::AcquireSpinLock | Kind::ReleaseSpinLock)
+}
+
+pub(crate) fn takes_fast_mutex(kind: Kind) -> bool {
+    matches!(kind, Kind::AcquireFastMutex | Kind::ReleaseFastMutex)
+}
+
+pub(crate) fn takes_push_lock(kind: Kind) -> bool {
+    matches!(
+        kind,
+        Kind::AcquirePushLock | Kind::AcquirePushLockShared | Kind::ReleasePushLock
+    )
+}
+
 pub(crate) fn begins_callback(kind: Kind) -> bool {
     matches!(
         kind,
