@@ -14,7 +14,7 @@ pub(crate) const E01: &str = "E01: a byte that begins no token
 | What is wrong | Reported at |
 |---|---|
 | a byte that begins no token, such as `;` or each byte of a letter that isn't ASCII | the byte |
-| a `!` with no `=` behind it | the `!` |
+| a `!` with no `=` right after it | the `!` |
 
 | Text | Answer |
 |---|---|
@@ -95,11 +95,11 @@ E04 is reported only where nothing but a name of one kind may stand. Where somet
 
 | What is unknown | Reported at |
 |---|---|
-| a word where only a context variable may stand: in a call, and behind `value`, `old` or `context` | the word |
-| a word where only an operation may stand: in a call, and behind `file` | the word |
-| a word where only a number or a number variable may stand: behind `+`, `-` or `<`, behind `==`, and behind `value C =` | the word |
+| a word where only a context variable may stand: in a call, and after `value`, `old` or `context` | the word |
+| a word where only an operation may stand: in a call, and after `file` | the word |
+| a word where only a number or a number variable may stand: after `+`, `-`, `<` or `==`, and after `value C =` | the word |
 | a lock that isn't declared, or isn't of the call's kind | the name |
-| `FltCbdqInsertIo` or `FltCbdqRemoveNextIo` behind `if`, in a text without `queue` | the word |
+| `FltCbdqInsertIo` or `FltCbdqRemoveNextIo` after `if`, in a text without `queue` | the word |
 | a routine that the text doesn't declare, or not of the kind that the call takes | the name, when the whole text has been read |
 
 | Text | Answer | Why |
@@ -201,7 +201,7 @@ pub(crate) const E08: &str = "E08: a variable twice in a call
 | What stands twice | Reported at |
 |---|---|
 | the context variable of `FltReferenceContext C as D` | D |
-| the context variable of a set, behind `old` | the variable behind `old` |
+| the context variable of a set, after `old` | the variable after `old` |
 
 | Text | Answer |
 |---|---|
