@@ -1,10 +1,12 @@
 -- Paths of acquisitions back from lock to lock, and where they come round.
 -- Here g is a graph, k a certificate, l, from and to are locks, list is a list of acquisitions.
-use Rattle.std.proofs.Common.{◌≡◌, ℕ, zero, suc, ◌+◌, ◌<◌, ◌≤◌, Bool, true, false, List, [], ◌∷◌, ◌++◌, length, Option, Some, None, IfSome, IfNone, IsNone, Ok, sym, subst, ap, refl, ◌∙◌, arith, inl, inr}
+use Rattle.std.proofs.Common.{◌≡◌, ◌≢◌, ℕ, zero, suc, ◌+◌, ◌<◌, ◌≤◌, Bool, true, false, List, [], ◌∷◌, ◌++◌, length, Option, Some, None, IfSome, IfNone, IsNone, Ok, sym, subst, ap, refl, ◌∙◌, arith, inl, inr}
 use Rattle.std.specs.Prelude.{if◌then◌else◌, find, cond, ◌||◌, ◌&&◌}
-use Rattle.std.specs.List.{list_any}
+use Rattle.std.specs.List.{All, list_any}
 use Rattle.std.proofs.Math.ListN.{get_or, set}
 use Rattle.std.proofs.lemmas.Bool.{eqb-true, eq-eqb}
+use Rattle.std.proofs.lemmas.List.Elements.{All-push, All-weaker}
+use Rattle.std.proofs.lemmas.List.Quantifiers.{all_pairs_push}
 use Rattle.flt_rules.specs.Call.{place_of}
 use Rattle.flt_rules.specs.Held.{same_lock, holds_lock}
 use Rattle.flt_rules.specs.Table.{row}
@@ -25,11 +27,11 @@ use Rattle.flt_abs.specs.declared.setting.Setting.{Setting}
 use Rattle.flt_abs.specs.declared.step.Successors.{Successors}
 use Rattle.flt_cert.specs.Format.{Certificate}
 use Rattle.flt_check.specs.Covering.{Covers}
-use Rattle.flt_order.specs.Circle.{IsPath, IsCircle, CirclesHaveNoOrder, from_taken}
+use Rattle.flt_order.specs.Circle.{IsPath, IsCircle, CirclesHaveNoOrder, TakesOnce, from_taken}
 use Rattle.flt_order.specs.Order.{IsAcquired, TakesInOrder, is_left, taken_by, taken_by_call}
 use Rattle.flt_order.specs.declared.order.Acquisition.{Acquisition}
 use Rattle.flt_order.proofs.Places.{place_same, callback_within, point_within}
-use Rattle.flt_order.proofs.Ranks.{was_not}
+use Rattle.flt_order.proofs.Ranks.{gone, taken_away, was_not}
 
 -- ---- paths
 
@@ -74,6 +76,38 @@ met_on unmet list l a same met m h = elim (was_not unmet l m h) [
   | inl is ↦ takes_last m list a (same ∙ sym is)
   | inr old ↦ takes_more m list a (met m old)
 ]
+
+-- ---- each lock once
+
+-- the locks that are taken on a path aren't among these
+abbrev pub AreMet : List Bool → List Acquisition → Type 0
+AreMet unmet list = All (λ (a : Acquisition). is_left unmet a.taken ≡ false) list
+
+-- they aren't among those that are left when the path goes on by one that was
+pub met_more : (unmet : List Bool) (list : List Acquisition) (l : LockNumber) (a : Acquisition) → is_left unmet l ≡ true → a.taken ≡ l →
+    AreMet unmet list → AreMet (set unmet (place_of l) false) (list ++ a ∷ [])
+met_more unmet list l a among same met =
+    All-push (λ (b : Acquisition). is_left (set unmet (place_of l) false) b.taken ≡ false) list a
+    (All-weaker (λ (b : Acquisition). is_left unmet b.taken ≡ false) (λ (b : Acquisition). is_left (set unmet (place_of l) false) b.taken ≡ false)
+    (λ b h. gone unmet l b.taken among h) list met)
+    (taken_away unmet l a.taken among same)
+
+-- and so each lock is taken once on the longer path too
+pub once_more : (unmet : List Bool) (list : List Acquisition) (l : LockNumber) (a : Acquisition) → is_left unmet l ≡ true → a.taken ≡ l →
+    AreMet unmet list → TakesOnce list → TakesOnce (list ++ a ∷ [])
+once_more unmet list l a among same met once =
+    all_pairs_push (λ (b c : Acquisition). b.taken ≢ c.taken) list a once (λ k d there is.
+    let bad : true ≡ false = sym among ∙ (ap (is_left unmet) (sym (is ∙ same)) ∙ met k d there) in absurd (cc))
+
+-- from the first acquisition on that takes a lock, each lock is taken once where it is on the whole path
+pub once_from : (l : LockNumber) (list : List Acquisition) → TakesOnce list → IfSome (from_taken l list) TakesOnce
+once_from l [] once = tt
+once_from l (a ∷ list) once =
+    by (same_lock l a.taken) (once_from l list (λ i j d less within. once (suc i) (suc j) d (omega (arith, less)) (omega (arith, within))))
+  where
+    by : (b : Bool) → IfSome (from_taken l list) TakesOnce → IfSome (if b then Some (a ∷ list) else from_taken l list) TakesOnce
+    by true later = once
+    by false later = later
 
 -- ---- where a path comes round
 

@@ -31,6 +31,24 @@ was_not left l m h = elim (cases_eq (place_of m) (place_of l)) [
   | inr ne ↦ inr (sym (get_or-set_other left (place_of l) (place_of m) false false ne) ∙ h)
 ]
 
+-- one at the same place as the one that is taken away isn't left
+gone_same : (left : List Bool) (l m : LockNumber) → is_left left l ≡ true → place_of m ≡ place_of l →
+    is_left (set left (place_of l) false) m ≡ false
+gone_same left l m among same =
+    ap (λ i. get_or (set left (place_of l) false) i false) same ∙ get_or-set_same left (place_of l) false false (left_there left l among)
+
+-- what wasn't left isn't left after one is taken away
+pub gone : (left : List Bool) (l m : LockNumber) → is_left left l ≡ true → is_left left m ≡ false →
+    is_left (set left (place_of l) false) m ≡ false
+gone left l m among h = elim (cases_eq (place_of m) (place_of l)) [
+  | inl same ↦ gone_same left l m among same
+  | inr ne ↦ get_or-set_other left (place_of l) (place_of m) false false ne ∙ h
+]
+
+-- and that one isn't
+pub taken_away : (left : List Bool) (l m : LockNumber) → is_left left l ≡ true → m ≡ l → is_left (set left (place_of l) false) m ≡ false
+taken_away left l m among same = gone_same left l m among (ap place_of same)
+
 -- one less is left
 pub one_less : (left : List Bool) (l : LockNumber) → is_left left l ≡ true → count_left (set left (place_of l) false) + 1 ≡ count_left left
 one_less left l h =
@@ -85,15 +103,6 @@ module _ (g : Graph) (k : Certificate) (left : List Bool) (n : ℕ) (l : LockNum
     | inr ne ↦ inr (sym (get_or-set_other left (place_of l) (place_of m) false false ne) ∙ h)
   ]
 
-  gone_same : (m : LockNumber) → place_of m ≡ place_of l → is_left after m ≡ false
-  gone_same m same = ap (λ i. get_or after i false) same ∙ get_or-set_same left (place_of l) false false (left_there left l among)
-
-  gone : (m : LockNumber) → is_left left m ≡ false → is_left after m ≡ false
-  gone m h = elim (cases_eq (place_of m) (place_of l)) [
-    | inl same ↦ gone_same m same
-    | inr ne ↦ get_or-set_other left (place_of l) (place_of m) false false ne ∙ h
-  ]
-
   abbrev rank : ℕ → ℕ
   rank i = if i == place_of l then n else r.rank i
 
@@ -121,7 +130,7 @@ module _ (g : Graph) (k : Certificate) (left : List Bool) (n : ℕ) (l : LockNum
     ordered = λ a q h. elim (was a.taken h) [
       | inl same ↦
           let holds = free_holds g k left l free a q (place_same a.taken l same) in (
-            gone a.holding holds,
+            gone left l a.holding among holds,
             omega (
               arith,
               rank_own (place_of a.taken) same,
@@ -132,7 +141,7 @@ module _ (g : Graph) (k : Certificate) (left : List Bool) (n : ℕ) (l : LockNum
           )
       | inr old ↦
           let was = r.ordered a q old in (
-            gone a.holding was.0,
+            gone left l a.holding among was.0,
             omega (
               arith,
               rank_other (place_of a.taken) (not_one a.taken old),

@@ -1,5 +1,5 @@
 -- Acquisitions that go round: no order of locks has such. This project's own definitions.
-use Rattle.std.specs.Prelude.{◌≡◌, if◌then◌else◌, List, [], ◌∷◌, Option, Some, None}
+use Rattle.std.specs.Prelude.{◌≡◌, ◌≢◌, AllPairs, if◌then◌else◌, List, [], ◌∷◌, Option, Some, None}
 use Rattle.flt_rules.specs.Held.{same_lock}
 use Rattle.flt_rules.specs.declared.call.LockNumber.{LockNumber}
 use Rattle.flt_graph.specs.declared.graph.Graph.{Graph}
@@ -16,6 +16,10 @@ IsPath g k from (a ∷ rest) to = IsAcquired g k a × (a.taken ≡ from) × IsPa
 abbrev pub IsCircle : Graph → Certificate → List Acquisition → Type 0
 IsCircle g k [] = ⊥
 IsCircle g k (a ∷ rest) = IsPath g k a.taken (a ∷ rest) a.taken
+
+-- no two of the acquisitions take one lock
+abbrev pub TakesOnce : List Acquisition → Type 0
+TakesOnce acquisitions = AllPairs (λ (a b : Acquisition). a.taken ≢ b.taken) acquisitions
 
 -- a circle refutes every order: round it ranks would fall for ever
 abbrev pub CirclesHaveNoOrder : Type 0

@@ -115,6 +115,7 @@ fn from_taken(path: Path, lock: LockNumber) -> Option<Circle>
 fn circle_from(graph: &Graph, cert: &Cert, left: &[bool; 8], lock: LockNumber) -> Option<Circle>
     requires { order.is_left left.now lock ≡ true }
     ensures circle { IfSome result (spec.IsCircle graph.now cert.now) }
+    ensures once { IfSome result spec.TakesOnce }
     ensures none { IfNone result (order.AreTakenBefore graph.now cert.now left.now 8 → ⊥) }
 {
     let mut path = Path::new();
@@ -133,10 +134,12 @@ fn circle_from(graph: &Graph, cert: &Cert, left: &[bool; 8], lock: LockNumber) -
 }
 
 /// A circle of acquisitions, by a certificate; none exactly where locks are taken in an order. Where the certificate covers the graph, a
-/// circle has two acquisitions or more, since no lock is taken that is held. It takes no memory.
+/// circle has two acquisitions or more, since no lock is taken that is held. There are eight at most: no two take one lock. It takes no
+/// memory.
 pub fn find_circle(graph: &Graph, cert: &Cert) -> Option<Circle>
     ensures ordered { IsNone result ↔ order.TakesInOrder graph.now cert.now }
     ensures circle { IfSome result (spec.IsCircle graph.now cert.now) }
+    ensures once { IfSome result spec.TakesOnce }
     ensures two { Covers graph.now cert.now → IfSome result (λ c. 2 ≤ length c) }
 {
     let left = reduce(graph, cert);

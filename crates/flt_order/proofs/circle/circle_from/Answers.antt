@@ -1,6 +1,6 @@
 use Rattle.std.proofs.Common.{[], ◌∷◌, sym, ◌∙◌, arith}
 use Rattle.std.proofs.lemmas.List.{length-append}
-use Rattle.flt_order.proofs.Circles.{longer, met_on, comes_round, none_found}
+use Rattle.flt_order.proofs.Circles.{longer, met_more, met_on, comes_round, none_found, once_from, once_more}
 use Rattle.flt_order.proofs.Places.{place_below}
 use Rattle.flt_order.proofs.Ranks.{free_not_taken, none_counted, one_less}
 use Rattle.flt_order.proofs.circle.circle_from.Goals as goal
@@ -17,6 +17,12 @@ returns-then-not-is_left-clause-circle c =
     rw (c.from_taken.ensures, c.push.ensures) (comes_round c.args.graph.now c.args.cert.now c.args.lock _ c.in_ok-found.found.holding
     (longer c.args.graph.now c.args.cert.now c.args.lock c.loop-met.path c.loop-met.last c.in_ok-found.found c.loop-met.invariant.0
     one.acquired one.taken))
+
+pub returns-then-not-is_left-clause-once : goal.returns-then-not-is_left-clause-once
+returns-then-not-is_left-clause-once c =
+    rw (c.from_taken.ensures, c.push.ensures) (once_from c.in_ok-found.found.holding _
+    (once_more c.loop-met.unmet c.loop-met.path c.loop-met.last c.in_ok-found.found c.loop-met.invariant.4 c.in_ok-found.ensures.some.taken
+    c.loop-met.invariant.6 c.loop-met.invariant.7))
 
 pub returns-then-not-is_left-clause-none : goal.returns-then-not-is_left-clause-none
 returns-then-not-is_left-clause-none c =
@@ -37,6 +43,8 @@ loop-met-preserved c =
       one.among,
       sym (rw c.remove.ensures at c.is_left.ensures) ∙ c.if-not-is_left.false,
       met_on c.loop-met.unmet path c.loop-met.last found one.taken c.loop-met.invariant.5,
+      met_more c.loop-met.unmet path c.loop-met.last found c.loop-met.invariant.4 one.taken c.loop-met.invariant.6,
+      once_more c.loop-met.unmet path c.loop-met.last found c.loop-met.invariant.4 one.taken c.loop-met.invariant.6 c.loop-met.invariant.7,
     )
 
 pub returns-clause-none : goal.returns-clause-none
