@@ -1,5 +1,5 @@
 -- What can always come next, on one page: where filters take their locks in an order, some callback can go on, all that run can end, each
--- filter can be unloaded, and each operation can be completed.
+-- filter can be unloaded, each operation can be completed, and all can come to rest.
 --
 -- orderly       here: a filter is accepted, and takes its locks in an order by the certificate that accepts it.
 -- in an order   flt_order/specs/Order.antt (TakesInOrder): each lock has a rank, and whoever takes one holds only locks of smaller rank.
@@ -17,6 +17,7 @@ use Rattle.flt_model.specs.Runs.{Moment, run, run_from, next}
 use Rattle.flt_model.specs.Steps.{Transition, Make, Local, Board}
 use Rattle.flt_model.specs.World.{Detached, activation_at, presence_at}
 use Rattle.flt_order.specs.Order.{TakesInOrder}
+use Rattle.flt_sound.specs.Rest.{IsGone}
 use Rattle.flt_sound.specs.Soundness.{IsAccepted}
 
 -- ---- filters
@@ -36,12 +37,15 @@ AreOrderly filters = All IsOrderly filters
 abbrev pub can_go_on : List Filter → Moment → ℕ → Bool
 can_go_on filters m a = is_some (next filters m (Local a)) || is_some (next filters m (Board a true))
 
--- No deadlock: at each moment at which a callback hasn't ended, some callback that hasn't ended can make a step. (Locks alone make one
--- wait, and a filter's locks are its own.)
-abbrev pub NoDeadlock : Type 0
-NoDeadlock = (filters : List Filter) (transitions : List Transition) (m : Moment) (a : ℕ) → AreOrderly filters →
-    run filters transitions ≡ Some m → (activation_at m.world a).ended ≡ false →
+-- where a callback hasn't ended, some callback that hasn't ended can make a step
+abbrev pub IsMoving : List Filter → Moment → Type 0
+IsMoving filters m = (a : ℕ) → (activation_at m.world a).ended ≡ false →
     (b : ℕ) × ((activation_at m.world b).ended ≡ false) × (can_go_on filters m b ≡ true)
+
+-- No deadlock: it is so at each moment. (Locks alone make a callback wait, and a filter's locks are its own.)
+abbrev pub NoDeadlock : Type 0
+NoDeadlock = (filters : List Filter) (transitions : List Transition) (m : Moment) → AreOrderly filters →
+    run filters transitions ≡ Some m → IsMoving filters m
 
 -- ---- coming to an end
 
@@ -118,3 +122,23 @@ pub record CanComplete (filters : List Filter) (m : Moment) : Type 0 where
 abbrev pub OperationsCanComplete : Type 0
 OperationsCanComplete = (filters : List Filter) (transitions : List Transition) (m : Moment) → AreOrderly filters →
     HasDistinctAltitudes filters → run filters transitions ≡ Some m → CanComplete filters m
+
+-- ---- rest
+
+-- such transitions lead from the moment to one of rest: each filter is detached and nothing of it is left, no callback runs, and every
+-- operation is done
+pub record CanRest (filters : List Filter) (m : Moment) : Type 0 where
+  pub steps : List Transition
+  pub winding_up : list_all is_winding_up steps ≡ true
+  pub last : Moment
+  pub leads : run_from filters m steps ≡ Some last
+  pub detached : (f : ℕ) → presence_at last.world.store f ≡ Detached
+  pub gone : (f : ℕ) → IsGone last.world f
+  pub ended : (a : ℕ) → (activation_at last.world a).ended ≡ true
+  pub done : (o : ℕ) → is_done last.world.store o ≡ true
+
+-- All can come to rest: from each moment one can be reached at which nothing goes on and nothing is left of any filter. (By unloading all
+-- filters, as above.)
+abbrev pub AllCanRest : Type 0
+AllCanRest = (filters : List Filter) (transitions : List Transition) (m : Moment) → AreOrderly filters →
+    HasDistinctAltitudes filters → run filters transitions ≡ Some m → CanRest filters m

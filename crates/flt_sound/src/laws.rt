@@ -1,6 +1,6 @@
 //! The laws of accepted filters.
 
-ghost use Rattle.std.specs.Prelude.{◌≡◌, ℕ, List, [], ◌∷◌, None};
+ghost use Rattle.std.specs.Prelude.{◌≡◌, ◌↔◌, ℕ, List, [], ◌∷◌, None};
 ghost use Rattle.flt_model.specs.Expansion.{verdict};
 ghost use Rattle.flt_model.specs.Program.{by_altitude};
 ghost use Rattle.flt_model.specs.Runs.{breaks};
@@ -9,7 +9,7 @@ ghost use Rattle.flt_model.specs.declared.moves.JournalEntry.{JournalEntry};
 ghost use Rattle.flt_model.specs.declared.verdict.Verdict.TheVariants.{Breaks};
 ghost use Rattle.flt_model.specs.declared.verdict.Violation.{Violation};
 ghost use Rattle.flt_sound.specs.Soundness.{IsAccepted, AreAccepted, AcceptedRunsBreakNothing};
-ghost use Rattle.flt_sound.specs.Progress.{CallbacksCanEnd, FiltersCanUnload, IsOrderly, NoDeadlock, OperationsCanComplete};
+ghost use Rattle.flt_sound.specs.Progress.{AllCanRest, AreOrderly, CallbacksCanEnd, FiltersCanUnload, IsOrderly, NoDeadlock, OperationsCanComplete};
 ghost use Rattle.flt_sound.specs.Rest.{UnloadingLeaksNothing};
 ghost use Rattle.flt_sound.specs.Worked.{worked};
 ghost use Rattle.flt_tree.specs.declared.filter.Filter.{Filter};
@@ -52,12 +52,15 @@ pub fn unloading_leaks_nothing()
 
 /// Accepted filters that take their locks in an order come to rest. At each moment of a run of theirs: as long as a callback runs, one that
 /// runs can make a step, so nothing deadlocks; all that run can be brought to their ends by their own steps; each filter can be unloaded;
-/// and where no two have one altitude, each operation can be completed. It does nothing: its clauses are the law.
+/// and where no two have one altitude, each operation can be completed, and all can come to rest at one moment, with nothing left. Filters
+/// are so exactly where they are in the order of their altitudes, in which the machine takes them. It does nothing: its clauses are the law.
 pub fn orderly_filters_come_to_rest()
     ensures moving { NoDeadlock }
     ensures ending { CallbacksCanEnd }
     ensures unloading { FiltersCanUnload }
     ensures completing { OperationsCanComplete }
+    ensures resting { AllCanRest }
+    ensures ordered { (filters : List Filter) → AreOrderly filters ↔ AreOrderly (by_altitude filters) }
 {
     lists_have_points();
     callbacks_have_graphs();

@@ -1,5 +1,5 @@
--- All operations can be brought to their ends. All filters are unloaded, one after the other; then no filter keeps an operation and none is
--- owed a post callback, and each operation passes all filters and is carried out.
+-- All can come to rest, and so all operations to their ends. All filters are unloaded, one after the other; then nothing of them is left: no
+-- filter keeps an operation and none is owed a post callback, and each operation passes all filters and is carried out.
 -- Here p is the program, m, n are moments, f, g are filters, o, q are operations, Q says something of a moment.
 use Rattle.std.proofs.Common.{◌≡◌, ◌≢◌, ℕ, zero, suc, ◌+◌, ◌<◌, ◌≤◌, Bool, true, false, List, [], ◌∷◌, ◌++◌, length, Some, None, ap, sym, refl, ◌∙◌, arith, inl, inr, sum_by}
 use Rattle.std.specs.Prelude.{not, ◌&&◌, ◌==◌, if◌then◌else◌, nat_lt, option_and_then}
@@ -17,8 +17,8 @@ use Rattle.flt_model.specs.Moves.{calls_pre, skip_at, lower_at, carried_out, is_
 use Rattle.flt_model.specs.Program.{HasDistinctAltitudes, filter_at, filter_of, no_filter, callbacks_at, has_pre}
 use Rattle.flt_model.specs.Runs.{Moment, run_from, after, next}
 use Rattle.flt_model.specs.Steps.{Transition, Make, Local, Board}
-use Rattle.flt_model.specs.World.{Store, Frame, Route, Visit, Position, Detached, Down, Up, Visiting, no_route, arrival_at, presence_at, route_at, visit_at, is_attached, is_settled, with_route}
-use Rattle.flt_sound.specs.Progress.{is_unloading, is_winding_up, AreOrderly, CanComplete, OperationsCanComplete}
+use Rattle.flt_model.specs.World.{Store, Frame, Route, Visit, Position, Detached, Down, Up, Visiting, no_route, actor_at, arrival_at, presence_at, route_at, visit_at, is_attached, is_settled, with_route}
+use Rattle.flt_sound.specs.Progress.{is_unloading, is_winding_up, AllCanRest, AreOrderly, CanRest, OperationsCanComplete}
 use Rattle.flt_sound.proofs.sums.Counts.{one_if-same}
 use Rattle.flt_sound.proofs.points.Placed.{Laws}
 use Rattle.flt_sound.proofs.rest.Parts.{frame_is, frames_in, IsEmpty}
@@ -315,9 +315,9 @@ module _ (spending : Spending) (laws : Laws) (p : List Filter) (ok : AreOrderly 
 
   -- ---- to the end
 
-  -- at rest all operations can be brought to their ends
-  pub can_complete : (m : Moment) → Rests p m → CanComplete p m
-  can_complete m r =
+  -- at rest all can be brought to their ends, with nothing left
+  pub can_rest : (m : Moment) → Rests p m → CanRest p m
+  can_rest m r =
       let first = unload_all (length p) (omega arith) m r in
       let calm = calm_of first.last first.holds in
       let n = length first.last.world.store.routes in
@@ -327,6 +327,10 @@ module _ (spending : Spending) (laws : Laws) (p : List Filter) (ok : AreOrderly 
         winding_up = list_all-append is_winding_up first.steps second.steps ∙ and_from _ _ first.winding_up second.winding_up;
         last = second.last;
         leads = runs_on p m first.last second.last first.steps second.steps first.leads second.leads;
+        detached = second.holds.calm.detached;
+        gone = λ f. gone p second.last second.holds.calm.rests.kept f (empty second.last second.holds.calm f)
+            second.holds.calm.rests.held;
+        ended = λ a. (empty second.last second.holds.calm (actor_at second.last.world a).filter).active a refl;
         done = λ o. up_done second.last second.holds.calm o (elim (cases_lt o n) [
           | inl below ↦ second.holds.up o below
           | inr past ↦ ap (λ (x : Route). is_up x.position)
@@ -334,7 +338,13 @@ module _ (spending : Spending) (laws : Laws) (p : List Filter) (ok : AreOrderly 
         ]);
       }
 
--- operations can complete
+-- all can rest
+pub all_can_rest : Laws → Spending → AllCanRest
+all_can_rest laws spending p xs m ok distinct e =
+    can_rest spending laws p ok distinct m (rests_after laws p (accepted_of p ok) xs m e)
+
+-- so operations can complete
 pub operations_can_complete : Laws → Spending → OperationsCanComplete
 operations_can_complete laws spending p xs m ok distinct e =
-    can_complete spending laws p ok distinct m (rests_after laws p (accepted_of p ok) xs m e)
+    let r = all_can_rest laws spending p xs m ok distinct e in
+    record { steps = r.steps; winding_up = r.winding_up; last = r.last; leads = r.leads; done = r.done }

@@ -344,5 +344,5 @@ accepted_of p ok i d there = (ok i d there).accepted
 
 -- no deadlock
 pub no_deadlock : Laws → NoDeadlock
-no_deadlock laws p xs m a ok e on =
+no_deadlock laws p xs m ok e a on =
     let b = one_goes p m (rests_after laws p (accepted_of p ok) xs m e) ok a on in (b.by, b.runs, b.granted)

@@ -1,8 +1,10 @@
--- Filters stay accepted when they are put in the order of their altitudes, as the machine takes them; so no journal of theirs breaks
--- anything.
-use Rattle.std.proofs.Common.{◌≡◌, ℕ, suc, Bool, true, false, List, [], ◌∷◌, Option, Some, None, arith}
-use Rattle.std.proofs.lemmas.List.Elements.{All-cons}
-use Rattle.std.specs.Prelude.{nat_lt, if◌then◌else◌, option_map}
+-- Filters stay accepted when they are put in the order of their altitudes, as the machine takes them, and so with all that holds of each; so
+-- no journal of accepted ones breaks anything.
+use Rattle.std.proofs.Common.{◌≡◌, ℕ, Bool, true, false, List, [], ◌∷◌, Option, Some, None}
+use Rattle.std.proofs.lemmas.Bool.{cond_both}
+use Rattle.std.proofs.lemmas.List.Elements.{All-cons, All-head, All-nil, All-tail}
+use Rattle.std.specs.List.{All}
+use Rattle.std.specs.Prelude.{◌↔◌, nat_lt, if◌then◌else◌, option_map}
 use Rattle.flt_tree.specs.declared.filter.Filter.{Filter}
 use Rattle.flt_model.specs.Expansion.{IsBrokenAt}
 use Rattle.flt_model.specs.Program.{by_altitude, put_by_altitude}
@@ -11,26 +13,41 @@ use Rattle.flt_model.specs.declared.moves.JournalEntry.{JournalEntry}
 use Rattle.flt_model.specs.declared.verdict.Violation.{Violation}
 use Rattle.flt_sound.specs.Soundness.{IsAccepted, AreAccepted, AcceptedRunsBreakNothing}
 
-accepted_rest : (f : Filter) (fs : List Filter) → AreAccepted (f ∷ fs) → AreAccepted fs
-accepted_rest f fs all k d below = all (suc k) d (omega arith)
+module _ (P : Filter → Type 0) where
+  -- what holds of each filter holds of each where one is put among them, and the other way round
+  all_put : (f : Filter) (fs : List Filter) → P f → All P fs → All P (put_by_altitude f fs)
+  all_put f [] one all = All-cons P f [] one all
+  all_put f (g ∷ rest) one all =
+      cond_both (nat_lt g.altitude f.altitude) (f ∷ g ∷ rest) (g ∷ put_by_altitude f rest) (All P)
+      (λ e. All-cons P f (g ∷ rest) one all)
+      (λ e. All-cons P g (put_by_altitude f rest) (All-head P g rest all) (all_put f rest one (All-tail P g rest all)))
 
-accepted_first : (f : Filter) (fs : List Filter) → AreAccepted (f ∷ fs) → IsAccepted f
-accepted_first f fs all = all 0 f (omega arith)
+  put_all : (f : Filter) (fs : List Filter) → All P (put_by_altitude f fs) → P f × All P fs
+  put_all f [] all = (All-head P f [] all, All-nil P)
+  put_all f (g ∷ rest) all = by (nat_lt g.altitude f.altitude) all (put_all f rest)
+    where
+      by : (b : Bool) → All P (if b then f ∷ g ∷ rest else g ∷ put_by_altitude f rest) →
+          (All P (put_by_altitude f rest) → P f × All P rest) → P f × All P (g ∷ rest)
+      by true all later = (All-head P f (g ∷ rest) all, All-tail P f (g ∷ rest) all)
+      by false all later =
+          let k = later (All-tail P g (put_by_altitude f rest) all) in
+          (k.0, All-cons P g rest (All-head P g (put_by_altitude f rest) all) k.1)
 
-accepted_put : (f : Filter) (fs : List Filter) → IsAccepted f → AreAccepted fs → AreAccepted (put_by_altitude f fs)
-accepted_put f [] one all = All-cons IsAccepted f [] one all
-accepted_put f (g ∷ rest) one all =
-    by (nat_lt g.altitude f.altitude) (accepted_put f rest one (accepted_rest g rest all))
-  where
-    by : (b : Bool) → AreAccepted (put_by_altitude f rest) → AreAccepted (if b then f ∷ g ∷ rest else g ∷ put_by_altitude f rest)
-    by true later = All-cons IsAccepted f (g ∷ rest) one all
-    by false later = All-cons IsAccepted g (put_by_altitude f rest) (accepted_first g rest all) later
+  there : (fs : List Filter) → All P fs → All P (by_altitude fs)
+  there [] all = all
+  there (f ∷ fs) all = all_put f (by_altitude fs) (All-head P f fs all) (there fs (All-tail P f fs all))
+
+  back : (fs : List Filter) → All P (by_altitude fs) → All P fs
+  back [] all = all
+  back (f ∷ fs) all = let k = put_all f (by_altitude fs) all in All-cons P f fs k.0 (back fs k.1)
+
+  -- what holds of each filter holds of each in the order of their altitudes, and the other way round
+  pub all_by_altitude : (fs : List Filter) → All P fs ↔ All P (by_altitude fs)
+  all_by_altitude fs = (there fs, back fs)
 
 -- accepted filters are accepted in the order of their altitudes
 pub accepted_by_altitude : (fs : List Filter) → AreAccepted fs → AreAccepted (by_altitude fs)
-accepted_by_altitude [] all = all
-accepted_by_altitude (f ∷ fs) all =
-    accepted_put f (by_altitude fs) (accepted_first f fs all) (accepted_by_altitude fs (accepted_rest f fs all))
+accepted_by_altitude fs = (all_by_altitude IsAccepted fs).0
 
 none_broken : (b : Option Break) (v : Violation) → b ≡ None → option_map (λ (b : Break). b.violation) b ≡ Some v → ⊥
 none_broken None v e h = cc

@@ -1,9 +1,11 @@
 use Rattle.flt_sound.proofs.laws.orderly_filters_come_to_rest.Goals as goal
 use Rattle.flt_sound.proofs.points.Placed.{Laws}
 use Rattle.flt_sound.proofs.progress.Finishing.{Spending, callbacks_can_end}
-use Rattle.flt_sound.proofs.progress.Reaching.{operations_can_complete}
+use Rattle.flt_sound.proofs.progress.Reaching.{all_can_rest, operations_can_complete}
 use Rattle.flt_sound.proofs.progress.Unloading.{filters_can_unload}
 use Rattle.flt_sound.proofs.progress.Waiting.{no_deadlock}
+use Rattle.flt_sound.proofs.run.Journals.{all_by_altitude}
+use Rattle.flt_sound.specs.Progress.{IsOrderly}
 
 pub returns : goal.returns
 returns c =
@@ -25,4 +27,6 @@ returns c =
       ending = callbacks_can_end laws spending;
       unloading = filters_can_unload laws spending;
       completing = operations_can_complete laws spending;
+      resting = all_can_rest laws spending;
+      ordered = all_by_altitude IsOrderly;
     }
