@@ -35,18 +35,26 @@ ended (b ∷ text) rest h = go (b == 10) refl (ended text rest)
     go false e others = rw (e, others parts.1) refl
 
 -- a line with LF at its end and nowhere else
-Ended : Text → Type 0
+pub Ended : Text → Type 0
 Ended text = (front : Text) × (plain front ≡ true) × (text ≡ front ++ 10 ∷ [])
 
-data AllEnded : List Text → Type 0 where
+-- so is what ends with one and has no other
+pub ended_front : (front : Text) → plain front ≡ true → Ended (front ++ 10 ∷ [])
+unfolding Ended
+ended_front front h = (front, h, refl)
+
+-- so each of some lines
+pub data AllEnded : List Text → Type 0 where
   no_lines : AllEnded []
   begins_with : {text : Text} {lines : List Text} → Ended text → AllEnded lines → AllEnded (text ∷ lines)
 
-both_ended : (xs ys : List Text) → AllEnded xs → AllEnded ys → AllEnded (xs ++ ys)
+-- some lines, and others
+pub both_ended : (xs ys : List Text) → AllEnded xs → AllEnded ys → AllEnded (xs ++ ys)
 both_ended [] ys no_lines h = h
 both_ended (text ∷ xs) ys (begins_with e others) h = begins_with e (both_ended xs ys others h)
 
-lines_joined : (lines : List Text) → AllEnded lines → lines_of (joined lines) ≡ lines
+-- such lines, joined, are the lines of the text
+pub lines_joined : (lines : List Text) → AllEnded lines → lines_of (joined lines) ≡ lines
 unfolding Ended
 lines_joined [] no_lines = refl
 lines_joined (text ∷ lines) (begins_with e others) =
@@ -102,7 +110,8 @@ plain_point : (point : Point) → plain (point_text point) ≡ true
 plain_point None = refl
 plain_point (Some s) = plain_state s
 
-point_ended : (p : ℕ) (point : Point) → Ended (point_line p point)
+-- the line of a point is such a line
+pub point_ended : (p : ℕ) (point : Point) → Ended (point_line p point)
 unfolding Ended
 point_ended p point = (
   decimal p ++ 32 ∷ point_text point,
@@ -110,7 +119,8 @@ point_ended p point = (
   sym (append_assoc (decimal p) (32 ∷ point_text point) (10 ∷ [])),
 )
 
-callback_ended : (k n : ℕ) → Ended (callback_line k n)
+-- so is the first line of a callback
+pub callback_ended : (k n : ℕ) → Ended (callback_line k n)
 unfolding Ended
 callback_ended k n = (
   codes "callback " ++ (decimal k ++ 32 ∷ decimal n),
@@ -138,7 +148,8 @@ lines_spelled cs =
 
 -- ---- reading them
 
-point_read : (p : ℕ) (x : Point) (n : ℕ) (lines : List Text) → is_point x ≡ true →
+-- the line of a point is read
+pub point_read : (p : ℕ) (x : Point) (n : ℕ) (lines : List Text) → is_point x ≡ true →
     point p (record { number = n; lines = point_line p x ∷ lines }) ≡ Ok (x, record { number = n + 1; lines = lines })
 unfolding point line
 point_read p x n lines h = rw (point_again p x h) refl

@@ -9,22 +9,25 @@ use Rattle.flt_cert.specs.declared.fault.CertFault.TheVariants.{Line, OutOfMemor
 use Rattle.flt_cert.proofs.Sound.{fault_begun, read_lines, joined_lines}
 use Rattle.flt_cert.proofs.Complete.{lines_read, lines_spelled}
 
-abbrev place : ℕ → List Text → Place
+-- a place by its number and its lines
+abbrev pub place : ℕ → List Text → Place
 place n lines = record { number = n; lines = lines }
 
 -- ---- past a line
 
 -- no fault up to a line
-abbrev Late : {A : Type 0} → ℕ → Outcome A → Type 0
+abbrev pub Late : {A : Type 0} → ℕ → Outcome A → Type 0
 Late m (Ok x) = m < x.1.number
 Late m (Err n) = m < n
 
-then_late : {A B : Type 0} (m : ℕ) (o : Outcome A) (f : A × Place → Outcome B) → Late m o →
+-- nor in what is read after it
+pub then_late : {A B : Type 0} (m : ℕ) (o : Outcome A) (f : A × Place → Outcome B) → Late m o →
     ((a : A) (i : Place) → m < i.number → Late m (f (a, i))) → Late m (and_then o f)
 then_late m (Ok x) f h g = g x.0 x.1 h
 then_late m (Err n) f h g = h
 
-line_late : (m : ℕ) (i : Place) → m ≤ i.number → Late m (line i)
+-- nor in a line after it
+pub line_late : (m : ℕ) (i : Place) → m ≤ i.number → Late m (line i)
 unfolding line
 line_late m i h = go i.lines
   where
@@ -32,11 +35,13 @@ line_late m i h = go i.lines
     go [] = omega arith
     go (text ∷ lines) = omega arith
 
-asked_late : {A : Type 0} (m : ℕ) (what : Option A) (i : Place) → m < i.number → Late m (asked what i)
+-- nor in what such a line says
+pub asked_late : {A : Type 0} (m : ℕ) (what : Option A) (i : Place) → m < i.number → Late m (asked what i)
 asked_late m None i h = h
 asked_late m (Some x) i h = h
 
-point_late : (m p : ℕ) (i : Place) → m < i.number → Late m (point p i)
+-- nor in the line of a point
+pub point_late : (m p : ℕ) (i : Place) → m < i.number → Late m (point p i)
 unfolding point
 point_late m p i h = then_late m (line i) (λ q. asked (point_of p q.0) q.1) (line_late m i (omega arith))
     (λ text j k. asked_late m (point_of p text) j k)
@@ -82,22 +87,25 @@ callbacks_late m (suc left) found i h =
 -- ---- two texts that are the same up to a line
 
 -- the same outcome, or none up to the line
-data Same {A : Type 0} (m : ℕ) : Outcome A → Outcome A → Type 0 where
+pub data Same {A : Type 0} (m : ℕ) : Outcome A → Outcome A → Type 0 where
   both : (a : A) (n k : ℕ) (xs ys : List Text) → n + k ≡ m → take k xs ≡ take k ys → Same m (Ok (a, place n xs)) (Ok (a, place n ys))
   fault : (n : ℕ) → Same m (Err n) (Err n)
   late : {r s : Outcome A} → Late m r → Same m r s
 
-Alike : {A : Type 0} → ℕ → (Place → Outcome A) → Type 0
+-- from texts that are the same up to the line it makes the same
+unfoldable pub Alike : {A : Type 0} → ℕ → (Place → Outcome A) → Type 0
 Alike m f = (n k : ℕ) (xs ys : List Text) → n + k ≡ m → take k xs ≡ take k ys → Same m (f (place n xs)) (f (place n ys))
 
-then_same : {A B : Type 0} (m : ℕ) (r s : Outcome A) (f : A × Place → Outcome B) → Same m r s → ((a : A) → Alike m (λ i. f (a, i))) →
+-- one reader after another makes the same
+pub then_same : {A B : Type 0} (m : ℕ) (r s : Outcome A) (f : A × Place → Outcome B) → Same m r s → ((a : A) → Alike m (λ i. f (a, i))) →
     ((a : A) (i : Place) → m < i.number → Late m (f (a, i))) → Same m (and_then r f) (and_then s f)
 unfolding Alike
 then_same m _ _ f (both a n k xs ys e h) g l = g a n k xs ys e h
 then_same m _ _ f (fault n) g l = fault n
 then_same m r s f (late h) g l = late (then_late m r f h l)
 
-line_same : (m : ℕ) → Alike m line
+-- so does a line
+pub line_same : (m : ℕ) → Alike m line
 unfolding Alike line
 line_same m n zero xs ys e h = late (line_late m (place n xs) (omega arith))
 line_same m n (suc k) [] [] e h = fault (n + 1)
@@ -109,12 +117,14 @@ line_same m n (suc k) (x ∷ xs) (y ∷ ys) e h =
     let P : Text → Type 0 = λ z. Same m (Ok (x, place (n + 1) xs)) (Ok (z, place (n + 1) ys)) in
     subst P (sym head) (both x (n + 1) k xs ys (omega arith) tail)
 
-asked_same : {A : Type 0} (m : ℕ) (what : Option A) → Alike m (asked what)
+-- so does what it says
+pub asked_same : {A : Type 0} (m : ℕ) (what : Option A) → Alike m (asked what)
 unfolding Alike
 asked_same m None n k xs ys e h = fault n
 asked_same m (Some x) n k xs ys e h = both x n k xs ys e h
 
-point_same : (m p : ℕ) → Alike m (point p)
+-- so does the line of a point
+pub point_same : (m p : ℕ) → Alike m (point p)
 unfolding Alike point
 point_same m p n k xs ys e h =
     then_same m (line (place n xs)) (line (place n ys)) (λ q. asked (point_of p q.0) q.1) (line_same m n k xs ys e h)
@@ -143,7 +153,8 @@ first_same m n k xs ys e h =
 
 -- ---- a fault up to the line is a fault of both
 
-Told : {A : Type 0} → ℕ → Outcome A → Outcome A → Type 0
+-- a fault of the first up to the line is one of the second
+unfoldable pub Told : {A : Type 0} → ℕ → Outcome A → Outcome A → Type 0
 Told m r s = (n : ℕ) → n ≤ m → r ≡ Err n → s ≡ Err n
 
 told_late : {A : Type 0} (m : ℕ) (r s : Outcome A) → Late m r → Told m r s
@@ -151,7 +162,8 @@ unfolding Told
 told_late m (Ok x) s h n l e = cc
 told_late m (Err k) s h n l e = let same : k ≡ n = cc in absurd (omega arith)
 
-then_told : {A B : Type 0} (m : ℕ) (r s : Outcome A) (f : A × Place → Outcome B) → Same m r s →
+-- one reader after another
+pub then_told : {A B : Type 0} (m : ℕ) (r s : Outcome A) (f : A × Place → Outcome B) → Same m r s →
     ((a : A) (n k : ℕ) (xs ys : List Text) → n + k ≡ m → take k xs ≡ take k ys → Told m (f (a, place n xs)) (f (a, place n ys))) →
     ((a : A) (i : Place) → m < i.number → Late m (f (a, i))) → Told m (and_then r f) (and_then s f)
 unfolding Told

@@ -20,8 +20,9 @@ pub data Gives {A : Type 0} (F : ℕ → Type 0) (R : A → Place → Type 0) : 
   gives : (a : A) (o : Place) → R a o → Gives F R (Ok (a, o))
   fails : (n : ℕ) → F n → Gives F R (Err n)
 
-then_gives : {A B : Type 0} {F : ℕ → Type 0} {P : A → Place → Type 0} {R : B → Place → Type 0} (o : Outcome A) (f : A × Place → Outcome B) →
-    Gives F P o → ((a : A) (i : Place) → P a i → Gives F R (f (a, i))) → Gives F R (and_then o f)
+-- what holds of one reader after another
+pub then_gives : {A B : Type 0} {F : ℕ → Type 0} {P : A → Place → Type 0} {R : B → Place → Type 0} (o : Outcome A)
+    (f : A × Place → Outcome B) → Gives F P o → ((a : A) (i : Place) → P a i → Gives F R (f (a, i))) → Gives F R (and_then o f)
 then_gives _ f (gives a i p) g = g a i p
 then_gives _ f (fails n p) g = fails n p
 
@@ -156,36 +157,50 @@ at_next {all} {front} {i} text lines here h =
       number = length-append front (text ∷ []) ∙ ap (λ n. n + 1) here.number;
     }
 
-line_gives : (all front : List Text) (i : Place) → At all front i → Begun all (suc i.number) →
-    Gives (Begun all) (λ text o. At all (front ++ text ∷ []) o × (o.number ≡ suc i.number)) (line i)
+-- the place after one line more, or a fault there
+pub next_line : (F : ℕ → Type 0) (all front : List Text) (i : Place) → At all front i → F (suc i.number) →
+    Gives F (λ text o. At all (front ++ text ∷ []) o × (o.number ≡ suc i.number)) (line i)
 unfolding line
-line_gives all front i here begun = go i.lines refl
+next_line F all front i here fault = go i.lines refl
   where
     go : (lines : List Text) → i.lines ≡ lines →
-        Gives (Begun all) (λ text o. At all (front ++ text ∷ []) o × (o.number ≡ suc i.number)) (line_at i.number lines)
-    go [] h = let P : ℕ → Type 0 = Begun all in let same : suc i.number ≡ i.number + 1 = omega arith in
-        fails (i.number + 1) (subst P same begun)
+        Gives F (λ text o. At all (front ++ text ∷ []) o × (o.number ≡ suc i.number)) (line_at i.number lines)
+    go [] h = let same : suc i.number ≡ i.number + 1 = omega arith in fails (i.number + 1) (subst F same fault)
     go (text ∷ lines) h = gives text (record { number = i.number + 1; lines = lines }) (at_next text lines here h, omega arith)
+
+-- what the latest line says, or a fault there
+pub said_by : {A : Type 0} (F : ℕ → Type 0) (what : Option A) (i : Place) (R : A → Place → Type 0) → F i.number →
+    ((x : A) → what ≡ Some x → R x i) → Gives F R (asked what i)
+said_by F None i R fault h = fails i.number fault
+said_by F (Some x) i R fault h = gives x i (h x refl)
+
+pub same_front : {all : List Text} {front other : List Text} {i : Place} → front ≡ other → At all front i → At all other i
+same_front {all} {front} {other} {i} h here = let P : List Text → Type 0 = λ z. At all z i in subst P h here
+
+-- the place after the line of a point, or a fault there
+pub next_point : (F : ℕ → Type 0) (all front : List Text) (p : ℕ) (i : Place) → At all front i → F (suc i.number) →
+    Gives F (λ x o. At all (front ++ point_line p x ∷ []) o × (is_point x ≡ true)) (point p i)
+unfolding point
+next_point F all front p i here fault =
+    then_gives (line i) (λ q. asked (point_of p q.0) q.1) (next_line F all front i here fault) (λ text o r.
+    said_by F (point_of p text) o (λ x o. At all (front ++ point_line p x ∷ []) o × (is_point x ≡ true))
+    (subst F (sym r.1) fault) (λ x h.
+    (let good = point_takes p text x h in (same_front (ap (λ z. front ++ z ∷ []) good.0) r.0, good.1))))
+
+line_gives : (all front : List Text) (i : Place) → At all front i → Begun all (suc i.number) →
+    Gives (Begun all) (λ text o. At all (front ++ text ∷ []) o × (o.number ≡ suc i.number)) (line i)
+line_gives all = next_line (Begun all) all
 
 asked_gives : {A : Type 0} (all front : List Text) (what : Option A) (i : Place) (R : A → Place → Type 0) → Begun all i.number →
     ((x : A) → what ≡ Some x → R x i) → Gives (Begun all) R (asked what i)
-asked_gives all front None i R begun h = fails i.number begun
-asked_gives all front (Some x) i R begun h = gives x i (h x refl)
+asked_gives all front = said_by (Begun all)
 
 number_begun : (all : List Text) (n m : ℕ) → n ≡ m → Begun all m → Begun all n
 number_begun all n m h begun = let P : ℕ → Type 0 = Begun all in subst P (sym h) begun
 
-same_front : {all : List Text} {front other : List Text} {i : Place} → front ≡ other → At all front i → At all other i
-same_front {all} {front} {other} {i} h here = let P : List Text → Type 0 = λ z. At all z i in subst P h here
-
 point_gives : (all front : List Text) (p : ℕ) (i : Place) → At all front i → Begun all (suc i.number) →
     Gives (Begun all) (λ x o. At all (front ++ point_line p x ∷ []) o × (is_point x ≡ true)) (point p i)
-unfolding point
-point_gives all front p i here begun =
-    then_gives (line i) (λ q. asked (point_of p q.0) q.1) (line_gives all front i here begun) (λ text o r.
-    asked_gives all front (point_of p text) o (λ x o. At all (front ++ point_line p x ∷ []) o × (is_point x ≡ true))
-    (number_begun all o.number (suc i.number) r.1 begun) (λ x h.
-    (let good = point_takes p text x h in (same_front (ap (λ z. front ++ z ∷ []) good.0) r.0, good.1))))
+point_gives all = next_point (Begun all) all
 
 points_gives : (all : List Text) (cs : Certificate) (n left : ℕ) (found : List Point) (i : Place) → Open cs n left found →
     At all (opened cs n found) i →

@@ -1,4 +1,8 @@
+pub mod Counts
 pub mod FixedWidth
 pub mod Format
 pub mod Reading
 pub mod Text
+pub mod Thin
+pub mod ThinFormat
+pub mod ThinReading

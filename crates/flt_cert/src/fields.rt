@@ -1,6 +1,6 @@
 //! What stands in one line.
 
-ghost use Rattle.std.specs.Prelude.{◌≡◌, ◌<◌, ◌≤◌, ◌&&◌, nat_lt, [], ◌∷◌, length, false, Some, None, IsTrue, IsFalse, IfSome};
+ghost use Rattle.std.specs.Prelude.{◌≡◌, ◌<◌, ◌≤◌, ◌+◌, ◌*◌, ◌&&◌, nat_lt, [], ◌∷◌, length, false, Some, None, IsTrue, IsFalse, IfSome};
 ghost use Rattle.std.specs.Option.{option_copied, option_map};
 ghost use Rattle.std.specs.Str.{bytes_eq};
 ghost use Rattle.flt_abs.specs.State.{state_of};
@@ -8,6 +8,7 @@ ghost use Rattle.flt_rules.specs.Held.{holds_lock};
 ghost use Rattle.flt_cert.specs.Format.{last_line};
 ghost use Rattle.flt_cert.specs.Reading as spec;
 ghost use Rattle.flt_cert.specs.Text as text_spec;
+ghost use Rattle.flt_cert.specs.ThinReading as thin_spec;
 
 use flt_abs::{Abs, CONTEXTS, Draining, LockList, Modes, OPERATIONS, Statuses};
 use flt_rules::{Access, LockNumber};
@@ -16,6 +17,8 @@ use std::alloc::Global;
 const LAST_LINE: &[u8] = b"end\n";
 
 const FIRST_LINE: &[u8] = b"fltcert 1\n";
+
+const FIRST_THIN_LINE: &[u8] = b"fltcert 2\n";
 
 const CALLBACK: &[u8] = b"callback ";
 
@@ -261,6 +264,51 @@ pub(crate) fn point_of(alloc: Global, number: usize, line: &[u8]) -> Option<Opti
     Some(Some(state_at(alloc, text)?))
 }
 
+/// A number with one more digit and what follows it, where a digit stands there.
+#[inline(always)]
+fn with_digit(number: usize, text: &[u8]) -> (usize, &[u8])
+    requires { number < 100 }
+    ensures value { (result.0, result.1.now) ≡ thin_spec.with_digit number text.now }
+    ensures few { result.0 ≤ 10 * number + 9 }
+{
+    match text {
+        [digit, after @ ..] if b'0' <= *digit && *digit <= b'9' => {
+            (10 * number + (*digit - b'0') as usize, after)
+        }
+        _ => (number, text),
+    }
+}
+
+/// The number of the first digits, three at most; 0 where there is none.
+#[inline(always)]
+fn number_at(text: &[u8]) -> usize
+    ensures value { result ≡ thin_spec.number_at text.now }
+    ensures few { result < 1000 }
+{
+    let (number, text) = with_digit(0, text);
+    let (number, text) = with_digit(number, text);
+    let (number, _text) = with_digit(number, text);
+    number
+}
+
+/// The point that a line gives, with its number: not below `least`, and below `count`.
+#[tactic(auto, unfolding(crate::specs::ThinReading::given_at))]
+pub(crate) fn given_at(
+    alloc: Global,
+    least: usize,
+    count: usize,
+    line: &[u8],
+) -> Option<(usize, Option<Abs>)>
+    ensures { result ≡ thin_spec.given_at least count line.now }
+{
+    let number = number_at(line);
+    if number < least || count <= number {
+        return None;
+    }
+    let point = point_of(alloc, number, line)?;
+    Some((number, point))
+}
+
 /// How many points a callback has, from its line.
 #[tactic(auto, unfolding(crate::specs::Reading::head_of))]
 pub(crate) fn head_of(number: usize, line: &[u8]) -> Option<usize>
@@ -311,6 +359,16 @@ pub(crate) fn is_first(line: &[u8]) -> Option<()>
     ensures { result ≡ spec.is_first line.now }
 {
     if line == FIRST_LINE { Some(()) } else { None }
+}
+
+pub(crate) fn is_first_thin(line: &[u8]) -> Option<()>
+    ensures { result ≡ thin_spec.is_first_thin line.now }
+{
+    if line == FIRST_THIN_LINE {
+        Some(())
+    } else {
+        None
+    }
 }
 
 pub(crate) fn is_end(line: &[u8]) -> bool

@@ -22,7 +22,11 @@ fn first(lines: &mut Lines) -> Result<(), CertFault>
 
 #[inline(never)]
 #[tactic(auto, unfolding(crate::specs::Reading::point))]
-fn point(alloc: Global, lines: &mut Lines, number: usize) -> Result<Option<Abs>, CertFault>
+pub(crate) fn point(
+    alloc: Global,
+    lines: &mut Lines,
+    number: usize,
+) -> Result<Option<Abs>, CertFault>
     requires { number < 1000 }
     ensures { spec.Reads (spec.point number lines.old) result lines.new }
 {

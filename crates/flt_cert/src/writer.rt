@@ -4,8 +4,10 @@ ghost use Rattle.std.specs.Prelude.{◌≡◌, ◌<◌, ◌≤◌, ◌+◌, [], 
 ghost use Rattle.std.specs.Vec.{vec_len, vec_capacity};
 ghost use Rattle.flt_cert.specs.Format as format;
 ghost use Rattle.flt_cert.specs.Text.{decimal};
+ghost use Rattle.flt_cert.specs.ThinFormat as thin_format;
 
 use crate::cert::Cert;
+use crate::thin_cert::{Slot, ThinCert};
 use flt_abs::{Abs, Statuses};
 use flt_rules::{Access, HeldLock};
 use std::alloc::{AllocError, Global};
@@ -168,6 +170,46 @@ pub fn write(alloc: Global, cert: &Cert) -> Result<Vec<u8>, AllocError>
     out.extend_from_slice(b"fltcert 1\n")?;
     for (at, points) in cert.callbacks().iter().enumerate() {
         push_callback(&mut out, at, points.as_slice())?;
+    }
+    out.extend_from_slice(b"end\n")?;
+    Ok(out)
+}
+
+/// Adds the line of a point, if it is given.
+fn push_slot(out: &mut Vec<u8>, number: usize, slot: &Slot) -> Result<(), AllocError>
+    requires { number < 1000 }
+    ensures { OnOk result (out.new.items ≡ out.old.items ++ format.joined (thin_format.slot_lines number (slot.now ∷ []))) }
+{
+    if let Some(point) = slot {
+        push_point(out, number, point)?;
+    }
+    Ok(())
+}
+
+fn push_slots(out: &mut Vec<u8>, number: usize, slots: &[Slot]) -> Result<(), AllocError>
+    requires small { number < 1000 }
+    requires few { length slots.now < 1000 }
+    ensures { OnOk result (out.new.items ≡ out.old.items ++ format.joined (thin_format.one_thin_callback number slots.now)) }
+{
+    out.extend_from_slice(b"callback ")?;
+    push_number(out, number)?;
+    out.push(b' ')?;
+    push_number(out, slots.len())?;
+    out.push(b'\n')?;
+    for (at, slot) in slots.iter().enumerate() {
+        push_slot(out, at, slot)?;
+    }
+    Ok(())
+}
+
+/// The one spelling of a thin certificate, in format 2.
+pub fn write_thin(alloc: Global, thin: &ThinCert) -> Result<Vec<u8>, AllocError>
+    ensures { IfOk result (λ text. text.items ≡ thin_format.thin_spelling thin.now) }
+{
+    let mut out = Vec::new(alloc);
+    out.extend_from_slice(b"fltcert 2\n")?;
+    for (at, slots) in thin.callbacks().iter().enumerate() {
+        push_slots(&mut out, at, slots.as_slice())?;
     }
     out.extend_from_slice(b"end\n")?;
     Ok(out)
