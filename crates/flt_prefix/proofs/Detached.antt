@@ -32,6 +32,7 @@ use Rattle.flt_syntax.specs.FirstWords.{begins_status}
 use Rattle.flt_syntax.specs.Cursor.{Input, front, kind}
 use Rattle.flt_syntax.specs.Over.{OptionalOver, StatusOver, OptionalStatusOver, FallibleOver, PlainOver, ExpressionOver, ActionOver, ConditionOver, ElseOver, StatementOver}
 
+-- spelled by the tokens that were taken, whatever stands behind them
 pub record Detached {A : Type 0} (R : Input → A → Input → Type 0) (i : Input) (x : A) (o : Input) : Type 0 where
   pub taken : Input
   pub parts : i ≡ taken ++ o
@@ -90,7 +91,8 @@ routine_free (calling.routine (words.name {t = t} e)) = record { taken = t ∷ [
 lock_free : {scope : Scope} {lk : LockKind} {i o : Input} {l : LockNumber} → LockAt scope lk i l o → Detached (LockAt scope lk) i l o
 lock_free (calling.lock p e) = made (name_free p) (λ j z q. calling.lock q e)
 
-optional_free : {kd : Kind} {i o : Input} {c : Option ContextVariable} (p : OptionalAt kd i c o) →
+-- [ "context" C ] or [ "old" C ], which stays over where the next token is the same
+pub optional_free : {kd : Kind} {i o : Input} {c : Option ContextVariable} (p : OptionalAt kd i c o) →
     Detached (λ j c z. (q : OptionalAt kd j c z) × (OptionalOver p → front z ≡ front o → OptionalOver q)) i c o
 optional_free {kd = kd} (words.without {i = i}) = left_out (λ z. (words.without, λ over same. other_kind kd i z over same))
 optional_free (words.behind n p) =
@@ -114,7 +116,8 @@ optional_status_free (calling.no_status {i = i}) =
 optional_status_free (calling.some_status p) =
     made (status_free p) (λ j z y. (calling.some_status y.0, y.1))
 
-fallible_free : {scope : Scope} {i o : Input} {c : FallibleCall} (p : FallibleAt scope i c o) →
+-- fallible, which stays over where the next token is the same
+pub fallible_free : {scope : Scope} {i o : Input} {c : FallibleCall} (p : FallibleAt scope i c o) →
     Detached (λ j c z. (q : FallibleAt scope j c z) × (FallibleOver p → front z ≡ front o → FallibleOver q)) i c o
 fallible_free (calling.allocate n p) =
     let dn = next_free n in shift dn.taken dn.parts (made (meant_free p) (λ j z y. (calling.allocate (dn.again j) y, λ over same. tt)))

@@ -1,8 +1,11 @@
+pub mod Ascending
 pub mod Detached
 pub mod DetachedFiles
 pub mod Exceptions
 pub mod Finishes
 pub mod FinishesFiles
+pub mod FirstShown
 pub mod Prefixes
+pub mod Spans
 pub mod Stuck
 pub mod StuckFiles

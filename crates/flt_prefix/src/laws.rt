@@ -1,6 +1,7 @@
-//! The two halves of the law of the viable prefix, and its exceptions.
+//! The two halves of the law of the viable prefix, with its exceptions, and the law of the first place.
 
 ghost use Rattle.flt_prefix.specs.Prefix.{NothingGoesOn, NothingGoesOnInTexts, CallbacksBegin, FileBegins, FileBeginsInTexts, NoLockCall, NoBlock};
+ghost use Rattle.flt_prefix.specs.Shown.{FirstInTheText};
 
 use flt_syntax::fails_exactly_where_nothing_is_spelled;
 
@@ -28,4 +29,11 @@ pub fn something_begins_before_e03()
 pub fn nothing_begins_at_the_exceptions()
     ensures lock { NoLockCall }
     ensures block { NoBlock }
+{}
+
+/// Of what only the whole text shows, the fault is the first in the text: it stands before all others. It does nothing: its clause is
+/// the law.
+#[tactic(auto, using(crate::proofs::FirstShown::first_in_the_text))]
+pub fn the_fault_is_the_first_in_the_text()
+    ensures { FirstInTheText }
 {}

@@ -1,8 +1,10 @@
-//! What a fault says of other texts: with the tokens up to the one at fault nothing is spelled; without it, something is.
+//! Laws of where a text fails. With the tokens up to the one at fault nothing is spelled; without it, something is. Of what only the
+//! whole text shows, the first in the text is reported.
 #![tactic(auto)]
 
 mod laws;
 
 pub use laws::{
     nothing_begins_at_the_exceptions, nothing_goes_on_from_the_token, something_begins_before_e03,
+    the_fault_is_the_first_in_the_text,
 };
