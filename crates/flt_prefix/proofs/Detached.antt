@@ -1,6 +1,6 @@
 -- What is spelled spells the same before any other tokens: words, calls, statements and blocks.
 use Rattle.std.proofs.Common.{◌≡◌, ◌≢◌, ℕ, List, [], ◌∷◌, ◌++◌, refl, sym, ap, subst, ◌∙◌, append_assoc}
-use Rattle.std.specs.Prelude.{Option}
+use Rattle.std.specs.Prelude.{Bool, true, false, Option, Some, None}
 use Rattle.flt_rules.specs.declared.call.LockKind.{LockKind}
 use Rattle.flt_rules.specs.declared.call.LockNumber.{LockNumber}
 use Rattle.flt_syntax.specs.declared.token.Kind.{Kind}
@@ -29,52 +29,105 @@ use Rattle.flt_syntax.specs.Words as words
 use Rattle.flt_syntax.specs.Words.{Next, Meant, NameAt, NumberAt, OptionalAt}
 use Rattle.flt_syntax.specs.Scope.{Scope}
 use Rattle.flt_syntax.specs.FirstWords.{begins_status}
-use Rattle.flt_syntax.specs.Cursor.{Input, front, kind}
+use Rattle.flt_syntax.specs.Cursor.{Input, front, kind, is_word}
 use Rattle.flt_syntax.specs.Over.{OptionalOver, StatusOver, OptionalStatusOver, FallibleOver, PlainOver, ExpressionOver, ActionOver, ConditionOver, ElseOver, StatementOver}
+
+-- the kinds of token that productions take: not the end, nor what is no token
+abbrev pub passable : Kind → Bool
+passable k.End = false
+passable k.Stray = false
+passable k.Malformed = false
+passable _ = true
+
+abbrev pub AllPassed : Input → Type 0
+AllPassed [] = Unit {0}
+AllPassed (t ∷ i) = (passable t.word.kind ≡ true) × AllPassed i
+
+-- what was taken in two parts
+pub passed_both : (i j : Input) → AllPassed i → AllPassed j → AllPassed (i ++ j)
+passed_both [] j h l = l
+passed_both (t ∷ i) j h l = (h.0, passed_both i j h.1 l)
 
 -- spelled by the tokens that were taken, whatever stands behind them
 pub record Detached {A : Type 0} (R : Input → A → Input → Type 0) (i : Input) (x : A) (o : Input) : Type 0 where
   pub taken : Input
   pub parts : i ≡ taken ++ o
+  pub passed : AllPassed taken
   pub again : (z : Input) → R (taken ++ z) x z
 
 -- what is spelled behind something
-pub shift : {A : Type 0} {R : Input → A → Input → Type 0} {i a o : Input} {x : A} (taken : Input) → i ≡ taken ++ a →
-    Detached (λ j x z. R (taken ++ j) x z) a x o → Detached R i x o
-shift {R = R} {x = x} taken e d = record {
-  taken = taken ++ d.taken;
-  parts = e ∙ (ap (λ z. taken ++ z) d.parts ∙ sym (append_assoc taken d.taken _));
-  again = λ z. subst (λ j. R j x z) (sym (append_assoc taken d.taken z)) (d.again z);
+pub shift : {A B : Type 0} {P : Input → B → Input → Type 0} {R : Input → A → Input → Type 0} {i a o : Input} {x : A} {y : B}
+    (p : Detached P i y a) → Detached (λ j x z. R (p.taken ++ j) x z) a x o → Detached R i x o
+shift {R = R} {x = x} p d = record {
+  taken = p.taken ++ d.taken;
+  parts = p.parts ∙ (ap (λ z. p.taken ++ z) d.parts ∙ sym (append_assoc p.taken d.taken _));
+  passed = passed_both p.taken d.taken p.passed d.passed;
+  again = λ z. subst (λ j. R j x z) (sym (append_assoc p.taken d.taken z)) (d.again z);
+}
+
+-- the same behind a token
+shift_token : {A : Type 0} {R : Input → A → Input → Type 0} {a o : Input} {x : A} {kd : Kind} (t : Token) → t.word.kind ≡ kd →
+    passable kd ≡ true → Detached (λ j x z. R (t ∷ j) x z) a x o → Detached R (t ∷ a) x o
+shift_token t e h d = record {
+  taken = t ∷ d.taken;
+  parts = ap (λ z. t ∷ z) d.parts;
+  passed = (ap passable e ∙ h, d.passed);
+  again = d.again;
 }
 
 -- what is made of it
 pub made : {A B : Type 0} {P : Input → A → Input → Type 0} {R : Input → B → Input → Type 0} {i o : Input} {x : A} {y : B} →
     Detached P i x o → ((j z : Input) → P j x z → R j y z) → Detached R i y o
-made d h = record { taken = d.taken; parts = d.parts; again = λ z. h _ z (d.again z) }
+made d h = record { taken = d.taken; parts = d.parts; passed = d.passed; again = λ z. h _ z (d.again z) }
 
 -- a part that is left out
 pub left_out : {A : Type 0} {R : Input → A → Input → Type 0} {i : Input} {x : A} → ((z : Input) → R z x z) → Detached R i x i
-left_out h = record { taken = []; parts = refl; again = h }
+left_out h = record { taken = []; parts = refl; passed = tt; again = h }
 
 -- a token of a kind
 abbrev NextAt : Kind → Input → Unit {0} → Input → Type 0
 NextAt kd i u o = Next kd i o
 
 -- a token of a kind
-pub next_free : {kd : Kind} {i o : Input} → Next kd i o → Detached (NextAt kd) i tt o
-next_free (words.next {t = t} e) = record { taken = t ∷ []; parts = refl; again = λ z. words.next e }
+pub next_free : {kd : Kind} {i o : Input} → passable kd ≡ true → Next kd i o → Detached (NextAt kd) i tt o
+next_free h (words.next {t = t} e) = record { taken = t ∷ []; parts = refl; passed = (ap passable e ∙ h, tt); again = λ z. words.next e }
+
+differ : false ≡ true → ⊥
+differ e = cc
+
+none_some : {A : Type 0} (a : A) → None ≡ Some a → ⊥
+none_some a e = cc
+
+-- a table has nothing for the other kinds
+abbrev pub Skips : {A : Type 0} → (Kind → Option A) → Type 0
+Skips table = (table k.End ≡ None) × (table k.Stray ≡ None) × (table k.Malformed ≡ None)
+
+by_table : {A : Type 0} (table : Kind → Option A) (x : A) (a : Kind) → Skips table → table a ≡ Some x → passable a ≡ true
+by_table table x k.End h e = elim (none_some x (sym h.0 ∙ e)) [ ]
+by_table table x k.Stray h e = elim (none_some x (sym h.1 ∙ e)) [ ]
+by_table table x k.Malformed h e = elim (none_some x (sym h.2 ∙ e)) [ ]
+by_table table x _ h e = refl
 
 -- a word of a table
-pub meant_free : {A : Type 0} {table : Kind → Option A} {i o : Input} {a : A} → Meant table i a o → Detached (Meant table) i a o
-meant_free (words.meant {t = t} e) = record { taken = t ∷ []; parts = refl; again = λ z. words.meant e }
+pub meant_free : {A : Type 0} {table : Kind → Option A} {i o : Input} {a : A} → Skips table → Meant table i a o →
+    Detached (Meant table) i a o
+meant_free {table = table} {a = a} h (words.meant {t = t} e) =
+    record { taken = t ∷ []; parts = refl; passed = (by_table table a t.word.kind h e, tt); again = λ z. words.meant e }
+
+word_passes : (a : Kind) → is_word a ≡ true → passable a ≡ true
+word_passes k.End e = elim (differ e) [ ]
+word_passes k.Stray e = elim (differ e) [ ]
+word_passes k.Malformed e = elim (differ e) [ ]
+word_passes _ e = refl
 
 -- NAME
 pub name_free : {text name : Text} {i o : Input} → NameAt text i name o → Detached (NameAt text) i name o
-name_free (words.name {t = t} e) = record { taken = t ∷ []; parts = refl; again = λ z. words.name e }
+name_free (words.name {t = t} e) =
+    record { taken = t ∷ []; parts = refl; passed = (word_passes t.word.kind e, tt); again = λ z. words.name e }
 
 -- NUMBER
 pub number_free : {i o : Input} {n : ℕ} → NumberAt i n o → Detached NumberAt i n o
-number_free (words.number {t = t} e) = record { taken = t ∷ []; parts = refl; again = λ z. words.number e }
+number_free (words.number {t = t} e) = record { taken = t ∷ []; parts = refl; passed = (ap passable e, tt); again = λ z. words.number e }
 
 -- where the next token is the same, it is over too
 abbrev Stays : Type 0 → Input → Type 0 → Input → Type 0
@@ -86,28 +139,35 @@ other_kind kd i z n same e = n (sym (ap (λ (t : Token). t.word.kind) same) ∙ 
 
 -- NAME of a routine
 pub routine_free : {text : Text} {i o : Input} {x : Routine} → RoutineAt text i x o → Detached (RoutineAt text) i x o
-routine_free (calling.routine (words.name {t = t} e)) = record { taken = t ∷ []; parts = refl; again = λ z. calling.routine (words.name e) }
+routine_free (calling.routine (words.name {t = t} e)) = record {
+  taken = t ∷ [];
+  parts = refl;
+  passed = (word_passes t.word.kind e, tt);
+  again = λ z. calling.routine (words.name e);
+}
 
 lock_free : {scope : Scope} {lk : LockKind} {i o : Input} {l : LockNumber} → LockAt scope lk i l o → Detached (LockAt scope lk) i l o
 lock_free (calling.lock p e) = made (name_free p) (λ j z q. calling.lock q e)
 
 -- [ "context" C ] or [ "old" C ], which stays over where the next token is the same
-pub optional_free : {kd : Kind} {i o : Input} {c : Option ContextVariable} (p : OptionalAt kd i c o) →
+pub optional_free : {kd : Kind} {i o : Input} {c : Option ContextVariable} → passable kd ≡ true → (p : OptionalAt kd i c o) →
     Detached (λ j c z. (q : OptionalAt kd j c z) × (OptionalOver p → front z ≡ front o → OptionalOver q)) i c o
-optional_free {kd = kd} (words.without {i = i}) = left_out (λ z. (words.without, λ over same. other_kind kd i z over same))
-optional_free (words.behind n p) =
-    let dn = next_free n in shift dn.taken dn.parts (made (meant_free p) (λ j z y. (words.behind (dn.again j) y, λ over same. tt)))
+optional_free {kd = kd} h (words.without {i = i}) = left_out (λ z. (words.without, λ over same. other_kind kd i z over same))
+optional_free h (words.behind n p) =
+    let dn = next_free h n in
+    shift dn (made (meant_free (refl, refl, refl) p) (λ j z y. (words.behind (dn.again j) y, λ over same. tt)))
 
 status_free : {i o : Input} {s : Status} (p : StatusAt i s o) →
     Detached (λ j s z. (q : StatusAt j s z) × (StatusOver p → front z ≡ front o → StatusOver q)) i s o
 status_free (calling.with_callback n p) =
-    let dn = next_free n in shift dn.taken dn.parts (made (optional_free p) (λ j z y. (calling.with_callback (dn.again j) y.0, y.1)))
+    let dn = next_free refl n in shift dn (made (optional_free refl p) (λ j z y. (calling.with_callback (dn.again j) y.0, y.1)))
 status_free (calling.synchronize n p) =
-    let dn = next_free n in shift dn.taken dn.parts (made (optional_free p) (λ j z y. (calling.synchronize (dn.again j) y.0, y.1)))
+    let dn = next_free refl n in shift dn (made (optional_free refl p) (λ j z y. (calling.synchronize (dn.again j) y.0, y.1)))
 status_free (calling.complete n p) =
-    let dn = next_free n in shift dn.taken dn.parts (made (meant_free p) (λ j z y. (calling.complete (dn.again j) y, λ over same. tt)))
+    let dn = next_free refl n in shift dn (made (meant_free (refl, refl, refl) p)
+    (λ j z y. (calling.complete (dn.again j) y, λ over same. tt)))
 status_free (calling.bare p) =
-    made (meant_free p) (λ j z y. (calling.bare y, λ over same. tt))
+    made (meant_free (refl, refl, refl) p) (λ j z y. (calling.bare y, λ over same. tt))
 
 optional_status_free : {i o : Input} {s : Option Status} (p : OptionalStatusAt i s o) →
     Detached (λ j s z. (q : OptionalStatusAt j s z) × (OptionalStatusOver p → front z ≡ front o → OptionalStatusOver q)) i s o
@@ -120,130 +180,135 @@ optional_status_free (calling.some_status p) =
 pub fallible_free : {scope : Scope} {i o : Input} {c : FallibleCall} (p : FallibleAt scope i c o) →
     Detached (λ j c z. (q : FallibleAt scope j c z) × (FallibleOver p → front z ≡ front o → FallibleOver q)) i c o
 fallible_free (calling.allocate n p) =
-    let dn = next_free n in shift dn.taken dn.parts (made (meant_free p) (λ j z y. (calling.allocate (dn.again j) y, λ over same. tt)))
+    let dn = next_free refl n in shift dn (made (meant_free (refl, refl, refl) p)
+    (λ j z y. (calling.allocate (dn.again j) y, λ over same. tt)))
 fallible_free (calling.get_stream n p) =
-    let dn = next_free n in shift dn.taken dn.parts (made (meant_free p) (λ j z y. (calling.get_stream (dn.again j) y, λ over same. tt)))
+    let dn = next_free refl n in shift dn (made (meant_free (refl, refl, refl) p)
+    (λ j z y. (calling.get_stream (dn.again j) y, λ over same. tt)))
 fallible_free (calling.get_instance n p) =
-    let dn = next_free n in shift dn.taken dn.parts (made (meant_free p) (λ j z y. (calling.get_instance (dn.again j) y, λ over same. tt)))
+    let dn = next_free refl n in shift dn (made (meant_free (refl, refl, refl) p)
+    (λ j z y. (calling.get_instance (dn.again j) y, λ over same. tt)))
 fallible_free (calling.set_stream n p q x h) =
-    let dn = next_free n in let dp = meant_free p in let dq = meant_free q in
-    shift dn.taken dn.parts (shift dp.taken dp.parts (shift dq.taken dq.parts (made (optional_free x)
+    let dn = next_free refl n in let dp = meant_free (refl, refl, refl) p in let dq = meant_free (refl, refl, refl) q in
+    shift dn (shift dp (shift dq (made (optional_free refl x)
     (λ j z y. (calling.set_stream (dn.again (dp.taken ++ (dq.taken ++ j))) (dp.again (dq.taken ++ j)) (dq.again j) y.0 h, y.1)))))
 fallible_free (calling.set_instance n p q x h) =
-    let dn = next_free n in let dp = meant_free p in let dq = meant_free q in
-    shift dn.taken dn.parts (shift dp.taken dp.parts (shift dq.taken dq.parts (made (optional_free x)
+    let dn = next_free refl n in let dp = meant_free (refl, refl, refl) p in let dq = meant_free (refl, refl, refl) q in
+    shift dn (shift dp (shift dq (made (optional_free refl x)
     (λ j z y. (calling.set_instance (dn.again (dp.taken ++ (dq.taken ++ j))) (dp.again (dq.taken ++ j)) (dq.again j) y.0 h, y.1)))))
 fallible_free (calling.delete_stream n p) =
-    let dn = next_free n in shift dn.taken dn.parts (made (optional_free p) (λ j z y. (calling.delete_stream (dn.again j) y.0, y.1)))
+    let dn = next_free refl n in shift dn (made (optional_free refl p) (λ j z y. (calling.delete_stream (dn.again j) y.0, y.1)))
 fallible_free (calling.delete_instance n p) =
-    let dn = next_free n in shift dn.taken dn.parts (made (optional_free p) (λ j z y. (calling.delete_instance (dn.again j) y.0, y.1)))
+    let dn = next_free refl n in shift dn (made (optional_free refl p) (λ j z y. (calling.delete_instance (dn.again j) y.0, y.1)))
 fallible_free (calling.insert_io q n m p) =
-    let dn = next_free n in let dm = next_free m in shift dn.taken dn.parts (shift dm.taken dm.parts (made (optional_free p)
+    let dn = next_free refl n in let dm = next_free refl m in shift dn (shift dm (made (optional_free refl p)
     (λ j z y. (calling.insert_io q (dn.again (dm.taken ++ j)) (dm.again j) y.0, y.1))))
 fallible_free (calling.remove_next_io q n p m x) =
-    let dn = next_free n in let dp = meant_free p in let dm = next_free m in
-    shift dn.taken dn.parts (shift dp.taken dp.parts (shift dm.taken dm.parts (made (meant_free x)
+    let dn = next_free refl n in let dp = meant_free (refl, refl, refl) p in let dm = next_free refl m in
+    shift dn (shift dp (shift dm (made (meant_free (refl, refl, refl) x)
     (λ j z y. (
       calling.remove_next_io q (dn.again (dp.taken ++ (dm.taken ++ j))) (dp.again (dm.taken ++ j))
           (dm.again j) y,
       λ over same. tt,
     )))))
 fallible_free (calling.queue_deferred n m p q) =
-    let dn = next_free n in let dm = next_free m in let dp = routine_free p in
-    shift dn.taken dn.parts (shift dm.taken dm.parts (shift dp.taken dp.parts (made (optional_free q)
+    let dn = next_free refl n in let dm = next_free refl m in let dp = routine_free p in
+    shift dn (shift dm (shift dp (made (optional_free refl q)
     (λ j z y. (calling.queue_deferred (dn.again (dm.taken ++ (dp.taken ++ j))) (dm.again (dp.taken ++ j)) (dp.again j) y.0, y.1)))))
 fallible_free (calling.queue_generic n p q) =
-    let dn = next_free n in let dp = routine_free p in shift dn.taken dn.parts (shift dp.taken dp.parts (made (optional_free q)
+    let dn = next_free refl n in let dp = routine_free p in shift dn (shift dp (made (optional_free refl q)
     (λ j z y. (calling.queue_generic (dn.again (dp.taken ++ j)) (dp.again j) y.0, y.1))))
 
 plain_free : {scope : Scope} {i o : Input} {c : PlainCall} (p : PlainAt scope i c o) →
     Detached (λ j c z. (q : PlainAt scope j c z) × (PlainOver p → front z ≡ front o → PlainOver q)) i c o
 plain_free (calling.delete n p) =
-    let dn = next_free n in shift dn.taken dn.parts (made (meant_free p) (λ j z y. (calling.delete (dn.again j) y, λ over same. tt)))
+    let dn = next_free refl n in shift dn (made (meant_free (refl, refl, refl) p)
+    (λ j z y. (calling.delete (dn.again j) y, λ over same. tt)))
 plain_free (calling.reference n p m q h) =
-    let dn = next_free n in let dp = meant_free p in let dm = next_free m in
-    shift dn.taken dn.parts (shift dp.taken dp.parts (shift dm.taken dm.parts (made (meant_free q)
+    let dn = next_free refl n in let dp = meant_free (refl, refl, refl) p in let dm = next_free refl m in
+    shift dn (shift dp (shift dm (made (meant_free (refl, refl, refl) q)
     (λ j z y. (calling.reference (dn.again (dp.taken ++ (dm.taken ++ j))) (dp.again (dm.taken ++ j)) (dm.again j) y h, λ over same. tt)))))
 plain_free (calling.release n p) =
-    let dn = next_free n in shift dn.taken dn.parts (made (meant_free p) (λ j z y. (calling.release (dn.again j) y, λ over same. tt)))
+    let dn = next_free refl n in shift dn (made (meant_free (refl, refl, refl) p)
+    (λ j z y. (calling.release (dn.again j) y, λ over same. tt)))
 plain_free (calling.acquire_spin n p) =
-    let dn = next_free n in shift dn.taken dn.parts (made (lock_free p) (λ j z y. (calling.acquire_spin (dn.again j) y, λ over same. tt)))
+    let dn = next_free refl n in shift dn (made (lock_free p) (λ j z y. (calling.acquire_spin (dn.again j) y, λ over same. tt)))
 plain_free (calling.release_spin n p) =
-    let dn = next_free n in shift dn.taken dn.parts (made (lock_free p) (λ j z y. (calling.release_spin (dn.again j) y, λ over same. tt)))
+    let dn = next_free refl n in shift dn (made (lock_free p) (λ j z y. (calling.release_spin (dn.again j) y, λ over same. tt)))
 plain_free (calling.acquire_fast n p) =
-    let dn = next_free n in shift dn.taken dn.parts (made (lock_free p) (λ j z y. (calling.acquire_fast (dn.again j) y, λ over same. tt)))
+    let dn = next_free refl n in shift dn (made (lock_free p) (λ j z y. (calling.acquire_fast (dn.again j) y, λ over same. tt)))
 plain_free (calling.release_fast n p) =
-    let dn = next_free n in shift dn.taken dn.parts (made (lock_free p) (λ j z y. (calling.release_fast (dn.again j) y, λ over same. tt)))
+    let dn = next_free refl n in shift dn (made (lock_free p) (λ j z y. (calling.release_fast (dn.again j) y, λ over same. tt)))
 plain_free (calling.acquire_push n p) =
-    let dn = next_free n in shift dn.taken dn.parts (made (lock_free p) (λ j z y. (calling.acquire_push (dn.again j) y, λ over same. tt)))
+    let dn = next_free refl n in shift dn (made (lock_free p) (λ j z y. (calling.acquire_push (dn.again j) y, λ over same. tt)))
 plain_free (calling.acquire_push_shared n p) =
-    let dn = next_free n in shift dn.taken dn.parts (made (lock_free p)
+    let dn = next_free refl n in shift dn (made (lock_free p)
     (λ j z y. (calling.acquire_push_shared (dn.again j) y, λ over same. tt)))
 plain_free (calling.release_push n p) =
-    let dn = next_free n in shift dn.taken dn.parts (made (lock_free p) (λ j z y. (calling.release_push (dn.again j) y, λ over same. tt)))
+    let dn = next_free refl n in shift dn (made (lock_free p) (λ j z y. (calling.release_push (dn.again j) y, λ over same. tt)))
 plain_free (calling.complete_pre n p q) =
-    let dn = next_free n in let dp = meant_free p in shift dn.taken dn.parts (shift dp.taken dp.parts (made (status_free q)
+    let dn = next_free refl n in let dp = meant_free (refl, refl, refl) p in shift dn (shift dp (made (status_free q)
     (λ j z y. (calling.complete_pre (dn.again (dp.taken ++ j)) (dp.again j) y.0, y.1))))
 plain_free (calling.complete_post n m) =
-    let dn = next_free n in shift dn.taken dn.parts (made (next_free m) (λ j z y. (calling.complete_post (dn.again j) y, λ over same. tt)))
+    let dn = next_free refl n in shift dn (made (next_free refl m) (λ j z y. (calling.complete_post (dn.again j) y, λ over same. tt)))
 
 -- atom
 pub atom_free : {i o : Input} {x : Atom} → AtomAt i x o → Detached AtomAt i x o
 atom_free (acting.number p) = made (number_free p) (λ j z q. acting.number q)
-atom_free (acting.variable p) = made (meant_free p) (λ j z q. acting.variable q)
+atom_free (acting.variable p) = made (meant_free (refl, refl, refl) p) (λ j z q. acting.variable q)
 
 expression_free : {i o : Input} {x : Expression} (p : ExpressionAt i x o) →
     Detached (λ j x z. (q : ExpressionAt j x z) × (ExpressionOver p → front z ≡ front o → ExpressionOver q)) i x o
 expression_free (acting.one {o = o} p) =
     made (atom_free p) (λ j z q. (acting.one q, λ over same. (other_kind k.Plus o z over.0 same, other_kind k.Minus o z over.1 same)))
 expression_free (acting.sum p n q) =
-    let dp = atom_free p in let dn = next_free n in shift dp.taken dp.parts (shift dn.taken dn.parts (made (atom_free q)
+    let dp = atom_free p in let dn = next_free refl n in shift dp (shift dn (made (atom_free q)
     (λ j z y. (acting.sum (dp.again (dn.taken ++ j)) (dn.again j) y, λ over same. tt))))
 expression_free (acting.difference p n q) =
-    let dp = atom_free p in let dn = next_free n in shift dp.taken dp.parts (shift dn.taken dn.parts (made (atom_free q)
+    let dp = atom_free p in let dn = next_free refl n in shift dp (shift dn (made (atom_free q)
     (λ j z y. (acting.difference (dp.again (dn.taken ++ j)) (dn.again j) y, λ over same. tt))))
 
 action_free : {i o : Input} {a : Action} (p : ActionAt i a o) →
     Detached (λ j a z. (q : ActionAt j a z) × (ActionOver p → front z ≡ front o → ActionOver q)) i a o
 action_free (acting.set_number p m q) =
-    let dp = meant_free p in let dm = next_free m in shift dp.taken dp.parts (shift dm.taken dm.parts (made (expression_free q)
+    let dp = meant_free (refl, refl, refl) p in let dm = next_free refl m in shift dp (shift dm (made (expression_free q)
     (λ j z y. (acting.set_number (dp.again (dm.taken ++ j)) (dm.again j) y.0, y.1))))
 action_free (acting.read_value p m w q) =
-    let dp = meant_free p in let dm = next_free m in let dw = next_free w in
-    shift dp.taken dp.parts (shift dm.taken dm.parts (shift dw.taken dw.parts (made (meant_free q)
+    let dp = meant_free (refl, refl, refl) p in let dm = next_free refl m in let dw = next_free refl w in
+    shift dp (shift dm (shift dw (made (meant_free (refl, refl, refl) q)
     (λ j z y. (acting.read_value (dp.again (dm.taken ++ (dw.taken ++ j))) (dm.again (dw.taken ++ j)) (dw.again j) y, λ over same. tt)))))
 action_free (acting.read_file p m w q) =
-    let dp = meant_free p in let dm = next_free m in let dw = next_free w in
-    shift dp.taken dp.parts (shift dm.taken dm.parts (shift dw.taken dw.parts (made (meant_free q)
+    let dp = meant_free (refl, refl, refl) p in let dm = next_free refl m in let dw = next_free refl w in
+    shift dp (shift dm (shift dw (made (meant_free (refl, refl, refl) q)
     (λ j z y. (acting.read_file (dp.again (dm.taken ++ (dw.taken ++ j))) (dm.again (dw.taken ++ j)) (dw.again j) y, λ over same. tt)))))
 action_free (acting.write_value n p m q) =
-    let dn = next_free n in let dp = meant_free p in let dm = next_free m in
-    shift dn.taken dn.parts (shift dp.taken dp.parts (shift dm.taken dm.parts (made (atom_free q)
+    let dn = next_free refl n in let dp = meant_free (refl, refl, refl) p in let dm = next_free refl m in
+    shift dn (shift dp (shift dm (made (atom_free q)
     (λ j z y. (acting.write_value (dn.again (dp.taken ++ (dm.taken ++ j))) (dp.again (dm.taken ++ j)) (dm.again j) y, λ over same. tt)))))
 action_free (acting.clear_context p m n) =
-    let dp = meant_free p in let dm = next_free m in shift dp.taken dp.parts (shift dm.taken dm.parts (made (next_free n)
+    let dp = meant_free (refl, refl, refl) p in let dm = next_free refl m in shift dp (shift dm (made (next_free refl n)
     (λ j z y. (acting.clear_context (dp.again (dm.taken ++ j)) (dm.again j) y, λ over same. tt))))
 action_free (acting.clear_operation p m n) =
-    let dp = meant_free p in let dm = next_free m in shift dp.taken dp.parts (shift dm.taken dm.parts (made (next_free n)
+    let dp = meant_free (refl, refl, refl) p in let dm = next_free refl m in shift dp (shift dm (made (next_free refl n)
     (λ j z y. (acting.clear_operation (dp.again (dm.taken ++ j)) (dm.again j) y, λ over same. tt))))
 
 test_free : {i o : Input} {t : Test} → TestAt i t o → Detached TestAt i t o
 test_free (acting.context_is_some p m n) =
-    let dp = meant_free p in let dm = next_free m in shift dp.taken dp.parts (shift dm.taken dm.parts (made (next_free n)
+    let dp = meant_free (refl, refl, refl) p in let dm = next_free refl m in shift dp (shift dm (made (next_free refl n)
     (λ j z y. acting.context_is_some (dp.again (dm.taken ++ j)) (dm.again j) y)))
 test_free (acting.operation_is_some p m n) =
-    let dp = meant_free p in let dm = next_free m in shift dp.taken dp.parts (shift dm.taken dm.parts (made (next_free n)
+    let dp = meant_free (refl, refl, refl) p in let dm = next_free refl m in shift dp (shift dm (made (next_free refl n)
     (λ j z y. acting.operation_is_some (dp.again (dm.taken ++ j)) (dm.again j) y)))
 test_free (acting.equal p m q) =
-    let dp = meant_free p in let dm = next_free m in shift dp.taken dp.parts (shift dm.taken dm.parts (made (atom_free q)
+    let dp = meant_free (refl, refl, refl) p in let dm = next_free refl m in shift dp (shift dm (made (atom_free q)
     (λ j z y. acting.equal (dp.again (dm.taken ++ j)) (dm.again j) y)))
 test_free (acting.less p m q) =
-    let dp = meant_free p in let dm = next_free m in shift dp.taken dp.parts (shift dm.taken dm.parts (made (atom_free q)
+    let dp = meant_free (refl, refl, refl) p in let dm = next_free refl m in shift dp (shift dm (made (atom_free q)
     (λ j z y. acting.less (dp.again (dm.taken ++ j)) (dm.again j) y)))
 test_free (acting.is_irp n m) =
-    let dn = next_free n in shift dn.taken dn.parts (made (next_free m) (λ j z y. acting.is_irp (dn.again j) y))
+    let dn = next_free refl n in shift dn (made (next_free refl m) (λ j z y. acting.is_irp (dn.again j) y))
 test_free (acting.is_draining n) =
-    made (next_free n) (λ j z y. acting.is_draining y)
+    made (next_free refl n) (λ j z y. acting.is_draining y)
 
 -- cond, which stays over where the next token is the same
 pub condition_free : {scope : Scope} {i o : Input} {c : Condition} (p : ConditionAt scope i c o) →
@@ -298,6 +363,7 @@ lined : {A : Type 0} {P : Input → A → Input → Type 0} {R : Input → State
 lined {R = R} {i = i} {o = o} s some d h = record {
   taken = d.taken;
   parts = d.parts;
+  passed = d.passed;
   again = λ z.
       subst (λ (t : Token). R (d.taken ++ z) (s t.position.line) z)
       (same_token d.taken z i o d.parts (λ e. some (d.taken ++ []) [] (d.again []) (ap (λ t. t ++ []) e))) (h (d.taken ++ z) z (d.again z));
@@ -312,29 +378,29 @@ mutual
   statement_free (grammar.call {c = c} p) =
       lined (λ l. Call l c) (λ j z y. plain_some y.0) (plain_free p) (λ j z y. (grammar.call y.0, y.1))
   statement_free (grammar.return (words.next {t = t} e) p) =
-      shift (t ∷ []) refl (made (optional_status_free p) (λ j z y. (grammar.return (words.next e) y.0, y.1)))
+      shift_token t e refl (made (optional_status_free p) (λ j z y. (grammar.return (words.next e) y.0, y.1)))
   statement_free (grammar.choice (words.next {t = t} e) p q x) =
       let dp = condition_free p in let dq = block_free q in
-      shift (t ∷ []) refl (shift dp.taken dp.parts (shift dq.taken dq.parts (made (else_free x)
+      shift_token t e refl (shift dp (shift dq (made (else_free x)
       (λ j z y. (grammar.choice (words.next e) (dp.again (dq.taken ++ j)).0 (dq.again j) y.0, y.1)))))
   statement_free (grammar.repeat (words.next {t = t} e) p h q) =
       let dp = number_free p in
-      shift (t ∷ []) refl (shift dp.taken dp.parts (made (block_free q)
+      shift_token t e refl (shift dp (made (block_free q)
       (λ j z y. (grammar.repeat (words.next e) (dp.again j) h y, λ over same. tt))))
 
   else_free : {scope : Scope} {d r : ℕ} {i o : Input} {ss : List Statement} (p : ElseAt scope d r i ss o) →
       Detached (λ j ss z. (q : ElseAt scope d r j ss z) × (ElseOver p → front z ≡ front o → ElseOver q)) i ss o
   else_free (grammar.no_else {i = i}) = left_out (λ z. (grammar.no_else, λ over same. other_kind k.Else i z over same))
   else_free (grammar.some_else n p) =
-      let dn = next_free n in
-      shift dn.taken dn.parts (made (block_free p) (λ j z y. (grammar.some_else (dn.again j) y, λ over same. tt)))
+      let dn = next_free refl n in
+      shift dn (made (block_free p) (λ j z y. (grammar.some_else (dn.again j) y, λ over same. tt)))
 
   -- block
   pub block_free : {scope : Scope} {d r : ℕ} {i o : Input} {ss : List Statement} → BlockAt scope d r i ss o →
       Detached (BlockAt scope d r) i ss o
   block_free (grammar.block n p m) =
-      let dn = next_free n in let dp = statements_free p in
-      shift dn.taken dn.parts (shift dp.taken dp.parts (made (next_free m)
+      let dn = next_free refl n in let dp = statements_free p in
+      shift dn (shift dp (made (next_free refl m)
       (λ j z y. grammar.block (dn.again (dp.taken ++ j)) (dp.again j) y)))
 
   -- { stmt }
@@ -343,4 +409,4 @@ mutual
   statements_free grammar.empty = left_out (λ z. grammar.empty)
   statements_free (grammar.go_on p q) =
       let dp = statement_free p in
-      shift dp.taken dp.parts (made (statements_free q) (λ j z y. grammar.go_on (dp.again j).0 y))
+      shift dp (made (statements_free q) (λ j z y. grammar.go_on (dp.again j).0 y))

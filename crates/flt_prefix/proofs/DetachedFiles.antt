@@ -17,22 +17,22 @@ use Rattle.flt_syntax.specs.Words.{Next}
 use Rattle.flt_syntax.specs.Scope.{Scope}
 use Rattle.flt_syntax.specs.Cursor.{Input, front, position}
 use Rattle.flt_syntax.specs.Over.{QueueOver}
-use Rattle.flt_prefix.proofs.Detached.{Detached, shift, made, left_out, next_free, meant_free, name_free, statements_free, other_kind, next_some, same_token}
+use Rattle.flt_prefix.proofs.Detached.{passable, Detached, shift, made, left_out, next_free, meant_free, name_free, statements_free, other_kind, next_some, same_token}
 
 -- a head
 pub head_free : {text : Text} {i o : Input} {h : Head} → HeadAt text i h o → Detached (HeadAt text) i h o
 head_free (grammar.pre n p) =
-    let dn = next_free n in shift dn.taken dn.parts (made (meant_free p) (λ j z y. grammar.pre (dn.again j) y))
+    let dn = next_free refl n in shift dn (made (meant_free (refl, refl, refl) p) (λ j z y. grammar.pre (dn.again j) y))
 head_free (grammar.post n p) =
-    let dn = next_free n in shift dn.taken dn.parts (made (meant_free p) (λ j z y. grammar.post (dn.again j) y))
+    let dn = next_free refl n in shift dn (made (meant_free (refl, refl, refl) p) (λ j z y. grammar.post (dn.again j) y))
 head_free (grammar.canceled n) =
-    made (next_free n) (λ j z y. grammar.canceled y)
+    made (next_free refl n) (λ j z y. grammar.canceled y)
 head_free (grammar.deferred_pre n p) =
-    let dn = next_free n in shift dn.taken dn.parts (made (name_free p) (λ j z y. grammar.deferred_pre (dn.again j) y))
+    let dn = next_free refl n in shift dn (made (name_free p) (λ j z y. grammar.deferred_pre (dn.again j) y))
 head_free (grammar.deferred_post n p) =
-    let dn = next_free n in shift dn.taken dn.parts (made (name_free p) (λ j z y. grammar.deferred_post (dn.again j) y))
+    let dn = next_free refl n in shift dn (made (name_free p) (λ j z y. grammar.deferred_post (dn.again j) y))
 head_free (grammar.generic n p) =
-    let dn = next_free n in shift dn.taken dn.parts (made (name_free p) (λ j z y. grammar.generic (dn.again j) y))
+    let dn = next_free refl n in shift dn (made (name_free p) (λ j z y. grammar.generic (dn.again j) y))
 
 head_some : {text : Text} {i o : Input} {h : Head} → HeadAt text i h o → i ≡ [] → ⊥
 head_some (grammar.pre n p) e = next_some n e
@@ -45,7 +45,7 @@ head_some (grammar.generic n p) e = next_some n e
 -- the closing brace
 closing : {t : Token} {o : Input} → t.word.kind ≡ k.CloseBrace →
     Detached (λ j (u : Unit {0}) z. Next k.CloseBrace j z × (line j ≡ t.position.line)) (t ∷ o) tt o
-closing {t = t} e = record { taken = t ∷ []; parts = refl; again = λ z. (words.next e, refl) }
+closing {t = t} e = record { taken = t ∷ []; parts = refl; passed = (ap passable e, tt); again = λ z. (words.next e, refl) }
 
 -- the parts of a callback
 abbrev PartsAt : Scope → Head → List Statement → ℕ → Input → Unit {0} → Input → Type 0
@@ -62,9 +62,9 @@ parts_at {scope = scope} {h = h} {body = body} j z y =
 -- a callback
 pub callback_free : {scope : Scope} {i o : Input} {c : Callback} → CallbackAt scope i c o → Detached (CallbackAt scope) i c o
 callback_free {scope = scope} {i = i} {o = o} (grammar.callback {h = h} {body = body} p n q (words.next {t = t} e)) =
-    let dp = head_free p in let dn = next_free n in let dq = statements_free q in
+    let dp = head_free p in let dn = next_free refl n in let dq = statements_free q in
     let d : Detached (PartsAt scope h body t.position.line) i tt o =
-    shift dp.taken dp.parts (shift dn.taken dn.parts (shift dq.taken dq.parts (made (closing e) (λ j z y. (
+    shift dp (shift dn (shift dq (made (closing e) (λ j z y. (
       dn.taken ++ (dq.taken ++ j),
       dq.taken ++ j,
       j,
@@ -79,6 +79,7 @@ callback_free {scope = scope} {i = i} {o = o} (grammar.callback {h = h} {body = 
     record {
       taken = d.taken;
       parts = d.parts;
+      passed = d.passed;
       again =
           λ z. subst (λ x. CallbackAt scope (d.taken ++ z) (record { head = h; position = x; body = body; end_line = t.position.line }) z)
           (ap (λ (t : Token). t.position) (same_token d.taken z i o d.parts (λ e. head_some (d.again []).3 (ap
@@ -89,8 +90,8 @@ callback_free {scope = scope} {i = i} {o = o} (grammar.callback {h = h} {body = 
 pub locks_free : {text : Text} {i o : Input} {ls : List Lock} → LocksAt text i ls o → Detached (LocksAt text) i ls o
 locks_free grammar.no_lock = left_out (λ z. grammar.no_lock)
 locks_free (grammar.one_lock m p q x) =
-    let dm = next_free m in let dp = meant_free p in let dq = name_free q in
-    shift dm.taken dm.parts (shift dp.taken dp.parts (shift dq.taken dq.parts (made (locks_free x)
+    let dm = next_free refl m in let dp = meant_free (refl, refl, refl) p in let dq = name_free q in
+    shift dm (shift dp (shift dq (made (locks_free x)
     (λ j z y. grammar.one_lock (dm.again (dp.taken ++ (dq.taken ++ j))) (dp.again (dq.taken ++ j)) (dq.again j) y))))
 
 -- [ "queue" ], which stays over where the next token is the same
@@ -98,4 +99,4 @@ pub queue_free : {i o : Input} {q : Option Position} (p : QueueAt i q o) →
     Detached (λ j q z. (y : QueueAt j q z) × (QueueOver p → front z ≡ front o → QueueOver y)) i q o
 queue_free (grammar.no_queue {i = i}) = left_out (λ z. (grammar.no_queue, λ over same. other_kind k.Queue i z over same))
 queue_free (grammar.some_queue (words.next {t = t} e)) =
-    record { taken = t ∷ []; parts = refl; again = λ z. (grammar.some_queue (words.next e), λ over same. tt) }
+    record { taken = t ∷ []; parts = refl; passed = (ap passable e, tt); again = λ z. (grammar.some_queue (words.next e), λ over same. tt) }

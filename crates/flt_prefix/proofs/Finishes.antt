@@ -1,5 +1,5 @@
 -- The tokens before an E03 begin what spells, unless a lock's name must stand there, and the depth of blocks aside.
-use Rattle.std.proofs.Common.{◌≡◌, ◌≢◌, ℕ, zero, suc, ◌+◌, ◌≤◌, List, [], ◌∷◌, ◌++◌, refl, sym, ap, subst, ◌∙◌, append_assoc, arith}
+use Rattle.std.proofs.Common.{◌≡◌, ◌≢◌, true, ℕ, zero, suc, ◌+◌, ◌≤◌, List, [], ◌∷◌, ◌++◌, refl, sym, ap, subst, ◌∙◌, append_assoc, arith}
 use Rattle.std.specs.Prelude.{Option, Some, None}
 use Rattle.flt_rules.specs.declared.call.Anchor.TheVariants.{Stream, Instance}
 use Rattle.flt_rules.specs.declared.call.Existing.TheVariants as kept
@@ -35,7 +35,7 @@ use Rattle.flt_syntax.specs.Words as words
 use Rattle.flt_syntax.specs.Words.{Next, Meant, NameAt, NumberAt, ContextAt, OptionalAt}
 use Rattle.flt_syntax.specs.Scope.{Scope}
 use Rattle.flt_syntax.specs.Cursor.{Input, bytes_of, fault_at}
-use Rattle.flt_prefix.proofs.Detached.{next_free, meant_free, number_free, routine_free, atom_free, condition_free, statement_free, block_free}
+use Rattle.flt_prefix.proofs.Detached.{passable, AllPassed, passed_both, Detached, next_free, meant_free, number_free, routine_free, atom_free, condition_free, statement_free, block_free}
 use Rattle.flt_prefix.proofs.DetachedFiles.{head_free, callback_free}
 use Rattle.flt_syntax.specs.WordFails as word_fails
 use Rattle.flt_syntax.specs.WordFails.{Refused, Unknown, NextFails, MeantFails, KnownFails, NameFails, NumberFails, ContextFails, OtherFails, OptionalFails, OtherOldFails}
@@ -92,6 +92,7 @@ pub record Finishes {A : Type 0} (R : Input → A → Input → Type 0) (i : Inp
   pub before : Input
   pub rest : Input
   pub parts : i ≡ before ++ rest
+  pub passed : AllPassed before
   pub place : f ≡ fault_at E03 rest
   pub finish : Input
   pub spells : (o : Input) → (x : A) × R (before ++ (finish ++ o)) x o
@@ -101,15 +102,16 @@ abbrev pub a_token : Kind → Token
 a_token kind = record { word = record { kind = kind; value = 0 }; position = record { line = 1; column = 1 }; start = 0; end = 0 }
 
 -- what finishes behind something
-pub fin_shift : {A : Type 0} {R : Input → A → Input → Type 0} {i a : Input} {f : SyntaxFault} (taken : Input) → i ≡ taken ++ a →
-    Finishes (λ j x o. R (taken ++ j) x o) a f → Finishes R i f
-fin_shift {A = A} {R = R} taken e v = record {
-  before = taken ++ v.before;
+pub fin_shift : {A B : Type 0} {P : Input → B → Input → Type 0} {R : Input → A → Input → Type 0} {i a : Input} {y : B} {f : SyntaxFault}
+    (d : Detached P i y a) → Finishes (λ j x o. R (d.taken ++ j) x o) a f → Finishes R i f
+fin_shift {A = A} {R = R} d v = record {
+  before = d.taken ++ v.before;
   rest = v.rest;
-  parts = e ∙ (ap (λ z. taken ++ z) v.parts ∙ sym (append_assoc taken v.before v.rest));
+  parts = d.parts ∙ (ap (λ z. d.taken ++ z) v.parts ∙ sym (append_assoc d.taken v.before v.rest));
+  passed = passed_both d.taken v.before d.passed v.passed;
   place = v.place;
   finish = v.finish;
-  spells = λ o. subst (λ j. (x : A) × R j x o) (sym (append_assoc taken v.before (v.finish ++ o))) (v.spells o);
+  spells = λ o. subst (λ j. (x : A) × R j x o) (sym (append_assoc d.taken v.before (v.finish ++ o))) (v.spells o);
 }
 
 -- what finishes with more tokens
@@ -120,6 +122,7 @@ fin_more {B = B} {R = R} more v h = record {
   before = v.before;
   rest = v.rest;
   parts = v.parts;
+  passed = v.passed;
   place = v.place;
   finish = v.finish ++ more;
   spells = λ o.
@@ -134,6 +137,7 @@ fin_by v h = record {
   before = v.before;
   rest = v.rest;
   parts = v.parts;
+  passed = v.passed;
   place = v.place;
   finish = v.finish;
   spells = λ o. let s = v.spells o in h _ o s.0 s.1;
@@ -142,7 +146,7 @@ fin_by v h = record {
 -- what finishes from the token at fault on
 pub fin_at : {A : Type 0} {R : Input → A → Input → Type 0} {f : SyntaxFault} (i finish : Input) → f ≡ fault_at E03 i →
     ((o : Input) → (x : A) × R (finish ++ o) x o) → Finishes R i f
-fin_at i finish e spells = record { before = []; rest = i; parts = refl; place = e; finish = finish; spells = spells }
+fin_at i finish e spells = record { before = []; rest = i; parts = refl; passed = tt; place = e; finish = finish; spells = spells }
 
 abbrev pub NextAt : Kind → Input → Unit {0} → Input → Type 0
 NextAt kd i u o = Next kd i o
@@ -200,27 +204,28 @@ some_same a b e = cc
 none_some : (a : ContextVariable) → None ≡ Some a → ⊥
 none_some a e = cc
 
-optional_fin : {kd : Kind} {i : Input} {f : SyntaxFault} → OptionalFails kd i f → f.kind ≡ E03 → Finishes (OptionalAt kd) i f
-optional_fin (word_fails.behind n h) e =
-    let dn = next_free n in fin_shift dn.taken dn.parts (fin_by (context_fin h e) (λ j o u y. (Some u, words.behind (dn.again j) y)))
+optional_fin : {kd : Kind} {i : Input} {f : SyntaxFault} → passable kd ≡ true → OptionalFails kd i f → f.kind ≡ E03 →
+    Finishes (OptionalAt kd) i f
+optional_fin g (word_fails.behind n h) e =
+    let dn = next_free g n in fin_shift dn (fin_by (context_fin h e) (λ j o u y. (Some u, words.behind (dn.again j) y)))
 
 other_old_fin : {first : ContextVariable} {i : Input} {f : SyntaxFault} → OtherOldFails first i f → f.kind ≡ E03 →
     Finishes (λ j d o. OptionalAt k.Old j d o × (d ≢ Some first)) i f
 other_old_fin {first = first} (word_fails.behind_old n h) e =
-    let dn = next_free n in fin_shift dn.taken dn.parts (fin_by (other_fin h e)
+    let dn = next_free refl n in fin_shift dn (fin_by (other_fin h e)
     (λ j o u y. (Some u, (words.behind (dn.again j) y.0, λ x. y.1 (some_same u first x)))))
 
 status_fin : {i : Input} {f : SyntaxFault} → StatusFails i f → f.kind ≡ E03 → Finishes StatusAt i f
 status_fin (call_fails.no_status {i = i} b r) e =
     fin_at i (a_token k.Pending ∷ []) (refused_at r e) (λ o. (statuses.Pending, calling.bare (words.meant refl)))
 status_fin (call_fails.with_callback n h) e =
-    let dn = next_free n in fin_shift dn.taken dn.parts (fin_by (optional_fin h e)
+    let dn = next_free refl n in fin_shift dn (fin_by (optional_fin refl h e)
     (λ j o u y. (statuses.WithCallback u, calling.with_callback (dn.again j) y)))
 status_fin (call_fails.synchronize n h) e =
-    let dn = next_free n in fin_shift dn.taken dn.parts (fin_by (optional_fin h e)
+    let dn = next_free refl n in fin_shift dn (fin_by (optional_fin refl h e)
     (λ j o u y. (statuses.Synchronize u, calling.synchronize (dn.again j) y)))
 status_fin (call_fails.complete n h) e =
-    let dn = next_free n in fin_shift dn.taken dn.parts (fin_by (meant_fin k.StatusSuccess finals.Success refl h e)
+    let dn = next_free refl n in fin_shift dn (fin_by (meant_fin k.StatusSuccess finals.Success refl h e)
     (λ j o u y. (statuses.Complete u, calling.complete (dn.again j) y)))
 
 fallible_fin : {scope : Scope} {i : Input} {f : SyntaxFault} → FallibleFails scope i f → f.kind ≡ E03 → Finishes (FallibleAt scope) i f
@@ -230,111 +235,111 @@ fallible_fin (call_fails.no_fallible {i = i} b r) e =
 fallible_fin (call_fails.insert_unknown n q) e = elim (not_four e) [ ]
 fallible_fin (call_fails.remove_unknown n q) e = elim (not_four e) [ ]
 fallible_fin (call_fails.allocate n h) e =
-    let dn = next_free n in fin_shift dn.taken dn.parts (fin_by (context_fin h e)
+    let dn = next_free refl n in fin_shift dn (fin_by (context_fin h e)
     (λ j o u y. (fallible.AllocateContext u, calling.allocate (dn.again j) y)))
 fallible_fin (call_fails.get_stream n h) e =
-    let dn = next_free n in fin_shift dn.taken dn.parts (fin_by (context_fin h e)
+    let dn = next_free refl n in fin_shift dn (fin_by (context_fin h e)
     (λ j o u y. (fallible.GetContext Stream u, calling.get_stream (dn.again j) y)))
 fallible_fin (call_fails.get_instance n h) e =
-    let dn = next_free n in fin_shift dn.taken dn.parts (fin_by (context_fin h e)
+    let dn = next_free refl n in fin_shift dn (fin_by (context_fin h e)
     (λ j o u y. (fallible.GetContext Instance u, calling.get_instance (dn.again j) y)))
 fallible_fin (call_fails.set_stream_existing n h) e =
-    let dn = next_free n in fin_shift dn.taken dn.parts (fin_more (a_token k.C0 ∷ []) (meant_fin k.KeepIfExists kept.Keep refl h e)
+    let dn = next_free refl n in fin_shift dn (fin_more (a_token k.C0 ∷ []) (meant_fin k.KeepIfExists kept.Keep refl h e)
     (λ j o u y. (
       fallible.SetContext Stream u contexts.C0 None,
       calling.set_stream (dn.again j) y (words.meant refl) words.without
           (λ x. none_some contexts.C0 x),
     )))
 fallible_fin (call_fails.set_stream_context {e = k} n p h) e =
-    let dn = next_free n in let dp = meant_free p in fin_shift dn.taken dn.parts (fin_shift dp.taken dp.parts (fin_by (context_fin h e)
+    let dn = next_free refl n in let dp = meant_free (refl, refl, refl) p in fin_shift dn (fin_shift dp (fin_by (context_fin h e)
     (λ j o u y. (
       fallible.SetContext Stream k u None,
       calling.set_stream (dn.again (dp.taken ++ j)) (dp.again j) y words.without
           (λ x. none_some u x),
     ))))
 fallible_fin (call_fails.set_stream_old {e = k} {c = c} n p q h) e =
-    let dn = next_free n in let dp = meant_free p in let dq = meant_free q in
-    fin_shift dn.taken dn.parts (fin_shift dp.taken dp.parts (fin_shift dq.taken dq.parts (fin_by (other_old_fin h e)
+    let dn = next_free refl n in let dp = meant_free (refl, refl, refl) p in let dq = meant_free (refl, refl, refl) q in
+    fin_shift dn (fin_shift dp (fin_shift dq (fin_by (other_old_fin h e)
     (λ j o u y. (
       fallible.SetContext Stream k c u,
       calling.set_stream (dn.again (dp.taken ++ (dq.taken ++ j))) (dp.again (dq.taken ++ j))
           (dq.again j) y.0 y.1,
     )))))
 fallible_fin (call_fails.set_instance_existing n h) e =
-    let dn = next_free n in fin_shift dn.taken dn.parts (fin_more (a_token k.C0 ∷ []) (meant_fin k.KeepIfExists kept.Keep refl h e)
+    let dn = next_free refl n in fin_shift dn (fin_more (a_token k.C0 ∷ []) (meant_fin k.KeepIfExists kept.Keep refl h e)
     (λ j o u y. (
       fallible.SetContext Instance u contexts.C0 None,
       calling.set_instance (dn.again j) y (words.meant refl) words.without
           (λ x. none_some contexts.C0 x),
     )))
 fallible_fin (call_fails.set_instance_context {e = k} n p h) e =
-    let dn = next_free n in let dp = meant_free p in fin_shift dn.taken dn.parts (fin_shift dp.taken dp.parts (fin_by (context_fin h e)
+    let dn = next_free refl n in let dp = meant_free (refl, refl, refl) p in fin_shift dn (fin_shift dp (fin_by (context_fin h e)
     (λ j o u y. (
       fallible.SetContext Instance k u None,
       calling.set_instance (dn.again (dp.taken ++ j)) (dp.again j) y words.without
           (λ x. none_some u x),
     ))))
 fallible_fin (call_fails.set_instance_old {e = k} {c = c} n p q h) e =
-    let dn = next_free n in let dp = meant_free p in let dq = meant_free q in
-    fin_shift dn.taken dn.parts (fin_shift dp.taken dp.parts (fin_shift dq.taken dq.parts (fin_by (other_old_fin h e)
+    let dn = next_free refl n in let dp = meant_free (refl, refl, refl) p in let dq = meant_free (refl, refl, refl) q in
+    fin_shift dn (fin_shift dp (fin_shift dq (fin_by (other_old_fin h e)
     (λ j o u y. (
       fallible.SetContext Instance k c u,
       calling.set_instance (dn.again (dp.taken ++ (dq.taken ++ j))) (dp.again
           (dq.taken ++ j)) (dq.again j) y.0 y.1,
     )))))
 fallible_fin (call_fails.delete_stream n h) e =
-    let dn = next_free n in fin_shift dn.taken dn.parts (fin_by (optional_fin h e)
+    let dn = next_free refl n in fin_shift dn (fin_by (optional_fin refl h e)
     (λ j o u y. (fallible.DeleteContextOf Stream u, calling.delete_stream (dn.again j) y)))
 fallible_fin (call_fails.delete_instance n h) e =
-    let dn = next_free n in fin_shift dn.taken dn.parts (fin_by (optional_fin h e)
+    let dn = next_free refl n in fin_shift dn (fin_by (optional_fin refl h e)
     (λ j o u y. (fallible.DeleteContextOf Instance u, calling.delete_instance (dn.again j) y)))
 fallible_fin (call_fails.insert_data q n h) e =
-    let dn = next_free n in fin_shift dn.taken dn.parts (fin_by (next_fin h e)
+    let dn = next_free refl n in fin_shift dn (fin_by (next_fin h e)
     (λ j o u y. (fallible.InsertIo None, calling.insert_io q (dn.again j) y words.without)))
 fallible_fin (call_fails.insert_context q n m h) e =
-    let dn = next_free n in let dm = next_free m in fin_shift dn.taken dn.parts (fin_shift dm.taken dm.parts (fin_by (optional_fin h e)
+    let dn = next_free refl n in let dm = next_free refl m in fin_shift dn (fin_shift dm (fin_by (optional_fin refl h e)
     (λ j o u y. (fallible.InsertIo u, calling.insert_io q (dn.again (dm.taken ++ j)) (dm.again j) y))))
 fallible_fin (call_fails.remove_operation q n h) e =
-    let dn = next_free n in fin_shift dn.taken dn.parts (fin_more (a_token k.Context ∷ (a_token k.C0 ∷ []))
+    let dn = next_free refl n in fin_shift dn (fin_more (a_token k.Context ∷ (a_token k.C0 ∷ []))
     (known_fin k.O0 removed.O0 refl h e) (λ j o u y. (
       fallible.RemoveNextIo u contexts.C0,
       calling.remove_next_io q (dn.again j) y
           (words.next refl) (words.meant refl),
     )))
 fallible_fin (call_fails.remove_word {x = v} q n p h) e =
-    let dn = next_free n in let dp = meant_free p in fin_shift dn.taken dn.parts (fin_shift dp.taken dp.parts (fin_more (a_token k.C0 ∷ [])
+    let dn = next_free refl n in let dp = meant_free (refl, refl, refl) p in fin_shift dn (fin_shift dp (fin_more (a_token k.C0 ∷ [])
     (next_fin h e) (λ j o u y. (
       fallible.RemoveNextIo v contexts.C0,
       calling.remove_next_io q (dn.again (dp.taken ++ j)) (dp.again j) y
           (words.meant refl),
     ))))
 fallible_fin (call_fails.remove_context {x = v} q n p m h) e =
-    let dn = next_free n in let dp = meant_free p in let dm = next_free m in
-    fin_shift dn.taken dn.parts (fin_shift dp.taken dp.parts (fin_shift dm.taken dm.parts (fin_by (context_fin h e)
+    let dn = next_free refl n in let dp = meant_free (refl, refl, refl) p in let dm = next_free refl m in
+    fin_shift dn (fin_shift dp (fin_shift dm (fin_by (context_fin h e)
     (λ j o u y. (
       fallible.RemoveNextIo v u,
       calling.remove_next_io q (dn.again (dp.taken ++ (dm.taken ++ j))) (dp.again (dm.taken ++ j))
           (dm.again j) y,
     )))))
 fallible_fin (call_fails.deferred_data n h) e =
-    let dn = next_free n in fin_shift dn.taken dn.parts (fin_more (a_token k.Name ∷ []) (next_fin h e)
+    let dn = next_free refl n in fin_shift dn (fin_more (a_token k.Name ∷ []) (next_fin h e)
     (λ j o u y. (_, calling.queue_deferred (dn.again j) y (calling.routine (words.name refl)) words.without)))
 fallible_fin (call_fails.deferred_name n m h) e =
-    let dn = next_free n in let dm = next_free m in fin_shift dn.taken dn.parts (fin_shift dm.taken dm.parts (fin_by (routine_fin h e)
+    let dn = next_free refl n in let dm = next_free refl m in fin_shift dn (fin_shift dm (fin_by (routine_fin h e)
     (λ j o u y. (fallible.QueueDeferredIoWorkItem u None, calling.queue_deferred (dn.again (dm.taken ++ j)) (dm.again j) y words.without))))
 fallible_fin (call_fails.deferred_context {r = r} n m p h) e =
-    let dn = next_free n in let dm = next_free m in let dp = routine_free p in
-    fin_shift dn.taken dn.parts (fin_shift dm.taken dm.parts (fin_shift dp.taken dp.parts (fin_by (optional_fin h e)
+    let dn = next_free refl n in let dm = next_free refl m in let dp = routine_free p in
+    fin_shift dn (fin_shift dm (fin_shift dp (fin_by (optional_fin refl h e)
     (λ j o u y. (
       fallible.QueueDeferredIoWorkItem r u,
       calling.queue_deferred (dn.again (dm.taken ++ (dp.taken ++ j))) (dm.again
           (dp.taken ++ j)) (dp.again j) y,
     )))))
 fallible_fin (call_fails.generic_name n h) e =
-    let dn = next_free n in fin_shift dn.taken dn.parts (fin_by (routine_fin h e)
+    let dn = next_free refl n in fin_shift dn (fin_by (routine_fin h e)
     (λ j o u y. (fallible.QueueGenericWorkItem u None, calling.queue_generic (dn.again j) y words.without)))
 fallible_fin (call_fails.generic_context {r = r} n p h) e =
-    let dn = next_free n in let dp = routine_free p in fin_shift dn.taken dn.parts (fin_shift dp.taken dp.parts (fin_by (optional_fin h e)
+    let dn = next_free refl n in let dp = routine_free p in fin_shift dn (fin_shift dp (fin_by (optional_fin refl h e)
     (λ j o u y. (fallible.QueueGenericWorkItem r u, calling.queue_generic (dn.again (dp.taken ++ j)) (dp.again j) y))))
 
 one_zero : contexts.C1 ≡ contexts.C0 → ⊥
@@ -369,29 +374,29 @@ module _ (scope : Scope) where
       fin_at i (a_token k.DeleteContext ∷ (a_token k.C0 ∷ [])) (refused_at r e)
       (λ o. (plain.DeleteContext contexts.C0, calling.delete (words.next refl) (words.meant refl)))
   plain_fin g (call_fails.reference_context n h) e =
-      let dn = next_free n in
-      fin_shift dn.taken dn.parts (fin_more (a_token k.As ∷ (a_token k.C1 ∷ [])) (fixed_fin h e) (λ j o u y. (
+      let dn = next_free refl n in
+      fin_shift dn (fin_more (a_token k.As ∷ (a_token k.C1 ∷ [])) (fixed_fin h e) (λ j o u y. (
         plain.ReferenceContext contexts.C0 contexts.C1,
         calling.reference (dn.again j) y (words.next refl) (words.meant refl)
             (λ x. one_zero x),
       )))
   plain_fin g (call_fails.reference_word {c = c} n p h) e =
-      let a = another c in let dn = next_free n in let dp = meant_free p in
-      fin_shift dn.taken dn.parts (fin_shift dp.taken dp.parts (fin_more (a_token a.1 ∷ []) (next_fin h e) (λ j o u y.
+      let a = another c in let dn = next_free refl n in let dp = meant_free (refl, refl, refl) p in
+      fin_shift dn (fin_shift dp (fin_more (a_token a.1 ∷ []) (next_fin h e) (λ j o u y.
       (plain.ReferenceContext c a.0, calling.reference (dn.again (dp.taken ++ j)) (dp.again j) y (a.2 o) a.3))))
   plain_fin g (call_fails.reference_copy {c = c} n p m h) e =
-      let dn = next_free n in let dp = meant_free p in let dm = next_free m in
-      fin_shift dn.taken dn.parts (fin_shift dp.taken dp.parts (fin_shift dm.taken dm.parts (fin_by (other_fin h e)
+      let dn = next_free refl n in let dp = meant_free (refl, refl, refl) p in let dm = next_free refl m in
+      fin_shift dn (fin_shift dp (fin_shift dm (fin_by (other_fin h e)
       (λ j o u y. (
         plain.ReferenceContext c u,
         calling.reference (dn.again (dp.taken ++ (dm.taken ++ j))) (dp.again (dm.taken ++ j))
             (dm.again j) y.0 y.1,
       )))))
   plain_fin g (call_fails.delete n h) e =
-      let dn = next_free n in fin_shift dn.taken dn.parts (fin_by (context_fin h e)
+      let dn = next_free refl n in fin_shift dn (fin_by (context_fin h e)
       (λ j o u y. (plain.DeleteContext u, calling.delete (dn.again j) y)))
   plain_fin g (call_fails.release n h) e =
-      let dn = next_free n in fin_shift dn.taken dn.parts (fin_by (context_fin h e)
+      let dn = next_free refl n in fin_shift dn (fin_by (context_fin h e)
       (λ j o u y. (plain.ReleaseContext u, calling.release (dn.again j) y)))
   plain_fin g (call_fails.acquire_spin (words.next {t = t} {o = o} q) h) e = elim (g [] t o refl (ap is_lock_word q) (lock_asked h e)) [ ]
   plain_fin g (call_fails.release_spin (words.next {t = t} {o = o} q) h) e = elim (g [] t o refl (ap is_lock_word q) (lock_asked h e)) [ ]
@@ -402,17 +407,17 @@ module _ (scope : Scope) where
       elim (g [] t o refl (ap is_lock_word q) (lock_asked h e)) [ ]
   plain_fin g (call_fails.release_push (words.next {t = t} {o = o} q) h) e = elim (g [] t o refl (ap is_lock_word q) (lock_asked h e)) [ ]
   plain_fin g (call_fails.complete_pre_operation n h) e =
-      let dn = next_free n in fin_shift dn.taken dn.parts (fin_more (a_token k.Pending ∷ []) (known_fin k.Data operations.Data refl h e)
+      let dn = next_free refl n in fin_shift dn (fin_more (a_token k.Pending ∷ []) (known_fin k.Data operations.Data refl h e)
       (λ j o u y. (
         plain.CompletePendedPreOperation u statuses.Pending,
         calling.complete_pre (dn.again j) y (calling.bare
             (words.meant refl)),
       )))
   plain_fin g (call_fails.complete_pre_status {d = d} n p h) e =
-      let dn = next_free n in let dp = meant_free p in fin_shift dn.taken dn.parts (fin_shift dp.taken dp.parts (fin_by (status_fin h e)
+      let dn = next_free refl n in let dp = meant_free (refl, refl, refl) p in fin_shift dn (fin_shift dp (fin_by (status_fin h e)
       (λ j o u y. (plain.CompletePendedPreOperation d u, calling.complete_pre (dn.again (dp.taken ++ j)) (dp.again j) y))))
   plain_fin g (call_fails.complete_post n h) e =
-      let dn = next_free n in fin_shift dn.taken dn.parts (fin_by (next_fin h e)
+      let dn = next_free refl n in fin_shift dn (fin_by (next_fin h e)
       (λ j o u y. (plain.CompletePendedPostOperation, calling.complete_post (dn.again j) y)))
 
 optional_status_fin : {i : Input} {f : SyntaxFault} → OptionalStatusFails i f → f.kind ≡ E03 → Finishes OptionalStatusAt i f
@@ -431,92 +436,92 @@ leading_fin (bad.no_leading {i = i} b n r) e =
 expression_fin : {i : Input} {f : SyntaxFault} → ExpressionFails i f → f.kind ≡ E03 → Finishes ExpressionAt i f
 expression_fin (bad.first h) e = fin_by (leading_fin h e) (λ j o u y. (expressions.Atom u, acting.one y))
 expression_fin (bad.sum {x = x} p n h) e =
-    let dp = atom_free p in let dn = next_free n in fin_shift dp.taken dp.parts (fin_shift dn.taken dn.parts (fin_by (atom_fin h e)
+    let dp = atom_free p in let dn = next_free refl n in fin_shift dp (fin_shift dn (fin_by (atom_fin h e)
     (λ j o u y. (expressions.Sum x u, acting.sum (dp.again (dn.taken ++ j)) (dn.again j) y))))
 expression_fin (bad.difference {x = x} p n h) e =
-    let dp = atom_free p in let dn = next_free n in fin_shift dp.taken dp.parts (fin_shift dn.taken dn.parts (fin_by (atom_fin h e)
+    let dp = atom_free p in let dn = next_free refl n in fin_shift dp (fin_shift dn (fin_by (atom_fin h e)
     (λ j o u y. (expressions.Difference x u, acting.difference (dp.again (dn.taken ++ j)) (dn.again j) y))))
 
 action_fin : {i : Input} {f : SyntaxFault} → ActionFails i f → f.kind ≡ E03 → Finishes ActionAt i f
 action_fin (bad.number_assign {n = v} p h) e =
-    let dp = meant_free p in fin_shift dp.taken dp.parts (fin_more (a_token k.Number ∷ []) (next_fin h e)
+    let dp = meant_free (refl, refl, refl) p in fin_shift dp (fin_more (a_token k.Number ∷ []) (next_fin h e)
     (λ j o u y. (_, acting.set_number (dp.again j) y (acting.one (acting.number (words.number refl))))))
 action_fin (bad.number_expression {n = v} p m b c h) e =
-    let dp = meant_free p in let dm = next_free m in fin_shift dp.taken dp.parts (fin_shift dm.taken dm.parts (fin_by (expression_fin h e)
+    let dp = meant_free (refl, refl, refl) p in let dm = next_free refl m in fin_shift dp (fin_shift dm (fin_by (expression_fin h e)
     (λ j o u y. (actions.SetNumber v u, acting.set_number (dp.again (dm.taken ++ j)) (dm.again j) y))))
 action_fin (bad.number_value {n = v} p m l h) e =
-    let dp = meant_free p in let dm = next_free m in let dl = next_free l in
-    fin_shift dp.taken dp.parts (fin_shift dm.taken dm.parts (fin_shift dl.taken dl.parts (fin_by (context_fin h e)
+    let dp = meant_free (refl, refl, refl) p in let dm = next_free refl m in let dl = next_free refl l in
+    fin_shift dp (fin_shift dm (fin_shift dl (fin_by (context_fin h e)
     (λ j o u y. (
       actions.ReadValue v u,
       acting.read_value (dp.again (dm.taken ++ (dl.taken ++ j))) (dm.again (dl.taken ++ j))
           (dl.again j) y,
     )))))
 action_fin (bad.number_file {n = v} p m l h) e =
-    let dp = meant_free p in let dm = next_free m in let dl = next_free l in
-    fin_shift dp.taken dp.parts (fin_shift dm.taken dm.parts (fin_shift dl.taken dl.parts (fin_by
+    let dp = meant_free (refl, refl, refl) p in let dm = next_free refl m in let dl = next_free refl l in
+    fin_shift dp (fin_shift dm (fin_shift dl (fin_by
     (known_fin k.Data operations.Data refl h e) (λ j o u y. (
       actions.ReadFile v u,
       acting.read_file (dp.again (dm.taken ++
           (dl.taken ++ j))) (dm.again (dl.taken ++ j)) (dl.again j) y,
     )))))
 action_fin (bad.value_context n h) e =
-    let dn = next_free n in fin_shift dn.taken dn.parts (fin_more (a_token k.Assign ∷ (a_token k.Number ∷ [])) (context_fin h e)
+    let dn = next_free refl n in fin_shift dn (fin_more (a_token k.Assign ∷ (a_token k.Number ∷ [])) (context_fin h e)
     (λ j o u y. (_, acting.write_value (dn.again j) y (words.next refl) (acting.number (words.number refl)))))
 action_fin (bad.value_assign n p h) e =
-    let dn = next_free n in let dp = meant_free p in fin_shift dn.taken dn.parts (fin_shift dp.taken dp.parts (fin_more
+    let dn = next_free refl n in let dp = meant_free (refl, refl, refl) p in fin_shift dn (fin_shift dp (fin_more
     (a_token k.Number ∷ []) (next_fin h e) (λ j o u y. (
       _,
       acting.write_value (dn.again (dp.taken ++ j)) (dp.again j) y (acting.number
           (words.number refl)),
     ))))
 action_fin (bad.value_atom {c = c} n p m h) e =
-    let dn = next_free n in let dp = meant_free p in let dm = next_free m in
-    fin_shift dn.taken dn.parts (fin_shift dp.taken dp.parts (fin_shift dm.taken dm.parts (fin_by (atom_fin h e)
+    let dn = next_free refl n in let dp = meant_free (refl, refl, refl) p in let dm = next_free refl m in
+    fin_shift dn (fin_shift dp (fin_shift dm (fin_by (atom_fin h e)
     (λ j o u y. (
       actions.WriteValue c u,
       acting.write_value (dn.again (dp.taken ++ (dm.taken ++ j))) (dp.again (dm.taken ++ j))
           (dm.again j) y,
     )))))
 action_fin (bad.context_assign {c = x} p h) e =
-    let dp = meant_free p in fin_shift dp.taken dp.parts (fin_more (a_token k.Null ∷ []) (next_fin h e)
+    let dp = meant_free (refl, refl, refl) p in fin_shift dp (fin_more (a_token k.Null ∷ []) (next_fin h e)
     (λ j o u y. (actions.ClearContext x, acting.clear_context (dp.again j) y (words.next refl))))
 action_fin (bad.context_null {c = x} p m h) e =
-    let dp = meant_free p in let dm = next_free m in fin_shift dp.taken dp.parts (fin_shift dm.taken dm.parts (fin_by (next_fin h e)
+    let dp = meant_free (refl, refl, refl) p in let dm = next_free refl m in fin_shift dp (fin_shift dm (fin_by (next_fin h e)
     (λ j o u y. (actions.ClearContext x, acting.clear_context (dp.again (dm.taken ++ j)) (dm.again j) y))))
 action_fin (bad.operation_assign {x = x} p h) e =
-    let dp = meant_free p in fin_shift dp.taken dp.parts (fin_more (a_token k.Null ∷ []) (next_fin h e)
+    let dp = meant_free (refl, refl, refl) p in fin_shift dp (fin_more (a_token k.Null ∷ []) (next_fin h e)
     (λ j o u y. (actions.ClearOperation x, acting.clear_operation (dp.again j) y (words.next refl))))
 action_fin (bad.operation_null {x = x} p m h) e =
-    let dp = meant_free p in let dm = next_free m in fin_shift dp.taken dp.parts (fin_shift dm.taken dm.parts (fin_by (next_fin h e)
+    let dp = meant_free (refl, refl, refl) p in let dm = next_free refl m in fin_shift dp (fin_shift dm (fin_by (next_fin h e)
     (λ j o u y. (actions.ClearOperation x, acting.clear_operation (dp.again (dm.taken ++ j)) (dm.again j) y))))
 
 condition_fin : {scope : Scope} {i : Input} {f : SyntaxFault} → ConditionFails scope i f → f.kind ≡ E03 → Finishes (ConditionAt scope) i f
 condition_fin (bad.call b h) e = fin_by (fallible_fin h e) (λ j o u y. (conditions.Succeeds u, acting.succeeds y))
 condition_fin (bad.context_unlike p h) e =
-    let dp = meant_free p in fin_shift dp.taken dp.parts (fin_more (a_token k.Null ∷ []) (next_fin h e)
+    let dp = meant_free (refl, refl, refl) p in fin_shift dp (fin_more (a_token k.Null ∷ []) (next_fin h e)
     (λ j o u y. (_, acting.test (acting.context_is_some (dp.again j) y (words.next refl)))))
 condition_fin (bad.context_unlike_null p m h) e =
-    let dp = meant_free p in let dm = next_free m in fin_shift dp.taken dp.parts (fin_shift dm.taken dm.parts (fin_by (next_fin h e)
+    let dp = meant_free (refl, refl, refl) p in let dm = next_free refl m in fin_shift dp (fin_shift dm (fin_by (next_fin h e)
     (λ j o u y. (_, acting.test (acting.context_is_some (dp.again (dm.taken ++ j)) (dm.again j) y)))))
 condition_fin (bad.operation_unlike p h) e =
-    let dp = meant_free p in fin_shift dp.taken dp.parts (fin_more (a_token k.Null ∷ []) (next_fin h e)
+    let dp = meant_free (refl, refl, refl) p in fin_shift dp (fin_more (a_token k.Null ∷ []) (next_fin h e)
     (λ j o u y. (_, acting.test (acting.operation_is_some (dp.again j) y (words.next refl)))))
 condition_fin (bad.operation_unlike_null p m h) e =
-    let dp = meant_free p in let dm = next_free m in fin_shift dp.taken dp.parts (fin_shift dm.taken dm.parts (fin_by (next_fin h e)
+    let dp = meant_free (refl, refl, refl) p in let dm = next_free refl m in fin_shift dp (fin_shift dm (fin_by (next_fin h e)
     (λ j o u y. (_, acting.test (acting.operation_is_some (dp.again (dm.taken ++ j)) (dm.again j) y)))))
 condition_fin (bad.comparison {a = a} {n = v} p b c r) e =
-    let dp = meant_free p in
-    fin_shift dp.taken dp.parts (fin_at a (a_token k.Less ∷ (a_token k.Number ∷ [])) (refused_at r e)
+    let dp = meant_free (refl, refl, refl) p in
+    fin_shift dp (fin_at a (a_token k.Less ∷ (a_token k.Number ∷ [])) (refused_at r e)
     (λ o. (_, acting.test (acting.less (dp.again _) (words.next refl) (acting.number (words.number refl))))))
 condition_fin (bad.equal_atom p m h) e =
-    let dp = meant_free p in let dm = next_free m in fin_shift dp.taken dp.parts (fin_shift dm.taken dm.parts (fin_by (atom_fin h e)
+    let dp = meant_free (refl, refl, refl) p in let dm = next_free refl m in fin_shift dp (fin_shift dm (fin_by (atom_fin h e)
     (λ j o u y. (_, acting.test (acting.equal (dp.again (dm.taken ++ j)) (dm.again j) y)))))
 condition_fin (bad.less_atom p m h) e =
-    let dp = meant_free p in let dm = next_free m in fin_shift dp.taken dp.parts (fin_shift dm.taken dm.parts (fin_by (atom_fin h e)
+    let dp = meant_free (refl, refl, refl) p in let dm = next_free refl m in fin_shift dp (fin_shift dm (fin_by (atom_fin h e)
     (λ j o u y. (_, acting.test (acting.less (dp.again (dm.taken ++ j)) (dm.again j) y)))))
 condition_fin (bad.irp_data n h) e =
-    let dn = next_free n in fin_shift dn.taken dn.parts (fin_by (next_fin h e) (λ j o u y. (_, acting.test (acting.is_irp (dn.again j) y))))
+    let dn = next_free refl n in fin_shift dn (fin_by (next_fin h e) (λ j o u y. (_, acting.test (acting.is_irp (dn.again j) y))))
 
 -- ---- what blocks nest no deeper than a number may nest no deeper than a greater one
 
@@ -572,20 +577,20 @@ module _ (scope : Scope) where
     statement_fin g (statement_fails.call b h) e =
         fin_by (plain_fin scope g h e) (λ j o u y. (statements.Call (line j) u, (0, grammar.call y)))
     statement_fin g (statement_fails.return n h) e =
-        let dn = next_free n in
-        fin_shift dn.taken dn.parts (fin_by (optional_status_fin h e) (λ j o u y. (_, (0, grammar.return (dn.again j) y))))
+        let dn = next_free refl n in
+        fin_shift dn (fin_by (optional_status_fin h e) (λ j o u y. (_, (0, grammar.return (dn.again j) y))))
     statement_fin g (statement_fails.choice_test n h) e =
-        let dn = next_free n in
-        fin_shift dn.taken dn.parts (fin_more braces (condition_fin h e) (λ j o u y.
+        let dn = next_free refl n in
+        fin_shift dn (fin_more braces (condition_fin h e) (λ j o u y.
         (_, (1, grammar.choice (dn.again j) y (no_body o) grammar.no_else))))
     statement_fin g (statement_fails.choice_granted n p v h) e =
-        let dn = next_free n in let dp = condition_free p in
-        fin_shift dn.taken dn.parts (fin_shift dp.taken dp.parts (fin_by (block_fin (below dp.taken dp.parts
+        let dn = next_free refl n in let dp = condition_free p in
+        fin_shift dn (fin_shift dp (fin_by (block_fin (below dp.taken dp.parts
         (below dn.taken dn.parts g)) h e) (λ j o u y.
         (_, (y.0, grammar.choice (dn.again (dp.taken ++ j)) (dp.again j).0 y.1 grammar.no_else)))))
     statement_fin {d = d} g (statement_fails.choice_refused n p q h) e =
-        let dn = next_free n in let dp = condition_free p in let dq = block_free q in
-        fin_shift dn.taken dn.parts (fin_shift dp.taken dp.parts (fin_shift dq.taken dq.parts (fin_by (else_fin (below dq.taken dq.parts
+        let dn = next_free refl n in let dp = condition_free p in let dq = block_free q in
+        fin_shift dn (fin_shift dp (fin_shift dq (fin_by (else_fin (below dq.taken dq.parts
         (below dp.taken dp.parts (below dn.taken dn.parts g))) h e) (λ j o u y. (
           _,
           (
@@ -596,19 +601,19 @@ module _ (scope : Scope) where
         )))))
     statement_fin g (statement_fails.repeat_nested n) e = elim (not_six e) [ ]
     statement_fin g (statement_fails.repeat_number n h) e =
-        let dn = next_free n in
-        fin_shift dn.taken dn.parts (fin_more braces (number_fin h e) (λ j o u y.
+        let dn = next_free refl n in
+        fin_shift dn (fin_more braces (number_fin h e) (λ j o u y.
         (_, (1, grammar.repeat (dn.again j) y.0 (few_turns u y.1) (no_body o)))))
     statement_fin g (statement_fails.repeat_body n p l h) e =
-        let dn = next_free n in let dp = number_free p in
-        fin_shift dn.taken dn.parts (fin_shift dp.taken dp.parts (fin_by (block_fin (below dp.taken dp.parts
+        let dn = next_free refl n in let dp = number_free p in
+        fin_shift dn (fin_shift dp (fin_by (block_fin (below dp.taken dp.parts
         (below dn.taken dn.parts g)) h e) (λ j o u y.
         (_, (y.0, grammar.repeat (dn.again (dp.taken ++ j)) (dp.again j) l y.1)))))
 
     else_fin : {d r : ℕ} {i : Input} {f : SyntaxFault} → AsksNoLock i f → ElseFails scope d r i f → f.kind ≡ E03 → Finishes (SomeElse r) i f
     else_fin g (statement_fails.behind n h) e =
-        let dn = next_free n in
-        fin_shift dn.taken dn.parts (fin_by (block_fin (below dn.taken dn.parts g) h e)
+        let dn = next_free refl n in
+        fin_shift dn (fin_by (block_fin (below dn.taken dn.parts g) h e)
         (λ j o u y. (u, (y.0, grammar.some_else (dn.again j) y.1))))
 
     block_fin : {d r : ℕ} {i : Input} {f : SyntaxFault} → AsksNoLock i f → BlockFails scope d r i f → f.kind ≡ E03 →
@@ -617,8 +622,8 @@ module _ (scope : Scope) where
         fin_more (a_token k.CloseBrace ∷ []) (next_fin h e) (λ j o u y. ([], (1, grammar.block {d = 0} y grammar.empty (words.next refl))))
     block_fin g (statement_fails.too_deep n) e = elim (not_six e) [ ]
     block_fin g (statement_fails.body n h) e =
-        let dn = next_free n in
-        fin_shift dn.taken dn.parts (fin_more (a_token k.CloseBrace ∷ []) (statements_fin (below dn.taken dn.parts g) h e) (λ j o u y.
+        let dn = next_free refl n in
+        fin_shift dn (fin_more (a_token k.CloseBrace ∷ []) (statements_fin (below dn.taken dn.parts g) h e) (λ j o u y.
         (u, (suc y.0, grammar.block (dn.again j) y.1 (words.next refl)))))
 
     statements_fin : {d r : ℕ} {i : Input} {f : SyntaxFault} → AsksNoLock i f → StatementsFails scope d r i f → f.kind ≡ E03 →
@@ -627,7 +632,7 @@ module _ (scope : Scope) where
         fin_by (statement_fin g h e) (λ j o u y. (u ∷ [], (y.0, grammar.go_on y.1 grammar.empty)))
     statements_fin {d = d} g (statement_fails.later p v h) e =
         let dp = statement_free p in
-        fin_shift dp.taken dp.parts (fin_by (statements_fin (below dp.taken dp.parts g) h e) (λ j o u y. (
+        fin_shift dp (fin_by (statements_fin (below dp.taken dp.parts g) h e) (λ j o u y. (
           _,
           (
             d + y.0,
@@ -645,17 +650,17 @@ module _ (scope : Scope) where
   head_fin (file.event_twice p t) e = elim (not_five e) [ ]
   head_fin (file.callback_too_many m b t) e = elim (not_six e) [ ]
   head_fin (file.pre few n h) e =
-      let dn = next_free n in fin_shift dn.taken dn.parts (fin_by (meant_fin k.Read operating.Read refl h e)
+      let dn = next_free refl n in fin_shift dn (fin_by (meant_fin k.Read operating.Read refl h e)
       (λ j o u y. (_, grammar.pre (dn.again j) y)))
   head_fin (file.post few n h) e =
-      let dn = next_free n in fin_shift dn.taken dn.parts (fin_by (meant_fin k.Read operating.Read refl h e)
+      let dn = next_free refl n in fin_shift dn (fin_by (meant_fin k.Read operating.Read refl h e)
       (λ j o u y. (_, grammar.post (dn.again j) y)))
   head_fin (file.deferred_pre few n h) e =
-      let dn = next_free n in fin_shift dn.taken dn.parts (fin_by (new_name_fin h e) (λ j o u y. (_, grammar.deferred_pre (dn.again j) y)))
+      let dn = next_free refl n in fin_shift dn (fin_by (new_name_fin h e) (λ j o u y. (_, grammar.deferred_pre (dn.again j) y)))
   head_fin (file.deferred_post few n h) e =
-      let dn = next_free n in fin_shift dn.taken dn.parts (fin_by (new_name_fin h e) (λ j o u y. (_, grammar.deferred_post (dn.again j) y)))
+      let dn = next_free refl n in fin_shift dn (fin_by (new_name_fin h e) (λ j o u y. (_, grammar.deferred_post (dn.again j) y)))
   head_fin (file.generic few n h) e =
-      let dn = next_free n in fin_shift dn.taken dn.parts (fin_by (new_name_fin h e) (λ j o u y. (_, grammar.generic (dn.again j) y)))
+      let dn = next_free refl n in fin_shift dn (fin_by (new_name_fin h e) (λ j o u y. (_, grammar.generic (dn.again j) y)))
 
   abbrev pub SomeCallback : Input → Unit {0} → Input → Type 0
   SomeCallback j u o = AnyCallbackAt scope j o
@@ -670,11 +675,11 @@ module _ (scope : Scope) where
   callback_fin g (file.too_great p fresh few big) e = elim (not_six e) [ ]
   callback_fin g (file.brace p fresh few h) e =
       let dp = head_free p in
-      fin_shift dp.taken dp.parts (fin_more (a_token k.CloseBrace ∷ []) (next_fin h e) (λ j o u y.
+      fin_shift dp (fin_more (a_token k.CloseBrace ∷ []) (next_fin h e) (λ j o u y.
       (tt, prefix.callback {d = 0} (dp.again j) y grammar.empty (words.next refl))))
   callback_fin g (file.body p fresh few n h) e =
-      let dp = head_free p in let dn = next_free n in
-      fin_shift dp.taken dp.parts (fin_shift dn.taken dn.parts (fin_more (a_token k.CloseBrace ∷ []) (statements_fin
+      let dp = head_free p in let dn = next_free refl n in
+      fin_shift dp (fin_shift dn (fin_more (a_token k.CloseBrace ∷ []) (statements_fin
       (below dn.taken dn.parts (below dp.taken dp.parts g)) h e) (λ j o u y.
       (tt, prefix.callback (dp.again (dn.taken ++ j)) (dn.again j) y.1 (words.next refl)))))
 
@@ -687,7 +692,7 @@ module _ (scope : Scope) where
   callbacks_fin g (file.here h) e = fin_by (callback_fin g h e) (λ j o u y. (tt, prefix.last y))
   callbacks_fin g (file.later_callback p fresh few small n h) e =
       let dp = callback_free p in
-      fin_shift dp.taken dp.parts (fin_by (callbacks_fin (below dp.taken dp.parts g) h e)
+      fin_shift dp (fin_by (callbacks_fin (below dp.taken dp.parts g) h e)
       (λ j o u y. (tt, prefix.more (any (dp.again j)) y)))
 
 -- the law of callbacks

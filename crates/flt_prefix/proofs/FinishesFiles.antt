@@ -51,25 +51,26 @@ said scope o = prefix.last (prefix.callback {d = 0} (grammar.canceled (words.nex
 locks_fin : {text : Text} {found : List Lock} {i : Input} {f : SyntaxFault} → LocksFails text found i f → f.kind ≡ E03 →
     Finishes (LocksAt text) i f
 locks_fin (file.sort n h) e =
-    let dn = next_free n in
-    fin_shift dn.taken dn.parts (fin_more (a_token k.Name ∷ []) (meant_fin k.Spin locked.Spin refl h e) (λ j o u y.
+    let dn = next_free refl n in
+    fin_shift dn (fin_more (a_token k.Name ∷ []) (meant_fin k.Spin locked.Spin refl h e) (λ j o u y.
     (_, grammar.one_lock (dn.again j) y (words.name refl) grammar.no_lock)))
 locks_fin (file.no_lock_name n p h) e =
-    let dn = next_free n in let dp = meant_free p in
-    fin_shift dn.taken dn.parts (fin_shift dp.taken dp.parts (fin_by (name_fin h e) (λ j o u y.
+    let dn = next_free refl n in let dp = meant_free (refl, refl, refl) p in
+    fin_shift dn (fin_shift dp (fin_by (name_fin h e) (λ j o u y.
     (_, grammar.one_lock (dn.again (dp.taken ++ j)) (dp.again j) y grammar.no_lock))))
 locks_fin (file.lock_twice n p q t) e = elim (not_five e) [ ]
 locks_fin (file.lock_too_many n p q t m) e = elim (not_six e) [ ]
 locks_fin (file.later_lock n p q t few h) e =
-    let dn = next_free n in let dp = meant_free p in let dq = name_free q in
-    fin_shift dn.taken dn.parts (fin_shift dp.taken dp.parts (fin_shift dq.taken dq.parts (fin_by (locks_fin h e) (λ j o u y.
+    let dn = next_free refl n in let dp = meant_free (refl, refl, refl) p in let dq = name_free q in
+    fin_shift dn (fin_shift dp (fin_shift dq (fin_by (locks_fin h e) (λ j o u y.
     (_, grammar.one_lock (dn.again (dp.taken ++ (dq.taken ++ j))) (dp.again (dq.taken ++ j)) (dq.again j) y)))))
 
 -- a file, if what is left is the end
-abbrev FileTo : Text → Input → Unit {0} → Input → Type 0
+abbrev pub FileTo : Text → Input → Unit {0} → Input → Type 0
 FileTo text j u o = kind o ≡ k.End → AnyFileAt text j
 
-file_fin : {text : Text} {i : Input} {f : SyntaxFault} → AsksNoLock i f → FileFails text i f → f.kind ≡ E03 → Finishes (FileTo text) i f
+-- a file that fails with an E03 is finished by other tokens in its place
+pub file_fin : {text : Text} {i : Input} {f : SyntaxFault} → AsksNoLock i f → FileFails text i f → f.kind ≡ E03 → Finishes (FileTo text) i f
 file_fin g (file.filter h) e =
     fin_more (a_token k.Name ∷ (a_token k.Altitude ∷ (one ∷ a_callback))) (next_fin h e) (λ j o u y. (
       tt,
@@ -78,24 +79,24 @@ file_fin g (file.filter h) e =
           (at_most 1 refl) grammar.no_lock grammar.no_queue (said _ o) end,
     ))
 file_fin g (file.no_filter_name n h) e =
-    let dn = next_free n in
-    fin_shift dn.taken dn.parts (fin_more (a_token k.Altitude ∷ (one ∷ a_callback)) (name_fin h e) (λ j o u y. (
+    let dn = next_free refl n in
+    fin_shift dn (fin_more (a_token k.Altitude ∷ (one ∷ a_callback)) (name_fin h e) (λ j o u y. (
       tt,
       λ end.
           prefix.file (dn.again j) y (words.next refl) (words.number refl) (at_least 1 refl)
           (at_most 1 refl) grammar.no_lock grammar.no_queue (said _ o) end,
     )))
 file_fin g (file.altitude n m h) e =
-    let dn = next_free n in let dm = name_free m in
-    fin_shift dn.taken dn.parts (fin_shift dm.taken dm.parts (fin_more (one ∷ a_callback) (next_fin h e) (λ j o u y. (
+    let dn = next_free refl n in let dm = name_free m in
+    fin_shift dn (fin_shift dm (fin_more (one ∷ a_callback) (next_fin h e) (λ j o u y. (
       tt,
       λ end.
           prefix.file (dn.again (dm.taken ++ j)) (dm.again j) y (words.number refl) (at_least 1 refl)
           (at_most 1 refl) grammar.no_lock grammar.no_queue (said _ o) end,
     ))))
 file_fin g (file.number n m x h) e =
-    let dn = next_free n in let dm = name_free m in let dx = next_free x in
-    fin_shift dn.taken dn.parts (fin_shift dm.taken dm.parts (fin_shift dx.taken dx.parts (fin_more a_callback (altitude_fin h e)
+    let dn = next_free refl n in let dm = name_free m in let dx = next_free refl x in
+    fin_shift dn (fin_shift dm (fin_shift dx (fin_more a_callback (altitude_fin h e)
     (λ j o u y. (
       tt,
       λ end.
@@ -103,8 +104,8 @@ file_fin g (file.number n m x h) e =
           grammar.no_lock grammar.no_queue (said _ o) end,
     )))))
 file_fin g (file.locks n m x p low high h) e =
-    let dn = next_free n in let dm = name_free m in let dx = next_free x in let dp = number_free p in
-    fin_shift dn.taken dn.parts (fin_shift dm.taken dm.parts (fin_shift dx.taken dx.parts (fin_shift dp.taken dp.parts
+    let dn = next_free refl n in let dm = name_free m in let dx = next_free refl x in let dp = number_free p in
+    fin_shift dn (fin_shift dm (fin_shift dx (fin_shift dp
     (fin_more a_callback (locks_fin h e) (λ j o u y. (
       tt,
       λ end.
@@ -113,12 +114,12 @@ file_fin g (file.locks n m x p low high h) e =
           low high y grammar.no_queue (said _ o) end,
     ))))))
 file_fin {text = text} g (file.callbacks {ls = ls} {q = q} n m x p low high y over new few z v h) e =
-    let dn = next_free n in let dm = name_free m in let dx = next_free x in let dp = number_free p in
+    let dn = next_free refl n in let dm = name_free m in let dx = next_free refl x in let dp = number_free p in
     let dy = locks_free y in let dz = queue_free z in
     let inside = below dz.taken dz.parts (below dy.taken dy.parts (below dp.taken dp.parts (below dx.taken dx.parts (below dm.taken dm.parts
     (below dn.taken dn.parts g))))) in
-    fin_shift dn.taken dn.parts (fin_shift dm.taken dm.parts (fin_shift dx.taken dx.parts (fin_shift dp.taken dp.parts
-    (fin_shift dy.taken dy.parts (fin_shift dz.taken dz.parts
+    fin_shift dn (fin_shift dm (fin_shift dx (fin_shift dp
+    (fin_shift dy (fin_shift dz
     (fin_by (callbacks_fin (record { text = text; locks = ls; queue = is_some q }) inside h e) (λ j o u c. (
       tt,
       λ end.

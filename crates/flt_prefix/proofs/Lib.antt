@@ -5,6 +5,7 @@ pub mod Exceptions
 pub mod Finishes
 pub mod FinishesFiles
 pub mod FirstShown
+pub mod OnePlace
 pub mod Prefixes
 pub mod Spans
 pub mod Stuck

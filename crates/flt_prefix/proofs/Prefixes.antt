@@ -28,7 +28,8 @@ whole_none : {filter : Filter} {f : SyntaxFault} → WholeFails filter f → is_
 whole_none (bad.no_canceled h m) e other = not_seven e
 whole_none (bad.wanting h m) e other = misses_none m e other
 
-met : {text : Text} {f : SyntaxFault} → Fails text f → is_of_token f.kind ≡ true → f.kind ≢ E04 → FileFails text (tokens text) f
+-- such a fault is met from left to right
+pub met : {text : Text} {f : SyntaxFault} → Fails text f → is_of_token f.kind ≡ true → f.kind ≢ E04 → FileFails text (tokens text) f
 met (bad.too_long h) e other = elim (not_six e) [ ]
 met (bad.reading short h) e other = h
 met (bad.whole short r h) e other = elim (whole_none h e other) [ ]
@@ -37,7 +38,8 @@ met (bad.whole short r h) e other = elim (whole_none h e other) [ ]
 pub goes_on_in_texts : NothingGoesOn → NothingGoesOnInTexts
 goes_on_in_texts law text f h e other = law text (tokens text) f (met h e other) e
 
-three_four : E03 ≡ E04 → ⊥
+-- an E03 is no E04
+pub three_four : E03 ≡ E04 → ⊥
 three_four e = cc
 
 -- of a text something begins before an E03

@@ -100,9 +100,9 @@ module _ (scope : Scope) (cs : List Callback) (from : Head) where
   fallible_spans (calling.remove_next_io q n p m x) = over (fallible_free {scope = scope} (calling.remove_next_io q n p m x))
   fallible_spans (calling.queue_deferred {r = r} n m p q) =
       then_some (next_over n) (then_some (next_over m)
-      (then_none (routine_spans (has_deferred from r.name cs) p) (over (optional_free q))))
+      (then_none (routine_spans (has_deferred from r.name cs) p) (over (optional_free refl q))))
   fallible_spans (calling.queue_generic {r = r} n p q) =
-      then_some (next_over n) (then_none (routine_spans (has_generic r.name cs) p) (over (optional_free q)))
+      then_some (next_over n) (then_none (routine_spans (has_generic r.name cs) p) (over (optional_free refl q)))
 
   condition_spans : {i o : Input} {c : Condition} → ConditionAt scope i c o → Spans here i (lacking_by cs from c) o
   condition_spans (acting.test p) = over (condition_free {scope = scope} (acting.test p))
@@ -151,8 +151,8 @@ first_spans false (words.next e) = pass stop
 
 head_spans : {text : Text} {i o : Input} {h : Head} (lacks : Bool) → HeadAt text i h o →
     Spans place i (if lacks then fault E07 (position i) ∷ [] else []) o
-head_spans lacks (grammar.pre n p) = then_none (first_spans lacks n) (over (meant_free p))
-head_spans lacks (grammar.post n p) = then_none (first_spans lacks n) (over (meant_free p))
+head_spans lacks (grammar.pre n p) = then_none (first_spans lacks n) (over (meant_free (refl, refl, refl) p))
+head_spans lacks (grammar.post n p) = then_none (first_spans lacks n) (over (meant_free (refl, refl, refl) p))
 head_spans lacks (grammar.canceled n) = first_spans lacks n
 head_spans lacks (grammar.deferred_pre n p) = then_none (first_spans lacks n) (over (name_free p))
 head_spans lacks (grammar.deferred_post n p) = then_none (first_spans lacks n) (over (name_free p))

@@ -28,7 +28,7 @@ use Rattle.flt_rules.specs.declared.call.LockKind.{LockKind}
 use Rattle.flt_syntax.specs.Cursor.{bytes_of, next}
 use Rattle.flt_tree.specs.Declarations.{lock_number}
 use Rattle.flt_prefix.specs.Prefix.{is_of_token}
-use Rattle.flt_prefix.proofs.Detached.{other_kind, next_free, meant_free, number_free, routine_free, atom_free, condition_free, statement_free, block_free}
+use Rattle.flt_prefix.proofs.Detached.{passable, AllPassed, passed_both, Detached, other_kind, next_free, meant_free, number_free, routine_free, atom_free, condition_free, statement_free, block_free}
 
 differ : false ≡ true → ⊥
 differ e = cc
@@ -38,18 +38,20 @@ pub record Stuck (F : Input → SyntaxFault → Type 0) (i : Input) (f : SyntaxF
   pub before : Input
   pub rest : Input
   pub parts : i ≡ before ++ rest
+  pub passed : AllPassed before
   pub place : f ≡ fault_at f.kind rest
   pub again : (z : Input) → front z ≡ front rest → F (before ++ z) f
 
 -- what is stuck behind something
-pub stuck_shift : {F : Input → SyntaxFault → Type 0} {i a : Input} {f : SyntaxFault} (taken : Input) → i ≡ taken ++ a →
-    Stuck (λ j f. F (taken ++ j) f) a f → Stuck F i f
-stuck_shift {F = F} {f = f} taken e v = record {
-  before = taken ++ v.before;
+pub stuck_shift : {A : Type 0} {P : Input → A → Input → Type 0} {F : Input → SyntaxFault → Type 0} {i a : Input} {x : A} {f : SyntaxFault}
+    (d : Detached P i x a) → Stuck (λ j f. F (d.taken ++ j) f) a f → Stuck F i f
+stuck_shift {F = F} {f = f} d v = record {
+  before = d.taken ++ v.before;
   rest = v.rest;
-  parts = e ∙ (ap (λ z. taken ++ z) v.parts ∙ sym (append_assoc taken v.before v.rest));
+  parts = d.parts ∙ (ap (λ z. d.taken ++ z) v.parts ∙ sym (append_assoc d.taken v.before v.rest));
+  passed = passed_both d.taken v.before d.passed v.passed;
   place = v.place;
-  again = λ z same. subst (λ j. F j f) (sym (append_assoc taken v.before z)) (v.again z same);
+  again = λ z same. subst (λ j. F j f) (sym (append_assoc d.taken v.before z)) (v.again z same);
 }
 
 -- where what follows has the same front, so has the whole
@@ -64,6 +66,7 @@ stuck_by v h = record {
   before = v.before;
   rest = v.rest;
   parts = v.parts;
+  passed = v.passed;
   place = v.place;
   again = λ z same. h (v.before ++ z) (same_front v.before v.rest z same ∙ sym (ap front v.parts)) (v.again z same);
 }
@@ -71,7 +74,7 @@ stuck_by v h = record {
 -- what is stuck at the next token
 pub stuck_at : {F : Input → SyntaxFault → Type 0} {f : SyntaxFault} (i : Input) → f ≡ fault_at f.kind i →
     ((z : Input) → front z ≡ front i → F z f) → Stuck F i f
-stuck_at i e again = record { before = []; rest = i; parts = refl; place = e; again = again }
+stuck_at i e again = record { before = []; rest = i; parts = refl; passed = tt; place = e; again = again }
 
 -- an E05 is no fault of a token
 pub not_five : is_of_token E05 ≡ true → ⊥
@@ -170,26 +173,27 @@ lock_stuck (call_fails.no_name n) h = stuck_by (name_stuck n h) (λ z same q. ca
 lock_stuck {scope = scope} {lk = lk} (call_fails.unknown_lock (words.name {t = t} {o = o} w) e) h =
     stuck_at (t ∷ o) refl (λ z same. unknown_lock_again scope lk t z w e same)
 
-optional_stuck : {kd : Kind} {i : Input} {f : SyntaxFault} → OptionalFails kd i f → is_of_token f.kind ≡ true → Stuck (OptionalFails kd) i f
-optional_stuck (word_fails.behind n h) e =
-    let dn = next_free n in stuck_shift dn.taken dn.parts (stuck_by (known_stuck h e) (λ z same y. word_fails.behind (dn.again z) y))
+optional_stuck : {kd : Kind} {i : Input} {f : SyntaxFault} → passable kd ≡ true → OptionalFails kd i f → is_of_token f.kind ≡ true →
+    Stuck (OptionalFails kd) i f
+optional_stuck g (word_fails.behind n h) e =
+    let dn = next_free g n in stuck_shift dn (stuck_by (known_stuck h e) (λ z same y. word_fails.behind (dn.again z) y))
 
 other_old_stuck : {first : ContextVariable} {i : Input} {f : SyntaxFault} → OtherOldFails first i f → is_of_token f.kind ≡ true →
     Stuck (OtherOldFails first) i f
 other_old_stuck (word_fails.behind_old n h) e =
-    let dn = next_free n in stuck_shift dn.taken dn.parts (stuck_by (other_stuck h e) (λ z same y. word_fails.behind_old (dn.again z) y))
+    let dn = next_free refl n in stuck_shift dn (stuck_by (other_stuck h e) (λ z same y. word_fails.behind_old (dn.again z) y))
 
 status_stuck : {i : Input} {f : SyntaxFault} → StatusFails i f → is_of_token f.kind ≡ true → Stuck (StatusFails) i f
 status_stuck (call_fails.no_status {i = i} b r) e =
     stuck_at i (refused_at r) (λ z same. call_fails.no_status (next_is begins_status i z b same) (refused_again r z same))
 status_stuck (call_fails.with_callback n h) e =
-    let dn = next_free n in stuck_shift dn.taken dn.parts (stuck_by (optional_stuck h e)
+    let dn = next_free refl n in stuck_shift dn (stuck_by (optional_stuck refl h e)
     (λ z same y. call_fails.with_callback (dn.again z) y))
 status_stuck (call_fails.synchronize n h) e =
-    let dn = next_free n in stuck_shift dn.taken dn.parts (stuck_by (optional_stuck h e)
+    let dn = next_free refl n in stuck_shift dn (stuck_by (optional_stuck refl h e)
     (λ z same y. call_fails.synchronize (dn.again z) y))
 status_stuck (call_fails.complete n h) e =
-    let dn = next_free n in stuck_shift dn.taken dn.parts (stuck_by (meant_stuck h e) (λ z same y. call_fails.complete (dn.again z) y))
+    let dn = next_free refl n in stuck_shift dn (stuck_by (meant_stuck h e) (λ z same y. call_fails.complete (dn.again z) y))
 
 optional_status_stuck : {i : Input} {f : SyntaxFault} → OptionalStatusFails i f → is_of_token f.kind ≡ true →
     Stuck (OptionalStatusFails) i f
@@ -201,114 +205,114 @@ fallible_stuck : {scope : Scope} {i : Input} {f : SyntaxFault} → FallibleFails
 fallible_stuck (call_fails.no_fallible {i = i} b r) e =
     stuck_at i (refused_at r) (λ z same. call_fails.no_fallible (next_is begins_fallible i z b same) (refused_again r z same))
 fallible_stuck (call_fails.allocate n h) e =
-    let dn = next_free n in stuck_shift dn.taken dn.parts (stuck_by (known_stuck h e) (λ z same y. call_fails.allocate (dn.again z) y))
+    let dn = next_free refl n in stuck_shift dn (stuck_by (known_stuck h e) (λ z same y. call_fails.allocate (dn.again z) y))
 fallible_stuck (call_fails.get_stream n h) e =
-    let dn = next_free n in stuck_shift dn.taken dn.parts (stuck_by (known_stuck h e) (λ z same y. call_fails.get_stream (dn.again z) y))
+    let dn = next_free refl n in stuck_shift dn (stuck_by (known_stuck h e) (λ z same y. call_fails.get_stream (dn.again z) y))
 fallible_stuck (call_fails.get_instance n h) e =
-    let dn = next_free n in stuck_shift dn.taken dn.parts (stuck_by (known_stuck h e) (λ z same y. call_fails.get_instance (dn.again z) y))
+    let dn = next_free refl n in stuck_shift dn (stuck_by (known_stuck h e) (λ z same y. call_fails.get_instance (dn.again z) y))
 fallible_stuck (call_fails.set_stream_existing n h) e =
-    let dn = next_free n in stuck_shift dn.taken dn.parts (stuck_by (meant_stuck h e)
+    let dn = next_free refl n in stuck_shift dn (stuck_by (meant_stuck h e)
     (λ z same y. call_fails.set_stream_existing (dn.again z) y))
 fallible_stuck (call_fails.set_stream_context n p h) e =
-    let dn = next_free n in let dp = meant_free p in stuck_shift dn.taken dn.parts (stuck_shift dp.taken dp.parts (stuck_by
+    let dn = next_free refl n in let dp = meant_free (refl, refl, refl) p in stuck_shift dn (stuck_shift dp (stuck_by
     (known_stuck h e) (λ z same y. call_fails.set_stream_context (dn.again (dp.taken ++ z)) (dp.again z) y)))
 fallible_stuck (call_fails.set_stream_old n p q h) e =
-    let dn = next_free n in let dp = meant_free p in let dq = meant_free q in
-    stuck_shift dn.taken dn.parts (stuck_shift dp.taken dp.parts (stuck_shift dq.taken dq.parts (stuck_by (other_old_stuck h e)
+    let dn = next_free refl n in let dp = meant_free (refl, refl, refl) p in let dq = meant_free (refl, refl, refl) q in
+    stuck_shift dn (stuck_shift dp (stuck_shift dq (stuck_by (other_old_stuck h e)
     (λ z same y. call_fails.set_stream_old (dn.again (dp.taken ++ (dq.taken ++ z))) (dp.again (dq.taken ++ z)) (dq.again z) y))))
 fallible_stuck (call_fails.set_instance_existing n h) e =
-    let dn = next_free n in stuck_shift dn.taken dn.parts (stuck_by (meant_stuck h e)
+    let dn = next_free refl n in stuck_shift dn (stuck_by (meant_stuck h e)
     (λ z same y. call_fails.set_instance_existing (dn.again z) y))
 fallible_stuck (call_fails.set_instance_context n p h) e =
-    let dn = next_free n in let dp = meant_free p in stuck_shift dn.taken dn.parts (stuck_shift dp.taken dp.parts (stuck_by
+    let dn = next_free refl n in let dp = meant_free (refl, refl, refl) p in stuck_shift dn (stuck_shift dp (stuck_by
     (known_stuck h e) (λ z same y. call_fails.set_instance_context (dn.again (dp.taken ++ z)) (dp.again z) y)))
 fallible_stuck (call_fails.set_instance_old n p q h) e =
-    let dn = next_free n in let dp = meant_free p in let dq = meant_free q in
-    stuck_shift dn.taken dn.parts (stuck_shift dp.taken dp.parts (stuck_shift dq.taken dq.parts (stuck_by (other_old_stuck h e)
+    let dn = next_free refl n in let dp = meant_free (refl, refl, refl) p in let dq = meant_free (refl, refl, refl) q in
+    stuck_shift dn (stuck_shift dp (stuck_shift dq (stuck_by (other_old_stuck h e)
     (λ z same y. call_fails.set_instance_old (dn.again (dp.taken ++ (dq.taken ++ z))) (dp.again (dq.taken ++ z)) (dq.again z) y))))
 fallible_stuck (call_fails.delete_stream n h) e =
-    let dn = next_free n in stuck_shift dn.taken dn.parts (stuck_by (optional_stuck h e)
+    let dn = next_free refl n in stuck_shift dn (stuck_by (optional_stuck refl h e)
     (λ z same y. call_fails.delete_stream (dn.again z) y))
 fallible_stuck (call_fails.delete_instance n h) e =
-    let dn = next_free n in stuck_shift dn.taken dn.parts (stuck_by (optional_stuck h e)
+    let dn = next_free refl n in stuck_shift dn (stuck_by (optional_stuck refl h e)
     (λ z same y. call_fails.delete_instance (dn.again z) y))
 fallible_stuck {scope = scope} (call_fails.insert_unknown (words.next {t = t} {o = o} n) q) e =
     stuck_at (t ∷ o) refl (λ z same. subst (FallibleFails scope z) (ap (λ (t : Token). fault E04 t.position) same)
     (call_fails.insert_unknown (word_again k.InsertIo t z refl n same) q))
 fallible_stuck (call_fails.insert_data q n h) e =
-    let dn = next_free n in stuck_shift dn.taken dn.parts (stuck_by (next_stuck h e) (λ z same y. call_fails.insert_data q (dn.again z) y))
+    let dn = next_free refl n in stuck_shift dn (stuck_by (next_stuck h e) (λ z same y. call_fails.insert_data q (dn.again z) y))
 fallible_stuck (call_fails.insert_context q n m h) e =
-    let dn = next_free n in let dm = next_free m in stuck_shift dn.taken dn.parts (stuck_shift dm.taken dm.parts (stuck_by
-    (optional_stuck h e) (λ z same y. call_fails.insert_context q (dn.again (dm.taken ++ z)) (dm.again z) y)))
+    let dn = next_free refl n in let dm = next_free refl m in stuck_shift dn (stuck_shift dm (stuck_by
+    (optional_stuck refl h e) (λ z same y. call_fails.insert_context q (dn.again (dm.taken ++ z)) (dm.again z) y)))
 fallible_stuck {scope = scope} (call_fails.remove_unknown (words.next {t = t} {o = o} n) q) e =
     stuck_at (t ∷ o) refl (λ z same. subst (FallibleFails scope z) (ap (λ (t : Token). fault E04 t.position) same)
     (call_fails.remove_unknown (word_again k.RemoveNextIo t z refl n same) q))
 fallible_stuck (call_fails.remove_operation q n h) e =
-    let dn = next_free n in stuck_shift dn.taken dn.parts (stuck_by (known_stuck h e)
+    let dn = next_free refl n in stuck_shift dn (stuck_by (known_stuck h e)
     (λ z same y. call_fails.remove_operation q (dn.again z) y))
 fallible_stuck (call_fails.remove_word q n p h) e =
-    let dn = next_free n in let dp = meant_free p in stuck_shift dn.taken dn.parts (stuck_shift dp.taken dp.parts (stuck_by
+    let dn = next_free refl n in let dp = meant_free (refl, refl, refl) p in stuck_shift dn (stuck_shift dp (stuck_by
     (next_stuck h e) (λ z same y. call_fails.remove_word q (dn.again (dp.taken ++ z)) (dp.again z) y)))
 fallible_stuck (call_fails.remove_context q n p m h) e =
-    let dn = next_free n in let dp = meant_free p in let dm = next_free m in
-    stuck_shift dn.taken dn.parts (stuck_shift dp.taken dp.parts (stuck_shift dm.taken dm.parts (stuck_by (known_stuck h e)
+    let dn = next_free refl n in let dp = meant_free (refl, refl, refl) p in let dm = next_free refl m in
+    stuck_shift dn (stuck_shift dp (stuck_shift dm (stuck_by (known_stuck h e)
     (λ z same y. call_fails.remove_context q (dn.again (dp.taken ++ (dm.taken ++ z))) (dp.again (dm.taken ++ z)) (dm.again z) y))))
 fallible_stuck (call_fails.deferred_data n h) e =
-    let dn = next_free n in stuck_shift dn.taken dn.parts (stuck_by (next_stuck h e) (λ z same y. call_fails.deferred_data (dn.again z) y))
+    let dn = next_free refl n in stuck_shift dn (stuck_by (next_stuck h e) (λ z same y. call_fails.deferred_data (dn.again z) y))
 fallible_stuck (call_fails.deferred_name n m h) e =
-    let dn = next_free n in let dm = next_free m in stuck_shift dn.taken dn.parts (stuck_shift dm.taken dm.parts (stuck_by (name_stuck h e)
+    let dn = next_free refl n in let dm = next_free refl m in stuck_shift dn (stuck_shift dm (stuck_by (name_stuck h e)
     (λ z same y. call_fails.deferred_name (dn.again (dm.taken ++ z)) (dm.again z) y)))
 fallible_stuck (call_fails.deferred_context n m p h) e =
-    let dn = next_free n in let dm = next_free m in let dp = routine_free p in
-    stuck_shift dn.taken dn.parts (stuck_shift dm.taken dm.parts (stuck_shift dp.taken dp.parts (stuck_by (optional_stuck h e)
+    let dn = next_free refl n in let dm = next_free refl m in let dp = routine_free p in
+    stuck_shift dn (stuck_shift dm (stuck_shift dp (stuck_by (optional_stuck refl h e)
     (λ z same y. call_fails.deferred_context (dn.again (dm.taken ++ (dp.taken ++ z))) (dm.again (dp.taken ++ z)) (dp.again z) y))))
 fallible_stuck (call_fails.generic_name n h) e =
-    let dn = next_free n in stuck_shift dn.taken dn.parts (stuck_by (name_stuck h e) (λ z same y. call_fails.generic_name (dn.again z) y))
+    let dn = next_free refl n in stuck_shift dn (stuck_by (name_stuck h e) (λ z same y. call_fails.generic_name (dn.again z) y))
 fallible_stuck (call_fails.generic_context n p h) e =
-    let dn = next_free n in let dp = routine_free p in stuck_shift dn.taken dn.parts (stuck_shift dp.taken dp.parts (stuck_by
-    (optional_stuck h e) (λ z same y. call_fails.generic_context (dn.again (dp.taken ++ z)) (dp.again z) y)))
+    let dn = next_free refl n in let dp = routine_free p in stuck_shift dn (stuck_shift dp (stuck_by
+    (optional_stuck refl h e) (λ z same y. call_fails.generic_context (dn.again (dp.taken ++ z)) (dp.again z) y)))
 
 plain_stuck : {scope : Scope} {i : Input} {f : SyntaxFault} → PlainFails scope i f → is_of_token f.kind ≡ true →
     Stuck (PlainFails scope) i f
 plain_stuck (call_fails.no_plain {i = i} b r) e =
     stuck_at i (refused_at r) (λ z same. call_fails.no_plain (next_is begins_plain i z b same) (refused_again r z same))
 plain_stuck (call_fails.delete n h) e =
-    let dn = next_free n in stuck_shift dn.taken dn.parts (stuck_by (known_stuck h e) (λ z same y. call_fails.delete (dn.again z) y))
+    let dn = next_free refl n in stuck_shift dn (stuck_by (known_stuck h e) (λ z same y. call_fails.delete (dn.again z) y))
 plain_stuck (call_fails.reference_context n h) e =
-    let dn = next_free n in stuck_shift dn.taken dn.parts (stuck_by (known_stuck h e)
+    let dn = next_free refl n in stuck_shift dn (stuck_by (known_stuck h e)
     (λ z same y. call_fails.reference_context (dn.again z) y))
 plain_stuck (call_fails.reference_word n p h) e =
-    let dn = next_free n in let dp = meant_free p in stuck_shift dn.taken dn.parts (stuck_shift dp.taken dp.parts (stuck_by
+    let dn = next_free refl n in let dp = meant_free (refl, refl, refl) p in stuck_shift dn (stuck_shift dp (stuck_by
     (next_stuck h e) (λ z same y. call_fails.reference_word (dn.again (dp.taken ++ z)) (dp.again z) y)))
 plain_stuck (call_fails.reference_copy n p m h) e =
-    let dn = next_free n in let dp = meant_free p in let dm = next_free m in
-    stuck_shift dn.taken dn.parts (stuck_shift dp.taken dp.parts (stuck_shift dm.taken dm.parts (stuck_by (other_stuck h e)
+    let dn = next_free refl n in let dp = meant_free (refl, refl, refl) p in let dm = next_free refl m in
+    stuck_shift dn (stuck_shift dp (stuck_shift dm (stuck_by (other_stuck h e)
     (λ z same y. call_fails.reference_copy (dn.again (dp.taken ++ (dm.taken ++ z))) (dp.again (dm.taken ++ z)) (dm.again z) y))))
 plain_stuck (call_fails.release n h) e =
-    let dn = next_free n in stuck_shift dn.taken dn.parts (stuck_by (known_stuck h e) (λ z same y. call_fails.release (dn.again z) y))
+    let dn = next_free refl n in stuck_shift dn (stuck_by (known_stuck h e) (λ z same y. call_fails.release (dn.again z) y))
 plain_stuck (call_fails.acquire_spin n h) e =
-    let dn = next_free n in stuck_shift dn.taken dn.parts (stuck_by (lock_stuck h e) (λ z same y. call_fails.acquire_spin (dn.again z) y))
+    let dn = next_free refl n in stuck_shift dn (stuck_by (lock_stuck h e) (λ z same y. call_fails.acquire_spin (dn.again z) y))
 plain_stuck (call_fails.release_spin n h) e =
-    let dn = next_free n in stuck_shift dn.taken dn.parts (stuck_by (lock_stuck h e) (λ z same y. call_fails.release_spin (dn.again z) y))
+    let dn = next_free refl n in stuck_shift dn (stuck_by (lock_stuck h e) (λ z same y. call_fails.release_spin (dn.again z) y))
 plain_stuck (call_fails.acquire_fast n h) e =
-    let dn = next_free n in stuck_shift dn.taken dn.parts (stuck_by (lock_stuck h e) (λ z same y. call_fails.acquire_fast (dn.again z) y))
+    let dn = next_free refl n in stuck_shift dn (stuck_by (lock_stuck h e) (λ z same y. call_fails.acquire_fast (dn.again z) y))
 plain_stuck (call_fails.release_fast n h) e =
-    let dn = next_free n in stuck_shift dn.taken dn.parts (stuck_by (lock_stuck h e) (λ z same y. call_fails.release_fast (dn.again z) y))
+    let dn = next_free refl n in stuck_shift dn (stuck_by (lock_stuck h e) (λ z same y. call_fails.release_fast (dn.again z) y))
 plain_stuck (call_fails.acquire_push n h) e =
-    let dn = next_free n in stuck_shift dn.taken dn.parts (stuck_by (lock_stuck h e) (λ z same y. call_fails.acquire_push (dn.again z) y))
+    let dn = next_free refl n in stuck_shift dn (stuck_by (lock_stuck h e) (λ z same y. call_fails.acquire_push (dn.again z) y))
 plain_stuck (call_fails.acquire_push_shared n h) e =
-    let dn = next_free n in stuck_shift dn.taken dn.parts (stuck_by (lock_stuck h e)
+    let dn = next_free refl n in stuck_shift dn (stuck_by (lock_stuck h e)
     (λ z same y. call_fails.acquire_push_shared (dn.again z) y))
 plain_stuck (call_fails.release_push n h) e =
-    let dn = next_free n in stuck_shift dn.taken dn.parts (stuck_by (lock_stuck h e) (λ z same y. call_fails.release_push (dn.again z) y))
+    let dn = next_free refl n in stuck_shift dn (stuck_by (lock_stuck h e) (λ z same y. call_fails.release_push (dn.again z) y))
 plain_stuck (call_fails.complete_pre_operation n h) e =
-    let dn = next_free n in stuck_shift dn.taken dn.parts (stuck_by (known_stuck h e)
+    let dn = next_free refl n in stuck_shift dn (stuck_by (known_stuck h e)
     (λ z same y. call_fails.complete_pre_operation (dn.again z) y))
 plain_stuck (call_fails.complete_pre_status n p h) e =
-    let dn = next_free n in let dp = meant_free p in stuck_shift dn.taken dn.parts (stuck_shift dp.taken dp.parts (stuck_by
+    let dn = next_free refl n in let dp = meant_free (refl, refl, refl) p in stuck_shift dn (stuck_shift dp (stuck_by
     (status_stuck h e) (λ z same y. call_fails.complete_pre_status (dn.again (dp.taken ++ z)) (dp.again z) y)))
 plain_stuck (call_fails.complete_post n h) e =
-    let dn = next_free n in stuck_shift dn.taken dn.parts (stuck_by (next_stuck h e) (λ z same y. call_fails.complete_post (dn.again z) y))
+    let dn = next_free refl n in stuck_shift dn (stuck_by (next_stuck h e) (λ z same y. call_fails.complete_post (dn.again z) y))
 
 atom_stuck : {i : Input} {f : SyntaxFault} → AtomFails i f → is_of_token f.kind ≡ true → Stuck AtomFails i f
 atom_stuck (bad.no_atom {i = i} b n u) e = stuck_at i (unknown_at u) (λ z same.
@@ -321,72 +325,72 @@ leading_stuck (bad.no_leading {i = i} b n u) e = stuck_at i (refused_at u) (λ z
 expression_stuck : {i : Input} {f : SyntaxFault} → ExpressionFails i f → is_of_token f.kind ≡ true → Stuck (ExpressionFails) i f
 expression_stuck (bad.first l) e = stuck_by (leading_stuck l e) (λ z same q. bad.first q)
 expression_stuck (bad.sum p n h) e =
-    let dp = atom_free p in let dn = next_free n in stuck_shift dp.taken dp.parts (stuck_shift dn.taken dn.parts (stuck_by (atom_stuck h e)
+    let dp = atom_free p in let dn = next_free refl n in stuck_shift dp (stuck_shift dn (stuck_by (atom_stuck h e)
     (λ z same y. bad.sum (dp.again (dn.taken ++ z)) (dn.again z) y)))
 expression_stuck (bad.difference p n h) e =
-    let dp = atom_free p in let dn = next_free n in stuck_shift dp.taken dp.parts (stuck_shift dn.taken dn.parts (stuck_by (atom_stuck h e)
+    let dp = atom_free p in let dn = next_free refl n in stuck_shift dp (stuck_shift dn (stuck_by (atom_stuck h e)
     (λ z same y. bad.difference (dp.again (dn.taken ++ z)) (dn.again z) y)))
 
 action_stuck : {i : Input} {f : SyntaxFault} → ActionFails i f → is_of_token f.kind ≡ true → Stuck (ActionFails) i f
 action_stuck (bad.number_expression {b = b} p m v w h) e =
-    let dp = meant_free p in let dm = next_free m in
-    stuck_shift dp.taken dp.parts (stuck_shift dm.taken dm.parts (stuck_by (expression_stuck h e) (λ z same y.
+    let dp = meant_free (refl, refl, refl) p in let dm = next_free refl m in
+    stuck_shift dp (stuck_shift dm (stuck_by (expression_stuck h e) (λ z same y.
     bad.number_expression (dp.again (dm.taken ++ z)) (dm.again z) (other_kind k.Value b z v same) (other_kind k.File b z w same) y)))
 action_stuck (bad.number_assign p h) e =
-    let dp = meant_free p in stuck_shift dp.taken dp.parts (stuck_by (next_stuck h e) (λ z same y. bad.number_assign (dp.again z) y))
+    let dp = meant_free (refl, refl, refl) p in stuck_shift dp (stuck_by (next_stuck h e) (λ z same y. bad.number_assign (dp.again z) y))
 action_stuck (bad.number_value p m w h) e =
-    let dp = meant_free p in let dm = next_free m in let dw = next_free w in
-    stuck_shift dp.taken dp.parts (stuck_shift dm.taken dm.parts (stuck_shift dw.taken dw.parts (stuck_by (known_stuck h e)
+    let dp = meant_free (refl, refl, refl) p in let dm = next_free refl m in let dw = next_free refl w in
+    stuck_shift dp (stuck_shift dm (stuck_shift dw (stuck_by (known_stuck h e)
     (λ z same y. bad.number_value (dp.again (dm.taken ++ (dw.taken ++ z))) (dm.again (dw.taken ++ z)) (dw.again z) y))))
 action_stuck (bad.number_file p m w h) e =
-    let dp = meant_free p in let dm = next_free m in let dw = next_free w in
-    stuck_shift dp.taken dp.parts (stuck_shift dm.taken dm.parts (stuck_shift dw.taken dw.parts (stuck_by (known_stuck h e)
+    let dp = meant_free (refl, refl, refl) p in let dm = next_free refl m in let dw = next_free refl w in
+    stuck_shift dp (stuck_shift dm (stuck_shift dw (stuck_by (known_stuck h e)
     (λ z same y. bad.number_file (dp.again (dm.taken ++ (dw.taken ++ z))) (dm.again (dw.taken ++ z)) (dw.again z) y))))
 action_stuck (bad.value_context n h) e =
-    let dn = next_free n in stuck_shift dn.taken dn.parts (stuck_by (known_stuck h e) (λ z same y. bad.value_context (dn.again z) y))
+    let dn = next_free refl n in stuck_shift dn (stuck_by (known_stuck h e) (λ z same y. bad.value_context (dn.again z) y))
 action_stuck (bad.value_assign n p h) e =
-    let dn = next_free n in let dp = meant_free p in stuck_shift dn.taken dn.parts (stuck_shift dp.taken dp.parts (stuck_by
+    let dn = next_free refl n in let dp = meant_free (refl, refl, refl) p in stuck_shift dn (stuck_shift dp (stuck_by
     (next_stuck h e) (λ z same y. bad.value_assign (dn.again (dp.taken ++ z)) (dp.again z) y)))
 action_stuck (bad.value_atom n p m h) e =
-    let dn = next_free n in let dp = meant_free p in let dm = next_free m in
-    stuck_shift dn.taken dn.parts (stuck_shift dp.taken dp.parts (stuck_shift dm.taken dm.parts (stuck_by (atom_stuck h e)
+    let dn = next_free refl n in let dp = meant_free (refl, refl, refl) p in let dm = next_free refl m in
+    stuck_shift dn (stuck_shift dp (stuck_shift dm (stuck_by (atom_stuck h e)
     (λ z same y. bad.value_atom (dn.again (dp.taken ++ (dm.taken ++ z))) (dp.again (dm.taken ++ z)) (dm.again z) y))))
 action_stuck (bad.context_assign p h) e =
-    let dp = meant_free p in stuck_shift dp.taken dp.parts (stuck_by (next_stuck h e) (λ z same y. bad.context_assign (dp.again z) y))
+    let dp = meant_free (refl, refl, refl) p in stuck_shift dp (stuck_by (next_stuck h e) (λ z same y. bad.context_assign (dp.again z) y))
 action_stuck (bad.context_null p m h) e =
-    let dp = meant_free p in let dm = next_free m in stuck_shift dp.taken dp.parts (stuck_shift dm.taken dm.parts (stuck_by
+    let dp = meant_free (refl, refl, refl) p in let dm = next_free refl m in stuck_shift dp (stuck_shift dm (stuck_by
     (next_stuck h e) (λ z same y. bad.context_null (dp.again (dm.taken ++ z)) (dm.again z) y)))
 action_stuck (bad.operation_assign p h) e =
-    let dp = meant_free p in stuck_shift dp.taken dp.parts (stuck_by (next_stuck h e) (λ z same y. bad.operation_assign (dp.again z) y))
+    let dp = meant_free (refl, refl, refl) p in stuck_shift dp (stuck_by (next_stuck h e) (λ z same y. bad.operation_assign (dp.again z) y))
 action_stuck (bad.operation_null p m h) e =
-    let dp = meant_free p in let dm = next_free m in stuck_shift dp.taken dp.parts (stuck_shift dm.taken dm.parts (stuck_by
+    let dp = meant_free (refl, refl, refl) p in let dm = next_free refl m in stuck_shift dp (stuck_shift dm (stuck_by
     (next_stuck h e) (λ z same y. bad.operation_null (dp.again (dm.taken ++ z)) (dm.again z) y)))
 
 condition_stuck : {scope : Scope} {i : Input} {f : SyntaxFault} → ConditionFails scope i f → is_of_token f.kind ≡ true →
     Stuck (ConditionFails scope) i f
 condition_stuck (bad.comparison {a = a} p q l r) e =
-    let dp = meant_free p in
-    stuck_shift dp.taken dp.parts (stuck_at a (refused_at r) (λ z same.
+    let dp = meant_free (refl, refl, refl) p in
+    stuck_shift dp (stuck_at a (refused_at r) (λ z same.
     bad.comparison (dp.again z) (other_kind k.Equal a z q same) (other_kind k.Less a z l same) (refused_again r z same)))
 condition_stuck (bad.call {i = i} b h) e = stuck_by (fallible_stuck h e) (λ z same q. bad.call (next_is begins_test i z b same) q)
 condition_stuck (bad.context_unlike p h) e =
-    let dp = meant_free p in stuck_shift dp.taken dp.parts (stuck_by (next_stuck h e) (λ z same y. bad.context_unlike (dp.again z) y))
+    let dp = meant_free (refl, refl, refl) p in stuck_shift dp (stuck_by (next_stuck h e) (λ z same y. bad.context_unlike (dp.again z) y))
 condition_stuck (bad.context_unlike_null p m h) e =
-    let dp = meant_free p in let dm = next_free m in stuck_shift dp.taken dp.parts (stuck_shift dm.taken dm.parts (stuck_by
+    let dp = meant_free (refl, refl, refl) p in let dm = next_free refl m in stuck_shift dp (stuck_shift dm (stuck_by
     (next_stuck h e) (λ z same y. bad.context_unlike_null (dp.again (dm.taken ++ z)) (dm.again z) y)))
 condition_stuck (bad.operation_unlike p h) e =
-    let dp = meant_free p in stuck_shift dp.taken dp.parts (stuck_by (next_stuck h e) (λ z same y. bad.operation_unlike (dp.again z) y))
+    let dp = meant_free (refl, refl, refl) p in stuck_shift dp (stuck_by (next_stuck h e) (λ z same y. bad.operation_unlike (dp.again z) y))
 condition_stuck (bad.operation_unlike_null p m h) e =
-    let dp = meant_free p in let dm = next_free m in stuck_shift dp.taken dp.parts (stuck_shift dm.taken dm.parts (stuck_by
+    let dp = meant_free (refl, refl, refl) p in let dm = next_free refl m in stuck_shift dp (stuck_shift dm (stuck_by
     (next_stuck h e) (λ z same y. bad.operation_unlike_null (dp.again (dm.taken ++ z)) (dm.again z) y)))
 condition_stuck (bad.equal_atom p m h) e =
-    let dp = meant_free p in let dm = next_free m in stuck_shift dp.taken dp.parts (stuck_shift dm.taken dm.parts (stuck_by
+    let dp = meant_free (refl, refl, refl) p in let dm = next_free refl m in stuck_shift dp (stuck_shift dm (stuck_by
     (atom_stuck h e) (λ z same y. bad.equal_atom (dp.again (dm.taken ++ z)) (dm.again z) y)))
 condition_stuck (bad.less_atom p m h) e =
-    let dp = meant_free p in let dm = next_free m in stuck_shift dp.taken dp.parts (stuck_shift dm.taken dm.parts (stuck_by
+    let dp = meant_free (refl, refl, refl) p in let dm = next_free refl m in stuck_shift dp (stuck_shift dm (stuck_by
     (atom_stuck h e) (λ z same y. bad.less_atom (dp.again (dm.taken ++ z)) (dm.again z) y)))
 condition_stuck (bad.irp_data n h) e =
-    let dn = next_free n in stuck_shift dn.taken dn.parts (stuck_by (next_stuck h e) (λ z same y. bad.irp_data (dn.again z) y))
+    let dn = next_free refl n in stuck_shift dn (stuck_by (next_stuck h e) (λ z same y. bad.irp_data (dn.again z) y))
 
 mutual
   statement_stuck : {scope : Scope} {d r : ℕ} {i : Input} {f : SyntaxFault} → StatementFails scope d r i f → is_of_token f.kind ≡ true →
@@ -395,39 +399,39 @@ mutual
   statement_stuck (statement_fails.call {i = i} b h) e =
       stuck_by (plain_stuck h e) (λ z same q. statement_fails.call (next_is begins_other i z b same) q)
   statement_stuck (statement_fails.return n h) e =
-      let dn = next_free n in stuck_shift dn.taken dn.parts (stuck_by (optional_status_stuck h e)
+      let dn = next_free refl n in stuck_shift dn (stuck_by (optional_status_stuck h e)
       (λ z same y. statement_fails.return (dn.again z) y))
   statement_stuck (statement_fails.choice_test n h) e =
-      let dn = next_free n in stuck_shift dn.taken dn.parts (stuck_by (condition_stuck h e)
+      let dn = next_free refl n in stuck_shift dn (stuck_by (condition_stuck h e)
       (λ z same y. statement_fails.choice_test (dn.again z) y))
   statement_stuck (statement_fails.choice_granted n p v h) e =
-      let dn = next_free n in let dp = condition_free p in
-      stuck_shift dn.taken dn.parts (stuck_shift dp.taken dp.parts (stuck_by (block_stuck h e) (λ z same y.
+      let dn = next_free refl n in let dp = condition_free p in
+      stuck_shift dn (stuck_shift dp (stuck_by (block_stuck h e) (λ z same y.
       statement_fails.choice_granted (dn.again (dp.taken ++ z)) (dp.again z).0 ((dp.again z).1 v same) y)))
   statement_stuck (statement_fails.choice_refused n p q h) e =
-      let dn = next_free n in let dp = condition_free p in let dq = block_free q in
-      stuck_shift dn.taken dn.parts (stuck_shift dp.taken dp.parts (stuck_shift dq.taken dq.parts (stuck_by (else_stuck h e)
+      let dn = next_free refl n in let dp = condition_free p in let dq = block_free q in
+      stuck_shift dn (stuck_shift dp (stuck_shift dq (stuck_by (else_stuck h e)
       (λ z same y. statement_fails.choice_refused (dn.again (dp.taken ++ (dq.taken ++ z))) (dp.again (dq.taken ++ z)).0 (dq.again z) y))))
   statement_stuck (statement_fails.repeat_nested n) e = elim (not_six e) [ ]
   statement_stuck (statement_fails.repeat_number n h) e =
-      let dn = next_free n in stuck_shift dn.taken dn.parts (stuck_by (number_stuck h e)
+      let dn = next_free refl n in stuck_shift dn (stuck_by (number_stuck h e)
       (λ z same y. statement_fails.repeat_number (dn.again z) y))
   statement_stuck (statement_fails.repeat_body n p l h) e =
-      let dn = next_free n in let dp = number_free p in
-      stuck_shift dn.taken dn.parts (stuck_shift dp.taken dp.parts (stuck_by (block_stuck h e) (λ z same y.
+      let dn = next_free refl n in let dp = number_free p in
+      stuck_shift dn (stuck_shift dp (stuck_by (block_stuck h e) (λ z same y.
       statement_fails.repeat_body (dn.again (dp.taken ++ z)) (dp.again z) l y)))
 
   else_stuck : {scope : Scope} {d r : ℕ} {i : Input} {f : SyntaxFault} → ElseFails scope d r i f → is_of_token f.kind ≡ true →
       Stuck (ElseFails scope d r) i f
   else_stuck (statement_fails.behind n h) e =
-      let dn = next_free n in stuck_shift dn.taken dn.parts (stuck_by (block_stuck h e) (λ z same y. statement_fails.behind (dn.again z) y))
+      let dn = next_free refl n in stuck_shift dn (stuck_by (block_stuck h e) (λ z same y. statement_fails.behind (dn.again z) y))
 
   block_stuck : {scope : Scope} {d r : ℕ} {i : Input} {f : SyntaxFault} → BlockFails scope d r i f → is_of_token f.kind ≡ true →
       Stuck (BlockFails scope d r) i f
   block_stuck (statement_fails.no_brace h) e = stuck_by (next_stuck h e) (λ z same q. statement_fails.no_brace q)
   block_stuck (statement_fails.too_deep n) e = elim (not_six e) [ ]
   block_stuck (statement_fails.body n h) e =
-      let dn = next_free n in stuck_shift dn.taken dn.parts (stuck_by (statements_stuck h e)
+      let dn = next_free refl n in stuck_shift dn (stuck_by (statements_stuck h e)
       (λ z same y. statement_fails.body (dn.again z) y))
 
   -- { stmt } "}"
@@ -438,5 +442,5 @@ mutual
       stuck_by (statement_stuck h e) (λ z same q. statement_fails.here (other_kind k.CloseBrace i z n same) q)
   statements_stuck (statement_fails.later p v h) e =
       let dp = statement_free p in
-      stuck_shift dp.taken dp.parts (stuck_by (statements_stuck h e) (λ z same y. statement_fails.later (dp.again z).0
+      stuck_shift dp (stuck_by (statements_stuck h e) (λ z same y. statement_fails.later (dp.again z).0
       ((dp.again z).1 v same) y))

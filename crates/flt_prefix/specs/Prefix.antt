@@ -5,7 +5,7 @@ use Rattle.flt_syntax.specs.FileFails.{CallbacksFails, FileFails}
 use Rattle.flt_syntax.specs.TextFails.{Reads, Fails}
 use Rattle.flt_syntax.specs.CallGrammar.{PlainAt}
 use Rattle.flt_syntax.specs.FirstWords.{has_blocks}
-use Rattle.flt_syntax.specs.Cursor.{Input, front, kind, fault_at}
+use Rattle.flt_syntax.specs.Cursor.{Input, front, kind, fault, fault_at}
 use Rattle.flt_syntax.specs.Grammar.{StatementAt, StatementsAt, HeadAt, LocksAt, QueueAt}
 use Rattle.flt_syntax.specs.Lex.{tokens}
 use Rattle.flt_syntax.specs.Scope.{Scope}
@@ -119,6 +119,21 @@ FileBegins = (text : Text) (i : Input) (f : SyntaxFault) → FileFails text i f 
 abbrev pub FileBeginsInTexts : Type 0
 FileBeginsInTexts =
     (text : Text) (f : SyntaxFault) → Fails text f → f.kind ≡ E03 → AsksNoLock (tokens text) f → BeginsFile text (tokens text) f
+
+-- ---- both at one place
+
+-- The fault is at a token. The tokens before it begin a file, unless it stands behind the word of a lock's call; with it they begin none.
+pub record Cuts (text : Text) (i : Input) (f : SyntaxFault) : Type 0 where
+  pub before : Input
+  pub token : Token
+  pub rest : Input
+  pub parts : i ≡ before ++ token ∷ rest
+  pub place : f ≡ fault E03 token.position
+  pub none : (z : Input) (filter : Filter) → Reads text (before ++ token ∷ z) filter → ⊥
+  pub begins : AsksNoLock i f → (finish : Input) × AnyFileAt text (before ++ finish)
+
+abbrev pub ViablePrefix : Type 0
+ViablePrefix = (text : Text) (f : SyntaxFault) → Fails text f → f.kind ≡ E03 → Cuts text (tokens text) f
 
 -- ---- the two exceptions
 

@@ -1,6 +1,6 @@
 //! The two halves of the law of the viable prefix, with its exceptions, and the law of the first place.
 
-ghost use Rattle.flt_prefix.specs.Prefix.{NothingGoesOn, NothingGoesOnInTexts, CallbacksBegin, FileBegins, FileBeginsInTexts, NoLockCall, NoBlock};
+ghost use Rattle.flt_prefix.specs.Prefix.{NothingGoesOn, NothingGoesOnInTexts, CallbacksBegin, FileBegins, FileBeginsInTexts, ViablePrefix, NoLockCall, NoBlock};
 ghost use Rattle.flt_prefix.specs.Shown.{FirstInTheText};
 
 use flt_syntax::fails_exactly_where_nothing_is_spelled;
@@ -22,6 +22,14 @@ pub fn something_begins_before_e03()
     ensures files { FileBegins }
     ensures texts { FileBeginsInTexts }
 {}
+
+/// Both at one place of a text: its fault E03 is at a token, before which the tokens begin a file and with which they begin none. The
+/// first half has the exceptions of the law before. It does nothing: its clause is the law.
+pub fn an_e03_ends_a_viable_prefix()
+    ensures { ViablePrefix }
+{
+    fails_exactly_where_nothing_is_spelled();
+}
 
 /// Why there are exceptions. Where no lock is declared, no call begins with the word of a lock's call; and where no block may stand,
 /// no statement begins with `if` or `repeat`. It does nothing: its clauses are the law.

@@ -5,6 +5,6 @@
 mod laws;
 
 pub use laws::{
-    nothing_begins_at_the_exceptions, nothing_goes_on_from_the_token, something_begins_before_e03,
-    the_fault_is_the_first_in_the_text,
+    an_e03_ends_a_viable_prefix, nothing_begins_at_the_exceptions, nothing_goes_on_from_the_token,
+    something_begins_before_e03, the_fault_is_the_first_in_the_text,
 };
