@@ -1,11 +1,12 @@
-//! A cancellation, a teardown or a refusal at each moment of runs that turns make. How many entries a run has follows by hand.
+//! A cancellation, a teardown or a refusal at each moment of runs that turns make. How many entries a run has follows by hand. A move or a
+//! turn that is refused memory changes nothing, and goes when it is made again.
 
-use crate::scene::{Scene, finding};
+use crate::scene::{Look, Scene, finding};
 use crate::texts;
 use flt_machine::ApplyFault;
 use flt_model::{JournalEntry, Move, Subject};
 use flt_rules::{Mode, Operation};
-use flt_run::Choices;
+use flt_run::{Choices, TurnFault};
 use std::alloc::{AllocError, Global};
 use std::collections::VecDeque;
 use std::test::Fail;
@@ -137,6 +138,12 @@ static CASES: [Case; 4] = [
 /// How many turns a run has at most.
 const TURNS: usize = 100;
 
+/// How many subjects are looked at.
+const SUBJECTS: usize = 5;
+
+/// How many subjects a move gives tickets at most.
+const MOST_NAMED: usize = 2;
+
 /// What a run goes by.
 #[derive(Drop)]
 struct Player {
@@ -144,6 +151,18 @@ struct Player {
     choices: Choices,
     /// How many of the operations have arrived.
     arrived: usize,
+    /// Whether memory was refused.
+    refused: bool,
+    /// Whether a call that was refused memory changed something.
+    changed: bool,
+}
+
+/// What a board and a player show.
+#[derive(Clone, Copy, PartialEq)]
+struct Shown {
+    board: Look,
+    subjects: [Option<Subject>; SUBJECTS],
+    choices: u64,
 }
 
 impl Player {
@@ -152,16 +171,62 @@ impl Player {
             subjects: VecDeque::new(alloc),
             choices: Choices::new(alloc),
             arrived: 0,
+            refused: false,
+            changed: false,
         }
     }
 
-    /// Makes a move. What gets a ticket by it comes behind the others.
+    fn shown(&self, scene: &Scene) -> Shown {
+        let mut subjects = [None; SUBJECTS];
+        for at in 0..SUBJECTS {
+            subjects[at] = self.subjects.get(at).copied();
+        }
+        Shown {
+            board: scene.look(),
+            subjects,
+            choices: self.choices.made,
+        }
+    }
+
+    /// A call was refused memory.
+    fn note_refusal(&mut self, scene: &Scene, before: Shown) {
+        self.refused = true;
+        self.changed = self.changed || self.shown(scene) != before;
+    }
+
+    /// Makes a move. What gets a ticket by it comes behind the others. A move that is refused changes nothing.
     fn make(&mut self, scene: &mut Scene, alloc: Global, step: Move) -> Result<(), ApplyFault> {
+        self.subjects.reserve(MOST_NAMED)?;
         let next = scene.tickets_of_move(alloc, step)?;
         for subject in next.as_slice() {
             self.subjects.push_back(*subject).map_err(AllocError::from)?;
         }
         Ok(())
+    }
+
+    /// The same. Where memory is refused, the move is made once more.
+    fn make_or_again(
+        &mut self,
+        scene: &mut Scene,
+        alloc: Global,
+        step: Move,
+    ) -> Result<(), ApplyFault> {
+        let before = self.shown(scene);
+        match self.make(scene, alloc, step) {
+            Err(ApplyFault::OutOfMemory) => self.note_refusal(scene, before),
+            made => return made,
+        }
+        self.make(scene, alloc, step)
+    }
+
+    /// Takes a turn. Where memory is refused, it is taken once more.
+    fn turn_or_again(&mut self, scene: &mut Scene, alloc: Global) -> Result<bool, TurnFault> {
+        let before = self.shown(scene);
+        match scene.turn(alloc, &mut self.subjects, &mut self.choices) {
+            Err(TurnFault::OutOfMemory) => self.note_refusal(scene, before),
+            taken => return taken,
+        }
+        scene.turn(alloc, &mut self.subjects, &mut self.choices)
     }
 
     /// Takes a turn, or lets the next operation arrive. It answers false where nothing is left.
@@ -171,7 +236,7 @@ impl Player {
         alloc: Global,
         arrivals: &[Operation],
     ) -> Result<bool, Fail> {
-        if scene.turn(alloc, &mut self.subjects, &mut self.choices)? {
+        if self.turn_or_again(scene, alloc)? {
             return Ok(true);
         }
         let Some(operation) = arrivals.get(self.arrived) else {
@@ -183,7 +248,7 @@ impl Player {
             mode: Mode::Irp,
             file: 0,
         };
-        self.make(scene, alloc, arrive)?;
+        self.make_or_again(scene, alloc, arrive)?;
         Ok(true)
     }
 
@@ -208,7 +273,7 @@ impl Player {
 
     /// Makes a move, if it is enabled: whether it is.
     fn tries(&mut self, scene: &mut Scene, alloc: Global, step: Move) -> Result<bool, ApplyFault> {
-        match self.make(scene, alloc, step) {
+        match self.make_or_again(scene, alloc, step) {
             Err(ApplyFault::NotEnabled) => Ok(false),
             made => made.map(|()| true),
         }
@@ -220,6 +285,14 @@ impl Player {
             self.goes_to(scene, alloc, case.arrivals, usize::MAX)?
                 && finding(alloc, case.texts, scene.board().journal())?.is_none(),
         )
+    }
+
+    /// Whether all was as it should be. That memory was refused is carried out where it was.
+    fn result(&self, fine: bool) -> Result<bool, ApplyFault> {
+        if self.refused && fine && !self.changed {
+            return Err(ApplyFault::OutOfMemory);
+        }
+        Ok(fine && !self.changed)
     }
 }
 
@@ -260,8 +333,12 @@ enum Wish {
 }
 
 /// Whether a run on a board goes as the case says where nothing is asked for.
-fn goes_alone(scene: &mut Scene, alloc: Global, case: &Case) -> Result<bool, Fail> {
-    let mut player = Player::new(alloc);
+fn goes_alone(
+    scene: &mut Scene,
+    player: &mut Player,
+    alloc: Global,
+    case: &Case,
+) -> Result<bool, Fail> {
     Ok(
         player.ends(scene, alloc, case)?
             && scene.board().journal().len() == case.entries
@@ -272,11 +349,11 @@ fn goes_alone(scene: &mut Scene, alloc: Global, case: &Case) -> Result<bool, Fai
 /// The same where a grant choice is refused: the journal says so, once.
 fn goes_refused(
     scene: &mut Scene,
+    player: &mut Player,
     alloc: Global,
     case: &Case,
     number: usize,
 ) -> Result<bool, Fail> {
-    let mut player = Player::new(alloc);
     player.choices.refused.insert(number as u64)?;
     let fine = player.ends(scene, alloc, case)?;
     let entries = scene.board().journal().entries();
@@ -286,12 +363,12 @@ fn goes_refused(
 /// The same where a move is asked for at a moment. A move that isn't enabled changes nothing.
 fn goes_moved(
     scene: &mut Scene,
+    player: &mut Player,
     alloc: Global,
     case: &Case,
     asked: &Asked,
     moment: usize,
 ) -> Result<bool, Fail> {
-    let mut player = Player::new(alloc);
     player.goes_to(scene, alloc, case.arrivals, moment)?;
     let made = player.tries(scene, alloc, asked.step)?;
     let fine = player.ends(scene, alloc, case)?;
@@ -304,15 +381,28 @@ fn goes_moved(
 }
 
 /// Whether a run on a board goes as the case says.
-fn goes_so(scene: &mut Scene, alloc: Global, case: &Case, wish: Wish) -> Result<bool, Fail> {
+fn goes_by(
+    scene: &mut Scene,
+    player: &mut Player,
+    alloc: Global,
+    case: &Case,
+    wish: Wish,
+) -> Result<bool, Fail> {
     match wish {
-        Wish::Nothing => goes_alone(scene, alloc, case),
-        Wish::Refusal(number) => goes_refused(scene, alloc, case, number),
+        Wish::Nothing => goes_alone(scene, player, alloc, case),
+        Wish::Refusal(number) => goes_refused(scene, player, alloc, case, number),
         Wish::Move(row, moment) => match case.asked.get(row) {
-            Some(asked) => goes_moved(scene, alloc, case, asked, moment),
+            Some(asked) => goes_moved(scene, player, alloc, case, asked, moment),
             None => Ok(false),
         },
     }
+}
+
+/// The same of a new player.
+fn goes_so(scene: &mut Scene, alloc: Global, case: &Case, wish: Wish) -> Result<bool, Fail> {
+    let mut player = Player::new(alloc);
+    let fine = goes_by(scene, &mut player, alloc, case, wish)?;
+    Ok(player.result(fine)?)
 }
 
 /// The same of a new board.
@@ -376,15 +466,9 @@ fn first_wrong(alloc: Global, cases: &[Case]) -> Result<Option<(usize, Option<us
     Ok(None)
 }
 
-#[test]
-fn each_moment_comes_to_a_legal_run(rt: HostRuntime) -> Result<(), Fail> {
-    assert!(rt; first_wrong(rt.alloc(), &CASES)?.is_none());
-    Ok(())
-}
-
 /// `tools/refuse-allocations.sh tests flt_machine_tests memory` refuses each request for memory in turn.
 #[test]
-fn turns_are_taken_within_memory(rt: HostRuntime) -> Result<(), Fail> {
-    assert!(rt; plays_so(rt.alloc(), &CASES[2], Wish::Move(2, 8))?);
+fn each_moment_comes_to_a_legal_run_within_memory(rt: HostRuntime) -> Result<(), Fail> {
+    assert!(rt; first_wrong(rt.alloc(), &CASES)?.is_none());
     Ok(())
 }
