@@ -50,6 +50,8 @@ pub(crate) struct Ended {
 #[derive(Drop)]
 pub(crate) struct Told {
     pub(crate) answers: Vec<Answer>,
+    /// Whether a step was refused memory, and was taken once more.
+    pub(crate) refused: bool,
     pub(crate) ended: Ended,
 }
 
@@ -68,6 +70,7 @@ struct Fixture<N: StackName> {
     worker: WorkerSeat<N>,
     callers: Vec<CallerSeat<N>>,
     workers: Vec<WorkerSeat<N>>,
+    refused: bool,
     ghost of_caller: { IsCallerOf stack.exchange caller.place },
     ghost of_worker: { IsWorkerOf stack.exchange worker.place },
 }
@@ -132,6 +135,7 @@ impl<N: StackName> Fixture<N> {
             worker,
             callers,
             workers,
+            refused: false,
         }
     }
 
@@ -182,6 +186,7 @@ impl<N: StackName> Fixture<N> {
         if let Ok(answer) = self.step(rt, alloc, step) {
             return answer;
         }
+        self.refused = true;
         match self.step(rt, alloc, step) {
             Ok(answer) => answer,
             Err(_) => Answer::Refused,
@@ -196,6 +201,7 @@ impl<N: StackName> Fixture<N> {
             worker,
             mut callers,
             mut workers,
+            refused: _,
         } = self;
         let _ = callers.push(caller);
         let _ = workers.push(worker);
@@ -239,8 +245,10 @@ fn taken<N: StackName, R: Wait>(
     for step in steps {
         let _ = answers.push(fixture.step_or_again(rt, alloc, *step));
     }
+    let refused = fixture.refused;
     Ok(Told {
         answers,
+        refused,
         ended: fixture.end(),
     })
 }

@@ -6,12 +6,23 @@ use flt_replay::replay;
 use std::alloc::Global;
 use std::test::Fail;
 
-/// Whether a journal has these entries.
-pub(crate) fn has_entries(alloc: Global, journal: &Journal, entries: &str) -> Result<bool, Fail> {
+/// The journal of these entries.
+fn journal_of(alloc: Global, entries: &str) -> Result<Journal, Fail> {
     let text = format!(in alloc; "fltjournal 1\n{entries}end\n")?;
     let mut bytes = text.as_bytes();
-    let wanted = read(alloc, &mut bytes)?;
+    Ok(read(alloc, &mut bytes)?)
+}
+
+/// Whether a journal has these entries.
+pub(crate) fn has_entries(alloc: Global, journal: &Journal, entries: &str) -> Result<bool, Fail> {
+    let wanted = journal_of(alloc, entries)?;
     Ok(journal.entries() == wanted.entries())
+}
+
+/// Whether a journal has as many entries as these.
+pub(crate) fn has_as_many(alloc: Global, journal: &Journal, entries: &str) -> Result<bool, Fail> {
+    let wanted = journal_of(alloc, entries)?;
+    Ok(journal.len() == wanted.len())
 }
 
 /// Whether a journal of filters is a run of the machine that breaks nothing.
