@@ -11,12 +11,13 @@
 #       does so to the program on its stored run and on runs of each command on files of examples/, and to all tests that have
 #       `memory` in their names, side by side. Tests are there for what no command reaches.
 #
-# A refused request may also change nothing: `collect` of the standard library first asks for as much as its iterator may need, and
-# where that is refused, for less. Then the program must end as with all memory, and the test must pass; these are counted.
+# A refused request of which nothing comes is a wrong answer too, save where one of a few functions of the library was asking, whose names
+# stand below. Then the program must end as with all memory, and the test must pass; these are counted.
 #
-# It runs what `rt run` and `rt test` built, with a C compiler's help ($CC, else cc): malloc and realloc of
-# tools/refuse_allocation.c stand before those of the C library. The same without a C compiler, but with a build for each
-# request: `rt try --fail-alloc N` and `rt try --test --fail-alloc N`.
+# It runs what `rt run` and `rt test` built, with the help of a C compiler ($CC, else cc) and of addr2line, which comes with it: malloc and
+# realloc of tools/refuse_allocation.c stand before those of the C library. A program is run once for each request. A test is run once,
+# and each request is refused in a copy of its process, so it must have one thread. The same without a C compiler, but with a build for
+# each request: `rt try --fail-alloc N` and `rt try --test --fail-alloc N`.
 set -euo pipefail
 
 top=$(cd "$(dirname "$0")/.." && pwd)
@@ -26,6 +27,12 @@ trap 'rm -rf "$work"' EXIT
 
 # The most requests that one run may make before this gives up.
 most=100000
+
+# The functions of the library that do with less, or without, where memory is refused. `collect` first asks for as much as its iterator may
+# need, and where that is refused, for less.
+do_with_less=(
+    strsim::chars_of
+)
 
 fail() {
     echo "$1" >&2
@@ -48,6 +55,16 @@ ended_as_wanted() {
     [ "$status" = "$1" ] && cmp -s "$work/out" "$work/wanted-out" && cmp -s "$work/err" "$work/wanted-err"
 }
 
+# does_with_less PROGRAM PLACES: whether a function of the list was asking at these places of the program, the innermost first.
+does_with_less() {
+    local each
+    asking=$(xargs -r addr2line -f -e "$1" <<<"$2" | sed -n 'p;n' | grep -vxE -m 1 'rattle_(re)?alloc' || echo "an unknown place")
+    for each in "${do_with_less[@]}"; do
+        [ "${asking%%::<*}" != "$each" ] || return 0
+    done
+    return 1
+}
+
 # said_of NUMBER: of how many refusals nothing came.
 said_of() {
     [ "$1" = 0 ] || echo " but $1, of which nothing came"
@@ -68,6 +85,7 @@ try_program() {
             echo "fltstack $*: $((number - 1)) requests refused in turn: out of memory each time$(said_of "$spared"), else status $wanted"
             return
         elif ended_as_wanted "$wanted"; then
+            does_with_less "$program" "$(cat "$work/mark")" || fail "request $number refused in $asking: nothing came of it"
             spared=$((spared + 1))
         else
             [ "$status" = 2 ] && [ ! -s "$work/out" ] && [ "$(cat "$work/err")" = "out of memory" ] ||
@@ -78,21 +96,19 @@ try_program() {
 }
 
 try_test() {
-    local program=$1 name=$2 spared=0
-    for ((number = 1; number <= most; number++)); do
-        run "$number" "$program" "$name"
-        if [ ! -e "$work/mark" ]; then
-            [ "$status" = 0 ] || fail "$name, no request refused: status $status"
-            echo "$name: $((number - 1)) requests refused in turn$(said_of "$spared")"
-            return
-        elif [ "$status" = 0 ]; then
-            spared=$((spared + 1))
-        else
-            [ "$status" = 101 ] && grep -qE '^error: (OutOfMemory|AllocError|AllocFailed)' "$work/err" ||
-                fail "$name, request $number refused: status $status, and not running out of memory"
-        fi
-    done
-    fail "$name: $most requests were refused, and there are more"
+    local program=$1 name=$2 spared=0 status=0 number ended places said
+    rm -rf "$work/copies"
+    mkdir "$work/copies"
+    REFUSE_EACH=$work/copies LD_PRELOAD="$work/refuse.so" "$program" "$name" <"$work/in" >"$work/out" 2>"$work/err" || status=$?
+    [ "$status" = 0 ] || fail "$name, no request refused: status $status"
+    # All but those that were carried out.
+    while read -r number ended places; do
+        said=${places#*: } places=${places%%: *}
+        [ "$ended" = 0 ] || fail "$name, request $number refused: status $ended, and not running out of memory: $said"
+        does_with_less "$program" "$places" || fail "$name, request $number refused in $asking: nothing came of it"
+        spared=$((spared + 1))
+    done < <(grep -vE '^[0-9]+ 101 [0-9a-f ]*: error: (OutOfMemory|AllocError|AllocFailed)' "$work/copies/log")
+    echo "$name: $(wc -l <"$work/copies/log") requests refused in turn$(said_of "$spared")"
 }
 
 try_tests() {
