@@ -2,9 +2,13 @@
 ghost use Rattle.std.specs.Prelude.{◌≡◌, ◌+◌, ◌<◌, ◌≤◌, All};
 ghost use Rattle.flt_workers.specs.Places.{IsCallerOf, IsFreshCaller, IsFreshWorker, IsWorkerOf};
 
-use crate::filters::{Filter, PASSES_ALONE, PENDS_ALONE, STREAMS_ALONE, loaded};
+use crate::dice::Dice;
+use crate::filters::{
+    DEFERS, DRAINED, Filter, HIGH, LOW, PASSES_ALONE, PENDS, PENDS_ALONE, SHARES, STREAMS_ALONE,
+    WORKS, loaded,
+};
 use crate::fixture::{Ended, finished};
-use crate::journals::{is_legal, tally_of};
+use crate::journals::{Tally, is_legal, tally_of};
 use flt_core::{CallerEntries, Fulls, Locked, OtherEntries};
 use flt_rules::{Mode, Operation};
 use flt_running::sharing::{loaded_is_shared, sent, shared};
@@ -31,6 +35,10 @@ struct Plan {
     cancels: bool,
     /// Whether the first two workers wait for one another, once all callers have gone.
     meets: bool,
+    /// Where it isn't 0, what each caller asks for and where workers pause comes of it.
+    seed: u64,
+    /// The altitudes of the filters that are detached then, each by a caller of its own.
+    detaches: &'static [u32],
 }
 
 /// How far the threads have come.
@@ -39,6 +47,9 @@ struct Course {
     plan: Plan,
     came: AtomicU64,
     gone: AtomicU64,
+    /// How many reads were to arrive, and how many filters to be detached.
+    arrivals: AtomicU64,
+    detaches: AtomicU64,
     first_of_one: AtomicBool,
     second_of_zero: AtomicBool,
     missed: AtomicBool,
@@ -52,6 +63,8 @@ impl Course {
             plan,
             came: AtomicU64::new(0),
             gone: AtomicU64::new(0),
+            arrivals: AtomicU64::new(0),
+            detaches: AtomicU64::new(0),
             first_of_one: AtomicBool::new(false),
             second_of_zero: AtomicBool::new(false),
             missed: AtomicBool::new(false),
@@ -89,6 +102,18 @@ impl Course {
     }
 }
 
+/// Lets the others go on for a while, mostly not at all, and sometimes for long.
+fn pause(seed: u64, worker: usize) {
+    let rounds = match Dice::of(seed, worker as u64).roll(16) {
+        0 => 50,
+        1..=3 => 2,
+        _ => 0,
+    };
+    for _ in 0..rounds {
+        thread::yield_now();
+    }
+}
+
 /// Where a worker passes. Of two that meet each waits in its first change: worker 0 until worker 1 is in its own, and worker 1 until
 /// worker 0 comes to its second.
 #[derive(Drop)]
@@ -101,6 +126,9 @@ impl<'a> Gate for Side<'a> {
     fn before(&mut self, worker: usize, n: u64) {
         self.passed = true;
         let course = self.course;
+        if course.plan.seed != 0 {
+            pause(course.plan.seed.wrapping_add(n), worker);
+        }
         if !course.plan.meets {
             return;
         }
@@ -146,6 +174,81 @@ fn call<N: StackName, R: Wait>(
     }
 }
 
+/// A read is to arrive.
+fn let_arrive<N: StackName, R: Wait>(
+    rt: &R,
+    alloc: Global,
+    stack: &Stack<N>,
+    course: &Course,
+    seat: &mut CallerSeat<N>,
+)
+    requires { IsCallerOf stack.now.exchange seat.old.place }
+    ensures { IsCallerOf stack.now.exchange seat.new.place }
+{
+    course.arrivals.fetch_add(1, Ordering::SeqCst);
+    let _ = stack.arrive(rt, alloc, seat, Operation::Read, Mode::Irp, 0);
+}
+
+/// A filter is to be detached.
+fn let_detach<N: StackName, R: Wait>(
+    rt: &R,
+    alloc: Global,
+    stack: &Stack<N>,
+    course: &Course,
+    seat: &mut CallerSeat<N>,
+    altitude: u32,
+)
+    requires { IsCallerOf stack.now.exchange seat.old.place }
+    ensures { IsCallerOf stack.now.exchange seat.new.place }
+{
+    course.detaches.fetch_add(1, Ordering::SeqCst);
+    let _ = stack.detach(rt, alloc, seat, altitude);
+}
+
+/// A call at random: three of four let a read arrive, and the others ask for the cancel of a read with an odd number.
+fn call_once<N: StackName, R: Wait>(
+    rt: &R,
+    alloc: Global,
+    stack: &Stack<N>,
+    course: &Course,
+    seat: &mut CallerSeat<N>,
+    dice: &mut Dice,
+)
+    requires { IsCallerOf stack.now.exchange seat.old.place }
+    ensures { IsCallerOf stack.now.exchange seat.new.place }
+{
+    if dice.roll(4) == 0 {
+        stack.cancel(seat, 2 * dice.roll(400) + 1);
+    } else {
+        let_arrive(rt, alloc, stack, course, seat);
+    }
+}
+
+/// Calls at random. A caller detaches a filter in their midst, if one is its own, and ends with the cancel of the read with the number 1.
+fn call_at_random<N: StackName, R: Wait>(
+    rt: &R,
+    alloc: Global,
+    stack: &Stack<N>,
+    course: &Course,
+    seat: &mut CallerSeat<N>,
+    caller: u64,
+)
+    requires { IsCallerOf stack.now.exchange seat.old.place }
+{
+    let mut dice = Dice::of(course.plan.seed, caller);
+    let own = course.plan.detaches.get(caller as usize).copied();
+    let moment = dice.roll(course.plan.reads);
+    for k in 0..course.plan.reads {
+        if let Some(altitude) = own {
+            if k == moment {
+                let_detach(rt, alloc, stack, course, seat, altitude);
+            }
+        }
+        call_once(rt, alloc, stack, course, seat, &mut dice);
+    }
+    stack.cancel(seat, 1);
+}
+
 /// A caller calls, and goes.
 fn take_part<N: StackName, R: Wait>(
     rt: &R,
@@ -157,13 +260,17 @@ fn take_part<N: StackName, R: Wait>(
     requires { IsCallerOf stack.now.exchange seat.place × IsFreshCaller seat.place }
 {
     let place = course.came.fetch_add(1, Ordering::SeqCst);
-    call(rt, alloc, stack, &mut seat, course.plan, (place % 8) as u32);
+    if course.plan.seed == 0 {
+        call(rt, alloc, stack, &mut seat, course.plan, (place % 8) as u32);
+    } else {
+        call_at_random(rt, alloc, stack, course, &mut seat, place);
+    }
     course.gone.fetch_add(1, Ordering::SeqCst);
     seat
 }
 
-/// Works until all callers have gone, and then once more. A worker that is to meet another one starts once they have gone, and works until
-/// it has passed.
+/// Works until a call that began once all callers had gone has added nothing: then no ticket is left that any worker could serve. A worker
+/// that is to meet another one starts once they have gone, and works until it has passed.
 fn work_on<N: StackName, R: Wait>(
     rt: &R,
     alloc: Global,
@@ -178,14 +285,15 @@ fn work_on<N: StackName, R: Wait>(
         passed: false,
     };
     course.wait_for_callers();
-    for _ in 0..1_000_000 {
+    for _ in rt.forever() {
         let is_over = course.is_over(side.passed);
-        if stack.work(rt, alloc, &mut seat, &mut side).is_err() || is_over {
-            return seat;
+        match stack.work(rt, alloc, &mut seat, &mut side) {
+            Err(_) => return seat,
+            Ok(0) if is_over => return seat,
+            Ok(_) => thread::yield_now(),
         }
-        thread::yield_now();
     }
-    seat
+    unreachable!()
 }
 
 // ---- all threads
@@ -334,6 +442,8 @@ fn two_workers_at_once(rt: HostRuntime) -> Result<(), Fail> {
         reads: 2,
         cancels: false,
         meets: true,
+        seed: 0,
+        detaches: &[],
     });
     let ended = follow(&rt, rt.alloc(), loaded(rt.alloc(), &PASSES_ALONE)?, &course)?;
     let fine = are_lowered(rt.alloc(), &PASSES_ALONE, &ended, 2);
@@ -353,6 +463,8 @@ fn four_workers_lower_what_arrives(rt: HostRuntime) -> Result<(), Fail> {
         reads: 200,
         cancels: false,
         meets: false,
+        seed: 0,
+        detaches: &[],
     });
     let ended = follow(
         &rt,
@@ -389,10 +501,118 @@ fn eight_callers_beside_four_workers(rt: HostRuntime) -> Result<(), Fail> {
         reads: 100,
         cancels: true,
         meets: false,
+        seed: 0,
+        detaches: &[],
     });
     let ended = follow(&rt, rt.alloc(), loaded(rt.alloc(), &PENDS_ALONE)?, &course)?;
     let fine = are_cancelled(rt.alloc(), &ended);
     drop(ended);
     assert!(rt; fine?);
+    Ok(())
+}
+
+/// Filters, and which of them are detached.
+#[derive(Clone, Copy)]
+struct Driven {
+    filters: &'static [Filter],
+    detaches: &'static [u32],
+}
+
+/// How many stacks are driven at random.
+const STACKS: usize = 5;
+
+static DRIVEN: [Driven; STACKS] = [
+    // Reads wait in a queue that stays, so one with the number 1 is cancelled.
+    Driven {
+        filters: &[PENDS],
+        detaches: &[],
+    },
+    Driven {
+        filters: &[HIGH, LOW],
+        detaches: &[100, 200],
+    },
+    Driven {
+        filters: &[DRAINED, PENDS],
+        detaches: &[200, 100],
+    },
+    Driven {
+        filters: &[DEFERS, SHARES, WORKS],
+        detaches: &[200, 100, 300],
+    },
+    Driven {
+        filters: &[DRAINED, WORKS],
+        detaches: &[200],
+    },
+];
+
+/// A plan of a seed. The first has as many callers and workers as there may be.
+fn drawn(seed: u64, detaches: &'static [u32]) -> Plan
+    ensures callers { (1 ≤ result.callers) × (result.callers ≤ 16) }
+    ensures workers { (1 ≤ result.workers) × (result.workers ≤ 16) }
+{
+    let mut dice = Dice::of(seed, 0);
+    let (callers, workers) = if seed == 1 {
+        (15, 14)
+    } else {
+        (dice.roll(16), dice.roll(15))
+    };
+    Plan {
+        callers: 1 + callers as usize,
+        workers: 2 + workers as usize,
+        reads: 10 + dice.roll(30),
+        cancels: true,
+        meets: false,
+        seed,
+        detaches,
+    }
+}
+
+/// Whether a journal has what callers asked for, and nothing else: all reads arrived, each filter was detached that was to be, and only
+/// reads with odd numbers were cancelled, one of them at least where they wait for it.
+fn is_as_asked(course: &Course, tally: Tally) -> bool {
+    let waits = course.plan.detaches.is_empty();
+    u64::from(tally.arrived) == course.arrivals.load(Ordering::SeqCst)
+        && u64::from(tally.detached) == course.detaches.load(Ordering::SeqCst)
+        && tally.all_odd
+        && (tally.cancelled > 0 || !waits)
+}
+
+/// Whether a crowd at random has made a legal run of what its callers asked for, which their receipts tell.
+fn goes_at_random<R: Threads + Wait + Sync>(
+    rt: &R,
+    alloc: Global,
+    driven: Driven,
+    seed: u64,
+) -> Result<bool, Fail> {
+    let course = Course::new(drawn(seed, driven.detaches));
+    let ended = follow(rt, alloc, loaded(alloc, driven.filters)?, &course)?;
+    let fine = ended.agrees && is_as_asked(&course, tally_of(&ended.journal));
+    let legal = is_legal(alloc, driven.filters, &ended.journal);
+    drop(ended);
+    Ok(legal? && fine)
+}
+
+/// The first seed of a crowd that has not, of as many seeds.
+fn wrong_seed<R: Threads + Wait + Sync>(
+    rt: &R,
+    alloc: Global,
+    table: &[Driven],
+    seeds: u64,
+) -> Result<Option<u64>, Fail> {
+    for seed in 0..seeds {
+        if let Some(driven) = table.get(seed as usize % STACKS) {
+            if !goes_at_random(rt, alloc, *driven, seed + 1)? {
+                return Ok(Some(seed));
+            }
+        }
+    }
+    Ok(None)
+}
+
+/// Ten crowds of up to 16 callers and 16 workers, whose calls and pauses come of their seeds. How the threads meet is the system's choice;
+/// what is asked of the journals holds of each way to do so.
+#[test]
+fn crowds_at_random_do_what_they_are_asked(rt: HostRuntime) -> Result<(), Fail> {
+    assert!(rt; wrong_seed(&rt, rt.alloc(), &DRIVEN, 10)?.is_none());
     Ok(())
 }

@@ -9,6 +9,8 @@ mod cancel_pads;
 #[cfg(test)]
 mod crowds;
 #[cfg(test)]
+mod dice;
+#[cfg(test)]
 mod filters;
 #[cfg(test)]
 mod fixture;
