@@ -109,9 +109,38 @@ fn wrong_case(alloc: Global, cases: &[(&[File], Answer)]) -> Result<Option<usize
     Ok(None)
 }
 
+/// Texts of so many filters, each with an altitude of its own.
+fn texts(alloc: Global, count: usize) -> Result<Vec<String>, AllocError> {
+    let mut texts = Vec::with_capacity(alloc, count)?;
+    for number in 0..count {
+        let altitude = number.saturating_add(1);
+        texts.push(format!(in alloc;
+            "filter a altitude {altitude}\npre read {{\nreturn NO_CALLBACK\n}}\n"
+        )?)?;
+    }
+    Ok(texts)
+}
+
+/// What is answered of these texts, each with its certificate.
+fn answer_of_texts(alloc: Global, texts: &[String]) -> Result<Answer, AllocError> {
+    let mut files = Vec::with_capacity(alloc, texts.len())?;
+    for text in texts {
+        files.push((text.as_bytes(), PASSES_CERTIFICATE))?;
+    }
+    answer(alloc, files.as_slice())
+}
+
+/// What is answered of so many filters.
+fn answer_of_many(alloc: Global, count: usize) -> Result<Answer, AllocError> {
+    let texts = texts(alloc, count)?;
+    answer_of_texts(alloc, texts.as_slice())
+}
+
 #[test]
 fn loads_what_is_accepted(rt: HostRuntime) -> Result<(), Fail> {
     assert!(rt; wrong_case(rt.alloc(), &CASES)?.is_none());
+    assert!(rt; answer_of_many(rt.alloc(), 16)? == LOADED);
+    assert!(rt; answer_of_many(rt.alloc(), 17)? == COUNT);
     Ok(())
 }
 
