@@ -9,8 +9,8 @@ use Rattle.std.proofs.lemmas.List.{get_or_push, length-append}
 use Rattle.flt_graph.specs.Graph.{points_at}
 use Rattle.flt_graph.specs.declared.graph.Graph.{Graph}
 use Rattle.flt_cert.specs.Format.{Certificate, Point, is_callback, is_certificate}
-use Rattle.flt_check.specs.Covering.{Covers, state_at}
-use Rattle.flt_analyse.specs.Least.{IsLeast, NoneCovers, IsCovered, IsPointBelow, HasRoom}
+use Rattle.flt_check.specs.Covering.{Covers, state_at, IsCovered, IsPointBelow}
+use Rattle.flt_analyse.specs.Least.{IsLeast, NoneCovers, HasRoom}
 use Rattle.flt_analyse.specs.Columns.{Column}
 
 -- the columns of the first callbacks

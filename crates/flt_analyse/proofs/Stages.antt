@@ -18,7 +18,7 @@ use Rattle.flt_abs.specs.declared.step.Successor.{Successor}
 use Rattle.flt_abs.specs.declared.step.Successors.{Successors}
 use Rattle.flt_cert.specs.Format.{Point}
 use Rattle.flt_analyse.specs.Columns.{ProperNext, ProperSteps}
-use Rattle.flt_analyse.specs.Least.{IsLedIn, StepsIn, IsCovered}
+use Rattle.flt_check.specs.Covering.{IsLedIn, StepsIn, IsCovered}
 use Rattle.flt_analyse.specs.Walk.{arrived, reach_at, reach, then_reach, spread}
 use Rattle.flt_analyse.specs.declared.walk.Walk.{Walk}
 use Rattle.flt_analyse.proofs.Order.{Laws}

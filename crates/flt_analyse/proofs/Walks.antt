@@ -18,7 +18,7 @@ use Rattle.flt_abs.specs.State.{State, is_below, is_proper}
 use Rattle.flt_abs.specs.Step.{transfer}
 use Rattle.flt_cert.specs.Format.{Point, is_point}
 use Rattle.flt_analyse.specs.Columns.{ProperSteps}
-use Rattle.flt_analyse.specs.Least.{StepsIn, IsCovered, IsPointBelow, ArePointsBelow}
+use Rattle.flt_check.specs.Covering.{StepsIn, IsCovered, IsPointBelow, ArePointsBelow}
 use Rattle.flt_analyse.specs.Pending.{least, least_from, no_flags}
 use Rattle.flt_analyse.specs.Walk.{look, taken, nones, opening, outcome_at, spread}
 use Rattle.flt_analyse.specs.declared.walk.Walk.{Walk}

@@ -7,7 +7,7 @@ use Rattle.flt_abs.specs.State.{is_proper}
 use Rattle.flt_abs.specs.declared.step.Successor.{Successor}
 use Rattle.flt_abs.specs.declared.step.Successors.{Successors}
 use Rattle.flt_cert.specs.Format.{Point, is_point}
-use Rattle.flt_analyse.specs.Least.{IsCovered, ArePointsBelow}
+use Rattle.flt_check.specs.Covering.{IsCovered, ArePointsBelow}
 use Rattle.flt_analyse.specs.Walk.{Ends}
 
 -- a successor that is there has a state without empty sets

@@ -1,31 +1,16 @@
 -- The least certificate, or why there is none. This project's own definitions.
-use Rattle.std.specs.Prelude.{◌≡◌, ℕ, ◌<◌, ◌⊎◌, true, List, length, Option, Some, None, Ok, IsTrue, slice_index_or}
+use Rattle.std.specs.Prelude.{◌≡◌, ℕ, ◌<◌, ◌⊎◌, List, length, IsTrue}
 use Rattle.flt_rules.specs.declared.rule.Rule.TheVariants.{R14}
-use Rattle.flt_graph.specs.Graph.{place_at, points_at, line_at}
+use Rattle.flt_graph.specs.Graph.{points_at, line_at}
 use Rattle.flt_graph.specs.declared.graph.Graph.{Graph}
-use Rattle.flt_abs.specs.Entry.{entry}
-use Rattle.flt_abs.specs.State.{State, is_below}
-use Rattle.flt_abs.specs.Step.{transfer}
-use Rattle.flt_abs.specs.declared.step.Successor.{Successor}
-use Rattle.flt_abs.specs.declared.step.Successors.{Successors}
 use Rattle.flt_cert.specs.Format.{Certificate, Point, is_certificate}
-use Rattle.flt_check.specs.Covering.{Covers, state_at}
+use Rattle.flt_check.specs.Covering.{Covers, IsCertificateBelow, IsCovered}
 use Rattle.flt_check.specs.declared.checker.Refusal.{Refusal}
 use Rattle.flt_analyse.specs.Walk.{IsFirstFault, Stops}
 use Rattle.flt_analyse.specs.declared.fault.AnalyseFault.{AnalyseFault}
 use Rattle.flt_analyse.specs.declared.fault.AnalyseFault.TheVariants.{Refused, OutOfMemory}
 
 -- ---- certificates
-
--- what may be so by the first may be so by the second; a point that isn't reached is below all
-abbrev pub IsPointBelow : Point → Point → Type 0
-IsPointBelow (Some x) (Some y) = IsTrue (is_below x y)
-IsPointBelow (Some x) None = ⊥
-IsPointBelow None b = Unit {0}
-
--- at each point of each callback the first certificate is below the second
-abbrev pub IsCertificateBelow : Certificate → Certificate → Type 0
-IsCertificateBelow a b = (callback point : ℕ) → IsPointBelow (state_at a callback point) (state_at b callback point)
 
 -- below every certificate that covers
 abbrev pub IsLeast : Graph → Certificate → Type 0
@@ -34,28 +19,6 @@ IsLeast g k = (other : Certificate) → Covers g other → IsCertificateBelow k 
 -- no certificate covers
 abbrev pub NoneCovers : Graph → Type 0
 NoneCovers g = (k : Certificate) → IsTrue (is_certificate k) → Covers g k → ⊥
-
--- ---- one callback
-
--- a successor that is there leads to a point that is reached with a state above its own
-abbrev pub IsLedIn : List Point → Option Successor → Type 0
-IsLedIn points (Some next) = (y : State) × (slice_index_or points next.point None ≡ Some y) × (is_below next.state y ≡ true)
-IsLedIn points None = Unit {0}
-
-abbrev pub StepsIn : Graph → ℕ → ℕ → State → List Point → Type 0
-StepsIn g callback point x points =
-    (next : Successors) × (transfer g callback point x ≡ Ok next) × IsLedIn points next.first × IsLedIn points next.second
-
--- the points of a callback are covered
-pub record IsCovered (g : Graph) (callback : ℕ) (points : List Point) : Type 0 where
-  pub count : points_at g callback ≡ length points
-  pub entered : (y : State) × (slice_index_or points 0 None ≡ Some y) × (is_below (entry (place_at g callback)) y ≡ true)
-  pub steps : (point : ℕ) (x : State) → point < points_at g callback → slice_index_or points point None ≡ Some x →
-      StepsIn g callback point x points
-
--- each point is below the one at its place
-abbrev pub ArePointsBelow : List Point → List Point → Type 0
-ArePointsBelow xs ys = (point : ℕ) → IsPointBelow (slice_index_or xs point None) (slice_index_or ys point None)
 
 -- ---- refusals
 

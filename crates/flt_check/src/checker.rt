@@ -22,7 +22,7 @@ pub struct Refusal {
 }
 
 /// What is wrong with a state that leads to a point, if anything is.
-fn lead_fault(state: &Abs, at: Option<&Abs>) -> Option<Rule>
+pub(crate) fn lead_fault(state: &Abs, at: Option<&Abs>) -> Option<Rule>
     ensures { result ≡ spec.lead_fault state.now (option_copied at.entry) }
 {
     match at {
@@ -43,7 +43,7 @@ fn successor_fault(cert: &Cert, callback: usize, lead: Option<(usize, &Abs)>) ->
 }
 
 /// The lesser of two faults.
-fn lesser(a: Option<Rule>, b: Option<Rule>) -> Option<Rule>
+pub(crate) fn lesser(a: Option<Rule>, b: Option<Rule>) -> Option<Rule>
     ensures { result ≡ spec.lesser a b }
 {
     match (a, b) {
@@ -111,7 +111,7 @@ fn reached_fault(
 }
 
 /// What is wrong where a callback of the place is entered with a point in this state.
-fn entry_by(place: Place, state: Option<&Abs>) -> Option<Rule>
+pub(crate) fn entry_by(place: Place, state: Option<&Abs>) -> Option<Rule>
     ensures { result ≡ spec.entry_by place (option_copied state.entry) }
 {
     match state {

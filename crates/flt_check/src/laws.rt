@@ -1,11 +1,22 @@
-//! The law of covering: to cover is to have no fault.
+//! The laws of covering: to cover is to have no fault, and what thin certificates have to do with those that follow from them.
 
 ghost use Rattle.std.specs.Prelude.{◌≡◌, IsTrue};
 ghost use Rattle.flt_cert.specs.Format.{Certificate, is_certificate};
+ghost use Rattle.flt_cert.specs.Thin.{Thin, thin, is_thin};
 ghost use Rattle.flt_check.specs.Checker.{IsFaultless, IsLeastFault};
-ghost use Rattle.flt_check.specs.Covering.{Covers};
+ghost use Rattle.flt_check.specs.Covering.{Covers, IsCertificateBelow};
+ghost use Rattle.flt_check.specs.Full.{full};
+ghost use Rattle.flt_check.specs.ThinCovering.{CoversThin};
+ghost use Rattle.flt_check.specs.ThinFault.{IsThinFault};
 ghost use Rattle.flt_check.specs.declared.checker.Refusal.{Refusal};
+ghost use Rattle.flt_graph.specs.Kept.{IsRising};
+ghost use Rattle.flt_graph.specs.Lowering.{IsLowered};
 ghost use Rattle.flt_graph.specs.declared.graph.Graph.{Graph};
+ghost use Rattle.flt_tree.specs.WellFormed.{IsWellFormed};
+ghost use Rattle.flt_tree.specs.declared.filter.Filter.{Filter};
+
+use flt_abs::{joins_are_least, transfer_is_monotone, transfer_keeps_states_proper};
+use flt_graph::edges_lead_onwards;
 
 /// A certificate covers a graph exactly where no fault is computed at any point. It does nothing: its clauses are the law.
 pub fn covering_is_faultless()
@@ -17,3 +28,34 @@ pub fn covering_is_faultless()
 pub fn one_fault_is_least()
     ensures { (g : Graph) (k : Certificate) (f h : Refusal) → IsLeastFault g k f → IsLeastFault g k h → f ≡ h }
 {}
+
+/// Where a certificate of a text covers, what is left of it in a thin one covers, and what follows from that is below the certificate. It
+/// does nothing: its clauses are the law.
+pub fn thin_certificates_cover()
+    ensures rising { (g : Graph) (k : Certificate) → IsRising g → IsTrue (is_certificate k) → Covers g k → CoversThin g (thin g k) }
+    ensures covers { (f : Filter) (g : Graph) (k : Certificate) → IsWellFormed f → IsLowered f g → IsTrue (is_certificate k) →
+        Covers g k → CoversThin g (thin g k) }
+    ensures below { (g : Graph) (k : Certificate) → IsTrue (is_certificate k) → Covers g k → IsCertificateBelow (full g (thin g k)) k }
+{
+    joins_are_least();
+    transfer_is_monotone();
+    transfer_keeps_states_proper();
+    edges_lead_onwards();
+}
+
+/// What follows from a thin certificate is a certificate, and it covers where the thin one does. It does nothing: its clauses are the law.
+pub fn thin_certificates_fill_up()
+    ensures certificate { (g : Graph) (t : Thin) → IsTrue (is_thin t) → IsTrue (is_certificate (full g t)) }
+    ensures covers { (g : Graph) (t : Thin) → CoversThin g t → Covers g (full g t) }
+{
+    joins_are_least();
+    transfer_is_monotone();
+    transfer_keeps_states_proper();
+}
+
+/// A thin certificate has one least fault at most. It does nothing: its clause is the law.
+pub fn one_thin_fault_is_least()
+    ensures { (g : Graph) (t : Thin) (f h : Refusal) → IsThinFault g t f → IsThinFault g t h → f ≡ h }
+{
+    one_fault_is_least();
+}
