@@ -1,2 +1,3 @@
 pub mod Loaded
 pub mod Loading
+pub mod Ordering
