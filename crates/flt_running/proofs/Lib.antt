@@ -1,1 +1,3 @@
+mod Bits
+mod Leaving
 mod Lists

@@ -1,1 +1,3 @@
+pub mod Left
+pub mod Requests
 pub mod Waiting

@@ -1,5 +1,5 @@
 -- What a worker still has to push. This project's own rule.
-use Rattle.std.specs.Prelude.{List, [], ◌∷◌, ◌++◌, drop, Option, Some, None}
+use Rattle.std.specs.Prelude.{Bool, List, [], ◌∷◌, ◌++◌, drop, if◌then◌else◌, Option, Some, None}
 use Rattle.flt_model.specs.declared.subject.Subject.{Subject}
 use Rattle.flt_pool.specs.Seats.{own_hand}
 use Rattle.flt_running.specs.declared.waiting.Waiting.{Waiting}
@@ -9,6 +9,10 @@ use Rattle.flt_workers.specs.declared.places.WorkerPlace.{WorkerPlace}
 abbrev pub listed : Option Subject → List Subject
 listed None = []
 listed (Some ticket) = ticket ∷ []
+
+-- the ticket of a turn, where it stays
+abbrev pub remaining : Bool → Subject → List Subject
+remaining stays ticket = if stays then ticket ∷ [] else []
 
 -- the tickets that wait, in the order in which they are pushed
 abbrev pub tickets : Waiting → List Subject

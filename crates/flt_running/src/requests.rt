@@ -1,5 +1,13 @@
 //! Requests that a worker has collected and not tried yet.
-ghost use Rattle.std.specs.Prelude.{◌≡◌, ◌+◌, ◌*◌, ◌<◌};
+ghost use Rattle.std.specs.Prelude.{◌≡◌, ◌↔◌, ℕ, ◌+◌, ◌*◌, ◌<◌, ◌++◌, IsTrue};
+ghost use Rattle.std.specs.Int.{bit_at};
+ghost use Rattle.flt_cancel.specs.Serials.{serials};
+ghost use Rattle.flt_cancel.specs.Steps.{IsNext};
+ghost use Rattle.flt_cancel.specs.declared.step.Step.TheVariants.{Collect};
+ghost use Rattle.flt_workers.specs.Places.{IsWorkerOf, collected_by};
+ghost use Rattle.flt_running.specs.Requests.{IsWithout};
+
+use flt_workers::{Exchange, WorkerPlace};
 
 /// The requests of one word that are still to be tried. They stay here where a cancel is refused.
 #[derive(Clone, Copy)]
@@ -17,9 +25,24 @@ impl Requests {
         Requests { word: 0, bits: 0 }
     }
 
+    /// Collects all requests of a word.
+    pub(crate) fn collect(exchange: &Exchange, place: &mut WorkerPlace, word: usize) -> Requests
+        requires word { word < 1024 }
+        requires place { IsWorkerOf exchange.now place.old }
+        ensures place { IsWorkerOf exchange.now place.new }
+        ensures word { result.word ≡ word }
+        ensures collected { (collected_by place.new).collected ≡ (collected_by place.old).collected ++ serials word result.bits }
+        ensures step { (by : ℕ) × IsNext by (Collect by word result.bits) (collected_by place.old).seen (collected_by place.new).seen }
+        ensures tickets { place.new.tickets ≡ place.old.tickets }
+    {
+        let bits = exchange.collect(place, word);
+        Requests { word, bits }
+    }
+
     /// Whether the request of a bit is among them.
     pub(crate) fn has(&self, bit: u32) -> bool
         requires { bit < 64 }
+        ensures { IsTrue result ↔ (bit_at self.now.bits bit ≡ 1) }
     {
         self.bits & (1u64 << bit) != 0
     }
@@ -35,7 +58,8 @@ impl Requests {
     /// The request of a bit has been tried.
     pub(crate) fn remove(&mut self, bit: u32)
         requires { bit < 64 }
-        ensures { self.new.word ≡ self.old.word }
+        ensures word { self.new.word ≡ self.old.word }
+        ensures bits { IsWithout bit self.old.bits self.new.bits }
     {
         self.bits &= !(1u64 << bit);
     }

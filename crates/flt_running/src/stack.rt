@@ -21,7 +21,7 @@ ghost use Rattle.flt_workers.specs.Places.{IsCallerOf, IsFreshCaller, IsFreshWor
 use crate::OutOfMemory;
 use crate::asking::{arrive_on, detach_on, refuse_on};
 use crate::ending::{Differ, agrees, merge_callers, merge_workers};
-use crate::mark::Mark;
+use crate::mark::{Mark, ask};
 use crate::opening::seats;
 use crate::seats::{CallerSeat, WorkerSeat};
 use flt_core::{
@@ -264,8 +264,8 @@ impl<N: StackName> Stack<N> {
         ensures receipts { seat.new.receipts ≡ seat.old.receipts }
         ensures fulls { seat.new.fulls ≡ seat.old.fulls }
     {
-        self.exchange.ask(&mut seat.place, serial);
-        self.asked.raise();
+        let unmarked = ask(&self.exchange, &mut seat.place, serial);
+        self.asked.raise(unmarked);
     }
 
     /// From now on the system's choice of this number, counted from 0, is answered no, if it is still to come.

@@ -1,11 +1,14 @@
 //! What a worker still has to push.
-ghost use Rattle.std.specs.Prelude.{◌≡◌, ◌++◌, ◌∷◌, [], IfOk, OnOk};
+ghost use Rattle.std.specs.Prelude.{◌≡◌, ◌++◌, ◌∷◌, [], Err, IfErr, IfOk, OnErr, OnOk};
+ghost use Rattle.flt_run.specs.declared.fault.TurnFault.TheVariants as fault;
+ghost use Rattle.flt_running.specs.Left.{AreUnpushed};
 ghost use Rattle.flt_running.specs.Waiting as spec;
 ghost use Rattle.flt_running.specs.Waiting.{put_own};
 ghost use Rattle.flt_workers.specs.Places.{other_deques, own_deque};
 
 use crate::OutOfMemory;
 use flt_core::Turned;
+use flt_run::TurnFault;
 use flt_workers::{Ticket, WorkerPlace};
 use std::alloc::{AllocError, Global};
 
@@ -44,8 +47,39 @@ impl Waiting {
         }
     }
 
+    /// Ends a ticket's turn: pushes what it gave a ticket, and the ticket itself, where it stays. Where the turn was refused, the ticket
+    /// waits, and the fault is handed on. It answers whether the turn made an entry.
+    pub(crate) fn finish_turn(
+        &mut self,
+        place: &mut WorkerPlace,
+        ticket: Ticket,
+        outcome: Result<Turned, TurnFault>,
+    ) -> Result<bool, TurnFault>
+        requires { spec.tickets self.old ≡ [] }
+        ensures made { IfOk outcome (λ turned. IfOk result (λ made. made ≡ turned.made)) }
+        ensures pushed { IfOk outcome (λ turned. put_own place.new ++ spec.tickets self.new
+            ≡ put_own place.old ++ (turned.next.items ++ spec.remaining turned.stays ticket)) }
+        ensures all { OnOk result (spec.tickets self.new ≡ []) }
+        ensures memory { IfOk outcome (λ _. IfErr result (λ f. (f ≡ fault.OutOfMemory) × AreUnpushed place.new self.new)) }
+        ensures kept { OnErr outcome ((spec.tickets self.new ≡ ticket ∷ []) × (place.new ≡ place.old)) }
+        ensures fault { IfErr outcome (λ f. result ≡ Err f) }
+        ensures pass { place.new.tickets.pass ≡ place.old.tickets.pass }
+        ensures requests { place.new.requests ≡ place.old.requests }
+    {
+        match outcome {
+            Ok(turned) => {
+                let own = if turned.stays { Some(ticket) } else { None };
+                Ok(self.settle(place, turned, own)?)
+            }
+            Err(fault) => {
+                self.keep(ticket);
+                Err(fault)
+            }
+        }
+    }
+
     /// A ticket waits, where none did.
-    pub(crate) fn keep(&mut self, ticket: Ticket)
+    fn keep(&mut self, ticket: Ticket)
         requires { spec.tickets self.old ≡ [] }
         ensures { spec.tickets self.new ≡ ticket ∷ [] }
     {
@@ -63,6 +97,7 @@ impl Waiting {
         ensures made { IfOk result (λ made. made ≡ turned.made) }
         ensures pushed { put_own place.new ++ spec.tickets self.new ≡ put_own place.old ++ (turned.next.items ++ spec.listed own) }
         ensures all { OnOk result (spec.tickets self.new ≡ []) }
+        ensures refused { OnErr result (AreUnpushed place.new self.new) }
         ensures pass { place.new.tickets.pass ≡ place.old.tickets.pass }
         ensures requests { place.new.requests ≡ place.old.requests }
     {
@@ -80,6 +115,7 @@ impl Waiting {
     pub(crate) fn push_all(&mut self, place: &mut WorkerPlace) -> Result<(), OutOfMemory>
         ensures pushed { put_own place.new ++ spec.tickets self.new ≡ put_own place.old ++ spec.tickets self.old }
         ensures all { OnOk result (spec.tickets self.new ≡ []) }
+        ensures refused { OnErr result (AreUnpushed place.new self.new) }
         ensures pass { place.new.tickets.pass ≡ place.old.tickets.pass }
         ensures deques { (own_deque place.new ≡ own_deque place.old) × (other_deques place.new ≡ other_deques place.old) }
         ensures requests { place.new.requests ≡ place.old.requests }
@@ -92,6 +128,7 @@ impl Waiting {
     fn push_named(&mut self, place: &mut WorkerPlace) -> Result<(), OutOfMemory>
         ensures pushed { put_own place.new ++ spec.tickets self.new ≡ put_own place.old ++ spec.tickets self.old }
         ensures all { OnOk result (spec.tickets self.new ≡ spec.listed self.new.own) }
+        ensures refused { OnErr result (AreUnpushed place.new self.new) }
         ensures pass { place.new.tickets.pass ≡ place.old.tickets.pass }
         ensures deques { (own_deque place.new ≡ own_deque place.old) × (other_deques place.new ≡ other_deques place.old) }
         ensures requests { place.new.requests ≡ place.old.requests }
@@ -111,6 +148,7 @@ impl Waiting {
         requires { spec.tickets self.old ≡ spec.listed self.old.own }
         ensures pushed { put_own place.new ++ spec.tickets self.new ≡ put_own place.old ++ spec.tickets self.old }
         ensures all { OnOk result (spec.tickets self.new ≡ []) }
+        ensures refused { OnErr result (AreUnpushed place.new self.new) }
         ensures pass { place.new.tickets.pass ≡ place.old.tickets.pass }
         ensures deques { (own_deque place.new ≡ own_deque place.old) × (other_deques place.new ≡ other_deques place.old) }
         ensures requests { place.new.requests ≡ place.old.requests }

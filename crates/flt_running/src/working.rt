@@ -1,9 +1,11 @@
 //! What a worker does: it takes a ticket and makes its move, over and over.
-ghost use Rattle.std.specs.Prelude.{◌≡◌, ◌≢◌, ◌+◌, ◌<◌, ◌≤◌, [], IfOk, IfSome, Err, None, OnErr, OnOk};
+ghost use Rattle.std.specs.Prelude.{◌≡◌, ◌≢◌, ◌⊎◌, ◌+◌, ◌<◌, ◌≤◌, ◌∷◌, [], IfErr, IfOk, IfSome, Err, None, OnErr, OnOk};
 ghost use Rattle.flt_core.specs.Turning.{grows};
+ghost use Rattle.flt_running.specs.Left.{AreUnpushed, Leaves, LeavesRequest};
+ghost use Rattle.flt_running.specs.Requests.{AreCollected, IsEmpty, IsWithout};
 ghost use Rattle.flt_running.specs.Waiting as waiting;
 ghost use Rattle.flt_run.specs.declared.fault.TurnFault.TheVariants as fault;
-ghost use Rattle.flt_workers.specs.Places.{IsWorkerOf};
+ghost use Rattle.flt_workers.specs.Places.{IsWorkerOf, collected_by, hands_by};
 
 use crate::pace::Pace;
 use crate::requests::Requests;
@@ -57,6 +59,8 @@ impl<N: StackName> Stack<N> {
         ensures seat { IsWorkerOf self.now.exchange seat.new.place }
         ensures share { IfOk result (λ made. seat.new.share.amount ≡ seat.old.share.amount + made) }
         ensures done { OnOk result (waiting.tickets seat.new.waiting ≡ []) }
+        ensures left { IfErr result (λ f. Leaves f seat.new.place seat.new.waiting seat.new.requests) }
+        ensures tried { OnOk result (IsEmpty seat.old.requests.bits → IsEmpty seat.new.requests.bits) }
         ensures grown { seat.old.share.amount ≤ seat.new.share.amount }
         ensures parts { seat.new.share.parts ≡ seat.old.share.parts }
         ensures full { result ≡ Err fault.Full → seat.new.fulls.amount ≡ seat.old.fulls.amount + 1 }
@@ -91,6 +95,8 @@ impl<N: StackName> Stack<N> {
         requires waiting { waiting.tickets seat.old.waiting ≡ [] }
         ensures seat { IsWorkerOf self.now.exchange seat.new.place }
         ensures waiting { OnOk result (waiting.tickets seat.new.waiting ≡ []) }
+        ensures left { IfErr result (λ f. Leaves f seat.new.place seat.new.waiting seat.new.requests) }
+        ensures tried { OnOk result (IsEmpty seat.old.requests.bits → IsEmpty seat.new.requests.bits) }
         ensures share { IfOk result (λ looked. IfSome looked (λ l. seat.new.share.amount ≡ seat.old.share.amount + l.made)) }
         ensures idle { IfOk result (λ looked. looked ≡ None → seat.new.share.amount ≡ seat.old.share.amount) }
         ensures few { IfOk result (λ looked. IfSome looked (λ l. (l.made ≤ 65600) × (l.taken ≤ 1))) }
@@ -129,6 +135,10 @@ impl<N: StackName> Stack<N> {
         requires waiting { waiting.tickets seat.old.waiting ≡ [] }
         ensures seat { IsWorkerOf self.now.exchange seat.new.place }
         ensures waiting { OnOk result (waiting.tickets seat.new.waiting ≡ []) }
+        ensures kept { IfErr result (λ f.
+            ((waiting.tickets seat.new.waiting ≡ ticket ∷ []) × (hands_by seat.new.place ≡ hands_by seat.old.place))
+            ⊎ ((f ≡ fault.OutOfMemory) × AreUnpushed seat.new.place seat.new.waiting)) }
+        ensures requests { seat.new.requests ≡ seat.old.requests }
         ensures share { IfOk result (λ made. seat.new.share.amount ≡ seat.old.share.amount + grows made) }
         ensures grown { seat.old.share.amount ≤ seat.new.share.amount }
         ensures parts { seat.new.share.parts ≡ seat.old.share.parts }
@@ -136,7 +146,7 @@ impl<N: StackName> Stack<N> {
         ensures room { result ≢ Err fault.Full → seat.new.fulls.amount ≡ seat.old.fulls.amount }
         ensures fulls_parts { seat.new.fulls.parts ≡ seat.old.fulls.parts }
     {
-        match self.turn(
+        let outcome = self.turn(
             rt,
             alloc,
             &mut seat.pace,
@@ -144,16 +154,8 @@ impl<N: StackName> Stack<N> {
             &mut seat.fulls,
             gate,
             ticket,
-        ) {
-            Ok(turned) => {
-                let own = if turned.stays { Some(ticket) } else { None };
-                Ok(seat.waiting.settle(&mut seat.place, turned, own)?)
-            }
-            Err(fault) => {
-                seat.waiting.keep(ticket);
-                Err(fault)
-            }
-        }
+        );
+        seat.waiting.finish_turn(&mut seat.place, ticket, outcome)
     }
 
     /// Makes the move that a ticket asks for, or an activation's steps.
@@ -261,6 +263,10 @@ impl<N: StackName> Stack<N> {
         requires waiting { waiting.tickets seat.old.waiting ≡ [] }
         ensures seat { IsWorkerOf self.now.exchange seat.new.place }
         ensures waiting { OnOk result (waiting.tickets seat.new.waiting ≡ []) }
+        ensures left { IfErr result (λ f. LeavesRequest f seat.new.place seat.new.waiting seat.new.requests) }
+        ensures tried { OnOk result (IsEmpty seat.old.requests.bits → IsEmpty seat.new.requests.bits) }
+        ensures swept { OnOk result (((collected_by seat.new.place).seen ≡ (collected_by seat.old.place).seen)
+            ⊎ AreCollected 1024 (collected_by seat.old.place).seen (collected_by seat.new.place).seen) }
         ensures share { IfOk result (λ made. seat.new.share.amount ≡ seat.old.share.amount + made) }
         ensures few { IfOk result (λ made. made ≤ 65600) }
         ensures grown { seat.old.share.amount ≤ seat.new.share.amount }
@@ -273,14 +279,17 @@ impl<N: StackName> Stack<N> {
             return Ok(0);
         }
         let made = self.cancel_all(rt, alloc, seat, gate)?;
-        if !self.asked.lower() {
+        let Some(unmarked) = self.asked.lower() else {
             return Ok(made);
-        }
+        };
         match self.sweep(rt, alloc, seat, gate) {
-            Ok(more) => Ok(made + more),
+            Ok(more) => {
+                unmarked.end(&seat.place);
+                Ok(made + more)
+            }
             Err(fault) => {
                 // Words are left that weren't looked at.
-                self.asked.raise();
+                self.asked.raise(unmarked);
                 Err(fault)
             }
         }
@@ -296,8 +305,12 @@ impl<N: StackName> Stack<N> {
     ) -> Result<u64, TurnFault>
         requires seat { IsWorkerOf self.now.exchange seat.old.place }
         requires waiting { waiting.tickets seat.old.waiting ≡ [] }
+        requires requests { IsEmpty seat.old.requests.bits }
         ensures seat { IsWorkerOf self.now.exchange seat.new.place }
         ensures waiting { OnOk result (waiting.tickets seat.new.waiting ≡ []) }
+        ensures left { IfErr result (λ f. LeavesRequest f seat.new.place seat.new.waiting seat.new.requests) }
+        ensures tried { OnOk result (IsEmpty seat.new.requests.bits) }
+        ensures swept { OnOk result (AreCollected 1024 (collected_by seat.old.place).seen (collected_by seat.new.place).seen) }
         ensures share { IfOk result (λ made. seat.new.share.amount ≡ seat.old.share.amount + made) }
         ensures few { IfOk result (λ made. made ≤ 65536) }
         ensures grown { seat.old.share.amount ≤ seat.new.share.amount }
@@ -308,8 +321,7 @@ impl<N: StackName> Stack<N> {
     {
         let mut made: u64 = 0;
         for word in 0..WORDS {
-            let bits = self.exchange.collect(&mut seat.place, word);
-            seat.requests = Requests { word, bits };
+            seat.requests = Requests::collect(&self.exchange, &mut seat.place, word);
             made += self.cancel_all(rt, alloc, seat, gate)?;
         }
         Ok(made)
@@ -327,6 +339,9 @@ impl<N: StackName> Stack<N> {
         requires waiting { waiting.tickets seat.old.waiting ≡ [] }
         ensures seat { IsWorkerOf self.now.exchange seat.new.place }
         ensures waiting { OnOk result (waiting.tickets seat.new.waiting ≡ []) }
+        ensures left { IfErr result (λ f. LeavesRequest f seat.new.place seat.new.waiting seat.new.requests) }
+        ensures tried { OnOk result (IsEmpty seat.new.requests.bits) }
+        ensures pads { seat.new.place.requests ≡ seat.old.place.requests }
         ensures share { IfOk result (λ made. seat.new.share.amount ≡ seat.old.share.amount + made) }
         ensures few { IfOk result (λ made. made ≤ 64) }
         ensures grown { seat.old.share.amount ≤ seat.new.share.amount }
@@ -361,6 +376,12 @@ impl<N: StackName> Stack<N> {
         requires waiting { waiting.tickets seat.old.waiting ≡ [] }
         ensures seat { IsWorkerOf self.now.exchange seat.new.place }
         ensures waiting { OnOk result (waiting.tickets seat.new.waiting ≡ []) }
+        ensures kept { IfErr result (λ f.
+            ((seat.new.requests ≡ seat.old.requests) × (waiting.tickets seat.new.waiting ≡ []))
+            ⊎ ((f ≡ fault.OutOfMemory) × (AreUnpushed seat.new.place seat.new.waiting
+            × IsWithout bit seat.old.requests.bits seat.new.requests.bits))) }
+        ensures tried { OnOk result (IsWithout bit seat.old.requests.bits seat.new.requests.bits) }
+        ensures pads { seat.new.place.requests ≡ seat.old.place.requests }
         ensures share { IfOk result (λ made. seat.new.share.amount ≡ seat.old.share.amount + grows made) }
         ensures grown { seat.old.share.amount ≤ seat.new.share.amount }
         ensures parts { seat.new.share.parts ≡ seat.old.share.parts }

@@ -1,12 +1,15 @@
 use Rattle.std.proofs.Common.{◌≡◌, ◌+◌, ◌*◌, ◌≤◌, []}
+use Rattle.flt_running.specs.Requests.{AreCollected, IsEmpty}
 use Rattle.flt_running.specs.Waiting.{tickets}
-use Rattle.flt_workers.specs.Places.{IsWorkerOf}
+use Rattle.flt_workers.specs.Places.{IsWorkerOf, collected_by}
 use Rattle.flt_running.proofs.stack.Stack.sweep.Given as goal
 
 abbrev pub invariant-loop-word : goal.invariant-loop-word
 invariant-loop-word g l = record {
   seat : IsWorkerOf l.self.exchange l.seat.place;
   waiting : tickets l.seat.waiting ≡ [];
+  tried : IsEmpty l.seat.requests.bits;
+  swept : AreCollected l.word (collected_by l.fn.seat.place).seen (collected_by l.seat.place).seen;
   share : l.seat.share.amount ≡ l.fn.seat.share.amount + l.made;
   few : l.made ≤ 64 * l.word;
   parts : l.seat.share.parts ≡ l.fn.seat.share.parts;

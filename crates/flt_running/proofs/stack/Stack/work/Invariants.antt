@@ -1,4 +1,5 @@
 use Rattle.std.proofs.Common.{◌≡◌, ◌+◌, ◌*◌, ◌≤◌, []}
+use Rattle.flt_running.specs.Requests.{IsEmpty}
 use Rattle.flt_running.specs.Waiting.{tickets}
 use Rattle.flt_workers.specs.Places.{IsWorkerOf}
 use Rattle.flt_running.proofs.stack.Stack.work.Given as goal
@@ -7,6 +8,7 @@ abbrev pub invariant-loop : goal.invariant-loop
 invariant-loop g l = record {
   seat : IsWorkerOf l.self.exchange l.seat.place;
   waiting : tickets l.seat.waiting ≡ [];
+  tried : IsEmpty l.fn.seat.requests.bits → IsEmpty l.seat.requests.bits;
   share : l.seat.share.amount ≡ l.fn.seat.share.amount + l.made;
   few : l.made ≤ 65600 * l.counter + 65600;
   taken : l.taken ≤ l.counter;
