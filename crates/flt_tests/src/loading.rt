@@ -23,6 +23,28 @@ const IGNORES: &[u8] =
 const IGNORES_CERTIFICATE: &[u8] =
     b"fltcert 1\ncallback 0 3\n0 111111111 11112 3 1 -\n1 111111111 11116 3 1 -\n2 !\ncallback 1 4\n0 111111113 11112 1 1 -\n1 111111112 11112 1 1 -\n2 111111115 11112 1 1 -\n3 111111115 11114 1 1 -\nend\n";
 
+// Both callbacks take the first lock first, one of the two locks shared.
+const IN_ORDER: &[u8] =
+    b"filter ordered altitude 100\nlock push first\nlock push second\npre read {\nFltAcquirePushLockExclusive first\nFltAcquirePushLockShared second\nFltReleasePushLock second\nFltReleasePushLock first\nreturn NO_CALLBACK\n}\npre write {\nFltAcquirePushLockShared first\nFltAcquirePushLockExclusive second\nFltReleasePushLock second\nFltReleasePushLock first\nreturn NO_CALLBACK\n}\n";
+
+const IN_ORDER_CERTIFICATE: &[u8] =
+    b"fltcert 1\ncallback 0 6\n0 111111111 11112 3 1 -\n1 111111111 11112 3 1 0\n2 111111111 11112 3 1 0,1s\n3 111111111 11112 3 1 0\n4 111111111 11112 3 1 -\n5 !\ncallback 1 6\n0 111111111 11112 3 1 -\n1 111111111 11112 3 1 0s\n2 111111111 11112 3 1 0s,1\n3 111111111 11112 3 1 0s\n4 111111111 11112 3 1 -\n5 !\nend\n";
+
+// The writes take the second lock first.
+const CROSSED: &[u8] =
+    b"filter crossed altitude 200\nlock push first\nlock push second\npre read {\nFltAcquirePushLockExclusive first\nFltAcquirePushLockShared second\nFltReleasePushLock second\nFltReleasePushLock first\nreturn NO_CALLBACK\n}\npre write {\nFltAcquirePushLockShared second\nFltAcquirePushLockExclusive first\nFltReleasePushLock first\nFltReleasePushLock second\nreturn NO_CALLBACK\n}\n";
+
+const CROSSED_CERTIFICATE: &[u8] =
+    b"fltcert 1\ncallback 0 6\n0 111111111 11112 3 1 -\n1 111111111 11112 3 1 0\n2 111111111 11112 3 1 0,1s\n3 111111111 11112 3 1 0\n4 111111111 11112 3 1 -\n5 !\ncallback 1 6\n0 111111111 11112 3 1 -\n1 111111111 11112 3 1 1s\n2 111111111 11112 3 1 1s,0\n3 111111111 11112 3 1 1s\n4 111111111 11112 3 1 -\n5 !\nend\n";
+
+// Creates are IRPs, so the other side isn't reached.
+const APART: &[u8] =
+    b"filter apart altitude 300\nlock push first\nlock push second\npre create {\nif irp data {\nFltAcquirePushLockExclusive first\nFltAcquirePushLockExclusive second\nFltReleasePushLock second\nFltReleasePushLock first\n} else {\nFltAcquirePushLockExclusive second\nFltAcquirePushLockExclusive first\nFltReleasePushLock first\nFltReleasePushLock second\n}\nreturn NO_CALLBACK\n}\n";
+
+// It says that the other side may be reached.
+const APART_GREATER_CERTIFICATE: &[u8] =
+    b"fltcert 1\ncallback 0 11\n0 111111111 11112 3 1 -\n1 111111111 11112 1 1 -\n2 111111111 11112 1 1 0\n3 111111111 11112 1 1 0,1\n4 111111111 11112 1 1 0\n5 111111111 11112 2 1 -\n6 111111111 11112 2 1 1\n7 111111111 11112 2 1 1,0\n8 111111111 11112 2 1 1\n9 111111111 11112 3 1 -\n10 !\nend\n";
+
 /// A file: its text, and its certificate.
 type File<'a> = (&'a [u8], &'a [u8]);
 
@@ -70,6 +92,35 @@ const CASES: [(&[File<'static>], Answer); 10] = [
             (HIGHER, NOT_REACHED),
         ],
         ("refused", 2, 0, 3),
+    ),
+];
+
+/// Files that are loaded, and whether each filter takes its locks in an order. The last certificate shows a circle, and the least one of
+/// that text doesn't.
+static ORDERS: [(&[File<'static>], bool); 6] = [
+    (&[(PASSES, PASSES_CERTIFICATE)], true),
+    (&[(IN_ORDER, IN_ORDER_CERTIFICATE)], true),
+    (&[(CROSSED, CROSSED_CERTIFICATE)], false),
+    (
+        &[
+            (IN_ORDER, IN_ORDER_CERTIFICATE),
+            (CROSSED, CROSSED_CERTIFICATE),
+        ],
+        false,
+    ),
+    (
+        &[
+            (CROSSED, CROSSED_CERTIFICATE),
+            (IN_ORDER, IN_ORDER_CERTIFICATE),
+        ],
+        false,
+    ),
+    (
+        &[
+            (IN_ORDER, IN_ORDER_CERTIFICATE),
+            (APART, APART_GREATER_CERTIFICATE),
+        ],
+        true,
     ),
 ];
 
@@ -153,5 +204,39 @@ fn loads_within_memory(rt: HostRuntime) -> Result<(), Fail> {
             &[(PASSES, PASSES_CERTIFICATE), (HIGHER, PASSES_CERTIFICATE)]
         )? == LOADED
     );
+    Ok(())
+}
+
+/// Whether the filters of files take their locks in an order; none where they aren't loaded.
+fn is_ordered(alloc: Global, files: &[File]) -> Result<Option<bool>, AllocError> {
+    match load(alloc, files) {
+        Ok(loaded) => Ok(Some(loaded.is_ordered())),
+        Err(fault) => {
+            let _answer = answer_of(fault)?;
+            Ok(None)
+        }
+    }
+}
+
+/// The first of these cases of which something else is answered.
+fn wrong_order(alloc: Global, cases: &[(&[File], bool)]) -> Result<Option<usize>, AllocError> {
+    for (row, (files, wanted)) in cases.iter().enumerate() {
+        if is_ordered(alloc, files)? != Some(*wanted) {
+            return Ok(Some(row));
+        }
+    }
+    Ok(None)
+}
+
+#[test]
+fn knows_whether_locks_are_in_order(rt: HostRuntime) -> Result<(), Fail> {
+    assert!(rt; wrong_order(rt.alloc(), &ORDERS)?.is_none());
+    Ok(())
+}
+
+/// The least certificate is made too. `tools/refuse-allocations.sh tests flt_tests memory` refuses each request for memory in turn.
+#[test]
+fn knows_an_order_within_memory(rt: HostRuntime) -> Result<(), Fail> {
+    assert!(rt; is_ordered(rt.alloc(), &[(APART, APART_GREATER_CERTIFICATE)])? == Some(true));
     Ok(())
 }
