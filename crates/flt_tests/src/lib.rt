@@ -19,4 +19,6 @@ mod pairs;
 #[cfg(test)]
 mod queues;
 #[cfg(test)]
+mod thin;
+#[cfg(test)]
 mod words;
