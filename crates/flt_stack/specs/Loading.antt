@@ -1,8 +1,8 @@
 -- What `load` answers of texts with a certificate each. This project's own definitions.
 use Rattle.std.specs.Prelude.{◌≡◌, ◌⊎◌, ℕ, ◌≤◌, ◌<◌, List, length, take, IsTrue, Some, Result, Ok, Err, slice_get}
 use Rattle.std.specs.List.{AllZip}
-use Rattle.flt_syntax.specs.File.{filter_of}
 use Rattle.flt_syntax.specs.Spelling.{Spells}
+use Rattle.flt_syntax.specs.TextFails as syntax
 use Rattle.flt_tree.specs.declared.filter.Filter.{Filter}
 use Rattle.flt_graph.specs.Lowering.{IsLowered}
 use Rattle.flt_graph.specs.declared.graph.Graph.{Graph}
@@ -60,7 +60,7 @@ HasCertFault file cert.OutOfMemory = ⊥
 
 -- the file of a number has this fault: its text's first, or else its certificate's, or else the least refusal; memory may run out
 abbrev pub HasFault : ℕ → File → LoadFault → Type 0
-HasFault number file (fault.Syntax n f) = (n ≡ number) × (filter_of file.text ≡ Err f)
+HasFault number file (fault.Syntax n f) = (n ≡ number) × syntax.Fails file.text f
 HasFault number file (fault.Cert n f) = (n ≡ number) × HasCertFault file f
 HasFault number file (fault.Refused n r) = (n ≡ number) × IsRefusedFile file r
 HasFault number file fault.OutOfMemory = Unit {0}
