@@ -1,11 +1,11 @@
 -- What may stand in a place of a text. This project's own program.
-use Rattle.std.specs.Prelude.{◌≡◌, IsTrue, List, [], ◌∷◌, ◌++◌, codes, map}
-use Rattle.std.specs.List.{filter, list_all}
+use Rattle.std.specs.Prelude.{◌≡◌, ◌↔◌, All, List, [], ◌∷◌, ◌++◌, codes, map, true}
+use Rattle.std.specs.List.{filter}
 use Rattle.flt_syntax.specs.Vocabulary.{vocabulary}
 use Rattle.flt_syntax.specs.declared.token.Kind.{Kind}
 use Rattle.flt_syntax.specs.declared.token.Kind.TheVariants as k
 use Rattle.flt_tree.specs.Names.{Text}
-use Rattle.flt_hints.specs.Trial.{Gap, may_stand}
+use Rattle.flt_hints.specs.Trial.{Gap, MayStand, may_stand}
 use Rattle.flt_hints.specs.declared.choices.Choices.{Choices}
 use Rattle.flt_hints.specs.declared.choices.Expected.{Expected}
 
@@ -21,7 +21,7 @@ symbols =
     (codes "+", k.Plus) ∷
     (codes "-", k.Minus) ∷ []
 
--- those of a table that may stand in a place
+-- those of a table that are read in a place
 unfoldable pub possible : Gap → List (Text × Kind) → List (Text × Kind)
 possible gap table = filter (λ e. may_stand gap e.0) table
 
@@ -37,10 +37,18 @@ any_name = codes "a_name_of_its_own"
 abbrev pub any_number : Text
 any_number = codes "1"
 
+-- of some words, each with its kind, those that may stand in a place
+pub data ArePossible (gap : Gap) : List (Text × Kind) → List (Text × Kind) → Type 0 where
+  none : ArePossible gap [] []
+  may : {e : Text × Kind} {all some : List (Text × Kind)} → MayStand gap e.0 → ArePossible gap all some →
+      ArePossible gap (e ∷ all) (e ∷ some)
+  may_not : {e : Text × Kind} {all some : List (Text × Kind)} → (MayStand gap e.0 → ⊥) → ArePossible gap all some →
+      ArePossible gap (e ∷ all) some
+
 -- each word and symbol of the language that may stand in a place, and no other; whether a number and any name may; and names of the
 -- text that may
 pub record AreChoices (gap : Gap) (c : Choices) : Type 0 where
-  pub expected : map entry_of c.expected ≡ possible gap vocabulary ++ possible gap symbols
-  pub number : c.takes_number ≡ may_stand gap any_number
-  pub name : c.takes_name ≡ may_stand gap any_name
-  pub names : IsTrue (list_all (λ n. may_stand gap n.now) c.names)
+  pub expected : ArePossible gap (vocabulary ++ symbols) (map entry_of c.expected)
+  pub number : (c.takes_number ≡ true) ↔ MayStand gap any_number
+  pub name : (c.takes_name ≡ true) ↔ MayStand gap any_name
+  pub names : All (λ n. MayStand gap n.now) c.names

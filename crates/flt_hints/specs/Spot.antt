@@ -1,9 +1,9 @@
 -- Where a text is refused, and what stands there. This project's own program.
-use Rattle.std.specs.Prelude.{◌≡◌, Bool, ◌&&◌, ◌==◌, if◌then◌else◌, nat_lt, List, [], length, Option, Some, None, Err}
+use Rattle.std.specs.Prelude.{◌≡◌, Bool, ◌&&◌, ◌==◌, if◌then◌else◌, nat_lt, List, [], length, Option, Some, None}
 use Rattle.std.specs.List.{find}
 use Rattle.flt_syntax.specs.Cursor.{bytes_of}
-use Rattle.flt_syntax.specs.File.{filter_of}
 use Rattle.flt_syntax.specs.Lex.{tokens}
+use Rattle.flt_syntax.specs.TextFails.{Fails}
 use Rattle.flt_syntax.specs.declared.fault.SyntaxFault.{SyntaxFault}
 use Rattle.flt_syntax.specs.declared.token.Token.{Token}
 use Rattle.flt_tree.specs.Limits.{max_text}
@@ -23,8 +23,8 @@ abbrev pub bytes_at : Text → Option Token → Text
 bytes_at text None = []
 bytes_at text (Some t) = bytes_of text t
 
--- a text has this first fault, and the first token that begins there is this one, with these bytes
+-- a text fails so, and the first token that begins there is this one, with these bytes
 pub record IsSpot (text : Text) (s : Spot) : Type 0 where
-  pub refused : filter_of text ≡ Err s.fault
+  pub refused : Fails text s.fault
   pub token : s.token ≡ find (stands_at s.fault) (tokens_of text)
   pub bytes : s.bytes.now ≡ bytes_at text s.token

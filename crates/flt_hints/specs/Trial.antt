@@ -1,6 +1,7 @@
 -- How a word is tried in a place of a text: the proved parser says whether it may stand there. This project's own program.
-use Rattle.std.specs.Prelude.{ℕ, ◌+◌, Bool, true, false, not, ◌&&◌, ◌==◌, if◌then◌else◌, min, [], ◌∷◌, ◌++◌, length, take, drop, Result, Ok, Err}
+use Rattle.std.specs.Prelude.{◌≡◌, ℕ, ◌+◌, Bool, true, false, not, ◌&&◌, ◌==◌, if◌then◌else◌, min, [], ◌∷◌, ◌++◌, length, take, drop, Result, Ok, Err}
 use Rattle.flt_syntax.specs.File.{filter_of}
+use Rattle.flt_syntax.specs.TextFails.{Fails}
 use Rattle.flt_syntax.specs.declared.fault.FaultKind.{FaultKind}
 use Rattle.flt_syntax.specs.declared.fault.FaultKind.TheVariants.{E04, E06}
 use Rattle.flt_syntax.specs.declared.fault.SyntaxFault.{SyntaxFault}
@@ -56,6 +57,10 @@ abbrev pub reads_on : ℕ → Result Filter SyntaxFault → Bool
 reads_on line (Ok f) = true
 reads_on line (Err e) = is_past line e
 
--- whether a word may stand in a place: the text with it there is read past it
+-- a word may stand in a place: where the text with it there fails, it fails past the word
+abbrev pub MayStand : Gap → Text → Type 0
+MayStand gap word = (f : SyntaxFault) → Fails (tried gap word) f → is_past (line_behind gap.before) f ≡ true
+
+-- the same as it is tried: the text with the word there is read past it
 unfoldable pub may_stand : Gap → Text → Bool
 may_stand gap word = reads_on (line_behind gap.before) (filter_of (tried gap word))

@@ -1,5 +1,5 @@
 -- What is said of a text that doesn't parse. This project's own program.
-use Rattle.std.specs.Prelude.{◌≡◌, true, [], Option, Some, None, IfSome}
+use Rattle.std.specs.Prelude.{◌≡◌, [], Option, Some, None, IfSome}
 use Rattle.flt_syntax.specs.Spelling.{Spells}
 use Rattle.flt_syntax.specs.declared.fault.FaultKind.{FaultKind}
 use Rattle.flt_syntax.specs.declared.token.Token.{Token}
@@ -7,7 +7,7 @@ use Rattle.flt_tree.specs.Names.{Text}
 use Rattle.flt_tree.specs.declared.filter.Filter.{Filter}
 use Rattle.flt_hints.specs.Choices.{AreChoices}
 use Rattle.flt_hints.specs.Spot.{IsSpot}
-use Rattle.flt_hints.specs.Trial.{gap_at, may_stand}
+use Rattle.flt_hints.specs.Trial.{MayStand, gap_at}
 use Rattle.flt_hints.specs.declared.troubles.Trouble.{Trouble}
 
 -- nothing may stand where there is no token
@@ -19,7 +19,7 @@ pub record AreNone (t : Trouble) : Type 0 where
 -- what may stand in the place of a token, and a word that is meant is one that may
 pub record AreFor (kind : FaultKind) (text : Text) (token : Token) (t : Trouble) : Type 0 where
   pub choices : AreChoices (gap_at kind text token) t.choices
-  pub meant : IfSome t.meant (λ w. may_stand (gap_at kind text token) w.now ≡ true)
+  pub meant : IfSome t.meant (λ w. MayStand (gap_at kind text token) w.now)
 
 -- the same where there may be a token
 abbrev pub AreOf : Text → Trouble → Option Token → Type 0

@@ -8,7 +8,7 @@ ghost use Rattle.flt_hints.specs.Trial as trial;
 ghost use Rattle.flt_syntax.specs.Vocabulary.{vocabulary};
 
 use crate::trial::{Gap, may_stand};
-use flt_syntax::{Kind, keywords};
+use flt_syntax::{Kind, keywords, the_fault_is_the_one_told};
 use sqlite_items::Items;
 use std::alloc::{AllocError, Global};
 
@@ -104,6 +104,7 @@ pub(crate) fn choices_in<'a>(
 ) -> Result<Choices<'a>, AllocError>
     ensures { IfOk result (λ c. spec.AreChoices (gap_of gap.entry) c) }
 {
+    the_fault_is_the_one_told();
     let expected = expected_in(alloc, gap)?;
     let takes_number = may_stand(alloc, gap, b"1")?;
     let takes_name = may_stand(alloc, gap, b"a_name_of_its_own")?;

@@ -1,8 +1,8 @@
 //! Where a text is refused, and what stands there.
 
-ghost use Rattle.std.specs.Prelude.{◌≡◌, IfOk, Err};
+ghost use Rattle.std.specs.Prelude.{◌≡◌, IfOk};
 ghost use Rattle.std.specs.List.{find};
-ghost use Rattle.flt_syntax.specs.File.{filter_of};
+ghost use Rattle.flt_syntax.specs.TextFails.{Fails};
 ghost use Rattle.flt_hints.specs.Spot as spec;
 
 use flt_syntax::{SyntaxFault, Token, bytes_of, tokens};
@@ -62,7 +62,7 @@ fn bytes_at(text: &[u8], token: Option<Token>) -> &[u8]
 
 /// What stands where a text has its first fault.
 pub(crate) fn spot_at<'a>(text: &'a [u8], tokens: &[Token], fault: SyntaxFault) -> Spot<'a>
-    requires refused { filter_of text.now ≡ Err fault }
+    requires refused { Fails text.now fault }
     requires tokens { tokens.now ≡ spec.tokens_of text.now }
     ensures { spec.IsSpot text.now result }
 {

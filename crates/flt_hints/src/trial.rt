@@ -1,10 +1,10 @@
 //! Tries words in a place of a text, by the parser.
 
-ghost use Rattle.std.specs.Prelude.{◌≡◌, IfOk, true, IfSome};
+ghost use Rattle.std.specs.Prelude.{◌≡◌, IfOk, IfSome};
 ghost use Rattle.flt_hints.specs.Trial as spec;
 ghost use Rattle.flt_hints.specs.Trial.{gap_of};
 
-use flt_syntax::{FaultKind, ParseError, SyntaxFault, Token, parse};
+use flt_syntax::{FaultKind, ParseError, SyntaxFault, Token, parse, the_fault_is_the_one_told};
 use std::alloc::{AllocError, Global};
 
 /// A place of a text: what stands before it, and what behind it.
@@ -76,6 +76,7 @@ fn is_past(line: usize, fault: SyntaxFault) -> bool
 pub(crate) fn may_stand(alloc: Global, gap: Gap<'_>, word: &[u8]) -> Result<bool, AllocError>
     ensures { IfOk result (λ b. b ≡ spec.may_stand (gap_of gap.entry) word.now) }
 {
+    the_fault_is_the_one_told();
     let text = tried(alloc, gap, word)?;
     match parse(alloc, text.as_slice()) {
         Ok(_) => Ok(true),
@@ -90,8 +91,9 @@ pub(crate) fn if_it_may<'a>(
     gap: Gap<'_>,
     word: Option<&'a [u8]>,
 ) -> Result<Option<&'a [u8]>, AllocError>
-    ensures { IfOk result (λ o. IfSome o (λ w. spec.may_stand (gap_of gap.entry) w.now ≡ true)) }
+    ensures { IfOk result (λ o. IfSome o (λ w. spec.MayStand (gap_of gap.entry) w.now)) }
 {
+    the_fault_is_the_one_told();
     let Some(word) = word else {
         return Ok(None);
     };

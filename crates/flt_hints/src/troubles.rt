@@ -1,10 +1,10 @@
 //! What is said of a text that doesn't parse.
 
-ghost use Rattle.std.specs.Prelude.{◌≡◌, IfOk, IfSome, Err, true};
+ghost use Rattle.std.specs.Prelude.{◌≡◌, IfOk, IfSome};
 ghost use Rattle.flt_hints.specs.Trial as trial;
 ghost use Rattle.flt_hints.specs.Trial.{gap_of};
 ghost use Rattle.flt_hints.specs.Trouble as spec;
-ghost use Rattle.flt_syntax.specs.File.{filter_of};
+ghost use Rattle.flt_syntax.specs.TextFails.{Fails};
 
 use crate::choices::{Choices, choices_in};
 use crate::hint::Hint;
@@ -53,7 +53,7 @@ fn meant<'a>(
     token: Token,
     choices: &Choices<'a>,
 ) -> Result<Option<&'a [u8]>, AllocError>
-    ensures { IfOk result (λ o. IfSome o (λ w. trial.may_stand (gap_of gap.entry) w.now ≡ true)) }
+    ensures { IfOk result (λ o. IfSome o (λ w. trial.MayStand (gap_of gap.entry) w.now)) }
 {
     match (spot.fault.kind, token.word.kind) {
         (FaultKind::E03 | FaultKind::E04, Kind::Name) => {
@@ -140,7 +140,7 @@ fn trouble_at<'a>(
     text: &'a [u8],
     fault: SyntaxFault,
 ) -> Result<Trouble<'a>, AllocError>
-    requires { filter_of text.now ≡ Err fault }
+    requires { Fails text.now fault }
     ensures { IfOk result (spec.IsTrouble text.now) }
 {
     let found = tokens_of(alloc, text)?;
