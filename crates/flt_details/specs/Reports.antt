@@ -1,7 +1,7 @@
 -- What is reported of texts. This project's own program.
-use Rattle.std.specs.Prelude.{◌≡◌, ℕ, List, [], ◌∷◌, ◌++◌, Err, map}
-use Rattle.flt_syntax.specs.File.{filter_of}
+use Rattle.std.specs.Prelude.{◌≡◌, ℕ, List, [], ◌∷◌, ◌++◌, map}
 use Rattle.flt_syntax.specs.Spelling.{Spells}
+use Rattle.flt_syntax.specs.TextFails.{Fails}
 use Rattle.flt_tree.specs.Names.{Text}
 use Rattle.flt_tree.specs.declared.tree.Tree.{Tree}
 use Rattle.flt_graph.specs.Lowering.{IsLowered}
@@ -21,7 +21,7 @@ pub record IsKnown (text : Text) (tree : Tree) (graph : Graph) (found : List Fin
 
 -- what a text is: it has this first fault, or it is known
 abbrev pub IsJudged : Text → Judged → Type 0
-IsJudged text (Unread f) = filter_of text ≡ Err f
+IsJudged text (Unread f) = Fails text f
 IsJudged text (Known tree graph found) = IsKnown text tree graph found
 
 -- 0 where nothing is found, 1 where something is

@@ -1,11 +1,11 @@
 //! What is found of texts, a JSON object a line.
 
-ghost use Rattle.std.specs.Prelude.{◌≡◌, ◌++◌, [], Err, IfOk, List, ℕ, max};
+ghost use Rattle.std.specs.Prelude.{◌≡◌, ◌++◌, [], IfOk, List, ℕ, max};
 ghost use Rattle.flt_forms.specs.Fault.{IsFaultLine};
 ghost use Rattle.flt_forms.specs.Finding as of_finding;
 ghost use Rattle.flt_forms.specs.Lines as spec;
 ghost use Rattle.flt_details.specs.Reports.{IsJudged};
-ghost use Rattle.flt_syntax.specs.File.{filter_of};
+ghost use Rattle.flt_syntax.specs.TextFails.{Fails};
 
 use crate::fault::{help_of, put_fault_line};
 use crate::finding::put_lines;
@@ -13,7 +13,7 @@ use flt_details::{Explained, Judged, Source, details, judge};
 use flt_explain::Finding;
 use flt_graph::Graph;
 use flt_hints::{describe, tell};
-use flt_syntax::{SyntaxFault, Tree, spelled_is_read};
+use flt_syntax::{SyntaxFault, Tree, fails_exactly_where_nothing_is_spelled};
 use std::alloc::{AllocError, Global};
 
 /// The line of a text that doesn't parse, behind what is there.
@@ -23,11 +23,11 @@ fn unread(
     source: Source<'_>,
     fault: SyntaxFault,
 ) -> Result<Vec<u8>, AllocError>
-    requires { filter_of source.text.now ≡ Err fault }
+    requires { Fails source.text.now fault }
     ensures { IfOk result (λ v. (printed : List ℕ) × IsFaultLine source.entry.name.now source.entry.text.now printed
         × (v.items ≡ out.items ++ printed)) }
 {
-    spelled_is_read();
+    fails_exactly_where_nothing_is_spelled();
     let Some(trouble) = describe(alloc, source.text)? else {
         return Ok(out);
     };

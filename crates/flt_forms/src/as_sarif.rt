@@ -1,11 +1,11 @@
 //! What is found of texts, as SARIF 2.1.0.
 
-ghost use Rattle.std.specs.Prelude.{◌≡◌, ◌++◌, [], Err, IfOk, List, codes, flat_map, max};
+ghost use Rattle.std.specs.Prelude.{◌≡◌, [], IfOk, List, codes, flat_map};
 ghost use Rattle.flt_forms.specs.Members.{Added, Adds, array_member, object_member, string_member};
 ghost use Rattle.flt_forms.specs.Sarif as spec;
 ghost use Rattle.flt_details.specs.Closing.{fault_name as fault_words};
 ghost use Rattle.flt_details.specs.Reports.{IsJudged};
-ghost use Rattle.flt_syntax.specs.File.{filter_of};
+ghost use Rattle.flt_syntax.specs.TextFails.{Fails};
 ghost use Rattle.json.specs.Token.{Token};
 
 use crate::as_lines::greater;
@@ -19,7 +19,7 @@ use flt_explain::Finding;
 use flt_graph::Graph;
 use flt_hints::{describe, tell};
 use flt_rules::Rule;
-use flt_syntax::{FaultKind, SyntaxFault, Tree, spelled_is_read};
+use flt_syntax::{FaultKind, SyntaxFault, Tree, fails_exactly_where_nothing_is_spelled};
 use json::Writer;
 use std::alloc::{AllocError, Global};
 
@@ -167,11 +167,11 @@ fn put_unread(
     source: Source<'_>,
     fault: SyntaxFault,
 ) -> Result<(), AllocError>
-    requires { filter_of source.text.now ≡ Err fault }
+    requires { Fails source.text.now fault }
     ensures { IfOk result (λ _. (ts : List Token) × spec.IsFaultResult source.entry.name.now source.entry.text.now ts
         × Added writer.old writer.new ts) }
 {
-    spelled_is_read();
+    fails_exactly_where_nothing_is_spelled();
     let Some(trouble) = describe(alloc, source.text)? else {
         return Ok(());
     };
