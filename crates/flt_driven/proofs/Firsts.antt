@@ -1,5 +1,5 @@
 -- The first of several: what holds of those before it, and where it stands.
-use Rattle.std.proofs.Common.{◌≡◌, ℕ, ◌+◌, ◌<◌, List, [], ◌∷◌, ◌++◌, Err, Vec, Global, length, get_or, take, drop, map, sym, subst, ap, ◌∙◌, arith}
+use Rattle.std.proofs.Common.{◌≡◌, ℕ, ◌+◌, ◌<◌, List, [], ◌∷◌, ◌++◌, Vec, Global, length, get_or, take, drop, map, sym, subst, ap, ◌∙◌, arith}
 use Rattle.std.proofs.lemmas.List.{take-append-drop, drop_more, map-append, map_more, map_push, length-take-le, length-map}
 use Rattle.std.proofs.lemmas.Slice.Zip.{all_zipped_more}
 use Rattle.std.specs.List.{AllZip}
@@ -8,8 +8,8 @@ use Rattle.flt_driven.specs.Texts.{AreSpelled, IsSyntaxFault, HasCertificate, Ha
 use Rattle.flt_driven.specs.declared.fault.RunFault.{RunFault}
 use Rattle.flt_driven.specs.declared.fault.RunFault.TheVariants as fault
 use Rattle.flt_model.specs.Program.{filters_of}
-use Rattle.flt_syntax.specs.File.{filter_of}
 use Rattle.flt_syntax.specs.Spelling.{Spells}
+use Rattle.flt_syntax.specs.TextFails.{Fails}
 use Rattle.flt_syntax.specs.declared.fault.SyntaxFault.{SyntaxFault}
 use Rattle.flt_tree.specs.declared.filter.Filter.{Filter}
 use Rattle.flt_tree.specs.declared.tree.Tree.{Tree}
@@ -46,7 +46,7 @@ module _ (texts : List (Vec ℕ Global)) (i : ℕ) (text d : Vec ℕ Global) (h 
       rw (read, parsed) (all_zipped_more _ _ _ text.items tree.filter spelled one)
 
   pub first_fault : (filters : List Filter) (f : SyntaxFault) → AreSpelled (map (λ t. t.items) (take i texts)) filters →
-      filter_of text.items ≡ Err f →
+      Fails text.items f →
       IsSyntaxFault (map (λ t. t.items) texts) i f
   first_fault filters f spelled fault = record {
     before = map (λ t. t.items) (take i texts);

@@ -1,5 +1,5 @@
 -- Texts, the filters that they spell, and the certificates of these. This project's own program.
-use Rattle.std.specs.Prelude.{◌≡◌, ℕ, List, [], ◌∷◌, ◌++◌, length, Result, Err, IsTrue}
+use Rattle.std.specs.Prelude.{◌≡◌, ℕ, List, [], ◌∷◌, ◌++◌, length, Result, IsTrue}
 use Rattle.std.specs.List.{AllZip}
 use Rattle.flt_analyse.specs.All.{IsAnswer}
 use Rattle.flt_analyse.specs.Least.{NoneCovers, IsNamed}
@@ -12,8 +12,8 @@ use Rattle.flt_graph.specs.Lowering.{IsLowered}
 use Rattle.flt_graph.specs.declared.graph.Graph.{Graph}
 use Rattle.flt_model.specs.Streams.{Text}
 use Rattle.flt_stack.specs.Loading.{File, file}
-use Rattle.flt_syntax.specs.File.{filter_of}
 use Rattle.flt_syntax.specs.Spelling.{Spells}
+use Rattle.flt_syntax.specs.TextFails.{Fails}
 use Rattle.flt_syntax.specs.declared.fault.SyntaxFault.{SyntaxFault}
 use Rattle.flt_tree.specs.declared.filter.Filter.{Filter}
 
@@ -31,7 +31,7 @@ pub record IsSyntaxFault (texts : List Text) (number : ℕ) (f : SyntaxFault) : 
   pub filters : List Filter
   pub spelled : AreSpelled before filters
   pub counted : number ≡ length before
-  pub fault : filter_of text ≡ Err f
+  pub fault : Fails text f
 
 -- memory ran out, or the texts have this fault
 abbrev pub TextsFail : List Text → RunFault → Type 0
