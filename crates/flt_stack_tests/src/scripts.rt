@@ -161,8 +161,8 @@ static CASES: [Case; 12] = [
 #[derive(Clone, Copy)]
 struct Refused {
     case: Case,
-    /// Whether two tickets wait at once. A move that is refused memory keeps its ticket, which comes behind the others then, so that entries
-    /// may come in another order.
+    /// Whether two tickets wait at once. A move that is refused memory keeps its ticket, which comes behind the others then, so that
+    /// entries may come in another order.
     has_others: bool,
 }
 
@@ -197,7 +197,8 @@ static WITHIN_MEMORY: [Refused; 3] = [
             entries: "arrive read irp 0\npre 0\ngo 0 1 yes\ngo 0 1 yes\ngo 0 1 yes\ncancel 0\ncanceled 100 0\ngo 1 2 yes\ngo 1 1 yes\ndetach 100\ndetached 100\narrive read irp 0\nskip 1\nlower 1\n",
         },
     },
-    // A read waits in the lower filter's queue. The upper one is drained, and its stream's context unlinked; the lower one gives the read back.
+    // A read waits in the lower filter's queue. The upper one is drained, and its stream's context unlinked; the lower one gives the read
+    // back.
     Refused {
         has_others: true,
         case: Case {
@@ -221,8 +222,8 @@ static WITHIN_MEMORY: [Refused; 3] = [
             entries: "arrive read irp 0\npre 0\ngo 0 1 yes\ngo 0 1 yes\ngo 0 1 yes\npre 0\ngo 1 1 yes\ngo 1 1 yes\ngo 1 1 yes\ndetach 200\ndrain 200 0\ngo 2 2 yes\nunlink 200 stream 0\ngo 2 1 yes\ndetached 200\ndetach 100\ncanceled 100 0\ngo 3 2 yes\ngo 3 1 yes\ndetached 100\n",
         },
     },
-    // A deferred work item, a lock that is shared beside a context of the instance, and a generic work item that takes a read out of a queue.
-    // The second read isn't deferred, for which memory is refused by the script.
+    // A deferred work item, a lock that is shared beside a context of the instance, and a generic work item that takes a read out of a
+    // queue. The second read isn't deferred, since the script refuses that choice.
     Refused {
         has_others: true,
         case: Case {
