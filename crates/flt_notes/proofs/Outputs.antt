@@ -3,7 +3,7 @@ use Rattle.std.proofs.Common.{◌⊎◌, inl, inr, ◌≡◌, ℕ, List, [], ◌
 use Rattle.std.proofs.Math.Path.{subst}
 use Rattle.std.proofs.lemmas.List.Elements.{All-nil, All-push, All-weaker}
 use Rattle.flt_model.specs.Program.{filters_of}
-use Rattle.flt_notes.specs.Readings.{IsOther, IsUnread, filters_in}
+use Rattle.flt_notes.specs.Readings.{AreParsed, IsOther, IsUnread}
 use Rattle.flt_notes.specs.Reported.{HasNotice, HasNoticeStatus, HasReport, HasStatus, IsReport, IsStatus}
 use Rattle.std.specs.declared.alloc.AllocError.{AllocError}
 use Rattle.flt_syntax.specs.declared.fault.SyntaxFault.{SyntaxFault}
@@ -95,7 +95,7 @@ output_none trees o none = record {
 }
 
 -- what is noted of these trees came of these texts
-pub all_noted : (texts : List Text) (trees : List Tree) (noted : List Noted) → filters_of trees ≡ filters_in texts →
+pub all_noted : (texts : List Text) (trees : List Tree) (noted : List Noted) → AreParsed texts (filters_of trees) →
     All (IsNoted trees) noted → AreNoted texts noted
 all_noted texts trees noted parsed all =
     All-weaker (IsNoted trees) (IsNotedOf texts) (λ n is. record { trees = trees; parsed = parsed; is = is }) noted all

@@ -1,24 +1,35 @@
 -- What texts are, with one more.
-use Rattle.std.proofs.Common.{◌≡◌, ℕ, zero, suc, List, [], ◌∷◌, ◌++◌, Some, Result, Ok, Err, refl, sym, ap, ◌∙◌, append-nil, drop, slice_get, length}
+use Rattle.std.proofs.Common.{◌≡◌, ℕ, zero, suc, List, [], ◌∷◌, ◌++◌, Some, refl, ap, drop, slice_get, length}
 use Rattle.flt_model.specs.Program.{filters_of}
-use Rattle.flt_syntax.specs.File.{filter_of}
+use Rattle.flt_syntax.specs.Spelling.{Spells}
+use Rattle.flt_syntax.specs.TextFails.{Fails}
 use Rattle.flt_syntax.specs.declared.fault.SyntaxFault.{SyntaxFault}
 use Rattle.flt_tree.specs.Names.{Text}
 use Rattle.flt_tree.specs.declared.filter.Filter.{Filter}
 use Rattle.flt_tree.specs.declared.tree.Tree.{Tree}
-use Rattle.flt_notes.specs.Readings.{AreStudied, IsReading, IsStudied, filters_in, texts_read, with_filter}
+use Rattle.flt_notes.specs.Readings.{AreParsed, none, parses, fails, AreReadings, AreStudied, IsReading, IsStudied, texts_read}
 use Rattle.flt_notes.specs.declared.readings.Reading.{Reading}
 use Rattle.flt_notes.specs.declared.readings.Reading.TheVariants.{Unread, Other, Known}
+use Rattle.flt_notes.specs.declared.readings.Readings.{Readings}
 use Rattle.flt_notes.specs.declared.readings.Studied.{Studied}
 
-with_filter-append : (r : Result Filter SyntaxFault) (fs gs : List Filter) → with_filter r (fs ++ gs) ≡ with_filter r fs ++ gs
-with_filter-append (Ok f) fs gs = refl
-with_filter-append (Err e) fs gs = refl
+-- a text more that fails has no filter
+pub parsed_and_fault : (t : Text) (e : SyntaxFault) {ts : List Text} {fs : List Filter} → Fails t e → AreParsed ts fs →
+    AreParsed (ts ++ t ∷ []) fs
+parsed_and_fault t e h none = fails h none
+parsed_and_fault t e h (parses p are) = parses p (parsed_and_fault t e h are)
+parsed_and_fault t e h (fails p are) = fails p (parsed_and_fault t e h are)
 
--- the filters of some texts and of one more
-pub filters_in-push : (ts : List Text) (t : Text) → filters_in (ts ++ t ∷ []) ≡ filters_in ts ++ with_filter (filter_of t) []
-filters_in-push [] t = refl
-filters_in-push (s ∷ ts) t = ap (with_filter (filter_of s)) (filters_in-push ts t) ∙ with_filter-append (filter_of s) (filters_in ts) _
+-- the filter of a text more that spells one stands behind the others
+pub parsed_and_filter : (t : Text) (f : Filter) {ts : List Text} {fs : List Filter} → Spells t f → AreParsed ts fs →
+    AreParsed (ts ++ t ∷ []) (fs ++ f ∷ [])
+parsed_and_filter t f h none = parses h none
+parsed_and_filter t f h (parses p are) = parses p (parsed_and_filter t f h are)
+parsed_and_filter t f h (fails p are) = fails p (parsed_and_filter t f h are)
+
+-- before any text is read
+pub nothing_read : (r : Readings) → r.trees ≡ [] → r.each.items ≡ [] → AreReadings r
+nothing_read r trees each = record { each = rw each tt; filters = rw (each, trees) none }
 
 -- what stands at a place stands there where one more stands at the end
 pub get_of_more : {X : Type 0} (xs : List X) (y x : X) (i : ℕ) → slice_get xs i ≡ Some x → slice_get (xs ++ y ∷ []) i ≡ Some x
@@ -63,22 +74,20 @@ module _ (trees : List Tree) (tree : Tree) where
   all_of_more (s ∷ each) are = (reading_of_more s.source.text.now s.reading are.0, all_of_more each are.1)
 
 module _ (trees : List Tree) (each : List Studied) (are : AreStudied trees each)
-    (filters : filters_of trees ≡ filters_in (texts_read each)) (s : Studied) where
+    (filters : AreParsed (texts_read each) (filters_of trees)) (s : Studied) where
   -- with a text that doesn't parse
-  pub with_unread : (f : SyntaxFault) → filter_of s.source.text.now ≡ Err f → IsStudied trees s →
-      AreStudied trees (each ++ s ∷ []) × (filters_of trees ≡ filters_in (texts_read (each ++ s ∷ [])))
+  pub with_unread : (f : SyntaxFault) → Fails s.source.text.now f → IsStudied trees s →
+      AreStudied trees (each ++ s ∷ []) × AreParsed (texts_read (each ++ s ∷ [])) (filters_of trees)
   with_unread f fault is = (
     studied_push trees each s are is,
-    filters ∙ sym (ap filters_in (texts-push each s) ∙ filters_in-push (texts_read each) s.source.text.now
-        ∙ ap (λ r. filters_in (texts_read each) ++ with_filter r []) fault ∙ append-nil (filters_in (texts_read each))),
+    rw (texts-push each s) (parsed_and_fault s.source.text.now f fault filters),
   )
 
   -- with a text that parses
-  pub with_known : (tree : Tree) → filter_of s.source.text.now ≡ Ok tree.filter → IsStudied (trees ++ tree ∷ []) s →
-      AreStudied (trees ++ tree ∷ []) (each ++ s ∷ []) × (filters_of (trees ++ tree ∷ []) ≡ filters_in (texts_read (each ++ s ∷ [])))
-  with_known tree read is = (
+  pub with_known : (tree : Tree) → Spells s.source.text.now tree.filter → IsStudied (trees ++ tree ∷ []) s →
+      AreStudied (trees ++ tree ∷ []) (each ++ s ∷ []) × AreParsed (texts_read (each ++ s ∷ [])) (filters_of (trees ++ tree ∷ []))
+  with_known tree spelled is = (
     studied_push (trees ++ tree ∷ []) each s (all_of_more trees tree each are) is,
-    filters-push trees tree ∙ ap (λ fs. fs ++ tree.filter ∷ []) filters
-        ∙ sym (ap filters_in (texts-push each s) ∙ filters_in-push (texts_read each) s.source.text.now
-        ∙ ap (λ r. filters_in (texts_read each) ++ with_filter r []) read),
+    rw (texts-push each s, filters-push trees tree)
+        (parsed_and_filter s.source.text.now tree.filter spelled filters),
   )

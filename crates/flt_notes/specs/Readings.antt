@@ -1,6 +1,7 @@
 -- What texts are found to be. This project's own definitions.
-use Rattle.std.specs.Prelude.{◌≡◌, ℕ, List, [], ◌∷◌, Some, None, Result, Ok, Err, map, slice_get}
-use Rattle.flt_syntax.specs.File.{filter_of}
+use Rattle.std.specs.Prelude.{◌≡◌, ℕ, List, [], ◌∷◌, Some, None, map, slice_get}
+use Rattle.flt_syntax.specs.Spelling.{Spells}
+use Rattle.flt_syntax.specs.TextFails.{Fails}
 use Rattle.flt_syntax.specs.declared.fault.SyntaxFault.{SyntaxFault}
 use Rattle.flt_tree.specs.Names.{Text}
 use Rattle.flt_tree.specs.declared.filter.Filter.{Filter}
@@ -17,15 +18,11 @@ use Rattle.flt_notes.specs.declared.readings.Reading.TheVariants.{Unread, Other,
 use Rattle.flt_notes.specs.declared.readings.Readings.{Readings}
 use Rattle.flt_notes.specs.declared.readings.Studied.{Studied}
 
--- the filter that a text spells, if it spells one, before others
-abbrev pub with_filter : Result Filter SyntaxFault → List Filter → List Filter
-with_filter (Ok f) fs = f ∷ fs
-with_filter (Err e) fs = fs
-
--- the filters of the texts that parse, in their order
-abbrev pub filters_in : List Text → List Filter
-filters_in [] = []
-filters_in (t ∷ ts) = with_filter (filter_of t) (filters_in ts)
+-- the filters are those of the texts that parse, in their order
+pub data AreParsed : List Text → List Filter → Type 0 where
+  none : AreParsed [] []
+  parses : {t : Text} {ts : List Text} {f : Filter} {fs : List Filter} → Spells t f → AreParsed ts fs → AreParsed (t ∷ ts) (f ∷ fs)
+  fails : {t : Text} {ts : List Text} {e : SyntaxFault} {fs : List Filter} → Fails t e → AreParsed ts fs → AreParsed (t ∷ ts) fs
 
 -- a text spells the tree of this number, which has these points, and this is what is found
 pub record IsKnownBy (trees : List Tree) (text : Text) (place : ℕ) (graph : Graph) (found : List Finding) : Type 0 where
@@ -36,14 +33,14 @@ pub record IsKnownBy (trees : List Tree) (text : Text) (place : ℕ) (graph : Gr
 -- a text doesn't parse and is taken for a certificate or a journal, and this is said of it
 pub record IsOther (text : Text) (notice : Notice) : Type 0 where
   pub fault : SyntaxFault
-  pub unread : filter_of text ≡ Err fault
+  pub unread : Fails text fault
   pub kind : Kind
   pub taken : kind_of text ≡ Some kind
   pub is : IsNotice kind text notice
 
 -- a text doesn't parse, and isn't taken for anything else
 pub record IsUnread (text : Text) (f : SyntaxFault) : Type 0 where
-  pub fault : filter_of text ≡ Err f
+  pub fault : Fails text f
   pub plain : kind_of text ≡ None
 
 -- what a text is
@@ -66,4 +63,4 @@ AreStudied trees (s ∷ ss) = IsStudied trees s × AreStudied trees ss
 -- the same, and the trees are those of the texts that parse
 pub record AreReadings (r : Readings) : Type 0 where
   pub each : AreStudied r.trees r.each.items
-  pub filters : filters_of r.trees ≡ filters_in (texts_read r.each.items)
+  pub filters : AreParsed (texts_read r.each.items) (filters_of r.trees)

@@ -1,6 +1,5 @@
 -- What is reported of files: of texts, and of certificates and journals. This project's own program.
-use Rattle.std.specs.Prelude.{◌≡◌, ◌⊎◌, ℕ, List, [], ◌∷◌, Err, max}
-use Rattle.flt_syntax.specs.File.{filter_of}
+use Rattle.std.specs.Prelude.{◌≡◌, ◌⊎◌, ℕ, List, [], ◌∷◌, max}
 use Rattle.flt_tree.specs.Names.{Text}
 use Rattle.flt_reasons.specs.Notice as notices
 use Rattle.flt_reasons.specs.declared.notice.Notice.{Notice}

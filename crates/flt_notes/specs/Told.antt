@@ -5,13 +5,13 @@ use Rattle.flt_tree.specs.declared.tree.Tree.{Tree}
 use Rattle.flt_model.specs.Program.{filters_of}
 use Rattle.flt_notes.specs.Lines.{said}
 use Rattle.flt_notes.specs.Noted.{IsNoted}
-use Rattle.flt_notes.specs.Readings.{filters_in}
+use Rattle.flt_notes.specs.Readings.{AreParsed}
 use Rattle.flt_notes.specs.declared.noted.Noted.{Noted}
 
 -- what is noted came of a finding of one of the texts that parse, in runs of their filters
 pub record IsNotedOf (texts : List Text) (n : Noted) : Type 0 where
   pub trees : List Tree
-  pub parsed : filters_of trees ≡ filters_in texts
+  pub parsed : AreParsed texts (filters_of trees)
   pub is : IsNoted trees n
 
 abbrev pub AreNoted : List Text → List Noted → Type 0

@@ -1,15 +1,15 @@
 //! What texts are found to be, beside the trees of those that parse.
 
-ghost use Rattle.std.specs.Prelude.{◌≡◌, ◌++◌, ◌∷◌, [], Err, IfOk, OnOk};
+ghost use Rattle.std.specs.Prelude.{◌≡◌, ◌++◌, ◌∷◌, [], IfOk, OnOk};
 ghost use Rattle.flt_details.specs.Reports.{IsJudged, IsKnown, texts_of};
-ghost use Rattle.flt_syntax.specs.File.{filter_of};
+ghost use Rattle.flt_syntax.specs.TextFails.{Fails};
 ghost use Rattle.flt_notes.specs.Readings as spec;
 
 use flt_details::{Judged, Source, judge};
 use flt_explain::Finding;
 use flt_graph::Graph;
 use flt_reasons::{Notice, describe, kind_of};
-use flt_syntax::{SyntaxFault, Tree, spelled_is_read};
+use flt_syntax::{SyntaxFault, Tree};
 use sqlite_items::Items;
 use std::alloc::{AllocError, Global};
 
@@ -78,7 +78,6 @@ impl<'a> Readings<'a> {
         ensures text { OnOk result (spec.texts_read self.new.each.items
             ≡ spec.texts_read self.old.each.items ++ source.entry.text.now ∷ []) }
     {
-        spelled_is_read();
         let reading = Reading::Known(self.trees.len(), graph, found);
         self.trees.push(tree)?;
         self.each.push(Studied { source, reading })?;
@@ -92,7 +91,7 @@ impl<'a> Readings<'a> {
         source: Source<'a>,
         fault: SyntaxFault,
     ) -> Result<(), AllocError>
-        requires fault { filter_of source.text.now ≡ Err fault }
+        requires fault { Fails source.text.now fault }
         requires old { spec.AreReadings self.old }
         ensures new { OnOk result (spec.AreReadings self.new) }
         ensures text { OnOk result (spec.texts_read self.new.each.items
