@@ -1,9 +1,9 @@
 -- What is covered breaks nothing, and an exit status 0 says that something is covered.
 use Rattle.std.proofs.Common.{◌⊎◌, inl, inr, ◌≡◌, ℕ, zero, suc, List, [], ◌∷◌, ◌++◌, Bool, None, Option, Result, Ok, Err, take, drop, max, refl, sym, ◌∙◌, arith}
 use Rattle.std.proofs.Math.Path.{subst}
-use Rattle.flt_syntax.specs.File.{filter_of}
 use Rattle.flt_syntax.specs.declared.fault.SyntaxFault.{SyntaxFault}
 use Rattle.flt_syntax.specs.Spelling.{SpellsAtMostOne, SpelledIsWellFormed}
+use Rattle.flt_syntax.specs.TextFails.{Fails, SpelledFailsNowhere}
 use Rattle.flt_graph.specs.declared.graph.Graph.{Graph}
 use Rattle.flt_cert.specs.Format.{Certificate}
 use Rattle.flt_check.specs.Covering.{Covers}
@@ -48,9 +48,6 @@ Law = (text : Text) (graph : Graph) (cert : Certificate) → HasPoints text grap
 abbrev pub LawOfRuns : Type 0
 LawOfRuns = (script : Text) (texts : List Text) (ran : Ran) → IsRun script texts ran → BreakNothing texts
 
-abbrev pub LawOfReading : Type 0
-LawOfReading = (text : Text) (f : Filter) → Spells text f → filter_of text ≡ Ok f
-
 pub covered_is_clean : SpellsAtMostOne → SpelledIsWellFormed → AcceptedRunsBreakNothing → Law
 covered_is_clean one fine theorem text graph cert points covers f transitions spelled = theorem (f ∷ []) transitions all
   where
@@ -76,7 +73,7 @@ driven_is_clean one script texts ran is filters transitions spelled =
     let same : is.filters ≡ filters = zipped_once Spells one texts is.filters filters is.spelled spelled in
     subst (λ (fs : List Filter). breaks (by_altitude fs) transitions ≡ None) same (is.unbroken transitions)
 
-module _ (law : Law) (runs : LawOfRuns) (read : LawOfReading) where
+module _ (law : Law) (runs : LawOfRuns) (nowhere : SpelledFailsNowhere) where
   -- what is said of a text and its certificate with the status 0 is that it is accepted
   judged : (text certificate : Text) (answer : Answer) → IsAnswer text certificate answer → status_of answer ≡ 0 → BreaksNothing text
   judged text certificate Accepted said good = law text said.graph said.cert said.points said.decided
@@ -137,8 +134,8 @@ module _ (law : Law) (runs : LawOfRuns) (read : LawOfReading) where
   found_well text (Known tree graph found) is good = unfound text tree graph found is good
 
   -- a text that doesn't parse spells no filter
-  unspelled : (text : Text) (f : SyntaxFault) → filter_of text ≡ Err f → BreaksNothing text
-  unspelled text f fault filter transitions spelled = absurd (cc (fault, read text filter spelled))
+  unspelled : (text : Text) (f : SyntaxFault) → Fails text f → BreaksNothing text
+  unspelled text f fault filter transitions spelled = absurd (nowhere text filter f spelled fault)
 
   text_well : (text : Text) (j : Found) → IsText text j → status_of_judged j ≡ 0 → BreaksNothing text
   text_well text (Unread f) is good = absurd (omega (arith, good))

@@ -1,5 +1,5 @@
 -- The first of several: what holds of those before it, and where it stands.
-use Rattle.std.proofs.Common.{◌≡◌, ◌⊎◌, inr, ℕ, ◌+◌, ◌<◌, ◌≤◌, Bool, true, false, ◌&&◌, ◌||◌, List, [], ◌∷◌, ◌++◌, None, Some, Err, Bor, Vec, Global, length, get_or, take, drop, map, refl, sym, ap, ◌∙◌, arith, count_by, cond, append_assoc}
+use Rattle.std.proofs.Common.{◌≡◌, ◌⊎◌, inr, ℕ, ◌+◌, ◌<◌, ◌≤◌, Bool, true, false, ◌&&◌, ◌||◌, List, [], ◌∷◌, ◌++◌, None, Some, Bor, Vec, Global, length, get_or, take, drop, map, refl, sym, ap, ◌∙◌, arith, count_by, cond, append_assoc}
 use Rattle.std.proofs.Math.Bool.{or_assoc}
 use Rattle.std.proofs.lemmas.List.{take-append-drop, drop_more, map-append, map_more, map_push, length-take-le, length-map}
 use Rattle.std.proofs.lemmas.List.Folds.{list_any-append}
@@ -7,7 +7,7 @@ use Rattle.std.proofs.lemmas.List.Sums.{sum_by-cons, sum_by_push}
 use Rattle.std.proofs.lemmas.Slice.Zip.{all_zipped_more}
 use Rattle.std.specs.List.{list_any}
 use Rattle.flt_replay.specs.Judging.{filters_of}
-use Rattle.flt_syntax.specs.File.{filter_of}
+use Rattle.flt_syntax.specs.TextFails.{Fails}
 use Rattle.flt_syntax.specs.Spelling.{Spells}
 use Rattle.flt_syntax.specs.declared.fault.SyntaxFault.{SyntaxFault}
 use Rattle.flt_tree.specs.declared.filter.Filter.{Filter}
@@ -185,7 +185,7 @@ module _ (texts : List (Vec ℕ Global)) (i : ℕ) (text d : Vec ℕ Global) (h 
       rw (read, parsed) (all_zipped_more _ _ _ text.items tree.filter spelled one)
 
   pub first_fault : (filters : List Filter) (f : SyntaxFault) → AreSpelled (map (λ t. t.items) (take i texts)) filters →
-      filter_of text.items ≡ Err f →
+      Fails text.items f →
       IsSyntaxFault (map (λ t. t.items) texts) i f
   first_fault filters f spelled fault = record {
     before = map (λ t. t.items) (take i texts);

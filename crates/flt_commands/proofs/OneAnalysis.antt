@@ -1,14 +1,13 @@
 -- Of some bytes `analyse` says one thing at most.
 use Rattle.std.proofs.Common.{◌≡◌, ◌≢◌, [], ◌∷◌, Result, Ok, Err, refl, sym, ap, ◌∙◌, subst}
-use Rattle.flt_syntax.specs.File.{filter_of}
 use Rattle.flt_syntax.specs.Spelling.{Spells}
+use Rattle.flt_syntax.specs.TextFails.{FailsAtMostOnce, SpelledFailsNowhere}
 use Rattle.flt_tree.specs.declared.filter.Filter.{Filter}
 use Rattle.flt_graph.specs.declared.graph.Graph.{Graph}
 use Rattle.flt_cert.specs.Format.{Certificate, spelling}
 use Rattle.flt_check.specs.Covering.{Covers}
 use Rattle.flt_check.specs.declared.checker.Refusal.{Refusal}
 use Rattle.flt_analyse.specs.Least.{IsLeast, IsNamed, NoneCovers}
-use Rattle.flt_commands.proofs.OneCheck.{not_faulty, one_syntax_fault}
 use Rattle.flt_commands.specs.Analyse.{IsAnalysed, IsCertified, IsFailure, IsRefused, Judges}
 use Rattle.flt_commands.specs.Check.{HasPoints}
 use Rattle.flt_commands.specs.Inputs.{Text}
@@ -19,7 +18,7 @@ use Rattle.flt_commands.specs.declared.failure.Failure.{Failure}
 use Rattle.flt_commands.specs.declared.failure.Failure.TheVariants.{Syntax, OutOfMemory}
 
 module _ (graph : (text : Text) (g h : Graph) → HasPoints text g → HasPoints text h → g ≡ h)
-    (read : (text : Text) (f : Filter) → Spells text f → filter_of text ≡ Ok f)
+    (nowhere : SpelledFailsNowhere) (once : FailsAtMostOnce)
     (least : (g : Graph) (k l : Certificate) → Covers g k → IsLeast g k → Covers g l → IsLeast g l → k ≡ l)
     (named : (g : Graph) (f h : Refusal) → IsNamed g f → IsNamed g h → f ≡ h) where
   certified_once : (text bytes others : Text) → IsCertified text bytes → IsCertified text others → bytes ≡ others
@@ -40,9 +39,9 @@ module _ (graph : (text : Text) (g h : Graph) → HasPoints text g → HasPoints
       named x.graph f h x.named (subst (λ g. IsNamed g h) points y.named)
 
   -- a text of which something is answered spells a filter
-  answered : (text : Text) (a : Answer) → Judges text (Ok a) → (f : Filter) × (filter_of text ≡ Ok f)
-  answered text (Written c) x = (x.points.filter, read text x.points.filter x.points.spelled)
-  answered text (Refused f) x = (x.points.filter, read text x.points.filter x.points.spelled)
+  answered : (text : Text) (a : Answer) → Judges text (Ok a) → (f : Filter) × Spells text f
+  answered text (Written c) x = (x.points.filter, x.points.spelled)
+  answered text (Refused f) x = (x.points.filter, x.points.spelled)
   answered text Accepted x = absurd x
   answered text (Judged v) x = absurd x
   answered text (Ran ran) x = absurd x
@@ -79,12 +78,12 @@ module _ (graph : (text : Text) (g h : Graph) → HasPoints text g → HasPoints
   answers_once text (Page t) b x y = absurd x
 
   not_both : (text : Text) (a : Answer) (f : Failure) → Judges text (Ok a) → IsFailure text f → f ≢ OutOfMemory → ⊥
-  not_both text a (Syntax e) x y told = let found = answered text a x in not_faulty text found.0 e found.1 y
+  not_both text a (Syntax e) x y told = let found = answered text a x in nowhere text found.0 e found.1 y
   not_both text a OutOfMemory x y told = told refl
   not_both text a f x y told = y
 
   failures_once : (text : Text) (f h : Failure) → IsFailure text f → IsFailure text h → f ≢ OutOfMemory → h ≢ OutOfMemory → told f ≡ told h
-  failures_once text (Syntax e) (Syntax f) x y p q = ap Syntax (one_syntax_fault text e f x y)
+  failures_once text (Syntax e) (Syntax f) x y p q = ap Syntax (once text e f x y)
   failures_once text OutOfMemory h x y p q = absurd (p refl)
   failures_once text (Syntax e) OutOfMemory x y p q = absurd (q refl)
   failures_once text (Syntax e) h x y p q = absurd y

@@ -3,9 +3,8 @@ use Rattle.std.proofs.Common.{◌≡◌, ◌≢◌, ◌<◌, ℕ, true, [], ◌�
 use Rattle.std.specs.Prelude.{◌⊎◌}
 use Rattle.std.proofs.lemmas.Bool.{cases_order, true≢false}
 use Rattle.std.proofs.lemmas.Option.{none-some}
-use Rattle.flt_syntax.specs.File.{filter_of}
-use Rattle.flt_syntax.specs.Spelling.{Spells, SpellsAtMostOne, SpelledIsWellFormed}
-use Rattle.flt_syntax.specs.declared.fault.SyntaxFault.{SyntaxFault}
+use Rattle.flt_syntax.specs.Spelling.{SpellsAtMostOne, SpelledIsWellFormed}
+use Rattle.flt_syntax.specs.TextFails.{FailsAtMostOnce, SpelledFailsNowhere}
 use Rattle.flt_tree.specs.WellFormed.{IsWellFormed}
 use Rattle.flt_tree.specs.declared.filter.Filter.{Filter}
 use Rattle.flt_graph.specs.Lowering.{IsLowered}
@@ -32,22 +31,6 @@ pub graph_once : SpellsAtMostOne → SpelledIsWellFormed →
 graph_once one fine lowered text g h a b =
     let same : b.filter ≡ a.filter = one text b.filter a.filter b.spelled a.spelled in
     lowered a.filter g h (fine text a.filter a.spelled) a.lowered (subst (λ f. IsLowered f h) same b.lowered)
-
--- ---- faults of a text
-
--- a text that is read has no fault
-pub not_faulty : (text : Text) (f : Filter) (e : SyntaxFault) → filter_of text ≡ Ok f → filter_of text ≡ Err e → ⊥
-not_faulty text f e h k = other (filter_of text) h k
-  where
-    other : (r : Result Filter SyntaxFault) → r ≡ Ok f → r ≡ Err e → ⊥
-    other r h k = absurd (cc)
-
--- its first fault is one
-pub one_syntax_fault : (text : Text) (e f : SyntaxFault) → filter_of text ≡ Err e → filter_of text ≡ Err f → e ≡ f
-one_syntax_fault text e f h k = other (filter_of text) h k
-  where
-    other : (r : Result Filter SyntaxFault) → r ≡ Err e → r ≡ Err f → e ≡ f
-    other r h k = cc
 
 -- ---- where the certificate begins
 
@@ -111,7 +94,7 @@ module _ (faultless : (g : Graph) (k : Certificate) → Covers g k → IsFaultle
   -- ---- what is said
 
   module _ (graph : (text : Text) (g h : Graph) → HasPoints text g → HasPoints text h → g ≡ h)
-      (read : (text : Text) (f : Filter) → Spells text f → filter_of text ≡ Ok f)
+      (nowhere : SpelledFailsNowhere) (once : FailsAtMostOnce)
       (spelled : (k l : Certificate) → IsTrue (is_certificate k) → IsTrue (is_certificate l) → spelling k ≡ spelling l → k ≡ l)
       (first : (text : Text) (m n : ℕ) → IsFirstFault text m → IsFirstFault text n → m ≡ n)
       (none : (k : Certificate) (n : ℕ) → IsTrue (is_certificate k) → ¬ IsFirstFault (spelling k) n) where
@@ -125,16 +108,16 @@ module _ (faultless : (g : Graph) (k : Certificate) → Covers g k → IsFaultle
     -- an answer stands beside no failure
     not_both : (text certificate : Text) (a : Answer) (f : Failure) → IsAnswer text certificate a → IsFailure text certificate f →
         f ≢ OutOfMemory → ⊥
-    not_both text certificate a (Syntax e) x y told = not_faulty text x.points.filter e (read text x.points.filter x.points.spelled) y
+    not_both text certificate a (Syntax e) x y told = nowhere text x.points.filter e x.points.spelled y
     not_both text certificate a (CertificateLine n) x y told = none x.cert n x.certified (subst (λ c. IsFirstFault c n) x.written y.1)
     not_both text certificate a OutOfMemory x y told = told refl
     not_both text certificate a f x y told = y
 
     failures_once : (text certificate : Text) (f h : Failure) → IsFailure text certificate f → IsFailure text certificate h →
         f ≢ OutOfMemory → h ≢ OutOfMemory → told f ≡ told h
-    failures_once text certificate (Syntax e) (Syntax f) x y p q = ap Syntax (one_syntax_fault text e f x y)
-    failures_once text certificate (Syntax e) (CertificateLine n) x y p q = absurd (not_faulty text y.0.0 e (read text y.0.0 y.0.1) x)
-    failures_once text certificate (CertificateLine n) (Syntax e) x y p q = absurd (not_faulty text x.0.0 e (read text x.0.0 x.0.1) y)
+    failures_once text certificate (Syntax e) (Syntax f) x y p q = ap Syntax (once text e f x y)
+    failures_once text certificate (Syntax e) (CertificateLine n) x y p q = absurd (nowhere text y.0.0 e y.0.1 x)
+    failures_once text certificate (CertificateLine n) (Syntax e) x y p q = absurd (nowhere text x.0.0 e x.0.1 y)
     failures_once text certificate (CertificateLine m) (CertificateLine n) x y p q = ap CertificateLine (first certificate m n x.1 y.1)
     failures_once text certificate OutOfMemory h x y p q = absurd (p refl)
     failures_once text certificate (Syntax e) OutOfMemory x y p q = absurd (q refl)

@@ -3,15 +3,14 @@ use Rattle.std.proofs.Common.{◌≡◌, ◌≢◌, ◌<◌, ℕ, List, [], ◌�
 use Rattle.std.proofs.Math.ListN.{get_or-append}
 use Rattle.std.proofs.Math.Seq.{get_or-append_seam}
 use Rattle.std.proofs.lemmas.Option.{get_or_from_slice_get, slice_get_within}
-use Rattle.flt_syntax.specs.File.{filter_of}
 use Rattle.flt_syntax.specs.Spelling.{Spells, SpellsAtMostOne}
+use Rattle.flt_syntax.specs.TextFails.{Fails, FailsAtMostOnce, SpelledFailsNowhere}
 use Rattle.flt_syntax.specs.declared.fault.SyntaxFault.{SyntaxFault}
 use Rattle.flt_tree.specs.declared.filter.Filter.{Filter}
 use Rattle.flt_model.specs.Expansion.{verdict}
 use Rattle.flt_model.specs.JournalText.{Entries, IsFirstFault, IsJournal, spelling}
 use Rattle.flt_model.specs.Program.{HasDistinctAltitudes, IsRepeated}
 use Rattle.flt_model.specs.declared.verdict.Verdict.{Verdict}
-use Rattle.flt_commands.proofs.OneCheck.{not_faulty, one_syntax_fault}
 use Rattle.flt_commands.proofs.OnePlace.{Places, same, earlier, later, places, zipped_at, zipped_once}
 use Rattle.flt_commands.specs.Inputs.{Text}
 use Rattle.flt_commands.specs.Replay.{AreSpelled, IsFailure, IsReplayed, IsSyntaxFault, IsVerdict, Judges}
@@ -56,7 +55,7 @@ repeated_once filters m n a b = same_number filters m n a b
 all_distinct : (filters : List Filter) (n : ℕ) → IsRepeated filters n → HasDistinctAltitudes filters → ⊥
 all_distinct filters n a distinct = not_distinct a.before a.after a.filter (subst HasDistinctAltitudes a.parts distinct) a.earlier
 
-module _ (one : SpellsAtMostOne) (read : (text : Text) (f : Filter) → Spells text f → filter_of text ≡ Ok f)
+module _ (one : SpellsAtMostOne) (nowhere : SpelledFailsNowhere) (once : FailsAtMostOnce)
     (spelled : (a b : Entries) → IsJournal a → IsJournal b → spelling a ≡ spelling b → a ≡ b)
     (first : (text : Text) (line : ℕ) (left : Text) (other_line : ℕ) (other_left : Text) → IsFirstFault text line left →
     IsFirstFault text other_line other_left →
@@ -69,10 +68,10 @@ module _ (one : SpellsAtMostOne) (read : (text : Text) (f : Filter) → Spells t
 
   -- a text that is spelled has no fault
   not_spelled : (before after : List Text) (text : Text) (e : SyntaxFault) (filters : List Filter) →
-      AreSpelled (before ++ text ∷ after) filters → filter_of text ≡ Err e → ⊥
+      AreSpelled (before ++ text ∷ after) filters → Fails text e → ⊥
   not_spelled before after text e filters a fault =
       let found = zipped_at Spells before after text filters a in
-      not_faulty text found.0 e (read text found.0 found.1) fault
+      nowhere text found.0 e found.1 fault
 
   all_spelled : (texts : List Text) (n : ℕ) (e : SyntaxFault) (filters : List Filter) → IsSyntaxFault texts n e →
       AreSpelled texts filters → ⊥
@@ -84,7 +83,7 @@ module _ (one : SpellsAtMostOne) (read : (text : Text) (f : Filter) → Spells t
       FileSyntax m e ≡ FileSyntax n f
   same_fault texts m n e f a b (same before text) =
       let number : m ≡ n = a.counted ∙ ap length before ∙ sym b.counted in
-      let fault : e ≡ f = one_syntax_fault a.text e f a.fault (subst (λ t. filter_of t ≡ Err f) (sym text) b.fault) in
+      let fault : e ≡ f = once a.text e f a.fault (subst (λ t. Fails t f) (sym text) b.fault) in
       cc
   same_fault texts m n e f a b (earlier between before) =
       absurd (not_spelled a.before between a.text e b.filters (subst (λ ts. AreSpelled ts b.filters) before b.spelled) a.fault)

@@ -1,7 +1,8 @@
 -- The report on what is asked for, from what is said of it and how that is printed.
 use Rattle.std.proofs.Common.{◌≡◌, ℕ, List, [], ◌∷◌, Option, Some, Result, Ok, Err, IfOk, Vec, Global, map, ap, sym, arith}
 use Rattle.std.proofs.Math.Path.{subst}
-use Rattle.flt_commands.proofs.Covered.{Law, LawOfReading, LawOfRuns, clean_of}
+use Rattle.flt_syntax.specs.TextFails.{SpelledFailsNowhere}
+use Rattle.flt_commands.proofs.Covered.{Law, LawOfRuns, clean_of}
 use Rattle.flt_commands.specs.Commands.{Answers, AreThose, IsKept, IsKeptAs, IsRemarked, IsRemarkedAfter, IsReported, IsSaid, texts_in}
 use Rattle.flt_commands.specs.Explain.{IsPaged}
 use Rattle.flt_commands.specs.Inputs.{Giving, Says, Text, given}
@@ -49,7 +50,7 @@ remarked_after before said (Err f) is = tt
 
 -- ---- all of it
 
-module _ (law : Law) (runs : LawOfRuns) (read : LawOfReading) (gives : Giving) (written : Text → Text → Type 0) where
+module _ (law : Law) (runs : LawOfRuns) (nowhere : SpelledFailsNowhere) (gives : Giving) (written : Text → Text → Type 0) where
   -- what is said of what the words ask for, and reported, answers them
   pub answers_of : (words : List (List ℕ)) (request : Asked) (texts : List Text) (said : Result Answer Failure)
       (result : Result Report CommandFault) → Some request ≡ asked words → IsSaid gives request texts said → IsKept written request said →
@@ -65,7 +66,7 @@ module _ (law : Law) (runs : LawOfRuns) (read : LawOfReading) (gives : Giving) (
         is = is;
         reported = reported;
         remarked = remarked;
-        clean = λ good. clean_of law runs read gives request texts said report.output.items report.status is reported good;
+        clean = λ good. clean_of law runs nowhere gives request texts said report.output.items report.status is reported good;
         kept = kept;
       })
   answers_of words request texts said (Err f) asks is kept those reported remarked = tt

@@ -1,6 +1,6 @@
 -- What `analyse` says. This project's own program.
 use Rattle.std.specs.Prelude.{◌≡◌, List, [], ◌∷◌, IsTrue, Result, Ok, Err}
-use Rattle.flt_syntax.specs.File.{filter_of}
+use Rattle.flt_syntax.specs.TextFails.{Fails}
 use Rattle.flt_graph.specs.declared.graph.Graph.{Graph}
 use Rattle.flt_cert.specs.Format.{Certificate, is_certificate, spelling}
 use Rattle.flt_check.specs.Covering.{Covers}
@@ -32,7 +32,7 @@ pub record IsRefused (text : Text) (f : Refusal) : Type 0 where
 
 -- the first fault of the text; memory may run out
 abbrev pub IsFailure : Text → Failure → Type 0
-IsFailure text (Syntax f) = filter_of text ≡ Err f
+IsFailure text (Syntax f) = Fails text f
 IsFailure text OutOfMemory = Unit {0}
 IsFailure text _ = ⊥
 

@@ -1,7 +1,7 @@
 -- What `check` says. This project's own program.
 use Rattle.std.specs.Prelude.{◌≡◌, ℕ, List, [], ◌∷◌, take, drop, IsTrue, Result, Ok, Err}
 use Rattle.flt_syntax.specs.Spelling.{Spells}
-use Rattle.flt_syntax.specs.File.{filter_of}
+use Rattle.flt_syntax.specs.TextFails.{Fails}
 use Rattle.flt_tree.specs.declared.filter.Filter.{Filter}
 use Rattle.flt_graph.specs.Lowering.{IsLowered}
 use Rattle.flt_graph.specs.declared.graph.Graph.{Graph}
@@ -38,7 +38,7 @@ pub record IsAnswer (text certificate : Text) (answer : Answer) : Type 0 where
 
 -- the first fault of the text, or else the first of the certificate; memory may run out
 abbrev pub IsFailure : Text → Text → Failure → Type 0
-IsFailure text certificate (Syntax f) = filter_of text ≡ Err f
+IsFailure text certificate (Syntax f) = Fails text f
 IsFailure text certificate (CertificateLine n) = ((f : Filter) × Spells text f) × IsFirstFault certificate n
 IsFailure text certificate OutOfMemory = Unit {0}
 IsFailure text certificate _ = ⊥

@@ -2,7 +2,7 @@
 use Rattle.std.specs.Prelude.{◌≡◌, ℕ, ◌≤◌, ◌<◌, List, ◌∷◌, ◌++◌, length, Result, Ok, Err, [], Bool, false, Option, Some}
 use Rattle.std.specs.List.{AllZip}
 use Rattle.flt_syntax.specs.Spelling.{Spells}
-use Rattle.flt_syntax.specs.File.{filter_of}
+use Rattle.flt_syntax.specs.TextFails.{Fails}
 use Rattle.flt_syntax.specs.declared.fault.SyntaxFault.{SyntaxFault}
 use Rattle.flt_tree.specs.declared.filter.Filter.{Filter}
 use Rattle.flt_model.specs.Expansion.{verdict}
@@ -29,7 +29,7 @@ pub record IsSyntaxFault (texts : List Text) (number : ℕ) (f : SyntaxFault) : 
   pub filters : List Filter
   pub spelled : AreSpelled before filters
   pub counted : number ≡ length before
-  pub fault : filter_of text ≡ Err f
+  pub fault : Fails text f
 
 -- memory ran out, or the texts have this failure
 abbrev pub TextsFail : List Text → Failure → Type 0

@@ -17,7 +17,7 @@ use crate::showing::show_files;
 use crate::unread::why_unread;
 use flt_crew::{Unwatched, Watch};
 use flt_model::{Sink, put_all};
-use flt_syntax::spelled_is_read;
+use flt_syntax::fails_exactly_where_nothing_is_spelled;
 use flt_words::{Request, read_words};
 use std::alloc::Global;
 use std::sync::Wait;
@@ -39,7 +39,7 @@ fn report_of<R: Threads + Wait + Sync, I: Inputs, P: Pictures, W: Watch>(
 {
     covered_texts_break_nothing();
     driven_texts_break_nothing();
-    spelled_is_read();
+    fails_exactly_where_nothing_is_spelled();
     let mut contents = Contents::new(alloc);
     match read_words(alloc, words)? {
         Request::Usage(text) => Ok(Report::on_usage(alloc, text)),

@@ -20,7 +20,9 @@ use flt_cert::{one_certificate_is_spelled, one_fault_is_first};
 use flt_check::{covering_is_faultless, one_fault_is_least};
 use flt_graph::one_graph_at_most;
 use flt_model::{one_first_fault_at_most, one_journal_is_spelled};
-use flt_syntax::{spelled_is_read, spelled_is_well_formed, spells_at_most_one};
+use flt_syntax::{
+    fails_exactly_where_nothing_is_spelled, spelled_is_well_formed, spells_at_most_one,
+};
 
 /// A text has one graph at most. It does nothing: its clause is the law.
 fn texts_have_one_graph()
@@ -36,7 +38,7 @@ fn one_check_at_most()
     ensures { spec.SaysOne IsChecked }
 {
     texts_have_one_graph();
-    spelled_is_read();
+    fails_exactly_where_nothing_is_spelled();
     one_certificate_is_spelled();
     one_fault_is_first();
     covering_is_faultless();
@@ -48,7 +50,7 @@ fn one_analysis_at_most()
     ensures { spec.SaysOne IsAnalysed }
 {
     texts_have_one_graph();
-    spelled_is_read();
+    fails_exactly_where_nothing_is_spelled();
     one_certificate_is_least();
     one_fault_is_named();
 }
@@ -58,7 +60,7 @@ fn one_verdict_at_most()
     ensures { spec.SaysOne IsReplayed }
 {
     spells_at_most_one();
-    spelled_is_read();
+    fails_exactly_where_nothing_is_spelled();
     one_journal_is_spelled();
     one_first_fault_at_most();
 }

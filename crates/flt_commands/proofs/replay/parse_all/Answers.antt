@@ -1,14 +1,13 @@
-use Rattle.std.proofs.Common.{◌≡◌, Err}
-use Rattle.flt_syntax.specs.File.{filter_of}
 use Rattle.flt_syntax.specs.Spelling.{Spells}
+use Rattle.flt_syntax.specs.TextFails.{Fails}
 use Rattle.flt_commands.proofs.Firsts.{first_fault, spelled_more}
 use Rattle.flt_commands.proofs.replay.parse_all.Goals as goal
 
 pub returns-in-Err-Syntax-clause-err : goal.returns-in-Err-Syntax-clause-err
 returns-in-Err-Syntax-clause-err c =
-    let said : filter_of c.as_slice.result.now ≡ Err c.in-Err-Syntax.fault =
+    let said : Fails c.as_slice.result.now c.in-Err-Syntax.fault =
     rw c.in-Err-Syntax.field-0-is at c.in-Err-Syntax.ensures.fault in
-    let fault : filter_of c.index-texts-number.result.items ≡ Err c.in-Err-Syntax.fault = rw c.as_slice.ensures.value at said in
+    let fault : Fails c.index-texts-number.result.items c.in-Err-Syntax.fault = rw c.as_slice.ensures.value at said in
     rw c.in-Err-Syntax.fault-is (first_fault c.args.texts.now c.loop-number.number c.index-texts-number.result _
     c.loop-number-test.true c.index-texts-number.is
     _ c.in-Err-Syntax.fault c.loop-number.invariant fault)

@@ -3,6 +3,7 @@ use Rattle.flt_commands.proofs.single.one_check_at_most.Goals as goal
 
 pub returns : goal.returns
 returns c =
+    let fails = c.fails_exactly_where_nothing_is_spelled.ensures in
     checked_once c.covering_is_faultless.ensures.faultless c.one_fault_is_least.ensures c.texts_have_one_graph.ensures
-    c.spelled_is_read.ensures.read
+    fails.nowhere fails.once
     c.one_certificate_is_spelled.ensures c.one_fault_is_first.ensures.one c.one_fault_is_first.ensures.none
