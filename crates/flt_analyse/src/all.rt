@@ -6,7 +6,7 @@ ghost use Rattle.flt_analyse.specs.All as spec;
 
 use crate::analyser::analyse;
 use crate::ticks::Ticks;
-use flt_cert::Cert;
+use flt_cert::FullCert;
 use flt_check::Refusal;
 use flt_graph::Graph;
 use sqlite_items::Items;
@@ -27,7 +27,7 @@ fn answer_with<L: Ledger>(
     alloc: Global,
     graph: &Graph,
     blank: Blank,
-) -> Result<Result<Cert, Refusal>, AllocError>
+) -> Result<Result<FullCert, Refusal>, AllocError>
     requires name { blank.name ≡ L.name }
     requires parts { blank.parts ≡ L.parts }
     requires some { 0 < blank.parts }
@@ -41,7 +41,7 @@ fn answer_with<L: Ledger>(
 }
 
 /// The answer for one graph.
-fn answer(alloc: Global, graph: &Graph) -> Result<Result<Cert, Refusal>, AllocError>
+fn answer(alloc: Global, graph: &Graph) -> Result<Result<FullCert, Refusal>, AllocError>
     ensures { IfOk result (spec.IsAnswer graph.now) }
 {
     answer_with::<Brand>(alloc, graph, Blank::new(1))
@@ -54,7 +54,7 @@ fn share<G: Start>(
     workers: usize,
     worker: usize,
     start: &G,
-) -> Result<Items<Result<Cert, Refusal>>, AllocError>
+) -> Result<Items<Result<FullCert, Refusal>>, AllocError>
     requires worker { worker < workers }
     requires few { workers ≤ 16 }
     ensures { IfOk result (spec.IsShare graphs.now workers (length graphs.now) worker) }
@@ -72,8 +72,8 @@ fn share<G: Start>(
 /// The shares, unless a worker ran out of memory.
 fn all_shares(
     alloc: Global,
-    given: Vec<Result<Items<Result<Cert, Refusal>>, AllocError>>,
-) -> Result<Vec<Items<Result<Cert, Refusal>>>, AllocError>
+    given: Vec<Result<Items<Result<FullCert, Refusal>>, AllocError>>,
+) -> Result<Vec<Items<Result<FullCert, Refusal>>>, AllocError>
     ensures { IfOk result (λ v. given.items ≡ map Ok v.items) }
 {
     let mut shares = Vec::new(alloc);
@@ -87,8 +87,8 @@ fn all_shares(
 fn weave(
     alloc: Global,
     graphs: &[Graph],
-    mut shares: Vec<Items<Result<Cert, Refusal>>>,
-) -> Result<Vec<Result<Cert, Refusal>>, AllocError>
+    mut shares: Vec<Items<Result<FullCert, Refusal>>>,
+) -> Result<Vec<Result<FullCert, Refusal>>, AllocError>
     requires some { 0 < length shares.items }
     requires shares { spec.AreShares graphs.now (length shares.items) (length graphs.now) shares.items }
     ensures { IfOk result (λ v. AllZip spec.IsAnswer graphs.now v.items) }
@@ -119,7 +119,7 @@ pub fn analyse_all<R: Threads + Sync, G: Start + Sync>(
     graphs: &[Graph],
     workers: usize,
     start: &G,
-) -> Result<Vec<Result<Cert, Refusal>>, AllocError>
+) -> Result<Vec<Result<FullCert, Refusal>>, AllocError>
     requires some { 1 ≤ workers }
     requires few { workers ≤ 16 }
     ensures { IfOk result (λ v. AllZip spec.IsAnswer graphs.now v.items) }
@@ -128,7 +128,7 @@ pub fn analyse_all<R: Threads + Sync, G: Start + Sync>(
         rt,
         alloc,
         workers,
-        &|worker: usize| -> Result<Items<Result<Cert, Refusal>>, AllocError>
+        &|worker: usize| -> Result<Items<Result<FullCert, Refusal>>, AllocError>
             requires { (worker < workers) × (workers ≤ 16) }
             ensures { IfOk result (spec.IsShare graphs.entry.now workers (length graphs.entry.now) worker) }
         { share(alloc, graphs, workers, worker, start) },

@@ -10,7 +10,7 @@ use crate::fault::AnalyseFault;
 use crate::pending::POINTS;
 use crate::ticks::Ticks;
 use crate::walk::walk_callback;
-use flt_cert::{Cert, MAX_CALLBACKS};
+use flt_cert::{FullCert, MAX_CALLBACKS};
 use flt_check::Refusal;
 use flt_graph::Graph;
 use flt_rules::Rule;
@@ -47,7 +47,7 @@ pub fn analyse<L: Ledger, const CALLBACK: usize, const POINT: usize>(
     alloc: Global,
     graph: &Graph,
     ticks: &mut Ticks<L, CALLBACK, POINT>,
-) -> Result<Cert, AnalyseFault>
+) -> Result<FullCert, AnalyseFault>
     ensures covers { IfOk result (λ c. Covers graph.now c) }
     ensures least { IfOk result (λ c. spec.IsLeast graph.now c) }
     ensures none { IfErr result (λ f. spec.IfRefused f (λ _. spec.NoneCovers graph.now)) }
@@ -66,7 +66,7 @@ pub fn analyse<L: Ledger, const CALLBACK: usize, const POINT: usize>(
     'walks: for callback in 0..graph.callbacks() {
         callbacks.push(walk_callback(alloc, graph, callback, ticks)?)?;
     }
-    Ok(Cert::new(callbacks).unwrap())
+    Ok(FullCert::new(callbacks).unwrap())
 }
 
 /// One fault is named of a graph at most. It does nothing: its clause is the law.

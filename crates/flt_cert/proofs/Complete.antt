@@ -12,7 +12,7 @@ use Rattle.flt_rules.specs.declared.held.HeldLock.{HeldLock}
 use Rattle.flt_abs.specs.Sets.{StatusSet, status_bits, mode_bits, draining_bits}
 use Rattle.flt_abs.specs.State.{State, is_proper}
 use Rattle.flt_cert.specs.Text.{Text, lines_of, decimal}
-use Rattle.flt_cert.specs.Format.{Point, Certificate, is_point, is_callback, is_certificate, digits, access_text, lock_text, more_locks, locks_text, state_text, point_text, point_line, callback_line, last_line, point_lines, one_callback, callback_lines, lines_for, joined, spelling}
+use Rattle.flt_cert.specs.Format.{Point, Certificate, is_point, is_callback, is_certificate, digits, access_text, lock_text, more_locks, locks_text, state_text, point_text, point_line, callback_line, last_line, point_lines, one_callback, callback_lines, full_lines_for, joined, full_spelling}
 use Rattle.flt_cert.specs.Reading.{Place, and_then, line, point, points_from, points, callback, callbacks_from, closed, is_last, first, certificate, start}
 use Rattle.flt_cert.proofs.FieldLaws.{point_again, head_again}
 
@@ -140,10 +140,10 @@ callbacks_ended k (points ∷ cs) =
     (begins_with (callback_ended k (length points)) (points_ended 0 points)) (callbacks_ended (suc k) cs)
 
 -- the lines of a spelling
-pub lines_spelled : (cs : Certificate) → lines_of (spelling cs) ≡ lines_for cs
+pub lines_spelled : (cs : Certificate) → lines_of (full_spelling cs) ≡ full_lines_for cs
 unfolding Ended
 lines_spelled cs =
-    lines_joined (lines_for cs) (begins_with (codes "fltcert 1", refl, refl)
+    lines_joined (full_lines_for cs) (begins_with (codes "fltcert 1", refl, refl)
     (both_ended (callback_lines 0 cs) (last_line ∷ []) (callbacks_ended 0 cs) (begins_with (codes "end", refl, refl) no_lines)))
 
 -- ---- reading them
@@ -228,7 +228,7 @@ callbacks_read (ps ∷ more) (suc left) found n h some each =
     )
 
 -- what is spelled so is read
-pub lines_read : (text : Text) (cs : Certificate) → is_certificate cs ≡ true → lines_of text ≡ lines_for cs → (o : Place)
+pub lines_read : (text : Text) (cs : Certificate) → is_certificate cs ≡ true → lines_of text ≡ full_lines_for cs → (o : Place)
     × (certificate (start text) ≡ Ok (cs, o))
 unfolding certificate first line
 lines_read text cs h lines =

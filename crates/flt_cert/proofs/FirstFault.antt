@@ -2,8 +2,8 @@
 use Rattle.std.proofs.Common.{◌≡◌, ◌<◌, ◌≤◌, ◌+◌, ℕ, zero, suc, Bool, true, false, List, [], ◌∷◌, ◌++◌, length, take, refl, sym, ap, subst, arith, ◌∙◌}
 use Rattle.std.specs.Prelude.{if◌then◌else◌, Ok, Err, Option, Some, None}
 use Rattle.flt_cert.specs.Text.{Text, lines_of}
-use Rattle.flt_cert.specs.Format.{Point, Certificate, is_certificate, joined, spelling, IsFirstFault}
-use Rattle.flt_cert.specs.Reading.{Place, Outcome, and_then, line, line_at, asked, head_of, point_of, point, points_from, points, callback, callbacks_from, callbacks, closed, closed_by, finished, is_last, is_first, first, certificate, start, Fails, IsFaultOf}
+use Rattle.flt_cert.specs.Format.{Point, Certificate, is_certificate, joined, full_spelling, IsFirstFullFault}
+use Rattle.flt_cert.specs.Reading.{Place, Outcome, and_then, line, line_at, asked, head_of, point_of, point, points_from, points, callback, callbacks_from, callbacks, closed, closed_by, finished, is_last, is_first, first, certificate, start, Fails, IsFullFaultOf}
 use Rattle.flt_cert.specs.declared.fault.CertFault.{CertFault}
 use Rattle.flt_cert.specs.declared.fault.CertFault.TheVariants.{Line, OutOfMemory}
 use Rattle.flt_cert.proofs.Sound.{fault_begun, read_lines, joined_lines}
@@ -225,7 +225,7 @@ certificate_told m xs ys h =
     (λ x n k us vs e g. callbacks_told m 16 [] n k us vs e g) (λ x i l. callbacks_late m 16 [] i l)
 
 -- the fault of a text is at its first malformed line
-pub first_fault : (text : Text) (n : ℕ) → certificate (start text) ≡ Err n → IsFirstFault text n
+pub first_fault : (text : Text) (n : ℕ) → certificate (start text) ≡ Err n → IsFirstFullFault text n
 unfolding Told
 first_fault text n h =
     let begun = fault_begun text n h in
@@ -235,11 +235,11 @@ first_fault text n h =
       whose = begun.whose;
       certificate = begun.certificate;
       begun = begun.begun;
-      stopped = λ cs good agree. (let read = lines_read (spelling cs) cs good (lines_spelled cs) in
-          let told : certificate (start (spelling cs)) ≡ Err n =
-          certificate_told n (lines_of text) (lines_of (spelling cs)) (agree ∙ sym (ap (λ z. take n z) (lines_spelled cs))) n
+      stopped = λ cs good agree. (let read = lines_read (full_spelling cs) cs good (lines_spelled cs) in
+          let told : certificate (start (full_spelling cs)) ≡ Err n =
+          certificate_told n (lines_of text) (lines_of (full_spelling cs)) (agree ∙ sym (ap (λ z. take n z) (lines_spelled cs))) n
           (omega arith) h in
-          not_both (certificate (start (spelling cs))) cs read.0 n read.1 told);
+          not_both (certificate (start (full_spelling cs))) cs read.0 n read.1 told);
     }
   where
     not_both : (r : Outcome Certificate) (cs : Certificate) (o : Place) (n : ℕ) → r ≡ Ok (cs, o) → r ≡ Err n → ⊥
@@ -247,30 +247,30 @@ first_fault text n h =
 
 -- ---- what `read` ensures
 
-pub is_spelled : (text : Text) (cs : Certificate) (o : Place) → certificate (start text) ≡ Ok (cs, o) → text ≡ spelling cs
+pub is_spelled : (text : Text) (cs : Certificate) (o : Place) → certificate (start text) ≡ Ok (cs, o) → text ≡ full_spelling cs
 is_spelled text cs o h = sym (joined_lines text) ∙ ap joined (read_lines text cs o h).0
 
 pub is_certified : (text : Text) (cs : Certificate) (o : Place) → certificate (start text) ≡ Ok (cs, o) → is_certificate cs ≡ true
 is_certified text cs o h = (read_lines text cs o h).1
 
-spelled_read : (text : Text) (cs : Certificate) → is_certificate cs ≡ true → text ≡ spelling cs → (o : Place)
+spelled_read : (text : Text) (cs : Certificate) → is_certificate cs ≡ true → text ≡ full_spelling cs → (o : Place)
     × (certificate (start text) ≡ Ok (cs, o))
 spelled_read text cs good spelled = lines_read text cs good (ap lines_of spelled ∙ lines_spelled cs)
 
 pub is_read : (text : Text) (found : Certificate) (o : Place) → certificate (start text) ≡ Ok (found, o) → (cs : Certificate) →
-    is_certificate cs ≡ true → text ≡ spelling cs → found ≡ cs
+    is_certificate cs ≡ true → text ≡ full_spelling cs → found ≡ cs
 is_read text found o h cs good spelled = let read = spelled_read text cs good spelled in
     same_value (certificate (start text)) found cs o read.0 h read.1
   where
     same_value : (r : Outcome Certificate) (found cs : Certificate) (o p : Place) → r ≡ Ok (found, o) → r ≡ Ok (cs, p) → found ≡ cs
     same_value r found cs o p h k = let pair : (found, o) ≡ (cs, p) = cc in ap (λ (q : Certificate × Place). q.0) pair
 
-pub is_fault : (text : Text) (e : CertFault) → Fails (certificate (start text)) e → IsFaultOf text e
+pub is_fault : (text : Text) (e : CertFault) → Fails (certificate (start text)) e → IsFullFaultOf text e
 is_fault text OutOfMemory h = tt
 is_fault text (Line n) h = first_fault text n h
 
 pub only_memory : (text : Text) (e : CertFault) → Fails (certificate (start text)) e → (cs : Certificate) →
-    is_certificate cs ≡ true → text ≡ spelling cs → e ≡ OutOfMemory
+    is_certificate cs ≡ true → text ≡ full_spelling cs → e ≡ OutOfMemory
 only_memory text OutOfMemory h cs good spelled = refl
 only_memory text (Line n) h cs good spelled = let read = spelled_read text cs good spelled in
     wrong (certificate (start text)) read.0 read.1 h

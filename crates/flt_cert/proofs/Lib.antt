@@ -5,15 +5,14 @@ pub mod FieldLaws
 pub mod FillLaws
 pub mod FirstFault
 pub mod FixedWidthLaws
+pub mod Formats
 pub mod GivenLaws
 pub mod LineLaws
-pub mod Once
 pub mod ReadLaws
 pub mod Slots
 pub mod Sound
 pub mod ThinComplete
 pub mod ThinFirstFault
-pub mod ThinOnce
 pub mod ThinReadLaws
 pub mod ThinSound
 pub mod WriteLaws

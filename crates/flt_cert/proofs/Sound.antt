@@ -9,7 +9,7 @@ use Rattle.std.proofs.lemmas.Slice.Eq.{bytes_eq-Decides}
 use Rattle.std.proofs.Math.Seq.{take-append_seam}
 use Rattle.flt_cert.specs.Text as text_spec
 use Rattle.flt_cert.specs.Text.{Text, lines_of}
-use Rattle.flt_cert.specs.Format.{Point, Certificate, is_point, is_callback, is_certificate, point_line, callback_line, first_line, last_line, point_lines, one_callback, callback_lines, lines_for, joined}
+use Rattle.flt_cert.specs.Format.{Point, Certificate, is_point, is_callback, is_certificate, point_line, callback_line, first_line, last_line, point_lines, one_callback, callback_lines, full_lines_for, joined}
 use Rattle.flt_cert.specs.Reading.{Place, Outcome, and_then, line, line_at, asked, head_of, point_of, point, points_from, points, callback, callbacks_from, callbacks, closed, closed_by, finished, is_last, is_first, first, certificate, start}
 use Rattle.flt_cert.proofs.FieldLaws.{point_takes, head_takes}
 
@@ -39,7 +39,7 @@ pub record Begun (all : List Text) (n : ℕ) : Type 0 where
   pub next : n ≡ suc before
   pub whose : Certificate
   pub certificate : is_certificate whose ≡ true
-  pub begun : take before all ≡ take before (lines_for whose)
+  pub begun : take before all ≡ take before (full_lines_for whose)
 
 -- ---- lists of lines
 
@@ -73,7 +73,7 @@ abbrev opened : Certificate → ℕ → List Point → List Text
 opened cs n found = done cs ++ callback_line (length cs) n ∷ point_lines 0 found
 
 begun_by : (all front more : List Text) (i : Place) (cs : Certificate) → At all front i → is_certificate cs ≡ true →
-    lines_for cs ≡ front ++ more → Begun all (suc i.number)
+    full_lines_for cs ≡ front ++ more → Begun all (suc i.number)
 begun_by all front more i cs here good lines =
     record {
       before = length front;
@@ -88,7 +88,7 @@ one_point : is_certificate ((None ∷ []) ∷ []) ≡ true
 one_point = refl
 
 begun_first : (all : List Text) (i : Place) → At all [] i → Begun all (suc i.number)
-begun_first all i here = begun_by all [] (lines_for ((None ∷ []) ∷ [])) i ((None ∷ []) ∷ []) here one_point refl
+begun_first all i here = begun_by all [] (full_lines_for ((None ∷ []) ∷ [])) i ((None ∷ []) ∷ []) here one_point refl
 
 certified : (cs : Certificate) → 0 < length cs → length cs < 17 → list_all is_callback cs ≡ true → is_certificate cs ≡ true
 certified cs some few each = and_from _ _ (lt-ltb 0 (length cs) some) (and_from _ _ (lt-ltb (length cs) 17 few) each)
@@ -140,7 +140,7 @@ begun_opened all cs n left found i opening here =
     let whole : is_certificate (cs ++ ps ∷ []) ≡ true = certified (cs ++ ps ∷ []) (omega arith) (omega arith) each in
     let one : one_callback (length cs) ps ≡ callback_line (length cs) n ∷ (point_lines 0 found ++ point_lines (0 + length found) rest) =
     rw (len, point_lines_more 0 found rest) refl in
-    let lines : lines_for (cs ++ ps ∷ []) ≡ opened cs n found ++ (point_lines (0 + length found) rest ++ last_line ∷ []) =
+    let lines : full_lines_for (cs ++ ps ∷ []) ≡ opened cs n found ++ (point_lines (0 + length found) rest ++ last_line ∷ []) =
     ap (λ z. first_line ∷ (z ++ last_line ∷ []))
     (callback_lines_more 0 cs ps ∙ ap (λ m. callback_lines 0 cs ++ one_callback m ps)
     (let e : 0 + length cs ≡ length cs = omega arith in e) ∙ ap (λ z. callback_lines 0 cs ++ z) one)
@@ -264,7 +264,7 @@ callback_gives all found text i here begun few each =
 
 -- all lines are read
 Whole : List Text → Certificate → Place → Type 0
-Whole all cs o = (all ≡ lines_for cs) × (is_certificate cs ≡ true)
+Whole all cs o = (all ≡ full_lines_for cs) × (is_certificate cs ≡ true)
 
 finished_gives : (all : List Text) (found : Certificate) (text : Text) (i : Place) → At all (done found ++ text ∷ []) i →
     is_last found text ≡ true → length found < 17 → list_all is_callback found ≡ true →
@@ -278,7 +278,7 @@ finished_gives all found text i here last few each = go i.lines refl
     good : is_certificate found ≡ true
     good = certified found (ltb-true _ _ parts.0) few each
 
-    end : done found ++ text ∷ [] ≡ lines_for found
+    end : done found ++ text ∷ [] ≡ full_lines_for found
     end = ap (λ z. done found ++ z ∷ []) ((bytes_eq-Decides text last_line).0 parts.1)
 
     go : (lines : List Text) → i.lines ≡ lines → Gives (Begun all) (Whole all) (and_then (closed_by lines i) (λ e. Ok (found, e.1)))
@@ -352,14 +352,14 @@ certificate_gives text =
 
 -- what is read is spelled so
 pub read_lines : (text : Text) (cs : Certificate) (o : Place) → certificate (start text) ≡ Ok (cs, o) →
-    (lines_of text ≡ lines_for cs) × (is_certificate cs ≡ true)
+    (lines_of text ≡ full_lines_for cs) × (is_certificate cs ≡ true)
 unfolding Whole
 read_lines text cs o h = go (certificate (start text)) (certificate_gives text) h
   where
     go : (r : Outcome Certificate) → Gives (Begun (lines_of text)) (Whole (lines_of text)) r → r ≡ Ok (cs, o) →
-        (lines_of text ≡ lines_for cs) × (is_certificate cs ≡ true)
+        (lines_of text ≡ full_lines_for cs) × (is_certificate cs ≡ true)
     go _ (gives found p w) h = let same : (found, p) ≡ (cs, o) = cc in let P : Certificate → Type 0 =
-        λ c. (lines_of text ≡ lines_for c) × (is_certificate c ≡ true) in
+        λ c. (lines_of text ≡ full_lines_for c) × (is_certificate c ≡ true) in
         subst P (ap (λ (q : Certificate × Place). q.0) same) w
     go _ (fails n w) h = cc
 

@@ -1,4 +1,4 @@
--- Certificates and their spelling. This project's own format.
+-- Full certificates and their spelling: format 1. This project's own format.
 use Rattle.std.specs.Prelude.{◌≡◌, ℕ, suc, ◌+◌, Bool, true, ◌&&◌, nat_lt, List, [], ◌∷◌, ◌++◌, length, map, codes, Option, Some, None, IsTrue}
 use Rattle.std.specs.List.{list_all, flat_map}
 use Rattle.std.specs.Prelude.{take}
@@ -97,30 +97,30 @@ abbrev pub callback_lines : ℕ → Certificate → List Text
 callback_lines k [] = []
 callback_lines k (points ∷ callbacks) = one_callback k points ++ callback_lines (suc k) callbacks
 
--- the lines of a certificate
-abbrev pub lines_for : Certificate → List Text
-lines_for callbacks = first_line ∷ (callback_lines 0 callbacks ++ last_line ∷ [])
+-- the lines of a full certificate
+abbrev pub full_lines_for : Certificate → List Text
+full_lines_for callbacks = first_line ∷ (callback_lines 0 callbacks ++ last_line ∷ [])
 
 -- lines one after the other
 abbrev pub joined : List Text → Text
 joined = flat_map (λ line. line)
 
--- the one spelling of a certificate
-abbrev pub spelling : Certificate → Text
-spelling callbacks = joined (lines_for callbacks)
+-- the one spelling of a full certificate
+abbrev pub full_spelling : Certificate → Text
+full_spelling callbacks = joined (full_lines_for callbacks)
 
--- ---- texts that are no certificate
+-- ---- texts that are no full certificate
 
--- the first lines of a text, up to a number, are those of a certificate
-abbrev pub Agree : ℕ → Text → Certificate → Type 0
-Agree n text callbacks = take n (lines_of text) ≡ take n (lines_for callbacks)
+-- the first lines of a text, up to a number, are those of a full certificate
+abbrev pub AgreeFull : ℕ → Text → Certificate → Type 0
+AgreeFull n text callbacks = take n (lines_of text) ≡ take n (full_lines_for callbacks)
 
--- the first malformed line, counted from 1: the lines before it are the first of some certificate, and
+-- the first malformed line, counted from 1: the lines before it are the first of some full certificate, and
 -- with it they are those of none; a missing line counts
-pub record IsFirstFault (text : Text) (n : ℕ) : Type 0 where
+pub record IsFirstFullFault (text : Text) (n : ℕ) : Type 0 where
   pub before : ℕ
   pub next : n ≡ suc before
   pub whose : Certificate
   pub certificate : IsTrue (is_certificate whose)
-  pub begun : Agree before text whose
-  pub stopped : (callbacks : Certificate) → IsTrue (is_certificate callbacks) → Agree n text callbacks → ⊥
+  pub begun : AgreeFull before text whose
+  pub stopped : (callbacks : Certificate) → IsTrue (is_certificate callbacks) → AgreeFull n text callbacks → ⊥

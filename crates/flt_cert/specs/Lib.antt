@@ -2,6 +2,7 @@ pub mod Counts
 pub mod FixedWidth
 pub mod Format
 pub mod Reading
+pub mod Spelling
 pub mod Text
 pub mod Thin
 pub mod ThinFormat

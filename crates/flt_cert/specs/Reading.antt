@@ -14,7 +14,7 @@ use Rattle.flt_abs.specs.State.{State, state_of, is_proper}
 use Rattle.flt_cert.specs.declared.fault.CertFault.{CertFault}
 use Rattle.flt_cert.specs.declared.fault.CertFault.TheVariants.{Line, OutOfMemory}
 use Rattle.flt_cert.specs.Text.{Text, lines_of, decimal, after, count_of, ◌>>=◌}
-use Rattle.flt_cert.specs.Format.{Point, Certificate, first_line, last_line, IsFirstFault}
+use Rattle.flt_cert.specs.Format.{Point, Certificate, first_line, last_line, IsFirstFullFault}
 
 -- ---- one line
 
@@ -204,6 +204,6 @@ abbrev pub Reads : {A : Type 0} → Outcome A → Result A CertFault → Place �
 Reads = ReadsBy (λ x. x)
 
 -- a fault names the first malformed line
-abbrev pub IsFaultOf : Text → CertFault → Type 0
-IsFaultOf text OutOfMemory = Unit {0}
-IsFaultOf text (Line n) = IsFirstFault text n
+abbrev pub IsFullFaultOf : Text → CertFault → Type 0
+IsFullFaultOf text OutOfMemory = Unit {0}
+IsFullFaultOf text (Line n) = IsFirstFullFault text n

@@ -1,6 +1,6 @@
 //! What stands in one line.
 
-ghost use Rattle.std.specs.Prelude.{◌≡◌, ◌<◌, ◌≤◌, ◌+◌, ◌*◌, ◌&&◌, nat_lt, [], ◌∷◌, length, false, Some, None, IsTrue, IsFalse, IfSome};
+ghost use Rattle.std.specs.Prelude.{◌≡◌, ◌<◌, ◌≤◌, ◌+◌, ◌*◌, ◌&&◌, nat_lt, [], ◌∷◌, length, is_some, false, Some, None, IsTrue, IsFalse, IfSome};
 ghost use Rattle.std.specs.Option.{option_copied, option_map};
 ghost use Rattle.std.specs.Str.{bytes_eq};
 ghost use Rattle.flt_abs.specs.State.{state_of};
@@ -8,6 +8,7 @@ ghost use Rattle.flt_rules.specs.Held.{holds_lock};
 ghost use Rattle.flt_cert.specs.Format.{last_line};
 ghost use Rattle.flt_cert.specs.Reading as spec;
 ghost use Rattle.flt_cert.specs.Text as text_spec;
+ghost use Rattle.flt_cert.specs.ThinFormat.{first_thin_line};
 ghost use Rattle.flt_cert.specs.ThinReading as thin_spec;
 
 use flt_abs::{Abs, CONTEXTS, Draining, LockList, Modes, OPERATIONS, Statuses};
@@ -369,6 +370,13 @@ pub(crate) fn is_first_thin(line: &[u8]) -> Option<()>
     } else {
         None
     }
+}
+
+/// Whether a text begins with the first line of format 2.
+pub(crate) fn begins_thin(text: &[u8]) -> bool
+    ensures { result ≡ is_some (text_spec.after first_thin_line text.now) }
+{
+    after(FIRST_THIN_LINE, text).is_some()
 }
 
 pub(crate) fn is_end(line: &[u8]) -> bool

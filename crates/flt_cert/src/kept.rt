@@ -4,7 +4,7 @@ ghost use Rattle.std.specs.Prelude.{◌≡◌, ◌+◌, ◌<◌, ℕ, false, get
 ghost use Rattle.flt_cert.specs.Counts.{AreCounts};
 ghost use Rattle.flt_graph.specs.Kept as spec;
 
-use crate::cert::MAX_POINTS;
+use crate::full_cert::MAX_POINTS;
 use flt_graph::{Graph, Instruction};
 use flt_rules::row;
 

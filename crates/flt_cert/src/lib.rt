@@ -1,27 +1,28 @@
-//! Certificates: what may be so at each point of each callback, and their text; thin ones, which keep only the points that don't follow
-//! from those before them, and theirs.
+//! Certificates: what may be so at each point of each callback, or only at those that don't follow from the points before them; and their
+//! text, which is read and written in both formats.
 #![tactic(auto)]
 
 mod cert;
 mod fault;
 mod fields;
 mod fixed_width;
+mod full_cert;
+mod full_reader;
 mod kept;
 mod laws;
 mod lines;
 mod reader;
 mod thin_cert;
 mod thin_reader;
+mod thinning;
 mod writer;
 
-pub use cert::{Cert, MAX_CALLBACKS, MAX_POINTS};
+pub use cert::Cert;
 pub use fault::CertFault;
+pub use full_cert::{FullCert, MAX_CALLBACKS, MAX_POINTS};
 pub use kept::kept_points;
-pub use laws::{
-    one_certificate_is_spelled, one_fault_is_first, one_thin_certificate_is_spelled,
-    one_thin_fault_is_first, thin_certificates_are_left,
-};
+pub use laws::{one_certificate_is_spelled, one_fault_is_first, thin_certificates_are_left};
 pub use reader::read;
-pub use thin_cert::{Slot, ThinCert, thin};
-pub use thin_reader::read_thin;
-pub use writer::{write, write_thin};
+pub use thin_cert::{Slot, ThinCert};
+pub use thinning::thin;
+pub use writer::{write, write_full};

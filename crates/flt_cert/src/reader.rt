@@ -1,133 +1,36 @@
-//! Certificates from their text.
+//! Certificates from their text, in either format.
 
-ghost use Rattle.std.specs.Prelude.{◌≡◌, ◌<◌, ◌≤◌, [], IsTrue, IfOk, MatchResult};
-ghost use Rattle.flt_cert.specs.Format as format;
-ghost use Rattle.flt_cert.specs.Reading as spec;
+ghost use Rattle.std.specs.Prelude.{◌≡◌, IsTrue, IfOk, MatchResult};
+ghost use Rattle.flt_cert.specs.Spelling as spec;
+ghost use Rattle.flt_cert.specs.declared.cert.Cert.{Cert as AnyCert};
 
-use crate::cert::{Cert, MAX_CALLBACKS};
+use crate::cert::Cert;
 use crate::fault::CertFault;
-use crate::fields::{head_of, is_end, is_first, point_of};
-use crate::lines::Lines;
-use flt_abs::Abs;
-use sqlite_items::Items;
+use crate::fields::begins_thin;
+use crate::full_reader::read_full;
+use crate::thin_reader::read_thin;
 use std::alloc::Global;
 
-#[tactic(auto, unfolding(crate::specs::Reading::first))]
-fn first(lines: &mut Lines) -> Result<(), CertFault>
-    ensures { spec.Reads (spec.first lines.old) result lines.new }
-{
-    let line = lines.next()?;
-    lines.asked(is_first(line))
-}
-
-#[inline(never)]
-#[tactic(auto, unfolding(crate::specs::Reading::point))]
-pub(crate) fn point(
-    alloc: Global,
-    lines: &mut Lines,
-    number: usize,
-) -> Result<Option<Abs>, CertFault>
-    requires { number < 1000 }
-    ensures { spec.Reads (spec.point number lines.old) result lines.new }
-{
-    let line = lines.next()?;
-    lines.asked(point_of(alloc, number, line))
-}
-
-#[tactic(auto, unfolding(crate::specs::Reading::points))]
-fn points(alloc: Global, lines: &mut Lines, count: usize) -> Result<Items<Option<Abs>>, CertFault>
-    requires { count ≤ 512 }
-    ensures { spec.Reads (spec.points count lines.old) result lines.new }
-{
-    let mut found = Items::new(alloc);
-    for number in 0..count {
-        // At most points no lock is held.
-        if let Some(state) = lines.state(alloc, number) {
-            found.push(Some(state))?;
-            continue;
-        }
-        let point = point(alloc, lines, number)?;
-        found.push(point)?;
-    }
-    Ok(found)
-}
-
-/// The callback with this number, from its first line on.
-#[tactic(auto, unfolding(crate::specs::Reading::callback))]
-fn callback(
-    alloc: Global,
-    lines: &mut Lines,
-    number: usize,
-    line: &[u8],
-) -> Result<Items<Option<Abs>>, CertFault>
-    requires { number < 1000 }
-    ensures { spec.Reads (spec.callback number line.now lines.old) result lines.new }
-{
-    let count = lines.asked(head_of(number, line))?;
-    points(alloc, lines, count)
-}
-
-/// The callbacks, if nothing follows the last line.
-fn finish(
-    lines: &Lines,
-    found: Items<Items<Option<Abs>>>,
-) -> Result<Items<Items<Option<Abs>>>, CertFault>
-    ensures { spec.Reads (spec.finished found lines.now) result lines.now }
-{
-    lines.end()?;
-    Ok(found)
-}
-
-/// Whether the line is the last one, behind these callbacks.
-fn is_last(found: &Items<Items<Option<Abs>>>, line: &[u8]) -> bool
-    ensures { result ≡ spec.is_last found.now line.now }
-{
-    found.len() > 0 && is_end(line)
-}
-
-#[tactic(auto, using(crate::proofs::ReadLaws::no_line, crate::proofs::ReadLaws::bad_callback, crate::proofs::ReadLaws::no_last))]
-fn callbacks(alloc: Global, lines: &mut Lines) -> Result<Items<Items<Option<Abs>>>, CertFault>
-    ensures { spec.Reads (spec.callbacks lines.old) result lines.new }
-{
-    let mut found = Items::new(alloc);
-    for number in 0..MAX_CALLBACKS {
-        let line = lines.next()?;
-        if is_last(&found, line) {
-            return finish(lines, found);
-        }
-        let points = callback(alloc, lines, number, line)?;
-        found.push(points)?;
-    }
-    let line = lines.next()?;
-    if is_last(&found, line) {
-        finish(lines, found)
-    } else {
-        Err(lines.refused())
-    }
-}
-
-#[tactic(auto, unfolding(crate::specs::Reading::certificate))]
-fn certificate(alloc: Global, lines: &mut Lines) -> Result<Items<Items<Option<Abs>>>, CertFault>
-    ensures { spec.Reads (spec.certificate lines.old) result lines.new }
-{
-    first(lines)?;
-    callbacks(alloc, lines)
-}
-
-/// The certificate that the bytes spell, all of the bytes.
+/// The certificate that the bytes spell, all of the bytes. The first line says in which format.
 pub fn read(alloc: Global, bytes: &[u8]) -> Result<Cert, CertFault>
     // What is read is spelled so.
-    ensures spelled { IfOk result (λ cert. bytes.now ≡ format.spelling cert) }
-    ensures certificate { IfOk result (λ cert. IsTrue (format.is_certificate cert)) }
+    ensures spelled { IfOk result (λ cert. bytes.now ≡ spec.spelling cert) }
+    ensures certificate { IfOk result (λ cert. IsTrue (spec.is_cert cert)) }
     // What is spelled so is read, unless memory runs out.
-    ensures read { (callbacks : format.Certificate) → IsTrue (format.is_certificate callbacks) →
-        bytes.now ≡ format.spelling callbacks → MatchResult result (λ cert. cert ≡ callbacks) (λ e. e ≡ CertFault.OutOfMemory) }
+    ensures read { (c : AnyCert) → IsTrue (spec.is_cert c) → bytes.now ≡ spec.spelling c →
+        MatchResult result (λ cert. cert ≡ c) (λ e. e ≡ CertFault.OutOfMemory) }
     // A fault names the first malformed line.
     ensures fault { MatchResult result (λ _. Unit {0}) (λ e. spec.IsFaultOf bytes.now e) }
 {
-    let mut lines = Lines::new(bytes);
-    match certificate(alloc, &mut lines) {
-        Ok(callbacks) => Ok(Cert::new(callbacks).unwrap()),
-        Err(fault) => Err(fault),
+    if begins_thin(bytes) {
+        match read_thin(alloc, bytes) {
+            Ok(thin) => Ok(Cert::Thin(thin)),
+            Err(fault) => Err(fault),
+        }
+    } else {
+        match read_full(alloc, bytes) {
+            Ok(full) => Ok(Cert::Full(full)),
+            Err(fault) => Err(fault),
+        }
     }
 }

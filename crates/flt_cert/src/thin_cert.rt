@@ -1,15 +1,12 @@
-//! Thin certificates as values, and what is left of a certificate in one.
+//! Thin certificates as values: format 2, with what may be so at the points that don't follow from those before them.
 
-ghost use Rattle.std.specs.Prelude.{◌≡◌, ◌<◌, ◌↔◌, length, [], get_or, IsTrue, IsSome, IfSome, IfOk};
+ghost use Rattle.std.specs.Prelude.{◌≡◌, ◌<◌, ◌↔◌, length, [], get_or, IsTrue, IsSome, IfSome};
 ghost use Rattle.std.specs.List.{list_all};
 ghost use Rattle.flt_cert.specs.Thin as spec;
 
-use crate::cert::{Cert, MAX_CALLBACKS, MAX_POINTS};
-use crate::kept::kept_points;
+use crate::full_cert::{MAX_CALLBACKS, MAX_POINTS};
 use flt_abs::Abs;
-use flt_graph::Graph;
 use sqlite_items::Items;
-use std::alloc::{AllocError, Global};
 use std::marker::Model;
 
 /// What is given of a point: what may be so there, or nothing.
@@ -115,45 +112,4 @@ fn is_thin(callbacks: &[Items<Slot>]) -> bool
         return false;
     }
     are_callbacks(callbacks)
-}
-
-fn slot_of(kept: bool, point: &Option<Abs>) -> Slot
-    ensures { result ≡ spec.slot_of kept point.now }
-{
-    if !kept {
-        return None;
-    }
-    match point {
-        Some(state) => Some(Some(state.copied())),
-        None => Some(None),
-    }
-}
-
-/// The points of a callback without those that aren't kept.
-fn thin_points(
-    alloc: Global,
-    graph: &Graph,
-    callback: usize,
-    points: &[Option<Abs>],
-) -> Result<Items<Slot>, AllocError>
-    requires { length points.now < 513 }
-    ensures { IfOk result (λ slots. slots ≡ spec.thin_points graph.now callback 0 points.now) }
-{
-    let kept = kept_points(graph, callback);
-    let mut slots = Items::new(alloc);
-    for number in 0..points.len() {
-        slots.push(slot_of(kept[number], &points[number]))?;
-    }
-    Ok(slots)
-}
-
-/// What is left of a certificate at the points that are kept. Where the certificate covers the text of the graph, this one does too.
-pub fn thin(alloc: Global, graph: &Graph, cert: &Cert) -> Result<ThinCert, AllocError>
-    ensures { IfOk result (λ t. t ≡ spec.thin graph.now cert.now) }
-{
-    let mut callbacks = Items::new(alloc);
-    for callback in 0..cert.callbacks().len() {
-        callbacks.push(thin_points(alloc, graph, callback, cert.points(callback))?)?;
-    }
-    Ok(ThinCert { callbacks })
 }

@@ -6,11 +6,11 @@ ghost use Rattle.flt_cert.specs.Thin.{Thin, is_thin};
 ghost use Rattle.flt_cert.specs.ThinFormat.{thin_spelling};
 ghost use Rattle.flt_cert.specs.ThinReading as spec;
 
-use crate::cert::MAX_CALLBACKS;
 use crate::fault::CertFault;
 use crate::fields::{given_at, head_of, is_end, is_first_thin};
+use crate::full_cert::MAX_CALLBACKS;
+use crate::full_reader::point;
 use crate::lines::Lines;
-use crate::reader::point;
 use crate::thin_cert::{Slot, ThinCert};
 use sqlite_items::Items;
 use std::alloc::{AllocError, Global};
@@ -149,7 +149,7 @@ fn certificate(alloc: Global, lines: &mut Lines) -> Result<Items<Items<Slot>>, C
 }
 
 /// The thin certificate that the bytes spell in format 2, all of the bytes.
-pub fn read_thin(alloc: Global, bytes: &[u8]) -> Result<ThinCert, CertFault>
+pub(crate) fn read_thin(alloc: Global, bytes: &[u8]) -> Result<ThinCert, CertFault>
     // What is read is spelled so.
     ensures spelled { IfOk result (λ t. bytes.now ≡ thin_spelling t) }
     ensures thin { IfOk result (λ t. IsTrue (is_thin t)) }

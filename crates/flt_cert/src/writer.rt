@@ -3,10 +3,12 @@
 ghost use Rattle.std.specs.Prelude.{◌≡◌, ◌<◌, ◌≤◌, ◌+◌, [], ◌∷◌, ◌++◌, length, IfOk, OnOk};
 ghost use Rattle.std.specs.Vec.{vec_len, vec_capacity};
 ghost use Rattle.flt_cert.specs.Format as format;
+ghost use Rattle.flt_cert.specs.Spelling.{spelling};
 ghost use Rattle.flt_cert.specs.Text.{decimal};
 ghost use Rattle.flt_cert.specs.ThinFormat as thin_format;
 
 use crate::cert::Cert;
+use crate::full_cert::FullCert;
 use crate::thin_cert::{Slot, ThinCert};
 use flt_abs::{Abs, Statuses};
 use flt_rules::{Access, HeldLock};
@@ -14,6 +16,8 @@ use std::alloc::{AllocError, Global};
 
 /// How long the line of a point is at most, where no lock is held. At most points none is.
 const POINT_LINE: usize = 26;
+
+const LAST_LINE: &[u8] = b"end\n";
 
 /// Adds a number, for whose digits there is room.
 #[inline(always)]
@@ -162,16 +166,16 @@ fn push_callback(out: &mut Vec<u8>, number: usize, points: &[Option<Abs>]) -> Re
     Ok(())
 }
 
-/// The one spelling of a certificate.
-pub fn write(alloc: Global, cert: &Cert) -> Result<Vec<u8>, AllocError>
-    ensures { IfOk result (λ text. text.items ≡ format.spelling cert.now) }
+/// The one spelling of a full certificate, in format 1.
+pub fn write_full(alloc: Global, full: &FullCert) -> Result<Vec<u8>, AllocError>
+    ensures { IfOk result (λ text. text.items ≡ format.full_spelling full.now) }
 {
     let mut out = Vec::new(alloc);
     out.extend_from_slice(b"fltcert 1\n")?;
-    for (at, points) in cert.callbacks().iter().enumerate() {
+    for (at, points) in full.callbacks().iter().enumerate() {
         push_callback(&mut out, at, points.as_slice())?;
     }
-    out.extend_from_slice(b"end\n")?;
+    out.extend_from_slice(LAST_LINE)?;
     Ok(out)
 }
 
@@ -203,7 +207,7 @@ fn push_slots(out: &mut Vec<u8>, number: usize, slots: &[Slot]) -> Result<(), Al
 }
 
 /// The one spelling of a thin certificate, in format 2.
-pub fn write_thin(alloc: Global, thin: &ThinCert) -> Result<Vec<u8>, AllocError>
+fn write_thin(alloc: Global, thin: &ThinCert) -> Result<Vec<u8>, AllocError>
     ensures { IfOk result (λ text. text.items ≡ thin_format.thin_spelling thin.now) }
 {
     let mut out = Vec::new(alloc);
@@ -211,6 +215,16 @@ pub fn write_thin(alloc: Global, thin: &ThinCert) -> Result<Vec<u8>, AllocError>
     for (at, slots) in thin.callbacks().iter().enumerate() {
         push_slots(&mut out, at, slots.as_slice())?;
     }
-    out.extend_from_slice(b"end\n")?;
+    out.extend_from_slice(LAST_LINE)?;
     Ok(out)
+}
+
+/// The one spelling of a certificate, in its format.
+pub fn write(alloc: Global, cert: &Cert) -> Result<Vec<u8>, AllocError>
+    ensures { IfOk result (λ text. text.items ≡ spelling cert.now) }
+{
+    match cert {
+        Cert::Full(full) => write_full(alloc, full),
+        Cert::Thin(thin) => write_thin(alloc, thin),
+    }
 }

@@ -193,7 +193,8 @@ pub count_fault_not : (g : Graph) (k : Certificate) (callback : ℕ) → IsCount
 count_fault_not g k callback (inl first) h = true≢false (sym first.here ∙ h.points callback first.within)
 count_fault_not g k callback (inr more) h = let e = more.more in let l = h.callbacks in absurd (omega arith)
 
-least_not : (g : Graph) (k : Certificate) (f : Refusal) → IsLeastFault g k f → IsFaultless g k → ⊥
+-- what has a least fault isn't without fault
+pub least_not : (g : Graph) (k : Certificate) (f : Refusal) → IsLeastFault g k f → IsFaultless g k → ⊥
 least_not g k f (inl count) h = count_fault_not g k f.callback count.callback h.counts
 least_not g k f (inr point) h = none-some f.rule (sym (h.points f.callback point.callback f.point point.point.within) ∙ point.point.broken)
 

@@ -1,3 +1,4 @@
+pub mod Accepting
 pub mod Checker
 pub mod Covering
 pub mod Full

@@ -1,4 +1,4 @@
-//! Goes over the points of a text with its certificate.
+//! Goes over the points of a text with its full certificate.
 
 ghost use Rattle.std.specs.Prelude.{◌≡◌, ◌<◌, ◌↔◌, length, IsOk, OnOk, IfErr, IfSome, IfNone};
 ghost use Rattle.std.specs.Option.{option_copied};
@@ -8,7 +8,7 @@ ghost use Rattle.flt_check.specs.Covering.{Covers};
 ghost use Rattle.flt_graph.specs.Graph.{points_at, line_at};
 
 use flt_abs::{Abs, Leads, is_entry_below, leq, transfer_into};
-use flt_cert::Cert;
+use flt_cert::FullCert;
 use flt_graph::{Graph, Place};
 use flt_rules::Rule;
 
@@ -33,7 +33,7 @@ pub(crate) fn lead_fault(state: &Abs, at: Option<&Abs>) -> Option<Rule>
 }
 
 #[inline(always)]
-fn successor_fault(cert: &Cert, callback: usize, lead: Option<(usize, &Abs)>) -> Option<Rule>
+fn successor_fault(cert: &FullCert, callback: usize, lead: Option<(usize, &Abs)>) -> Option<Rule>
     ensures { result ≡ spec.successor_fault cert.now callback (lent lead.entry) }
 {
     match lead {
@@ -59,7 +59,7 @@ pub(crate) fn lesser(a: Option<Rule>, b: Option<Rule>) -> Option<Rule>
     }
 }
 
-fn leads_fault(cert: &Cert, callback: usize, leads: &Leads) -> Option<Rule>
+fn leads_fault(cert: &FullCert, callback: usize, leads: &Leads) -> Option<Rule>
     ensures { result ≡ spec.leads_fault cert.now callback leads.now }
 {
     let first = successor_fault(cert, callback, leads.first());
@@ -70,7 +70,7 @@ fn leads_fault(cert: &Cert, callback: usize, leads: &Leads) -> Option<Rule>
 /// The least rule that a point breaks with its state, or that is broken where it leads.
 fn state_fault(
     graph: &Graph,
-    cert: &Cert,
+    cert: &FullCert,
     callback: usize,
     point: usize,
     state: &Abs,
@@ -89,7 +89,7 @@ fn state_fault(
 /// The same, with what was kept from the points before, if there is anything yet.
 fn reached_fault(
     graph: &Graph,
-    cert: &Cert,
+    cert: &FullCert,
     callback: usize,
     point: usize,
     state: &Abs,
@@ -127,7 +127,7 @@ pub(crate) fn entry_by(place: Place, state: Option<&Abs>) -> Option<Rule>
 }
 
 /// What is wrong with the entry of a callback.
-fn entry_fault(graph: &Graph, cert: &Cert, callback: usize) -> Option<Rule>
+fn entry_fault(graph: &Graph, cert: &FullCert, callback: usize) -> Option<Rule>
     requires { callback < length graph.now.callbacks }
     ensures { result ≡ spec.entry_fault graph.now cert.now callback }
 {
@@ -137,7 +137,7 @@ fn entry_fault(graph: &Graph, cert: &Cert, callback: usize) -> Option<Rule>
 /// The least rule that is broken at a point. One that isn't reached breaks none of its own.
 fn point_fault(
     graph: &Graph,
-    cert: &Cert,
+    cert: &FullCert,
     callback: usize,
     point: usize,
     kept: &mut Option<Leads>,
@@ -158,7 +158,7 @@ fn point_fault(
 }
 
 /// The first point of a callback at which a rule is broken, and the least such rule.
-fn callback_fault(graph: &Graph, cert: &Cert, callback: usize) -> Option<(usize, Rule)>
+fn callback_fault(graph: &Graph, cert: &FullCert, callback: usize) -> Option<(usize, Rule)>
     requires { callback < length graph.now.callbacks }
     ensures none { IfNone result (spec.NoneBefore graph.now cert.now callback (points_at graph.now callback)) }
     ensures some { IfSome result (λ q. spec.IsFirstPoint graph.now cert.now callback q.0 q.1) }
@@ -173,7 +173,7 @@ fn callback_fault(graph: &Graph, cert: &Cert, callback: usize) -> Option<(usize,
 }
 
 /// Whether a certificate lacks a callback of the text, or has not as many points for it.
-fn differs(graph: &Graph, cert: &Cert, callback: usize) -> bool
+fn differs(graph: &Graph, cert: &FullCert, callback: usize) -> bool
     requires { callback < length graph.now.callbacks }
     ensures { result ≡ spec.differs graph.now cert.now callback }
 {
@@ -181,7 +181,7 @@ fn differs(graph: &Graph, cert: &Cert, callback: usize) -> bool
 }
 
 /// The first callback that differs; where there is none and the certificate has callbacks too many, the text's last one.
-fn count_fault(graph: &Graph, cert: &Cert) -> Option<usize>
+fn count_fault(graph: &Graph, cert: &FullCert) -> Option<usize>
     ensures none { IfNone result (spec.AgreeOnCounts graph.now cert.now) }
     ensures some { IfSome result (spec.IsCountFault graph.now cert.now) }
 {
@@ -209,7 +209,7 @@ fn line_of(graph: &Graph, callback: usize, point: usize) -> usize
 
 /// The least fault, if there is one.
 #[tactic(auto, using(crate::proofs::Points::none_in_more))]
-fn first_fault(graph: &Graph, cert: &Cert) -> Result<(), Refusal>
+fn first_fault(graph: &Graph, cert: &FullCert) -> Result<(), Refusal>
     ensures accepted { OnOk result (spec.IsFaultless graph.now cert.now) }
     ensures refused { IfErr result (spec.IsLeastFault graph.now cert.now) }
 {
@@ -234,9 +234,9 @@ fn first_fault(graph: &Graph, cert: &Cert) -> Result<(), Refusal>
     Ok(())
 }
 
-/// Whether a certificate covers a text's points; if not, the least fault: a number of callbacks or points that isn't the
+/// Whether a full certificate covers a text's points; if not, the least fault: a number of callbacks or points that isn't the
 /// text's comes first, then the least callback, point and rule. It takes no memory.
-pub fn check(graph: &Graph, cert: &Cert) -> Result<(), Refusal>
+pub(crate) fn check_full(graph: &Graph, cert: &FullCert) -> Result<(), Refusal>
     ensures accepted { IsOk result ↔ Covers graph.now cert.now }
     ensures refused { IfErr result (spec.IsLeastFault graph.now cert.now) }
 {

@@ -8,7 +8,7 @@ ghost use Rattle.flt_check.specs.Full as spec;
 
 use crate::laws::thin_certificates_fill_up;
 use flt_abs::{Abs, Leads, transfer_into};
-use flt_cert::{Cert, Slot, ThinCert};
+use flt_cert::{FullCert, Slot, ThinCert};
 use flt_graph::{Graph, Instruction};
 use flt_rules::row;
 use sqlite_items::Items;
@@ -110,7 +110,7 @@ fn fill_points(
 
 /// The full certificate: what is given by a thin one, and for each other point what follows from the points before it. Where the thin one
 /// covers, the full one covers.
-pub fn fill(alloc: Global, graph: &Graph, thin: &ThinCert) -> Result<Cert, AllocError>
+pub fn fill(alloc: Global, graph: &Graph, thin: &ThinCert) -> Result<FullCert, AllocError>
     ensures { IfOk result (λ k. k ≡ spec.full graph.now thin.now) }
 {
     thin_certificates_fill_up();
@@ -118,5 +118,5 @@ pub fn fill(alloc: Global, graph: &Graph, thin: &ThinCert) -> Result<Cert, Alloc
     for callback in 0..thin.callbacks().len() {
         callbacks.push(fill_points(alloc, graph, callback, thin.slots(callback))?)?;
     }
-    Ok(Cert::new(callbacks).unwrap())
+    Ok(FullCert::new(callbacks).unwrap())
 }

@@ -2,7 +2,10 @@
 
 ghost use Rattle.std.specs.Prelude.{◌≡◌, IsTrue};
 ghost use Rattle.flt_cert.specs.Format.{Certificate, is_certificate};
+ghost use Rattle.flt_cert.specs.Spelling.{is_cert, thinned};
 ghost use Rattle.flt_cert.specs.Thin.{Thin, thin, is_thin};
+ghost use Rattle.flt_cert.specs.declared.cert.Cert.{Cert};
+ghost use Rattle.flt_check.specs.Accepting.{CertCovers, IsCertFault, full_of};
 ghost use Rattle.flt_check.specs.Checker.{IsFaultless, IsLeastFault};
 ghost use Rattle.flt_check.specs.Covering.{Covers, IsCertificateBelow};
 ghost use Rattle.flt_check.specs.Full.{full};
@@ -58,4 +61,31 @@ pub fn one_thin_fault_is_least()
     ensures { (g : Graph) (t : Thin) (f h : Refusal) → IsThinFault g t f → IsThinFault g t h → f ≡ h }
 {
     one_fault_is_least();
+}
+
+/// What a certificate of either format that covers stands for covers too: a full one stands for itself, a thin one for what follows from
+/// it. It does nothing: its clauses are the law.
+pub fn accepted_certificates_fill_up()
+    ensures certificate { (g : Graph) (c : Cert) → IsTrue (is_cert c) → IsTrue (is_certificate (full_of g c)) }
+    ensures covers { (g : Graph) (c : Cert) → CertCovers g c → Covers g (full_of g c) }
+{
+    thin_certificates_fill_up();
+}
+
+/// Where a certificate of a text covers, the thin one that is left of it covers. It does nothing: its clause is the law.
+pub fn thinned_certificates_cover()
+    ensures { (f : Filter) (g : Graph) (c : Cert) → IsWellFormed f → IsLowered f g → IsTrue (is_cert c) → CertCovers g c →
+        CertCovers g (thinned g c) }
+{
+    thin_certificates_cover();
+}
+
+/// A certificate of either format has one least fault at most, and none where it covers. It does nothing: its clauses are the law.
+pub fn one_refusal_at_most()
+    ensures one { (g : Graph) (c : Cert) (f h : Refusal) → IsCertFault g c f → IsCertFault g c h → f ≡ h }
+    ensures none { (g : Graph) (c : Cert) (f : Refusal) → CertCovers g c → ¬ IsCertFault g c f }
+{
+    one_fault_is_least();
+    one_thin_fault_is_least();
+    covering_is_faultless();
 }

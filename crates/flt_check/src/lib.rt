@@ -2,16 +2,18 @@
 //! from those that it gives.
 #![tactic(auto)]
 
+mod accepting;
 mod checker;
 mod filling;
 mod laws;
 mod thin_checker;
 mod thin_points;
 
-pub use checker::{Refusal, check};
+pub use accepting::check;
+pub use checker::Refusal;
 pub use filling::fill;
 pub use laws::{
-    covering_is_faultless, one_fault_is_least, one_thin_fault_is_least, thin_certificates_cover,
-    thin_certificates_fill_up,
+    accepted_certificates_fill_up, covering_is_faultless, one_fault_is_least, one_refusal_at_most,
+    one_thin_fault_is_least, thin_certificates_cover, thin_certificates_fill_up,
+    thinned_certificates_cover,
 };
-pub use thin_checker::check_thin;

@@ -74,7 +74,7 @@ fn first_fault(graph: &Graph, thin: &ThinCert) -> Result<(), Refusal>
 
 /// Whether a thin certificate covers a text's points; if not, the least fault: a number of callbacks or points that isn't the text's
 /// comes first, then a point that is given and not kept or the other way, then the least callback, point and rule. It takes no memory.
-pub fn check_thin(graph: &Graph, thin: &ThinCert) -> Result<(), Refusal>
+pub(crate) fn check_thin(graph: &Graph, thin: &ThinCert) -> Result<(), Refusal>
     ensures accepted { IsOk result ↔ CoversThin graph.now thin.now }
     ensures refused { IfErr result (spec.IsThinFault graph.now thin.now) }
 {

@@ -5,7 +5,9 @@ use Rattle.flt_syntax.specs.declared.fault.SyntaxFault.{SyntaxFault}
 use Rattle.flt_syntax.specs.Spelling.{SpellsAtMostOne, SpelledIsWellFormed}
 use Rattle.flt_syntax.specs.TextFails.{Fails, SpelledFailsNowhere}
 use Rattle.flt_graph.specs.declared.graph.Graph.{Graph}
-use Rattle.flt_cert.specs.Format.{Certificate}
+use Rattle.flt_cert.specs.declared.cert.Cert.{Cert}
+use Rattle.flt_cert.specs.declared.cert.Cert.TheVariants.{Full}
+use Rattle.flt_check.specs.Accepting.{CertCovers, full_of}
 use Rattle.flt_check.specs.Covering.{Covers}
 use Rattle.flt_sound.specs.Soundness.{IsAccepted, AreAccepted, AcceptedRunsBreakNothing}
 use Rattle.flt_crew.specs.Running.{IsRun}
@@ -30,26 +32,28 @@ use Rattle.flt_tree.specs.declared.filter.Filter.{Filter}
 use Rattle.flt_commands.proofs.OnePlace.{zipped_once}
 use Rattle.flt_commands.specs.Analyse.{IsAnalysed}
 use Rattle.flt_commands.specs.Answer.{status_of}
-use Rattle.flt_commands.specs.Check.{HasPoints, IsAnswer, IsChecked}
+use Rattle.flt_commands.specs.Check.{Decides, HasPoints, IsAnswer, IsChecked}
 use Rattle.flt_commands.specs.Clean.{BreakNothing, BreaksNothing, EachBreaksNothing, IsClean}
 use Rattle.flt_commands.specs.Commands.{IsSaid, IsSaidOf, IsReported}
 use Rattle.flt_commands.specs.Explain.{IsExplained, IsTold}
 use Rattle.flt_commands.specs.Inputs.{Giving, given, Text, unread}
 use Rattle.flt_commands.specs.Running.{IsRan}
-use Rattle.flt_words.specs.Request.{Asked, Check, Analyse, Run, Replay, Show, Explain, Page}
+use Rattle.flt_commands.specs.Thin.{IsThinned, Decides as DecidesThin}
+use Rattle.flt_words.specs.Request.{Asked, Check, Analyse, Thin, Run, Replay, Show, Explain, Page}
 use Rattle.flt_commands.specs.declared.answer.Answer.{Answer}
 use Rattle.flt_commands.specs.declared.answer.Answer.TheVariants.{Accepted, Refused, Certificate as Written, Judged, Ran as has_run, FileRefused, Explained, Page as has_page, Shown}
 use Rattle.flt_commands.specs.declared.failure.Failure.{Failure}
 
 -- the laws' clauses
 abbrev pub Law : Type 0
-Law = (text : Text) (graph : Graph) (cert : Certificate) → HasPoints text graph → Covers graph cert → BreaksNothing text
+Law = (text : Text) (graph : Graph) (cert : Cert) → HasPoints text graph → CertCovers graph cert → BreaksNothing text
 
 abbrev pub LawOfRuns : Type 0
 LawOfRuns = (script : Text) (texts : List Text) (ran : Ran) → IsRun script texts ran → BreakNothing texts
 
-pub covered_is_clean : SpellsAtMostOne → SpelledIsWellFormed → AcceptedRunsBreakNothing → Law
-covered_is_clean one fine theorem text graph cert points covers f transitions spelled = theorem (f ∷ []) transitions all
+pub covered_is_clean : SpellsAtMostOne → SpelledIsWellFormed → ((g : Graph) (c : Cert) → CertCovers g c → Covers g (full_of g c)) →
+    AcceptedRunsBreakNothing → Law
+covered_is_clean one fine fills theorem text graph cert points covers f transitions spelled = theorem (f ∷ []) transitions all
   where
     same : points.filter ≡ f
     same = one text points.filter f points.spelled spelled
@@ -57,10 +61,10 @@ covered_is_clean one fine theorem text graph cert points covers f transitions sp
     accepted : IsAccepted f
     accepted = subst IsAccepted same (record {
       graph = graph;
-      cert = cert;
+      cert = full_of graph cert;
       well_formed = fine text points.filter points.spelled;
       lowered = points.lowered;
-      covers = covers;
+      covers = fills graph cert covers;
     })
 
     all : AreAccepted (f ∷ [])
@@ -75,7 +79,7 @@ driven_is_clean one script texts ran is filters transitions spelled =
 
 module _ (law : Law) (runs : LawOfRuns) (nowhere : SpelledFailsNowhere) where
   -- what is said of a text and its certificate with the status 0 is that it is accepted
-  judged : (text certificate : Text) (answer : Answer) → IsAnswer text certificate answer → status_of answer ≡ 0 → BreaksNothing text
+  judged : (text certificate : Text) (answer : Answer) → IsAnswer Decides text certificate answer → status_of answer ≡ 0 → BreaksNothing text
   judged text certificate Accepted said good = law text said.graph said.cert said.points said.decided
   judged text certificate (Refused f) said good = absurd (omega (arith, good))
   judged text certificate (Written bytes) said good = absurd said.decided
@@ -93,10 +97,29 @@ module _ (law : Law) (runs : LawOfRuns) (nowhere : SpelledFailsNowhere) where
   checked (text ∷ certificate ∷ []) answer file cert said good = judged text certificate answer said good
   checked (text ∷ certificate ∷ more ∷ texts) answer file cert said good = said
 
+  -- what is said so by `thin` is that it is covered
+  left : (text certificate : Text) (answer : Answer) → IsAnswer DecidesThin text certificate answer → status_of answer ≡ 0 → BreaksNothing text
+  left text certificate (Written bytes) said good = law text said.graph said.cert said.points said.decided.0
+  left text certificate (Refused f) said good = absurd (omega (arith, good))
+  left text certificate Accepted said good = absurd said.decided
+  left text certificate (Judged v) said good = absurd said.decided
+  left text certificate (has_run ran) said good = absurd said.decided
+  left text certificate (FileRefused n f) said good = absurd said.decided
+  left text certificate (Explained r) said good = absurd said.decided
+  left text certificate (Shown rows v) said good = absurd said.decided
+  left text certificate (has_page t) said good = absurd said.decided
+
+  thinned : (texts : List Text) (answer : Answer) (file : Text) (cert : Option Text) → IsThinned texts (Ok answer) →
+      status_of answer ≡ 0 → IsClean (Thin file cert) texts
+  thinned [] answer file cert said good = said
+  thinned (bytes ∷ []) answer file cert said good = (said.0, said.1, left (take said.0 bytes) (drop said.0 bytes) answer said.2 good)
+  thinned (text ∷ certificate ∷ []) answer file cert said good = left text certificate answer said good
+  thinned (text ∷ certificate ∷ more ∷ texts) answer file cert said good = said
+
   analysed : (texts : List Text) (answer : Answer) (file : Text) → IsAnalysed texts (Ok answer) → status_of answer ≡ 0 →
       IsClean (Analyse file) texts
   analysed [] answer file said good = said
-  analysed (text ∷ []) (Written bytes) file said good = law text said.graph said.cert said.points said.covers
+  analysed (text ∷ []) (Written bytes) file said good = law text said.graph (Full said.cert) said.points said.covers
   analysed (text ∷ []) (Refused f) file said good = absurd (omega (arith, good))
   analysed (text ∷ []) Accepted file said good = absurd said
   analysed (text ∷ []) (Judged v) file said good = absurd said
@@ -124,7 +147,7 @@ module _ (law : Law) (runs : LawOfRuns) (nowhere : SpelledFailsNowhere) where
   unfound : (text : Text) (tree : Tree) (graph : Graph) (found : List Finding) → IsKnown text tree graph found →
       findings_status found ≡ 0 → BreaksNothing text
   unfound text tree graph [] is good =
-      law text graph is.findings.certificate
+      law text graph (Full is.findings.certificate)
       (record { filter = tree.filter; spelled = is.spelled; lowered = is.lowered })
       is.findings.covers
   unfound text tree graph (f ∷ fs) is good = absurd (omega (arith, good))
@@ -199,6 +222,7 @@ module _ (law : Law) (runs : LawOfRuns) (nowhere : SpelledFailsNowhere) where
       status_of answer ≡ 0 → IsClean request texts
   said_is_clean (Check file cert) texts answer said good = checked texts answer file cert said good
   said_is_clean (Analyse file) texts answer said good = analysed texts answer file said good
+  said_is_clean (Thin file cert) texts answer said good = thinned texts answer file cert said good
   said_is_clean (Run workers quiet script files) texts answer said good = driven texts answer workers quiet script files said good
   said_is_clean (Replay journal files) texts answer said good = tt
   said_is_clean (Show timeline picture journal files) texts answer said good = tt

@@ -4,8 +4,10 @@ pub mod Firsts
 pub mod OneAnalysis
 pub mod OneAnswer
 pub mod OneCheck
+pub mod OneDecision
 pub mod OnePlace
 pub mod OneReading
+pub mod OneThin
 pub mod OneVerdict
 pub mod Readings
 pub mod Reported

@@ -4,7 +4,9 @@ use Rattle.flt_syntax.specs.Spelling.{Spells}
 use Rattle.flt_syntax.specs.TextFails.{FailsAtMostOnce, SpelledFailsNowhere}
 use Rattle.flt_tree.specs.declared.filter.Filter.{Filter}
 use Rattle.flt_graph.specs.declared.graph.Graph.{Graph}
-use Rattle.flt_cert.specs.Format.{Certificate, spelling}
+use Rattle.flt_cert.specs.Format.{Certificate}
+use Rattle.flt_cert.specs.Spelling.{spelling, thinned}
+use Rattle.flt_cert.specs.declared.cert.Cert.TheVariants.{Full}
 use Rattle.flt_check.specs.Covering.{Covers}
 use Rattle.flt_check.specs.declared.checker.Refusal.{Refusal}
 use Rattle.flt_analyse.specs.Least.{IsLeast, IsNamed, NoneCovers}
@@ -26,7 +28,7 @@ module _ (graph : (text : Text) (g h : Graph) → HasPoints text g → HasPoints
       let points : y.graph ≡ x.graph = graph text y.graph x.graph y.points x.points in
       let cert = least x.graph x.cert y.cert x.covers x.least (subst (λ g. Covers g y.cert) points y.covers)
       (subst (λ g. IsLeast g y.cert) points y.least) in
-      x.written ∙ ap spelling cert ∙ sym y.written
+      x.written ∙ ap (λ k. spelling (thinned x.graph (Full k))) cert ∙ ap (λ g. spelling (thinned g (Full y.cert))) (sym points) ∙ sym y.written
 
   not_refused : (text bytes : Text) (f : Refusal) → IsCertified text bytes → IsRefused text f → ⊥
   not_refused text bytes f x y =

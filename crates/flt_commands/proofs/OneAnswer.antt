@@ -9,7 +9,8 @@ use Rattle.flt_commands.specs.Inputs.{Giving, Text}
 use Rattle.flt_commands.specs.Names.{names_of}
 use Rattle.flt_commands.specs.Replay.{IsReplayed}
 use Rattle.flt_commands.specs.Single.{AreSame, AskForOne, GivesOne, HasOneAnswer, SaysOne, seen, told}
-use Rattle.flt_words.specs.Request.{Asked, Check, Analyse, Run, Replay, Show, Explain, Page}
+use Rattle.flt_commands.specs.Thin.{IsThinned}
+use Rattle.flt_words.specs.Request.{Asked, Check, Analyse, Thin, Run, Replay, Show, Explain, Page}
 use Rattle.flt_commands.specs.declared.answer.Answer.{Answer}
 use Rattle.flt_commands.specs.declared.failure.Failure.{Failure}
 use Rattle.flt_commands.specs.declared.failure.Failure.TheVariants.{OutOfMemory}
@@ -44,10 +45,11 @@ module _ (bytes other : List ℕ) (status other_status : ℕ) where
       (sym (same (a_failure f x.0 (Err f) refl) (an_answer b))) refl refl)
   reported_once (Err f) (Err h) same x y = (x.1.0 ∙ sym y.1.0, x.1.1 ∙ sym y.1.1)
 
-module _ (checked : SaysOne IsChecked) (analysed : SaysOne IsAnalysed) (replayed : SaysOne IsReplayed) where
+module _ (checked : SaysOne IsChecked) (analysed : SaysOne IsAnalysed) (thinned : SaysOne IsThinned) (replayed : SaysOne IsReplayed) where
   of_one : (request : Asked) → HasOneAnswer request → SaysOne (IsSaidOf request)
   of_one (Check file cert) has = checked
   of_one (Analyse file) has = analysed
+  of_one (Thin file cert) has = thinned
   of_one (Run workers quiet script files) has = absurd has
   of_one (Show timeline picture journal files) has = absurd has
   of_one (Explain form states journal files) has = absurd has

@@ -2,7 +2,9 @@
 use Rattle.std.specs.Prelude.{◌≡◌, List, [], ◌∷◌, IsTrue, Result, Ok, Err}
 use Rattle.flt_syntax.specs.TextFails.{Fails}
 use Rattle.flt_graph.specs.declared.graph.Graph.{Graph}
-use Rattle.flt_cert.specs.Format.{Certificate, is_certificate, spelling}
+use Rattle.flt_cert.specs.Format.{Certificate, is_certificate}
+use Rattle.flt_cert.specs.Spelling.{spelling, thinned}
+use Rattle.flt_cert.specs.declared.cert.Cert.TheVariants.{Full}
 use Rattle.flt_check.specs.Covering.{Covers}
 use Rattle.flt_check.specs.declared.checker.Refusal.{Refusal}
 use Rattle.flt_analyse.specs.Least.{IsLeast, NoneCovers, IsNamed}
@@ -13,7 +15,7 @@ use Rattle.flt_commands.specs.declared.answer.Answer.TheVariants.{Refused, Certi
 use Rattle.flt_commands.specs.declared.failure.Failure.{Failure}
 use Rattle.flt_commands.specs.declared.failure.Failure.TheVariants.{Syntax, OutOfMemory}
 
--- the text spells a filter, and the bytes spell the least certificate that covers its points
+-- the text spells a filter, and the bytes spell what is left of the least certificate that covers its points
 pub record IsCertified (text bytes : Text) : Type 0 where
   pub graph : Graph
   pub points : HasPoints text graph
@@ -21,7 +23,7 @@ pub record IsCertified (text bytes : Text) : Type 0 where
   pub certified : IsTrue (is_certificate cert)
   pub covers : Covers graph cert
   pub least : IsLeast graph cert
-  pub written : bytes ≡ spelling cert
+  pub written : bytes ≡ spelling (thinned graph (Full cert))
 
 -- the text spells a filter, no certificate covers its points, and this is the fault that is met first
 pub record IsRefused (text : Text) (f : Refusal) : Type 0 where

@@ -5,9 +5,9 @@ use Rattle.flt_syntax.specs.TextFails.{Fails}
 use Rattle.flt_tree.specs.declared.filter.Filter.{Filter}
 use Rattle.flt_graph.specs.Lowering.{IsLowered}
 use Rattle.flt_graph.specs.declared.graph.Graph.{Graph}
-use Rattle.flt_cert.specs.Format.{Certificate, is_certificate, spelling, IsFirstFault}
-use Rattle.flt_check.specs.Covering.{Covers}
-use Rattle.flt_check.specs.Checker.{IsLeastFault}
+use Rattle.flt_cert.specs.Spelling.{is_cert, spelling, IsFirstFault}
+use Rattle.flt_cert.specs.declared.cert.Cert.{Cert}
+use Rattle.flt_check.specs.Accepting.{CertCovers, IsCertFault}
 use Rattle.flt_commands.specs.Inputs.{Text}
 use Rattle.flt_commands.specs.Split.{IsCertificateStart}
 use Rattle.flt_commands.specs.declared.answer.Answer.{Answer}
@@ -21,20 +21,24 @@ pub record HasPoints (text : Text) (graph : Graph) : Type 0 where
   pub spelled : Spells text filter
   pub lowered : IsLowered filter graph
 
+-- what may be answered of the points of a text and a certificate
+abbrev pub Deciding : Type 1
+Deciding = Graph → Cert → Answer → Type 0
+
 -- the certificate covers the points, or the refusal is the first that it earns
-abbrev pub Decides : Graph → Certificate → Answer → Type 0
-Decides g c Accepted = Covers g c
-Decides g c (Refused f) = IsLeastFault g c f
+abbrev pub Decides : Deciding
+Decides g c Accepted = CertCovers g c
+Decides g c (Refused f) = IsCertFault g c f
 Decides g c _ = ⊥
 
 -- the text spells a filter, the bytes spell a certificate, and this is decided of them
-pub record IsAnswer (text certificate : Text) (answer : Answer) : Type 0 where
+pub record IsAnswer (decides : Deciding) (text certificate : Text) (answer : Answer) : Type 0 where
   pub graph : Graph
   pub points : HasPoints text graph
-  pub cert : Certificate
-  pub certified : IsTrue (is_certificate cert)
+  pub cert : Cert
+  pub certified : IsTrue (is_cert cert)
   pub written : certificate ≡ spelling cert
-  pub decided : Decides graph cert answer
+  pub decided : decides graph cert answer
 
 -- the first fault of the text, or else the first of the certificate; memory may run out
 abbrev pub IsFailure : Text → Text → Failure → Type 0
@@ -44,16 +48,21 @@ IsFailure text certificate OutOfMemory = Unit {0}
 IsFailure text certificate _ = ⊥
 
 -- what is said of a text and a certificate
-abbrev pub Judges : Text → Text → Result Answer Failure → Type 0
-Judges text certificate (Ok a) = IsAnswer text certificate a
-Judges text certificate (Err f) = IsFailure text certificate f
+abbrev pub Judges : Deciding → Text → Text → Result Answer Failure → Type 0
+Judges decides text certificate (Ok a) = IsAnswer decides text certificate a
+Judges decides text certificate (Err f) = IsFailure text certificate f
 
 -- the same of a text and a certificate in one input
-abbrev pub JudgesTogether : Text → Result Answer Failure → Type 0
-JudgesTogether bytes result = (start : ℕ) × IsCertificateStart bytes start × Judges (take start bytes) (drop start bytes) result
+abbrev pub JudgesTogether : Deciding → Text → Result Answer Failure → Type 0
+JudgesTogether decides bytes result =
+    (start : ℕ) × IsCertificateStart bytes start × Judges decides (take start bytes) (drop start bytes) result
 
 -- what is said of the bytes of FILE, or of FILE and CERT
+abbrev pub IsDecided : Deciding → List Text → Result Answer Failure → Type 0
+IsDecided decides (bytes ∷ []) result = JudgesTogether decides bytes result
+IsDecided decides (text ∷ certificate ∷ []) result = Judges decides text certificate result
+IsDecided decides _ result = ⊥
+
+-- the same by `check`
 abbrev pub IsChecked : List Text → Result Answer Failure → Type 0
-IsChecked (bytes ∷ []) result = JudgesTogether bytes result
-IsChecked (text ∷ certificate ∷ []) result = Judges text certificate result
-IsChecked _ result = ⊥
+IsChecked = IsDecided Decides

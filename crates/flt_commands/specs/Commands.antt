@@ -11,8 +11,9 @@ use Rattle.flt_commands.specs.Inputs.{Giving, Says, Text}
 use Rattle.flt_commands.specs.Names.{names_of}
 use Rattle.flt_commands.specs.Replay.{IsReplayed, IsShown}
 use Rattle.flt_commands.specs.Running.{IsRan}
+use Rattle.flt_commands.specs.Thin.{IsThinned}
 use Rattle.flt_model.specs.JournalText.{Entries, spelling}
-use Rattle.flt_words.specs.Request.{Asked, Check, Analyse, Run, Replay, Show, Explain, Page}
+use Rattle.flt_words.specs.Request.{Asked, Check, Analyse, Thin, Run, Replay, Show, Explain, Page}
 use Rattle.flt_words.specs.Words.{asked}
 use Rattle.flt_commands.specs.declared.answer.Answer.{Answer}
 use Rattle.flt_commands.specs.declared.failure.Failure.{Failure}
@@ -25,6 +26,7 @@ use Rattle.flt_commands.specs.declared.report.Report.{Report}
 abbrev pub IsSaidOf : Asked → List Text → Result Answer Failure → Type 0
 IsSaidOf (Check file cert) = IsChecked
 IsSaidOf (Analyse file) = IsAnalysed
+IsSaidOf (Thin file cert) = IsThinned
 IsSaidOf (Run workers quiet script files) = IsRan
 IsSaidOf (Replay journal files) = IsReplayed
 IsSaidOf (Show timeline picture journal files) = IsShown timeline picture

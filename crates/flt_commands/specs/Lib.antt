@@ -12,3 +12,4 @@ pub mod Running
 pub mod Single
 pub mod Split
 pub mod System
+pub mod Thin

@@ -11,9 +11,10 @@ abbrev pub ends_line : List ℕ → Bool
 ends_line [] = true
 ends_line (b ∷ bytes) = b == 10
 
--- the first line is exactly `fltcert 1`
+-- the first line is exactly `fltcert 1` or `fltcert 2`
 abbrev pub is_header : List ℕ → Bool
-is_header bytes = bytes_eq (take 9 bytes) (codes "fltcert 1") && ends_line (drop 9 bytes)
+is_header bytes =
+    (bytes_eq (take 9 bytes) (codes "fltcert 1") || bytes_eq (take 9 bytes) (codes "fltcert 2")) && ends_line (drop 9 bytes)
 
 -- such a line begins at a place
 abbrev pub is_header_at : List ℕ → ℕ → Bool

@@ -9,15 +9,16 @@ use crate::answer::Answer;
 use crate::failure::Failure;
 use crate::inputs::{Inputs, read_all};
 use crate::report::Contents;
+use crate::thin::write_thinned;
 use flt_analyse::{AnalyseFault, Ticks, analyse};
-use flt_cert::write;
+use flt_cert::Cert;
 use flt_graph::lower;
 use flt_syntax::parse;
 use std::alloc::Global;
 use std::marker::Brand;
 use std::sync::ledger::{Blank, Ledger};
 
-/// The least certificate of a text. The transfers are counted in a ledger that nobody reads.
+/// What is left of the least certificate of a text. The transfers are counted in a ledger that nobody reads.
 fn analyse_text<'a, L: Ledger>(
     alloc: Global,
     text: &[u8],
@@ -32,7 +33,10 @@ fn analyse_text<'a, L: Ledger>(
     let graph = lower(alloc, &tree)?;
     let mut ticks = Ticks::<L, 0, 0>::new(blank);
     match analyse(alloc, &graph, &mut ticks) {
-        Ok(cert) => Ok(Answer::Certificate(write(alloc, &cert)?)),
+        Ok(cert) => {
+            let bytes = write_thinned(alloc, &graph, &Cert::Full(cert))?;
+            Ok(Answer::Certificate(bytes))
+        }
         Err(AnalyseFault::Refused(refusal)) => Ok(Answer::Refused(refusal)),
         Err(AnalyseFault::OutOfMemory) => Err(Failure::OutOfMemory),
     }

@@ -18,7 +18,7 @@ pub enum Answer {
     Accepted,
     /// A point of the text is refused.
     Refused(Refusal),
-    /// The least certificate of the text, as it is written.
+    /// What is left of a certificate that covers the text, as it is written.
     Certificate(Vec<u8>),
     /// What a journal is.
     Judged(Verdict),

@@ -17,7 +17,7 @@ use std::alloc::Global;
 
 /// Whether a certificate covers a text.
 fn check_text<'a>(alloc: Global, text: &[u8], certificate: &[u8]) -> Result<Answer, Failure<'a>>
-    ensures { spec.Judges text.now certificate.now result }
+    ensures { spec.Judges spec.Decides text.now certificate.now result }
 {
     let tree = parse(alloc, text)?;
     let cert = flt_cert::read(alloc, certificate)?;
@@ -30,7 +30,7 @@ fn check_text<'a>(alloc: Global, text: &[u8], certificate: &[u8]) -> Result<Answ
 
 /// The same of a text and its certificate in one input.
 fn check_together<'a>(alloc: Global, input: &[u8]) -> Result<Answer, Failure<'a>>
-    ensures { spec.JudgesTogether input.now result }
+    ensures { spec.JudgesTogether spec.Decides input.now result }
 {
     let (text, certificate) = input.split_at(certificate_start(input));
     check_text(alloc, text, certificate)

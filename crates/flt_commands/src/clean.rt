@@ -1,7 +1,7 @@
 //! What a yes of the program is worth.
 
-ghost use Rattle.flt_cert.specs.Format.{Certificate};
-ghost use Rattle.flt_check.specs.Covering.{Covers};
+ghost use Rattle.flt_cert.specs.declared.cert.Cert.{Cert};
+ghost use Rattle.flt_check.specs.Accepting.{CertCovers};
 ghost use Rattle.flt_commands.specs.Check.{HasPoints};
 ghost use Rattle.std.specs.Prelude.{List};
 ghost use Rattle.flt_commands.specs.Clean.{BreaksNothing, BreakNothing};
@@ -10,15 +10,17 @@ ghost use Rattle.flt_crew.specs.Running.{IsRun};
 ghost use Rattle.flt_crew.specs.declared.running.Ran.{Ran};
 ghost use Rattle.flt_graph.specs.declared.graph.Graph.{Graph};
 
+use flt_check::accepted_certificates_fill_up;
 use flt_sound::accepted_runs_break_nothing;
 use flt_syntax::{spelled_is_well_formed, spells_at_most_one};
 
 /// A text breaks nothing where some certificate covers its points. It does nothing: its clause is the law.
 pub fn covered_texts_break_nothing()
-    ensures { (text : Text) (graph : Graph) (cert : Certificate) → HasPoints text graph → Covers graph cert → BreaksNothing text }
+    ensures { (text : Text) (graph : Graph) (cert : Cert) → HasPoints text graph → CertCovers graph cert → BreaksNothing text }
 {
     spells_at_most_one();
     spelled_is_well_formed();
+    accepted_certificates_fill_up();
     accepted_runs_break_nothing();
 }
 

@@ -14,6 +14,7 @@ use crate::replay::replay_files;
 use crate::report::{Contents, Report, report_on};
 use crate::running::run_files;
 use crate::showing::show_files;
+use crate::thin::thin_files;
 use crate::unread::why_unread;
 use flt_crew::{Unwatched, Watch};
 use flt_model::{Sink, put_all};
@@ -49,6 +50,10 @@ fn report_of<R: Threads + Wait + Sync, I: Inputs, P: Pictures, W: Watch>(
         }
         Request::Analyse { file } => {
             let said = analyse_file(alloc, inputs, file, &mut contents);
+            report_on(alloc, Vec::new(alloc), said, contents)
+        }
+        Request::Thin { file, cert } => {
+            let said = thin_files(alloc, inputs, file, cert, &mut contents);
             report_on(alloc, Vec::new(alloc), said, contents)
         }
         Request::Run {

@@ -21,6 +21,7 @@ mod showing;
 mod single;
 mod split;
 mod system;
+mod thin;
 mod unread;
 
 pub use commands::command;

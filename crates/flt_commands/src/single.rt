@@ -7,6 +7,7 @@ ghost use Rattle.flt_commands.specs.Commands.{Answers, IsSaid};
 ghost use Rattle.flt_commands.specs.Inputs.{Text};
 ghost use Rattle.flt_commands.specs.Replay.{IsReplayed};
 ghost use Rattle.flt_commands.specs.Single as spec;
+ghost use Rattle.flt_commands.specs.Thin.{IsThinned};
 ghost use Rattle.flt_words.specs.Request.{Asked};
 ghost use Rattle.flt_words.specs.Words.{asked};
 ghost use Rattle.flt_commands.specs.declared.answer.Answer.{Answer};
@@ -17,7 +18,7 @@ ghost use Rattle.flt_graph.specs.declared.graph.Graph.{Graph};
 use crate::inputs::{Inputs, Pictures};
 use flt_analyse::{one_certificate_is_least, one_fault_is_named};
 use flt_cert::{one_certificate_is_spelled, one_fault_is_first};
-use flt_check::{covering_is_faultless, one_fault_is_least};
+use flt_check::one_refusal_at_most;
 use flt_graph::one_graph_at_most;
 use flt_model::{one_first_fault_at_most, one_journal_is_spelled};
 use flt_syntax::{
@@ -41,8 +42,18 @@ fn one_check_at_most()
     fails_exactly_where_nothing_is_spelled();
     one_certificate_is_spelled();
     one_fault_is_first();
-    covering_is_faultless();
-    one_fault_is_least();
+    one_refusal_at_most();
+}
+
+/// `thin` says one thing at most of some bytes. It does nothing: its clause is the law.
+fn one_thin_at_most()
+    ensures { spec.SaysOne IsThinned }
+{
+    texts_have_one_graph();
+    fails_exactly_where_nothing_is_spelled();
+    one_certificate_is_spelled();
+    one_fault_is_first();
+    one_refusal_at_most();
 }
 
 /// `analyse` says one thing at most of some bytes. It does nothing: its clause is the law.
@@ -77,5 +88,6 @@ pub fn one_answer_at_most<I: Inputs, P: Pictures>()
 {
     one_check_at_most();
     one_analysis_at_most();
+    one_thin_at_most();
     one_verdict_at_most();
 }

@@ -3,8 +3,11 @@
 ghost use Rattle.std.specs.Prelude.{◌≡◌, ◌≤◌, length};
 ghost use Rattle.flt_commands.specs.Split as spec;
 
-/// The line with which a certificate begins.
+/// The line with which a certificate begins that gives each point.
 const HEADER: &[u8] = b"fltcert 1";
+
+/// The same of one from which points may be left out.
+const THIN_HEADER: &[u8] = b"fltcert 2";
 
 /// There is nothing behind a line, or its line feed.
 fn ends_line(bytes: &[u8]) -> bool
@@ -16,14 +19,15 @@ fn ends_line(bytes: &[u8]) -> bool
     }
 }
 
-/// The first line is the one with which a certificate begins.
+/// The first line is one with which a certificate begins.
 fn is_header(bytes: &[u8]) -> bool
     ensures { result ≡ spec.is_header bytes.now }
 {
     if bytes.len() < HEADER.len() {
         return false;
     }
-    &bytes[..HEADER.len()] == HEADER && ends_line(&bytes[HEADER.len()..])
+    let word = &bytes[..HEADER.len()];
+    (word == HEADER || word == THIN_HEADER) && ends_line(&bytes[HEADER.len()..])
 }
 
 /// A line begins at a place: at the start, and behind each line feed.
@@ -45,8 +49,8 @@ fn is_header_at(input: &[u8], at: usize) -> bool
     begins_line(input, at) && is_header(&input[at..])
 }
 
-/// Where the certificate begins in an input, counted from 0: at the first line that is exactly `fltcert 1`, or, where
-/// there is none, at the end.
+/// Where the certificate begins in an input, counted from 0: at the first line that is exactly `fltcert 1` or `fltcert 2`, or,
+/// where there is none, at the end.
 pub fn certificate_start(input: &[u8]) -> usize
     ensures { spec.IsCertificateStart input.now result }
 {

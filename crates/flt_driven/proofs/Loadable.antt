@@ -1,6 +1,7 @@
 -- Texts with certificates: how they stand side by side, and that they are accepted files where the certificates cover.
 use Rattle.std.proofs.Common.{◌≡◌, ℕ, zero, suc, ◌+◌, ◌≤◌, ◌<◌, List, [], ◌∷◌, ◌++◌, Vec, Global, length, get_or, min, take, map, refl, sym, subst, ap, ◌∙◌, arith}
 use Rattle.std.proofs.lemmas.List.{get_or-map, length-map, map_push}
+use Rattle.flt_cert.specs.declared.cert.Cert.TheVariants.{Full}
 use Rattle.flt_driven.specs.Texts.{AreSpelled, HaveCertificates, files_of}
 use Rattle.flt_stack.specs.Loading.{AreAcceptedFiles, File, file}
 use Rattle.flt_tree.specs.declared.filter.Filter.{Filter}
@@ -17,7 +18,7 @@ all_accepted (t ∷ texts) (c ∷ certs) (f ∷ filters) spelled covered =
         spelled = spelled.0;
         graph = k.graph;
         lowered = k.lowered;
-        certificate = k.certificate;
+        certificate = Full k.certificate;
         certified = k.certified;
         written = k.written;
         covers = k.covers;

@@ -3,7 +3,7 @@ use Rattle.std.specs.Prelude.{◌≡◌, ℕ, List, [], ◌∷◌, ◌++◌, len
 use Rattle.std.specs.List.{AllZip}
 use Rattle.flt_analyse.specs.All.{IsAnswer}
 use Rattle.flt_analyse.specs.Least.{NoneCovers, IsNamed}
-use Rattle.flt_cert.specs.Format.{Certificate, is_certificate, spelling}
+use Rattle.flt_cert.specs.Format.{Certificate, is_certificate, full_spelling}
 use Rattle.flt_check.specs.Covering.{Covers}
 use Rattle.flt_check.specs.declared.checker.Refusal.{Refusal}
 use Rattle.flt_driven.specs.declared.fault.RunFault.{RunFault}
@@ -48,7 +48,7 @@ pub record HasCertificate (filter : Filter) (bytes : Text) : Type 0 where
   pub certificate : Certificate
   pub certified : IsTrue (is_certificate certificate)
   pub covers : Covers graph certificate
-  pub written : bytes ≡ spelling certificate
+  pub written : bytes ≡ full_spelling certificate
 
 abbrev pub HaveCertificates : List Filter → List Text → Type 0
 HaveCertificates = AllZip HasCertificate

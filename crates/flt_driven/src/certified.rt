@@ -8,7 +8,7 @@ ghost use Rattle.flt_driven.specs.Texts as spec;
 
 use crate::fault::RunFault;
 use flt_analyse::{Start, analyse_all};
-use flt_cert::{Cert, write};
+use flt_cert::{FullCert, write_full};
 use flt_check::Refusal;
 use flt_graph::{Graph, lower};
 use flt_tree::Tree;
@@ -38,7 +38,7 @@ fn written(
     alloc: Global,
     file: usize,
     tree: &Tree,
-    answer: &Result<Cert, Refusal>,
+    answer: &Result<FullCert, Refusal>,
 ) -> Result<Vec<u8>, RunFault>
     requires { spec.IsAnswered tree.now.filter answer.now }
     ensures ok { IfOk result (λ bytes. spec.HasCertificate tree.now.filter bytes.items) }
@@ -47,7 +47,7 @@ fn written(
     match answer {
         Ok(cert) => {
             let _callbacks = cert.callbacks();
-            Ok(write(alloc, cert)?)
+            Ok(write_full(alloc, cert)?)
         }
         Err(refusal) => Err(RunFault::Refused {
             file,
@@ -60,7 +60,7 @@ fn written(
 fn written_all(
     alloc: Global,
     trees: &[Tree],
-    answers: &[Result<Cert, Refusal>],
+    answers: &[Result<FullCert, Refusal>],
 ) -> Result<Vec<Vec<u8>>, RunFault>
     requires { AllZip spec.IsAnswered (filters_of trees.now) answers.now }
     ensures ok { IfOk result (λ certs. spec.HaveCertificates (filters_of trees.now) (map (λ cert. cert.items) certs.items)) }

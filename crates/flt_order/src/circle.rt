@@ -6,7 +6,7 @@ ghost use Rattle.flt_order.specs.Circle as spec;
 ghost use Rattle.flt_order.specs.Order as order;
 
 use crate::order::{Acquisition, any_left, is_left, reduce, remove, taken_from};
-use flt_cert::Cert;
+use flt_cert::FullCert;
 use flt_graph::Graph;
 use flt_rules::LockNumber;
 use std::marker::Model;
@@ -112,7 +112,7 @@ fn from_taken(path: Path, lock: LockNumber) -> Option<Circle>
 }
 
 /// A circle that is met on the path back from a lock that is left; there is one where each lock that is left is taken while one is held.
-fn circle_from(graph: &Graph, cert: &Cert, left: &[bool; 8], lock: LockNumber) -> Option<Circle>
+fn circle_from(graph: &Graph, cert: &FullCert, left: &[bool; 8], lock: LockNumber) -> Option<Circle>
     requires { order.is_left left.now lock ≡ true }
     ensures circle { IfSome result (spec.IsCircle graph.now cert.now) }
     ensures once { IfSome result spec.TakesOnce }
@@ -136,7 +136,7 @@ fn circle_from(graph: &Graph, cert: &Cert, left: &[bool; 8], lock: LockNumber) -
 /// A circle of acquisitions, by a certificate; none exactly where locks are taken in an order. Where the certificate covers the graph, a
 /// circle has two acquisitions or more, since no lock is taken that is held. There are eight at most: no two take one lock. It takes no
 /// memory.
-pub fn find_circle(graph: &Graph, cert: &Cert) -> Option<Circle>
+pub fn find_circle(graph: &Graph, cert: &FullCert) -> Option<Circle>
     ensures ordered { IsNone result ↔ order.TakesInOrder graph.now cert.now }
     ensures circle { IfSome result (spec.IsCircle graph.now cert.now) }
     ensures once { IfSome result spec.TakesOnce }

@@ -6,7 +6,7 @@ ghost use Rattle.flt_check.specs.Covering.{count_at};
 ghost use Rattle.flt_rules.specs.Call.{place_of};
 ghost use Rattle.flt_rules.specs.Held.{holds_lock};
 
-use flt_cert::Cert;
+use flt_cert::FullCert;
 use flt_graph::{Graph, Instruction};
 use flt_rules::{Call, HeldLock, LockNumber};
 
@@ -59,7 +59,7 @@ fn first_left(locks: &[HeldLock], left: &[bool; 8]) -> Option<LockNumber>
 /// An acquisition of the lock at a point, with a lock that is left.
 fn from_point(
     graph: &Graph,
-    cert: &Cert,
+    cert: &FullCert,
     left: &[bool; 8],
     lock: LockNumber,
     callback: usize,
@@ -86,7 +86,7 @@ fn from_point(
 /// An acquisition of the lock in a callback, with a lock that is left.
 fn from_callback(
     graph: &Graph,
-    cert: &Cert,
+    cert: &FullCert,
     left: &[bool; 8],
     lock: LockNumber,
     callback: usize,
@@ -105,7 +105,7 @@ fn from_callback(
 /// An acquisition of the lock that holds one that is left; none where it is taken only while none that is left is held.
 pub(crate) fn taken_from(
     graph: &Graph,
-    cert: &Cert,
+    cert: &FullCert,
     left: &[bool; 8],
     lock: LockNumber,
 ) -> Option<Acquisition>
@@ -121,7 +121,7 @@ pub(crate) fn taken_from(
 }
 
 /// Whether a lock is left that is taken only where none that is left is held.
-fn is_next(graph: &Graph, cert: &Cert, left: &[bool; 8], lock: LockNumber) -> bool
+fn is_next(graph: &Graph, cert: &FullCert, left: &[bool; 8], lock: LockNumber) -> bool
     ensures yes { result ≡ true → (spec.is_left left.now lock ≡ true) × spec.IsFree graph.now cert.now left.now lock }
     ensures no_ { result ≡ false → spec.is_left left.now lock ≡ true → spec.IsTaken graph.now cert.now left.now lock }
 {
@@ -129,7 +129,7 @@ fn is_next(graph: &Graph, cert: &Cert, left: &[bool; 8], lock: LockNumber) -> bo
 }
 
 /// A lock that is left and is taken only where none that is left is held.
-fn next_free(graph: &Graph, cert: &Cert, left: &[bool; 8]) -> Option<LockNumber>
+fn next_free(graph: &Graph, cert: &FullCert, left: &[bool; 8]) -> Option<LockNumber>
     ensures some { IfSome result (λ l. (spec.is_left left.now l ≡ true) × spec.IsFree graph.now cert.now left.now l) }
     ensures none { IfNone result (spec.AreTakenBefore graph.now cert.now left.now 8) }
 {
@@ -167,7 +167,7 @@ pub(crate) fn any_left(left: &[bool; 8]) -> Option<LockNumber>
 }
 
 /// What is left when locks are taken away one after the other, each only where none that is left is held while it is taken.
-pub(crate) fn reduce(graph: &Graph, cert: &Cert) -> [bool; 8]
+pub(crate) fn reduce(graph: &Graph, cert: &FullCert) -> [bool; 8]
     ensures ranked { spec.AreRanked graph.now cert.now result 8 }
     ensures rest { (spec.count_left result ≡ 0) ⊎ spec.AreTakenBefore graph.now cert.now result 8 }
 {

@@ -2,7 +2,8 @@
 use Rattle.std.specs.Prelude.{◌≡◌, ℕ, List, [], ◌∷◌, ◌++◌, Option, Some, None, codes, eqb, if◌then◌else◌, length, IsTrue}
 use Rattle.std.specs.List.{starts_with}
 use Rattle.std.specs.Fmt.{decimal}
-use Rattle.flt_cert.specs.Format as certificates
+use Rattle.flt_cert.specs.Spelling as certificates
+use Rattle.flt_cert.specs.declared.cert.Cert.{Cert}
 use Rattle.flt_model.specs.JournalText as journals
 use Rattle.flt_reasons.specs.declared.notice.Kind.{Kind}
 use Rattle.flt_reasons.specs.declared.notice.Kind.TheVariants.{Certificate, Journal}
@@ -12,12 +13,12 @@ use Rattle.flt_reasons.specs.declared.notice.Notice.TheVariants.{Whole, Malforme
 abbrev pub Text : Type 0
 Text = List ℕ
 
--- a text spells a certificate of so many callbacks
+-- a text spells a certificate of so many callbacks, in either format
 pub record IsCertificate (text : Text) (count : ℕ) : Type 0 where
-  pub callbacks : certificates.Certificate
-  pub is : IsTrue (certificates.is_certificate callbacks)
-  pub spelled : text ≡ certificates.spelling callbacks
-  pub many : count ≡ length callbacks
+  pub cert : Cert
+  pub is : IsTrue (certificates.is_cert cert)
+  pub spelled : text ≡ certificates.spelling cert
+  pub many : count ≡ certificates.callbacks_in cert
 
 -- a text spells a journal of so many entries
 pub record IsJournal (text : Text) (count : ℕ) : Type 0 where

@@ -15,35 +15,51 @@ const MAX_CALLBACKS: usize = 16;
 /// What the lines so far came to.
 #[derive(Clone, Copy)]
 struct Standing {
+    /// Whether points may be left out.
+    is_thin: bool,
     /// How many callbacks have begun.
     callbacks: usize,
-    /// How many points of the last one there are, and how many are left.
-    points: usize,
-    left: u64,
+    /// The least number that a further point of the last one has, and how many points it has.
+    next: usize,
+    count: usize,
     is_over: bool,
 }
 
 impl Standing {
     /// Behind one more line, which is well-formed.
     fn pass(&mut self, line: &[u8]) {
-        if 0 < self.left {
-            self.left = self.left.saturating_sub(1);
-            self.points = self.points.saturating_add(1);
+        let word = Cursor { left: line }.word();
+        if is_decimal(word) {
+            self.next = (last_number(word) as usize).saturating_add(1);
         } else if line == b"end".as_slice() {
             self.is_over = true;
         } else {
             self.callbacks = self.callbacks.saturating_add(1);
-            self.points = 0;
-            self.left = last_number(line);
+            self.next = 0;
+            self.count = last_number(line) as usize;
+        }
+    }
+
+    /// What a line is behind a point that needn't be the last one given.
+    fn behind_point(&self, line: &[u8]) -> Subject {
+        let callback = self.callbacks.saturating_sub(1);
+        let word = Cursor { left: line }.word();
+        let number = last_number(word) as usize;
+        if is_decimal(word) && self.next <= number && number < self.count {
+            Subject::Point(callback, number)
+        } else {
+            Subject::Among(callback, self.next, self.count.saturating_sub(1))
         }
     }
 
     /// What the next line is.
-    fn subject(&self) -> Subject {
+    fn subject(&self, line: &[u8]) -> Subject {
         if self.is_over {
             Subject::Behind
-        } else if 0 < self.left {
-            Subject::Point(self.callbacks.saturating_sub(1), self.points)
+        } else if self.is_thin && 0 < self.next && self.next < self.count {
+            self.behind_point(line)
+        } else if self.next < self.count {
+            Subject::Point(self.callbacks.saturating_sub(1), self.next)
         } else if self.callbacks < MAX_CALLBACKS {
             Subject::Callback(self.callbacks)
         } else {
@@ -78,6 +94,33 @@ fn head(cursor: &mut Cursor<'_>, callback: usize) -> Result<(), Wanted> {
     asked(is_decimal(count) && 1 <= many && many <= 512, Wanted::Count)?;
     cursor.pass_word();
     line_end(cursor)
+}
+
+/// The first line of this callback, or the last line where there are all callbacks.
+fn head_or_last(cursor: &mut Cursor<'_>, callback: usize) -> Result<(), Wanted> {
+    if callback < MAX_CALLBACKS {
+        head(cursor, callback)
+    } else {
+        exact(cursor, "end", Wanted::End)
+    }
+}
+
+/// A line behind a point of this callback. Further points have these numbers at least and at most.
+fn among(
+    cursor: &mut Cursor<'_>,
+    callback: usize,
+    least: usize,
+    greatest: usize,
+) -> Result<(), Wanted> {
+    let next = callback.saturating_add(1);
+    match cursor.left {
+        [b'0'..=b'9', ..] if least < greatest => Err(Wanted::Rising(least, greatest)),
+        [b'0'..=b'9', ..] => Err(Wanted::Number(greatest)),
+        [b'e', b'n', b'd', ..] => head_or_last(cursor, next),
+        _ if cursor.word() == b"callback".as_slice() => head_or_last(cursor, next),
+        _ if next < MAX_CALLBACKS => Err(Wanted::PointOr(next)),
+        _ => Err(Wanted::PointOrEnd),
+    }
 }
 
 /// Digits of these variables.
@@ -143,24 +186,38 @@ fn point(cursor: &mut Cursor<'_>, own: usize) -> Result<(), Wanted> {
     state(cursor)
 }
 
+/// The first line.
+fn first(cursor: &mut Cursor<'_>) -> Result<(), Wanted> {
+    if cursor.left.strip_prefix(b"fltcert 2").is_some() {
+        return exact(cursor, "fltcert 2", Wanted::Format);
+    }
+    exact(cursor, "fltcert 1", Wanted::Format)
+}
+
 /// Reads a line, up to what is wrong in it.
 fn read(cursor: &mut Cursor<'_>, subject: Subject) -> Result<(), Wanted> {
     match subject {
-        Subject::First => exact(cursor, "fltcert 1", Wanted::FirstLine("fltcert 1")),
+        Subject::First => first(cursor),
         Subject::Callback(callback) => head(cursor, callback),
         Subject::Point(_, own) => point(cursor, own),
+        Subject::Among(callback, least, greatest) => among(cursor, callback, least, greatest),
         Subject::Last => exact(cursor, "end", Wanted::End),
         Subject::Behind | Subject::Entry(_) => Err(Wanted::Nothing),
+    }
+}
+
+/// The bytes of a line, none where it is missing.
+fn bytes_of<'a>(line: Option<Line<'a>>) -> &'a [u8] {
+    match line {
+        Some(line) => line.bytes,
+        None => &[],
     }
 }
 
 /// What is wrong in a line, by which line it is.
 fn trouble_in<'a>(line: Option<Line<'a>>, subject: Subject) -> Trouble<'a> {
     let mut cursor = Cursor {
-        left: match line {
-            Some(line) => line.bytes,
-            None => &[],
-        },
+        left: bytes_of(line),
     };
     let read = read(&mut cursor, subject);
     Trouble {
@@ -178,16 +235,17 @@ pub(crate) fn trouble<'a>(input: &'a [u8], line: usize) -> Trouble<'a> {
         return trouble_in(lines.next(), Subject::First);
     }
     let mut standing = Standing {
+        is_thin: bytes_of(lines.next()) == b"fltcert 2".as_slice(),
         callbacks: 0,
-        points: 0,
-        left: 0,
+        next: 0,
+        count: 0,
         is_over: false,
     };
-    let _first = lines.next();
     for _number in 2..line {
         if let Some(passed) = lines.next() {
             standing.pass(passed.bytes);
         }
     }
-    trouble_in(lines.next(), standing.subject())
+    let own = lines.next();
+    trouble_in(own, standing.subject(bytes_of(own)))
 }

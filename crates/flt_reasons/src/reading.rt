@@ -1,7 +1,7 @@
 //! What is said of a certificate or of a journal.
 
 ghost use Rattle.std.specs.Prelude.{◌≡◌, IfOk, MatchResult};
-ghost use Rattle.flt_cert.specs.Reading.{IsFaultOf};
+ghost use Rattle.flt_cert.specs.Spelling.{IsFaultOf};
 ghost use Rattle.flt_reasons.specs.Notice as spec;
 
 use crate::notice::{Kind, Notice};
@@ -63,7 +63,7 @@ fn callbacks_in(alloc: Global, input: &[u8]) -> Result<usize, CertFault>
     ensures { MatchResult result (spec.IsCertificate input.now) (IsFaultOf input.now) }
 {
     match flt_cert::read(alloc, input) {
-        Ok(cert) => Ok(cert.callbacks().len()),
+        Ok(cert) => Ok(cert.callback_count()),
         Err(fault) => Err(fault),
     }
 }

@@ -112,6 +112,10 @@ fn title(alloc: Global, kind: Kind, trouble: &Trouble<'_>) -> Result<Vec<u8>, Al
         (_, Subject::Point(callback, point)) => {
             format!(in alloc; "the line of callback {callback} point {point} is malformed")?
         }
+        (_, Subject::Among(callback, least, _)) => {
+            let point = least.saturating_sub(1);
+            format!(in alloc; "the line behind callback {callback} point {point} is malformed")?
+        }
         (_, Subject::Entry(entry)) => format!(in alloc; "the line of entry {entry} is malformed")?,
         (_, Subject::Last) => format!(in alloc; "the {name} is too long")?,
         (_, Subject::Behind) => format!(in alloc; "something follows the end of the {name}")?,

@@ -12,6 +12,9 @@ pub(crate) enum Subject {
     Callback(usize),
     /// That of a point, by the numbers of its callback and its own.
     Point(usize, usize),
+    /// One behind a point, where not all points are given, by the number of their callback, and the least and the greatest number that
+    /// a further point has.
+    Among(usize, usize, usize),
     /// That of an entry, by its number.
     Entry(usize),
     Last,

@@ -16,10 +16,18 @@ pub(crate) enum Wanted {
     /// The last line.
     End,
     // Of certificates.
+    /// The first line, of either format.
+    Format,
     /// The first line of the callback of a number, or the last line.
     Callback(usize),
     /// The number of a callback or of a point.
     Number(usize),
+    /// The number of a point that comes later, from one to another.
+    Rising(usize, usize),
+    /// A point that comes later, the first line of the callback of a number, or the last line.
+    PointOr(usize),
+    /// A point that comes later, or the last line.
+    PointOrEnd,
     Count,
     /// The digit of the first variable, or that the point isn't reached.
     State,
@@ -82,7 +90,7 @@ impl Wanted {
     pub(crate) fn is_line(self) -> bool {
         matches!(
             self,
-            Wanted::FirstLine(_) | Wanted::Nothing | Wanted::End | Wanted::LineEnd
+            Wanted::FirstLine(_) | Wanted::Format | Wanted::Nothing | Wanted::End | Wanted::LineEnd
         )
     }
 
@@ -101,7 +109,7 @@ impl Wanted {
     /// How to mend what stands there instead.
     pub(crate) fn help(self) -> &'static str {
         match self {
-            Wanted::FirstLine(_) =>
+            Wanted::FirstLine(_) | Wanted::Format =>
                 "the first line says which format follows, and in which version",
             Wanted::Blank => "one blank stands between fields",
             Wanted::LineEnd => "nothing follows the last field of a line, not even a blank",
@@ -113,10 +121,12 @@ impl Wanted {
                 "the second line is `callback 0 POINTS`, and the lines of its points follow",
             Wanted::Callback(_) =>
                 "behind the points of a callback stands the next one, `callback NUMBER POINTS`, or `end`",
-            Wanted::Number(_) =>
-                "callbacks and the points of each count from 0, without leading zeros, none left out",
+            Wanted::Number(_) | Wanted::Rising(_, _) =>
+                "callbacks and the points of each count from 0, without leading zeros; behind `fltcert 2` later points may be left out, and the others rise",
+            Wanted::PointOr(_) | Wanted::PointOrEnd =>
+                "behind a point stands one with a greater number, the next callback, `callback NUMBER POINTS`, or `end`",
             Wanted::Count =>
-                "the line of a callback ends with how many points it has, 1 to 512, and as many lines follow",
+                "the line of a callback ends with how many points it has, 1 to 512; behind `fltcert 1` as many lines follow",
             Wanted::State | Wanted::Status(_) =>
                 "behind a point's number stands `!` where it isn't reached, else a digit for each variable: NULL 1, held 2 and stale 4, added",
             Wanted::Modes => "the third field is the modes: IRP 1 and fast I/O 2, added",
@@ -139,6 +149,7 @@ impl fmt::Display for Wanted {
     fn fmt<W: fmt::Write>(&self, f: &mut fmt::Formatter<W>) -> fmt::Result {
         match self {
             Wanted::FirstLine(line) => write!(f, "`{line}`"),
+            Wanted::Format => write!(f, "`fltcert 1` or `fltcert 2`"),
             Wanted::Blank => write!(f, "a blank"),
             Wanted::LineEnd => write!(f, "the end of the line"),
             Wanted::LineFeed => write!(f, "a line feed"),
@@ -147,6 +158,9 @@ impl fmt::Display for Wanted {
             Wanted::Callback(0) => write!(f, "`callback 0`"),
             Wanted::Callback(number) => write!(f, "`callback {number}` or `end`"),
             Wanted::Number(number) => write!(f, "the number {number}"),
+            Wanted::Rising(least, greatest) => write!(f, "a number from {least} to {greatest}"),
+            Wanted::PointOr(callback) => write!(f, "a point, `callback {callback}` or `end`"),
+            Wanted::PointOrEnd => write!(f, "a point or `end`"),
             Wanted::Count => write!(f, "a number of points, 1 to 512"),
             Wanted::State => write!(f, "`!`, or the digit of `c0`, 1 to 7"),
             Wanted::Status(name) => write!(f, "the digit of `{name}`, 1 to 7"),

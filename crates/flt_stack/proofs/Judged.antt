@@ -10,7 +10,8 @@ use Rattle.flt_tree.specs.WellFormed.{IsWellFormed}
 use Rattle.flt_tree.specs.declared.filter.Filter.{Filter}
 use Rattle.flt_graph.specs.Lowering.{IsLowered}
 use Rattle.flt_graph.specs.declared.graph.Graph.{Graph}
-use Rattle.flt_cert.specs.Format.{Certificate}
+use Rattle.flt_cert.specs.declared.cert.Cert.{Cert}
+use Rattle.flt_check.specs.Accepting.{CertCovers, full_of}
 use Rattle.flt_check.specs.Covering.{Covers}
 use Rattle.flt_model.specs.Program.{HasDistinctAltitudes, IsRepeated}
 use Rattle.flt_sound.specs.Soundness.{IsAccepted, AreAccepted}
@@ -18,12 +19,12 @@ use Rattle.flt_stack.specs.Loading.{File, IsAcceptedFile, AreAcceptedFiles}
 
 -- the graph and the certificate of an accepted file are those that it was accepted with
 pub covered_again : ((f : Filter) (g h : Graph) → IsWellFormed f → IsLowered f g → IsLowered f h → g ≡ h) →
-    (file : File) (filter f : Filter) (graph : Graph) (cert : Certificate) (x : IsAcceptedFile file f) →
-    filter ≡ f → cert ≡ x.certificate → IsWellFormed f → IsLowered filter graph → Covers graph cert
+    (file : File) (filter f : Filter) (graph : Graph) (cert : Cert) (x : IsAcceptedFile file f) →
+    filter ≡ f → cert ≡ x.certificate → IsWellFormed f → IsLowered filter graph → CertCovers graph cert
 covered_again one file filter f graph cert x same written w lowered =
     let here : IsLowered f graph = subst (λ (y : Filter). IsLowered y graph) same lowered in
     let graphs : x.graph ≡ graph = one f x.graph graph w x.lowered here in
-    subst (λ (k : Certificate). Covers graph k) (sym written) (subst (λ (g : Graph). Covers g x.certificate) graphs x.covers)
+    subst (λ (c : Cert). CertCovers graph c) (sym written) (subst (λ (g : Graph). CertCovers g x.certificate) graphs x.covers)
 
 -- files are accepted as one list of filters
 pub accepted_once : SpellsAtMostOne → (files : List File) (fs gs : List Filter) → AreAcceptedFiles files fs →
@@ -38,21 +39,22 @@ accepted_once one (x ∷ files) (f ∷ fs) (g ∷ gs) all also =
     let others = accepted_once one files fs gs all.1 also.1 in
     ap (λ (y : Filter). y ∷ fs) first ∙ ap (λ (l : List Filter). g ∷ l) others
 
--- filters of accepted files are accepted
-pub files_accepted : ((text : Text) (f : Filter) → Spells text f → IsWellFormed f) → (files : List File) (fs : List Filter) →
+-- filters of accepted files are accepted: by the full certificates for which those of the files stand
+pub files_accepted : ((text : Text) (f : Filter) → Spells text f → IsWellFormed f) →
+    ((g : Graph) (c : Cert) → CertCovers g c → Covers g (full_of g c)) → (files : List File) (fs : List Filter) →
     AreAcceptedFiles files fs → AreAccepted fs
-files_accepted fine [] [] all = All-nil IsAccepted
-files_accepted fine [] (f ∷ fs) all = absurd all
-files_accepted fine (x ∷ files) [] all = absurd all
-files_accepted fine (x ∷ files) (f ∷ fs) all =
+files_accepted fine fills [] [] all = All-nil IsAccepted
+files_accepted fine fills [] (f ∷ fs) all = absurd all
+files_accepted fine fills (x ∷ files) [] all = absurd all
+files_accepted fine fills (x ∷ files) (f ∷ fs) all =
     let k = all.0 in
     All-cons IsAccepted f fs (record {
       graph = k.graph;
-      cert = k.certificate;
+      cert = full_of k.graph k.certificate;
       well_formed = fine x.text f k.spelled;
       lowered = k.lowered;
-      covers = k.covers;
-    }) (files_accepted fine files fs all.1)
+      covers = fills k.graph k.certificate k.covers;
+    }) (files_accepted fine fills files fs all.1)
 
 -- accepted filters are well-formed
 pub accepted_well_formed : (filters : List Filter) → AreAccepted filters → All IsWellFormed filters

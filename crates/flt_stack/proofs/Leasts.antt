@@ -10,9 +10,9 @@ use Rattle.flt_tree.specs.declared.filter.Filter.{Filter}
 use Rattle.flt_graph.specs.Lowering.{IsLowered}
 use Rattle.flt_graph.specs.declared.graph.Graph.{Graph}
 use Rattle.flt_abs.specs.State.{State, IsBelow, is_below}
-use Rattle.flt_analyse.specs.Least.{IsCertificateBelow, IsLeast, IsPointBelow}
+use Rattle.flt_analyse.specs.Least.{IsLeast}
 use Rattle.flt_cert.specs.Format.{Certificate}
-use Rattle.flt_check.specs.Covering.{Covers, state_at}
+use Rattle.flt_check.specs.Covering.{Covers, IsCertificateBelow, IsPointBelow, state_at}
 use Rattle.flt_order.specs.Order.{IsAcquired, TakesInOrder}
 use Rattle.flt_order.specs.declared.order.Acquisition.{Acquisition}
 use Rattle.flt_sound.specs.Progress.{AreOrderly, IsOrderly}

@@ -6,12 +6,12 @@ use Rattle.flt_syntax.specs.TextFails as syntax
 use Rattle.flt_tree.specs.declared.filter.Filter.{Filter}
 use Rattle.flt_graph.specs.Lowering.{IsLowered}
 use Rattle.flt_graph.specs.declared.graph.Graph.{Graph}
-use Rattle.flt_cert.specs.Format.{Certificate, is_certificate, spelling}
-use Rattle.flt_cert.specs.Format as format
+use Rattle.flt_cert.specs.Spelling.{is_cert, spelling}
+use Rattle.flt_cert.specs.Spelling as certificates
+use Rattle.flt_cert.specs.declared.cert.Cert.{Cert}
 use Rattle.flt_cert.specs.declared.fault.CertFault.{CertFault}
 use Rattle.flt_cert.specs.declared.fault.CertFault.TheVariants as cert
-use Rattle.flt_check.specs.Checker.{IsLeastFault}
-use Rattle.flt_check.specs.Covering.{Covers}
+use Rattle.flt_check.specs.Accepting.{CertCovers, IsCertFault}
 use Rattle.flt_check.specs.declared.checker.Refusal.{Refusal}
 use Rattle.flt_model.specs.Program.{HasDistinctAltitudes, IsRepeated, by_altitude}
 use Rattle.flt_stack.specs.declared.fault.LoadFault.{LoadFault}
@@ -27,15 +27,15 @@ pub record File : Type 0 where
 abbrev pub file : List ℕ → List ℕ → File
 file text certificate = record { text = text; certificate = certificate }
 
--- the text spells the filter, the bytes spell a certificate, and it covers the filter's graph
+-- the text spells the filter, the bytes spell a certificate of either format, and it covers the filter's graph
 pub record IsAcceptedFile (file : File) (filter : Filter) : Type 0 where
   pub spelled : Spells file.text filter
   pub graph : Graph
   pub lowered : IsLowered filter graph
-  pub certificate : Certificate
-  pub certified : IsTrue (is_certificate certificate)
+  pub certificate : Cert
+  pub certified : IsTrue (is_cert certificate)
   pub written : file.certificate ≡ spelling certificate
-  pub covers : Covers graph certificate
+  pub covers : CertCovers graph certificate
 
 -- the text spells a filter
 pub record IsSpelled (file : File) : Type 0 where
@@ -48,14 +48,14 @@ pub record IsRefusedFile (file : File) (refusal : Refusal) : Type 0 where
   pub spelled : Spells file.text filter
   pub graph : Graph
   pub lowered : IsLowered filter graph
-  pub certificate : Certificate
-  pub certified : IsTrue (is_certificate certificate)
+  pub certificate : Cert
+  pub certified : IsTrue (is_cert certificate)
   pub written : file.certificate ≡ spelling certificate
-  pub refused : IsLeastFault graph certificate refusal
+  pub refused : IsCertFault graph certificate refusal
 
 -- the text spells a filter, and the fault names the first line of the bytes that no certificate has
 abbrev pub HasCertFault : File → CertFault → Type 0
-HasCertFault file (cert.Line line) = IsSpelled file × format.IsFirstFault file.certificate line
+HasCertFault file (cert.Line line) = IsSpelled file × certificates.IsFirstFault file.certificate line
 HasCertFault file cert.OutOfMemory = ⊥
 
 -- the file of a number has this fault: its text's first, or else its certificate's, or else the least refusal; memory may run out

@@ -2,7 +2,7 @@
 ghost use Rattle.std.specs.Prelude.{◌≤◌};
 
 use flt_analyse::{Start, analyse_all};
-use flt_cert::{Cert, write};
+use flt_cert::{FullCert, write_full};
 use flt_check::Refusal;
 use flt_graph::{Graph, lower};
 use flt_rules::number;
@@ -48,12 +48,12 @@ impl Start for Begun {
 /// Whether an answer is what is expected.
 fn is_expected(
     alloc: Global,
-    answer: &Result<Cert, Refusal>,
+    answer: &Result<FullCert, Refusal>,
     expected: &Expected,
 ) -> Result<bool, Fail> {
     match (answer, expected) {
         (Ok(cert), Expected::Certificate(text)) => {
-            let written = write(alloc, cert)?;
+            let written = write_full(alloc, cert)?;
             Ok(written.as_slice() == text.as_bytes())
         }
         (Err(found), Expected::Refused(callback, point, line, rule)) => {
@@ -88,7 +88,7 @@ fn graphs_of(alloc: Global, texts: &[&str]) -> Result<Vec<Graph>, Fail> {
 /// Whether answers are those that are expected, at the same places.
 fn are_expected(
     alloc: Global,
-    answers: &[Result<Cert, Refusal>],
+    answers: &[Result<FullCert, Refusal>],
     expected: &[Expected],
 ) -> Result<bool, Fail> {
     for (place, wanted) in expected.iter().enumerate() {

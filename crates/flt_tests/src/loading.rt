@@ -12,6 +12,12 @@ const HIGHER: &[u8] = b"filter b altitude 200\npre read {\nreturn NO_CALLBACK\n}
 
 const PASSES_CERTIFICATE: &[u8] = b"fltcert 1\ncallback 0 2\n0 111111111 11112 3 1 -\n1 !\nend\n";
 
+const PASSES_THIN: &[u8] = b"fltcert 2\ncallback 0 2\n0 111111111 11112 3 1 -\nend\n";
+
+const NOT_REACHED_THIN: &[u8] = b"fltcert 2\ncallback 0 2\n0 !\nend\n";
+
+const TWICE_THIN: &[u8] = b"fltcert 2\ncallback 0 2\n0 !\n0 !\nend\n";
+
 const NOT_REACHED: &[u8] = b"fltcert 1\ncallback 0 2\n0 !\n1 !\nend\n";
 
 const SHORT: &[u8] = b"fltcert 1\ncallback 0 2\n0 111111111 11112 3 1 -\n1 !\nend";
@@ -37,6 +43,10 @@ const CROSSED: &[u8] =
 const CROSSED_CERTIFICATE: &[u8] =
     b"fltcert 1\ncallback 0 6\n0 111111111 11112 3 1 -\n1 111111111 11112 3 1 0\n2 111111111 11112 3 1 0,1s\n3 111111111 11112 3 1 0\n4 111111111 11112 3 1 -\n5 !\ncallback 1 6\n0 111111111 11112 3 1 -\n1 111111111 11112 3 1 1s\n2 111111111 11112 3 1 1s,0\n3 111111111 11112 3 1 1s\n4 111111111 11112 3 1 -\n5 !\nend\n";
 
+// Of both texts.
+const LOCKS_THIN: &[u8] =
+    b"fltcert 2\ncallback 0 6\n0 111111111 11112 3 1 -\ncallback 1 6\n0 111111111 11112 3 1 -\nend\n";
+
 // Creates are IRPs, so the other side isn't reached.
 const APART: &[u8] =
     b"filter apart altitude 300\nlock push first\nlock push second\npre create {\nif irp data {\nFltAcquirePushLockExclusive first\nFltAcquirePushLockExclusive second\nFltReleasePushLock second\nFltReleasePushLock first\n} else {\nFltAcquirePushLockExclusive second\nFltAcquirePushLockExclusive first\nFltReleasePushLock first\nFltReleasePushLock second\n}\nreturn NO_CALLBACK\n}\n";
@@ -57,7 +67,7 @@ const COUNT: Answer = ("count", 0, 0, 0);
 
 /// Files, and what is answered of them. The faults come in their order: a file's text before its certificate, an earlier file's before a later
 /// one's, and equal altitudes last.
-const CASES: [(&[File<'static>], Answer); 10] = [
+const CASES: [(&[File<'static>], Answer); 13] = [
     (&[], COUNT),
     (&[(PASSES, PASSES_CERTIFICATE)], LOADED),
     (
@@ -93,11 +103,17 @@ const CASES: [(&[File<'static>], Answer); 10] = [
         ],
         ("refused", 2, 0, 3),
     ),
+    (
+        &[(PASSES, PASSES_THIN), (HIGHER, PASSES_CERTIFICATE)],
+        LOADED,
+    ),
+    (&[(PASSES, NOT_REACHED_THIN)], ("refused", 0, 0, 3)),
+    (&[(PASSES, TWICE_THIN)], ("certificate", 0, 4, 0)),
 ];
 
 /// Files that are loaded, and whether each filter takes its locks in an order. The last certificate shows a circle, and the least one of
 /// that text doesn't.
-static ORDERS: [(&[File<'static>], bool); 6] = [
+static ORDERS: [(&[File<'static>], bool); 8] = [
     (&[(PASSES, PASSES_CERTIFICATE)], true),
     (&[(IN_ORDER, IN_ORDER_CERTIFICATE)], true),
     (&[(CROSSED, CROSSED_CERTIFICATE)], false),
@@ -122,6 +138,8 @@ static ORDERS: [(&[File<'static>], bool); 6] = [
         ],
         true,
     ),
+    (&[(IN_ORDER, LOCKS_THIN)], true),
+    (&[(IN_ORDER, LOCKS_THIN), (CROSSED, LOCKS_THIN)], false),
 ];
 
 /// What is answered of a fault.

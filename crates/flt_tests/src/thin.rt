@@ -1,8 +1,8 @@
 //! Thin certificates: what is left of worked certificates, what follows from it, which thin ones are refused where, and which texts are
-//! none.
+//! no certificates.
 
-use flt_cert::{CertFault, ThinCert, read, read_thin, thin, write, write_thin};
-use flt_check::{Refusal, check_thin, fill};
+use flt_cert::{Cert, CertFault, ThinCert, read, thin, write, write_full};
+use flt_check::{Refusal, check, fill};
 use flt_graph::{Graph, lower};
 use flt_rules::number;
 use flt_syntax::parse;
@@ -122,10 +122,11 @@ static REFUSED: [Refused; 6] = [
     },
 ];
 
-/// Texts that are no thin certificates, and the first malformed line of each.
+/// Texts that are no certificates, and the first malformed line of each.
 static MALFORMED: [(&str, usize); 24] = [
     ("", 1),
-    ("fltcert 1\ncallback 0 1\n0 !\nend\n", 1),
+    // A full certificate gives all points.
+    ("fltcert 1\ncallback 0 2\n0 !\nend\n", 4),
     ("fltcert 3\ncallback 0 1\n0 !\nend\n", 1),
     ("fltcert 2 \ncallback 0 1\n0 !\nend\n", 1),
     ("fltcert 2", 1),
@@ -161,47 +162,49 @@ fn graph_of(alloc: Global, text: &str) -> Result<Graph, Fail> {
     Ok(graph?)
 }
 
-/// What is left of a certificate of a text.
-fn left_of(alloc: Global, graph: &Graph, full: &str) -> Result<ThinCert, Fail> {
-    let cert = read(alloc, full.as_bytes())?;
-    let left = thin(alloc, graph, &cert);
-    drop(cert);
-    Ok(left?)
-}
-
-/// Whether it is written so.
-fn is_thin_text(alloc: Global, cert: &ThinCert, text: &str) -> Result<bool, Fail> {
-    let written = write_thin(alloc, cert)?;
+/// Whether a certificate is written so.
+fn is_text_of(alloc: Global, cert: &Cert, text: &str) -> Result<bool, Fail> {
+    let written = write(alloc, cert)?;
     Ok(written.as_slice() == text.as_bytes())
 }
 
 /// Whether what follows from a thin certificate is written so.
 fn fills_up_to(alloc: Global, graph: &Graph, cert: &ThinCert, full: &str) -> Result<bool, Fail> {
     let filled = fill(alloc, graph, cert)?;
-    let written = write(alloc, &filled);
+    let written = write_full(alloc, &filled);
     drop(filled);
     Ok(written?.as_slice() == full.as_bytes())
 }
 
-/// Whether what is left of the certificate of a row is as it says, and is accepted.
-fn is_left_so(alloc: Global, graph: &Graph, row: &Worked) -> Result<bool, Fail> {
-    let left = left_of(alloc, graph, row.full)?;
-    let same = is_thin_text(alloc, &left, row.thin);
-    let accepted = check_thin(graph, &left).is_ok();
+/// Whether a certificate is accepted, and what is left of it is written so and accepted too.
+fn is_left_so(alloc: Global, graph: &Graph, cert: &Cert, text: &str) -> Result<bool, Fail> {
+    let left = thin(alloc, graph, cert)?;
+    let same = is_text_of(alloc, &left, text);
+    let accepted = check(graph, cert).is_ok() && check(graph, &left).is_ok();
     drop(left);
     Ok(same? && accepted)
 }
 
+/// Whether what is left of the full certificate of a row is as it says, and the thin one stays as it is.
+fn are_left_so(alloc: Global, graph: &Graph, row: &Worked) -> Result<bool, Fail> {
+    let full = read(alloc, row.full.as_bytes())?;
+    let first = is_text_of(alloc, &full, row.full)? && is_left_so(alloc, graph, &full, row.thin)?;
+    let again = read(alloc, row.thin.as_bytes())?;
+    Ok(first && is_left_so(alloc, graph, &again, row.thin)?)
+}
+
 /// Whether the thin certificate of a row is read, and its full one follows from it.
 fn follows_so(alloc: Global, graph: &Graph, row: &Worked) -> Result<bool, Fail> {
-    let given = read_thin(alloc, row.thin.as_bytes())?;
-    Ok(is_thin_text(alloc, &given, row.thin)? && fills_up_to(alloc, graph, &given, row.full)?)
+    match read(alloc, row.thin.as_bytes())? {
+        Cert::Thin(given) => fills_up_to(alloc, graph, &given, row.full),
+        Cert::Full(_) => Ok(false),
+    }
 }
 
 /// Whether a row of worked certificates is so.
 fn is_worked(alloc: Global, row: &Worked) -> Result<bool, Fail> {
     let graph = graph_of(alloc, row.text)?;
-    Ok(is_left_so(alloc, &graph, row)? && follows_so(alloc, &graph, row)?)
+    Ok(are_left_so(alloc, &graph, row)? && follows_so(alloc, &graph, row)?)
 }
 
 /// The first row that isn't so; how many there are where all are.
@@ -230,8 +233,8 @@ fn is_refused_so(answer: &Result<(), Refusal>, row: &Refused) -> bool {
 /// Whether the thin certificate of a row is refused as it says.
 fn is_refused(alloc: Global, row: &Refused) -> Result<bool, Fail> {
     let graph = graph_of(alloc, row.text)?;
-    let given = read_thin(alloc, row.thin.as_bytes());
-    let answer = check_thin(&graph, &given?);
+    let given = read(alloc, row.thin.as_bytes());
+    let answer = check(&graph, &given?);
     drop(graph);
     Ok(is_refused_so(&answer, row))
 }
@@ -246,9 +249,9 @@ fn first_not_refused(alloc: Global, rows: &[Refused]) -> Result<usize, Fail> {
     Ok(rows.len())
 }
 
-/// Whether a text is no thin certificate, first at this line.
+/// Whether a text is no certificate, first at this line.
 fn is_malformed(alloc: Global, text: &str, line: usize) -> Result<bool, Fail> {
-    match read_thin(alloc, text.as_bytes()) {
+    match read(alloc, text.as_bytes()) {
         Ok(_) => Ok(false),
         Err(CertFault::Line(found)) => Ok(found == line),
         Err(fault) => Err(fault.into()),

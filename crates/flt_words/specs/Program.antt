@@ -81,6 +81,13 @@ check_app = with_rule (with_rule bare_check_app text_rule) cert_rule
 abbrev pub analyse_app : App
 analyse_app = with_rule (new_app (codes "analyse")) text_rule
 
+abbrev pub bare_thin_app : App
+bare_thin_app = new_app (codes "thin")
+
+-- `thin FILE [CERT]`
+abbrev pub thin_app : App
+thin_app = with_rule (with_rule bare_thin_app text_rule) cert_rule
+
 abbrev pub bare_run_app : App
 bare_run_app = new_app (codes "run")
 
@@ -110,5 +117,5 @@ bare_app = let a = new_app (codes "fltstack") in
 -- the program
 abbrev pub program_app : App
 program_app =
-    with_subcommand (with_subcommand (with_subcommand (with_subcommand (with_subcommand bare_app check_app.top) analyse_app.top)
-    explain_app.top) run_app.top) replay_app.top
+    with_subcommand (with_subcommand (with_subcommand (with_subcommand (with_subcommand (with_subcommand bare_app check_app.top)
+    analyse_app.top) thin_app.top) explain_app.top) run_app.top) replay_app.top

@@ -9,6 +9,7 @@ use Rattle.flt_words.specs.declared.request.Request.TheVariants as request
 pub data Asked : Type 0 where
   Check : (file : Text) (cert : Option Text) → Asked
   Analyse : (file : Text) → Asked
+  Thin : (file : Text) (cert : Option Text) → Asked
   Run : (workers : ℕ) (quiet : Bool) (script : Text) (files : List Text) → Asked
   Replay : (journal : Text) (files : List Text) → Asked
   Show : (timeline : Bool) (picture : Option Text) (journal : Text) (files : List Text) → Asked
@@ -19,6 +20,7 @@ pub data Asked : Type 0 where
 abbrev pub asked_of : Request → Option Asked
 asked_of (request.Check file cert) = Some (Check file.now (option_map (λ name. name.now) cert))
 asked_of (request.Analyse file) = Some (Analyse file.now)
+asked_of (request.Thin file cert) = Some (Thin file.now (option_map (λ name. name.now) cert))
 asked_of (request.Run workers quiet script files) = Some (Run workers.count quiet script.now (map (λ name. name.now) files.items))
 asked_of (request.Replay journal files) = Some (Replay journal.now (map (λ name. name.now) files.items))
 asked_of (request.Show timeline picture journal files) =

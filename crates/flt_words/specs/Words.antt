@@ -16,7 +16,7 @@ use Rattle.flt_pages.specs.Pages.{has_page}
 use Rattle.flt_words.specs.declared.request.Form.{Form}
 use Rattle.flt_words.specs.declared.request.Form.TheVariants.{Human, Lines, Sarif}
 use Rattle.flt_words.specs.Workers.{within}
-use Rattle.flt_words.specs.Request.{Asked, Check, Analyse, Run, Replay, Show, Explain, Page}
+use Rattle.flt_words.specs.Request.{Asked, Check, Analyse, Thin, Run, Replay, Show, Explain, Page}
 
 -- ---- values
 
@@ -66,6 +66,9 @@ check_of rows = Check (text_of (codes "FILE") rows) (first_of (codes "CERT") row
 abbrev pub analyse_of : List Row → Asked
 analyse_of rows = Analyse (text_of (codes "FILE") rows)
 
+abbrev pub thin_of : List Row → Asked
+thin_of rows = Thin (text_of (codes "FILE") rows) (first_of (codes "CERT") rows)
+
 -- another number of workers than 1 to 16 asks for nothing
 abbrev pub run_of : List Row → Option Asked
 run_of rows =
@@ -96,9 +99,10 @@ abbrev pub asked_by : Text × List Row → Option Asked
 asked_by (name, rows) =
     if bytes_eq name (codes "check") then Some (check_of rows)
     else (if bytes_eq name (codes "analyse") then Some (analyse_of rows)
+    else (if bytes_eq name (codes "thin") then Some (thin_of rows)
     else (if bytes_eq name (codes "explain") then explain_by rows
     else (if bytes_eq name (codes "run") then run_of rows
-    else (if bytes_eq name (codes "replay") then Some (replay_of rows) else None))))
+    else (if bytes_eq name (codes "replay") then Some (replay_of rows) else None)))))
 
 -- ---- all of it
 

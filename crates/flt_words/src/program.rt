@@ -32,7 +32,7 @@ fn cert_argument<'a>(alloc: Global) -> Arg<'a>
     ensures own { result.global ≡ false }
 {
     Arg::new(alloc, "CERT").help(
-        "Its certificate; without it, FILE's first line `fltcert 1` begins it",
+        "Its certificate; without it, FILE's first line `fltcert 1` or `fltcert 2` begins it",
     )
 }
 
@@ -187,9 +187,30 @@ fn analyse_command<'a>(alloc: Global) -> Result<Command<'a>, AllocError>
         .about("Finds the least certificate that covers a filter's text")
         .override_usage("fltstack analyse <FILE>")
         .after_help(
-            "Prints the certificate (exit 0), or the point and rule for which there is none (exit 1).\nErrors go to the standard error with exit 2.\n\nExample: fltstack analyse examples/pending_reads.flt",
+            "Prints the certificate, thinned (exit 0), or the point and rule for which there is none (exit 1).\nErrors go to the standard error with exit 2.\n\nExample: fltstack analyse examples/pending_reads.flt",
         )
         .arg(text_argument(alloc))
+}
+
+/// The command `thin` without its arguments.
+fn bare_thin<'a>(alloc: Global) -> Command<'a>
+    ensures { spec.IsCommand result spec.bare_thin_app }
+{
+    Command::new(alloc, "thin")
+        .about(
+            "Leaves of a certificate that covers a filter's text only the states that don't follow from others",
+        )
+        .override_usage("fltstack thin <FILE> [CERT]")
+        .after_help(
+            "Prints the certificate in format 2 (exit 0), or the first point and rule that refuse it (exit 1).\nErrors go to the standard error with exit 2.\n\nExample: fltstack thin examples/pending_reads.flt examples/pending_reads_full.cert",
+        )
+}
+
+fn thin_command<'a>(alloc: Global) -> Result<Command<'a>, AllocError>
+    ensures { IfOk result (λ c. spec.IsCommand c spec.thin_app) }
+{
+    let command = with_argument(Ok(bare_thin(alloc)), text_argument(alloc));
+    with_argument(command, cert_argument(alloc))
 }
 
 /// The command `run` without its arguments.
@@ -300,6 +321,7 @@ pub(crate) fn program<'a>(alloc: Global) -> Result<Command<'a>, AllocError>
 {
     let program = with_command(Ok(bare_program(alloc)), check_command(alloc));
     let program = with_command(program, analyse_command(alloc));
+    let program = with_command(program, thin_command(alloc));
     let program = with_command(program, explain_command(alloc));
     let program = with_command(program, run_command(alloc));
     with_command(program, replay_command(alloc))

@@ -25,6 +25,11 @@ pub enum Request<'a> {
     Analyse {
         file: &'a str,
     },
+    /// Thin the certificate of the text of a file, which is in another one or in the same.
+    Thin {
+        file: &'a str,
+        cert: Option<&'a str>,
+    },
     /// Drive the filters of some files by a script.
     Run {
         /// How many workers drive them.

@@ -118,6 +118,16 @@ fn asked_analyse<'a>(analyse: &ArgMatches<'a>) -> Request<'a>
     }
 }
 
+/// What the matches of `thin` ask for.
+fn asked_thin<'a>(thin: &ArgMatches<'a>) -> Request<'a>
+    ensures { asked_of result ≡ Some (spec.thin_of (rows_of (found_of thin.now))) }
+{
+    Request::Thin {
+        file: text_of(thin, "FILE"),
+        cert: thin.get_str("CERT"),
+    }
+}
+
 /// What `explain` of some names asks for.
 fn explain_of<'a>(
     form: Form,
@@ -208,6 +218,9 @@ fn matched<'a>(alloc: Global, matches: &ArgMatches<'a>) -> Result<Request<'a>, A
     }
     if let Some(analyse) = matches.subcommand_matches("analyse") {
         return Ok(asked_analyse(analyse));
+    }
+    if let Some(thin) = matches.subcommand_matches("thin") {
+        return Ok(asked_thin(thin));
     }
     if let Some(explain) = matches.subcommand_matches("explain") {
         return asked_explain(alloc, explain);

@@ -203,7 +203,8 @@ pub count_fault_not : (g : Graph) (k : Certificate) (callback : ℕ) → IsCount
 count_fault_not g k callback (inl first) h = true≢false (sym first.here ∙ h.points callback first.within)
 count_fault_not g k callback (inr more) h = let e = more.more in let l = h.callbacks in absurd (omega arith)
 
-fault_not : (g : Graph) (t : Thin) (f : Refusal) → IsThinFault g t f → GivesKept g t → IsFaultless g (full g t) → ⊥
+-- a thin certificate that has a least fault doesn't give the kept points, or what follows from it isn't without fault
+pub fault_not : (g : Graph) (t : Thin) (f : Refusal) → IsThinFault g t f → GivesKept g t → IsFaultless g (full g t) → ⊥
 fault_not g t f (inl count) kept h = count_fault_not g (full g t) f.callback count.callback h.counts
 fault_not g t f (inr (inl other)) kept h = other.point.other (kept f.callback other.callback f.point other.point.within)
 fault_not g t f (inr (inr point)) kept h =

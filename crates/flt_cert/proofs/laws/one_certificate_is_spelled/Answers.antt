@@ -1,4 +1,4 @@
-use Rattle.flt_cert.proofs.Once.{spelled_once}
+use Rattle.flt_cert.proofs.Formats.{spelled_once}
 use Rattle.flt_cert.proofs.laws.one_certificate_is_spelled.Goals as goal
 
 pub returns : goal.returns

@@ -1,4 +1,4 @@
-use Rattle.flt_cert.proofs.Once.{fault_once, no_fault}
+use Rattle.flt_cert.proofs.Formats.{fault_once, no_fault}
 use Rattle.flt_cert.proofs.laws.one_fault_is_first.Goals as goal
 
 pub returns : goal.returns

@@ -1,6 +1,6 @@
 use Rattle.std.proofs.Common.{ap, map}
 use Rattle.flt_commands.proofs.Reported.{answers_of, remarked_after, says_of_page, those_after, those_of}
-use Rattle.flt_words.specs.Request.{Check, Analyse, Run, Replay, Show, Explain, Page}
+use Rattle.flt_words.specs.Request.{Check, Analyse, Thin, Run, Replay, Show, Explain, Page}
 use Rattle.flt_commands.proofs.commands.report_of.Goals as goal
 
 pub returns-in-Check-clause-answers : goal.returns-in-Check-clause-answers
@@ -16,6 +16,13 @@ returns-in-Analyse-clause-answers g c =
     c.fails_exactly_where_nothing_is_spelled.ensures.nowhere _ _ _ (Analyse _) _ _ _
     (rw c.in-Analyse.is at c.in_ok-text.ensures) c.analyse_file-said.ensures tt (those_of _ _ c.report_on-in-Analyse.ensures.texts)
     c.report_on-in-Analyse.ensures.reported (rw c.new-in-Analyse.ensures.items at c.report_on-in-Analyse.ensures.remarked)
+
+pub returns-in-Thin-clause-answers : goal.returns-in-Thin-clause-answers
+returns-in-Thin-clause-answers g c =
+    answers_of c.covered_texts_break_nothing.ensures c.driven_texts_break_nothing.ensures
+    c.fails_exactly_where_nothing_is_spelled.ensures.nowhere _ _ _ (Thin _ _) _ _ _
+    (rw c.in-Thin.is at c.in_ok-text.ensures) c.thin_files-said.ensures tt (those_of _ _ c.report_on-in-Thin.ensures.texts)
+    c.report_on-in-Thin.ensures.reported (rw c.new-in-Thin.ensures.items at c.report_on-in-Thin.ensures.remarked)
 
 pub returns-in-Run-default-true-default-default-clause-answers : goal.returns-in-Run-default-true-default-default-clause-answers
 returns-in-Run-default-true-default-default-clause-answers g c =

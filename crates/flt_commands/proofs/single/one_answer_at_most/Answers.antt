@@ -6,9 +6,10 @@ pub returns : goal.returns
 returns g c =
     let checked = c.one_check_at_most.ensures in
     let analysed = c.one_analysis_at_most.ensures in
+    let thinned = c.one_thin_at_most.ensures in
     let replayed = c.one_verdict_at_most.ensures in
     record {
-      one = λ inputs pictures others words. printed_once checked analysed replayed (g.I.Inputs.gives inputs) (g.P.Pictures.written pictures)
+      one = λ inputs pictures others words. printed_once checked analysed thinned replayed (g.I.Inputs.gives inputs) (g.P.Pictures.written pictures)
           (g.P.Pictures.written others) (asked words);
-      said = λ inputs. said_once checked analysed replayed (g.I.Inputs.gives inputs);
+      said = λ inputs. said_once checked analysed thinned replayed (g.I.Inputs.gives inputs);
     }

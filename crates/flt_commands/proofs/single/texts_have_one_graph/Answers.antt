@@ -1,4 +1,4 @@
-use Rattle.flt_commands.proofs.OneCheck.{graph_once}
+use Rattle.flt_commands.proofs.OneDecision.{graph_once}
 use Rattle.flt_commands.proofs.single.texts_have_one_graph.Goals as goal
 
 pub returns : goal.returns

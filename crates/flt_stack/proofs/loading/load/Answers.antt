@@ -24,7 +24,7 @@ invariant_of-loaded c =
     let kept : c.as_slice.result.now ≡ c.in-Ok.judged.0.items = c.as_slice.ensures.value in
     let all : AreAccepted (filters_of c.as_slice.result.now) =
     subst (λ (l : List Tree). AreAccepted (filters_of l)) (sym kept)
-    (files_accepted c.spelled_is_well_formed.ensures _ _ c.in-Ok.ensures.ok) in
+    (files_accepted c.spelled_is_well_formed.ensures c.accepted_certificates_fill_up.ensures.covers _ _ c.in-Ok.ensures.ok) in
     let order : by_altitude (filters_of c.as_slice.result.now) ≡ filters_of c.from_vec.result =
     ap (λ (l : List Tree). by_altitude (filters_of l)) kept ∙ sym (ap filters_of c.from_vec.ensures ∙ c.in_ok-ordered.ensures) in
     let distinct : HasDistinctAltitudes (by_altitude (filters_of c.as_slice.result.now)) =

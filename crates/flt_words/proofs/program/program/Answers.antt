@@ -4,6 +4,7 @@ pub returns : goal.returns
 returns c =
     let one = c.with_command-program.ensures _ _ c.bare_program.ensures c.check_command.ensures in
     let two = c.with_command-program-2.ensures _ _ one c.analyse_command.ensures in
-    let three = c.with_command-program-3.ensures _ _ two c.explain_command.ensures in
-    let four = c.with_command-program-4.ensures _ _ three c.run_command.ensures in
-    c.with_command.ensures _ _ four c.replay_command.ensures
+    let three = c.with_command-program-3.ensures _ _ two c.thin_command.ensures in
+    let four = c.with_command-program-4.ensures _ _ three c.explain_command.ensures in
+    let five = c.with_command-program-5.ensures _ _ four c.run_command.ensures in
+    c.with_command.ensures _ _ five c.replay_command.ensures

@@ -1,5 +1,0 @@
-use Rattle.flt_cert.proofs.ThinOnce.{spelled_once}
-use Rattle.flt_cert.proofs.laws.one_thin_certificate_is_spelled.Goals as goal
-
-pub returns : goal.returns
-returns c = spelled_once

@@ -1,0 +1,36 @@
+-- Of some bytes `thin` says one thing at most: a certificate that covers has no fault, and what is left of it one spelling.
+use Rattle.std.proofs.Common.{◌≡◌, Ok, sym, ap, ◌∙◌}
+use Rattle.flt_commands.proofs.OneCheck.{CoversWithoutFault, HasOneFault}
+use Rattle.flt_commands.proofs.OneDecision.{DecidesOne}
+use Rattle.flt_commands.specs.Single.{seen}
+use Rattle.flt_commands.specs.Thin.{Decides}
+use Rattle.flt_commands.specs.declared.answer.Answer.TheVariants.{Accepted, Refused, Certificate as Written, Judged, Ran, FileRefused, Explained, Page, Shown}
+
+module _ (one : HasOneFault) (none : CoversWithoutFault) where
+  -- of a graph and a certificate one answer is decided at most
+  pub thins_once : DecidesOne Decides
+  thins_once g c (Written d) (Written e) x y = let same : d.items ≡ e.items = x.1 ∙ sym y.1 in cc
+  thins_once g c (Written d) (Refused f) x y = absurd (none g c f x.0 y)
+  thins_once g c (Written d) Accepted x y = absurd y
+  thins_once g c (Written d) (Judged v) x y = absurd y
+  thins_once g c (Written d) (Ran ran) x y = absurd y
+  thins_once g c (Written d) (FileRefused n h) x y = absurd y
+  thins_once g c (Written d) (Explained r) x y = absurd y
+  thins_once g c (Written d) (Shown rows v) x y = absurd y
+  thins_once g c (Written d) (Page t) x y = absurd y
+  thins_once g c (Refused f) (Written d) x y = absurd (none g c f y.0 x)
+  thins_once g c (Refused f) (Refused h) x y = ap (λ r. seen (Ok (Refused r))) (one g c f h x y)
+  thins_once g c (Refused f) Accepted x y = absurd y
+  thins_once g c (Refused f) (Judged v) x y = absurd y
+  thins_once g c (Refused f) (Ran ran) x y = absurd y
+  thins_once g c (Refused f) (FileRefused n h) x y = absurd y
+  thins_once g c (Refused f) (Explained r) x y = absurd y
+  thins_once g c (Refused f) (Shown rows v) x y = absurd y
+  thins_once g c (Refused f) (Page t) x y = absurd y
+  thins_once g c Accepted b x y = absurd x
+  thins_once g c (Judged v) b x y = absurd x
+  thins_once g c (Ran ran) b x y = absurd x
+  thins_once g c (FileRefused n h) b x y = absurd x
+  thins_once g c (Explained r) b x y = absurd x
+  thins_once g c (Shown rows v) b x y = absurd x
+  thins_once g c (Page t) b x y = absurd x

@@ -1,0 +1,79 @@
+//! What `thin` says of the names that it is given.
+
+ghost use Rattle.std.specs.Prelude.{◌≡◌, IfOk, map, option_map};
+ghost use Rattle.flt_cert.specs.Spelling.{spelling, thinned};
+ghost use Rattle.flt_commands.specs.Check.{Judges, JudgesTogether};
+ghost use Rattle.flt_commands.specs.Commands.{IsSaid};
+ghost use Rattle.flt_commands.specs.Thin as spec;
+ghost use Rattle.flt_words.specs.Request.{Thin};
+
+use crate::answer::Answer;
+use crate::failure::Failure;
+use crate::inputs::{Inputs, read_all};
+use crate::report::Contents;
+use crate::split::certificate_start;
+use flt_cert::Cert;
+use flt_check::check;
+use flt_graph::{Graph, lower};
+use flt_syntax::parse;
+use std::alloc::{AllocError, Global};
+
+/// What is left of a certificate, as it is written.
+pub(crate) fn write_thinned(
+    alloc: Global,
+    graph: &Graph,
+    cert: &Cert,
+) -> Result<Vec<u8>, AllocError>
+    ensures { IfOk result (λ bytes. bytes.items ≡ spelling (thinned graph.now cert.now)) }
+{
+    let left = flt_cert::thin(alloc, graph, cert)?;
+    flt_cert::write(alloc, &left)
+}
+
+/// What is left of a certificate that covers a text.
+fn thin_text<'a>(alloc: Global, text: &[u8], certificate: &[u8]) -> Result<Answer, Failure<'a>>
+    ensures { Judges spec.Decides text.now certificate.now result }
+{
+    let tree = parse(alloc, text)?;
+    let cert = flt_cert::read(alloc, certificate)?;
+    let graph = lower(alloc, &tree)?;
+    match check(&graph, &cert) {
+        Ok(()) => Ok(Answer::Certificate(write_thinned(alloc, &graph, &cert)?)),
+        Err(refusal) => Ok(Answer::Refused(refusal)),
+    }
+}
+
+/// The same of a text and its certificate in one input.
+fn thin_together<'a>(alloc: Global, input: &[u8]) -> Result<Answer, Failure<'a>>
+    ensures { JudgesTogether spec.Decides input.now result }
+{
+    let (text, certificate) = input.split_at(certificate_start(input));
+    thin_text(alloc, text, certificate)
+}
+
+/// What `thin` says of the names that it is given, and what these give.
+pub fn thin_files<'a, I: Inputs>(
+    alloc: Global,
+    inputs: &I,
+    file: &'a str,
+    cert: Option<&'a str>,
+    contents: &mut Contents,
+) -> Result<Answer, Failure<'a>>
+    ensures { IsSaid (I.gives inputs.now) (Thin file.entry.now (option_map (λ name. name.now) cert.entry))
+        (map (λ text. text.items) contents.new.texts.items) result }
+{
+    match cert {
+        None => {
+            contents.texts = read_all(alloc, inputs, &[file])?;
+            thin_together(alloc, contents.texts[0].as_slice())
+        }
+        Some(cert) => {
+            contents.texts = read_all(alloc, inputs, &[file, cert])?;
+            thin_text(
+                alloc,
+                contents.texts[0].as_slice(),
+                contents.texts[1].as_slice(),
+            )
+        }
+    }
+}
