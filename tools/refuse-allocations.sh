@@ -125,6 +125,9 @@ try_tests() {
 runs=(
     "check deferred_writes.flt deferred_writes.cert"
     "check two_locks.flt two_locks.cert"
+    "check pending_reads.flt pending_reads_full.cert"
+    "thin pending_reads.flt pending_reads_full.cert"
+    "thin two_locks.flt two_locks.cert"
     "analyse reads_wait_for_a_write.flt"
     "analyse stream_context_broken.flt"
     "run pending_reads_detached.script pending_reads.flt"

@@ -577,6 +577,8 @@ changed and its certificate wasn't.
 |---|---|
 | a callback of the text isn't in the certificate, or has another number of points there | point 0 of the first such callback |
 | the certificate has more callbacks than the text, and those of the text agree | point 0 of the text's last callback |
+| a thin certificate doesn't give a point that is kept | that point |
+| a thin certificate gives a point that isn't kept | that point |
 | the entry's state isn't within that of point 0, or point 0 is `!` or has locks | point 0 of the callback |
 | a point leads to a state that isn't within the next point's, or to a point that is `!` | the point that leads there |
 
