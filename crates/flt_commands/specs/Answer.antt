@@ -4,7 +4,7 @@ use Rattle.std.specs.Fmt.{decimal}
 use Rattle.flt_rules.specs.Rule.{number, text}
 use Rattle.flt_rules.specs.declared.rule.Rule.{Rule}
 use Rattle.flt_crew.specs.declared.ending.Ending.{Ending}
-use Rattle.flt_crew.specs.declared.ending.Ending.TheVariants.{Whole, Full, Differ}
+use Rattle.flt_crew.specs.declared.ending.Ending.TheVariants.{Whole, Full, Already, Differ}
 use Rattle.flt_check.specs.declared.checker.Refusal.{Refusal}
 use Rattle.flt_model.specs.declared.verdict.Verdict.{Verdict}
 use Rattle.flt_model.specs.declared.verdict.Verdict.TheVariants.{Legal, NotARun, Breaks}
@@ -63,7 +63,8 @@ output (Ran ran) = ran.journal.items
 output (Shown rows v) = rows.items ++ (verdict_line v ++ 10 ∷ [])
 output (FileRefused file f) = file_refusal_line file f ++ 10 ∷ []
 
--- the exit status of a journal: 2 where it is full before its script has ended, or where the receipts contradict it
+-- the exit status of a journal: 2 where it is full before its script has ended, where a detach was refused, or where the receipts
+-- contradict it
 abbrev pub ended_status : Ending → ℕ
 ended_status Whole = 0
 ended_status _ = 2
@@ -92,4 +93,5 @@ ending_of _ = Whole
 abbrev pub remark : Ending → List ℕ
 remark Whole = []
 remark Full = codes "full" ++ 10 ∷ []
+remark Already = codes "detached already" ++ 10 ∷ []
 remark Differ = codes "receipts differ" ++ 10 ∷ []

@@ -96,7 +96,7 @@ fn ended_status(ending: Ending) -> u8
 {
     match ending {
         Ending::Whole => 0,
-        Ending::Full | Ending::Differ => 2,
+        Ending::Full | Ending::Already | Ending::Differ => 2,
     }
 }
 

@@ -23,8 +23,8 @@ pub struct Report {
     pub output: Vec<u8>,
     /// What goes to the standard error.
     pub remark: Vec<u8>,
-    /// The exit status: 0 for yes, 1 for no, and 2 where there is no answer, a journal was full before its script had ended, or the
-    /// receipts contradict it.
+    /// The exit status: 0 for yes, 1 for no, and 2 where there is no answer, a journal was full before its script had ended, a detach of
+    /// it was refused, or the receipts contradict it.
     pub status: u8,
 }
 
@@ -89,6 +89,7 @@ fn remark_on(alloc: Global, ending: Ending) -> Result<Vec<u8>, AllocError>
     match ending {
         Ending::Whole => {}
         Ending::Full => bytes.extend_from_slice(b"full\n")?,
+        Ending::Already => bytes.extend_from_slice(b"detached already\n")?,
         Ending::Differ => bytes.extend_from_slice(b"receipts differ\n")?,
     }
     Ok(bytes)

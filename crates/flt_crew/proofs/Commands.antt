@@ -1,10 +1,11 @@
 -- The commands that were given, and what came of them.
-use Rattle.std.proofs.Common.{◌≡◌, ℕ, ◌+◌, ◌<◌, List, [], ◌∷◌, ◌++◌, length, get_or, take, drop, sym, subst}
-use Rattle.std.proofs.lemmas.List.{append-nil, take-append-drop, take_more}
+use Rattle.std.proofs.Common.{◌≡◌, ℕ, ◌+◌, ◌<◌, List, [], ◌∷◌, ◌++◌, length, get_or, take, drop, ap, sym, subst, ◌∙◌}
+use Rattle.std.proofs.lemmas.List.{append-nil, drop_more, take-append-drop, take_more}
 use Rattle.flt_receipts.specs.declared.receipt.Receipt.{Receipt}
-use Rattle.flt_crew.specs.Giving.{AreGiven, AreMade, Makes, asks, begun, one_more}
+use Rattle.flt_crew.specs.Giving.{AreGiven, AreMade, IsDetach, Makes, StopsAtDetach, asks, begun, one_more}
 use Rattle.flt_script.specs.ScriptText.{Commands}
 use Rattle.flt_script.specs.declared.command.Command.{Command}
+use Rattle.flt_script.specs.declared.command.Command.TheVariants.{Detach}
 
 -- nothing is given
 pub made_none : (commands : Commands) (receipts : List Receipt) (asked : List ℕ) → receipts ≡ [] → asked ≡ [] →
@@ -37,6 +38,21 @@ pub given_still : (script commands : Commands) (k : ℕ) (receipts later : List 
 given_still script commands k receipts later asked after same made kept quiet =
     subst (λ s. AreGiven script later s) (sym quiet)
     (subst (λ r. AreGiven script r asked) (sym kept) (given_so_far script commands k receipts asked same made))
+
+-- the next one detaches a filter and was refused, which kept what there was
+pub stops_here : (script commands : Commands) (k : ℕ) (receipts later : List Receipt) (asked after : List ℕ) (d : Command) →
+    commands ≡ script → k < length commands → IsDetach (get_or commands k d) → AreMade (take k commands) receipts asked →
+    later ≡ receipts → after ≡ asked → StopsAtDetach script later after
+stops_here script commands k receipts later asked after d same here detaches made kept quiet =
+    let next : drop k commands ≡ Detach detaches.0 ∷ drop (k + 1) commands =
+    drop_more commands k d here ∙ ap (λ c. c ∷ drop (k + 1) commands) detaches.1 in
+    record {
+      given = take k commands;
+      altitude = detaches.0;
+      rest = drop (k + 1) commands;
+      parts = sym same ∙ sym (take-append-drop k commands) ∙ ap (λ cs. take k commands ++ cs) next;
+      made = subst (λ s. AreMade (take k commands) later s) (sym quiet) (subst (λ r. AreMade (take k commands) r asked) (sym kept) made);
+    }
 
 -- all were given
 pub given_all : (script : Commands) (receipts : List Receipt) (asked : List ℕ) → AreMade script receipts asked →

@@ -6,11 +6,12 @@ use Rattle.flt_core.specs.Counting.{callers_in, is_callers, others_in}
 use Rattle.flt_receipts.specs.declared.receipt.Receipt.{Receipt}
 use Rattle.flt_crew.specs.Following.{IsFollowed}
 use Rattle.flt_crew.specs.Running.{IsEnded}
-use Rattle.flt_crew.specs.declared.ending.Ending.TheVariants.{Whole, Full, Differ}
+use Rattle.flt_crew.specs.declared.ending.Ending.TheVariants.{Whole, Full, Already, Differ}
 use Rattle.flt_model.specs.declared.moves.JournalEntry.{JournalEntry}
 use Rattle.flt_receipts.specs.Bounds.{IsFull}
 use Rattle.flt_receipts.specs.Receipts.{receipts_in, together}
 use Rattle.flt_script.specs.ScriptText.{Commands}
+use Rattle.flt_script.specs.declared.command.Command.TheVariants.{Detach}
 
 -- there are no more entries of others than entries
 others_few : (entries : List JournalEntry) → others_in entries ≤ length entries
@@ -31,12 +32,13 @@ module _ {S : Type 0} (seats : List S) (seat : S) (one : seats ≡ seat ∷ []) 
   sum_of_one has = rw one (sum_by-cons has seat [] ∙ omega arith)
 
 module _ (commands : Commands) (entries : List JournalEntry) (receipts : List Receipt) (asked : List ℕ) (callers others made fulls : ℕ)
-    (is_full : Bool) (followed : IsFollowed commands receipts asked callers others made fulls is_full) (these : callers_in entries ≡ callers)
+    (is_full is_refused : Bool)
+    (followed : IsFollowed commands receipts asked callers others made fulls is_full is_refused) (these : callers_in entries ≡ callers)
     (those : others_in entries ≡ others) where
   -- what was followed to its end, and agrees, is whole
-  pub ends_whole : is_full ≡ false → length entries < 2 ^ 64 → IsPermutation (receipts_in entries) receipts → IsEnded commands entries made Whole
-  ends_whole all few same =
-      let whole = followed.whole all in
+  pub ends_whole : is_full ≡ false → is_refused ≡ false → length entries < 2 ^ 64 → IsPermutation (receipts_in entries) receipts → IsEnded commands entries made Whole
+  ends_whole all none few same =
+      let whole = followed.whole all none in
       record {
         given = commands;
         rest = [];
@@ -50,6 +52,7 @@ module _ (commands : Commands) (entries : List JournalEntry) (receipts : List Re
         others = omega (arith, followed.others_counted, those);
         whole = λ _. (refl, those ∙ sym (whole.1.1 (omega (arith, those, few, others_few entries))));
         full = λ e. absurd (cc e);
+        already = λ e. absurd (cc e);
       }
 
   -- what was broken off, and agrees, is full
@@ -67,7 +70,28 @@ module _ (commands : Commands) (entries : List JournalEntry) (receipts : List Re
     others = omega (arith, followed.others_counted, those);
     whole = λ e. absurd (cc e);
     full = λ _. full;
+    already = λ e. absurd (cc e);
   }
+
+  -- what was broken off at a detach that was refused, and agrees, ends so
+  pub ends_refused : is_refused ≡ true → IsPermutation (receipts_in entries) receipts → IsEnded commands entries made Already
+  ends_refused is same =
+      let stops = followed.refused is in
+      record {
+        given = stops.given;
+        rest = Detach stops.altitude ∷ stops.rest;
+        parts = stops.parts;
+        receipts = receipts;
+        asked = asked;
+        kept = stops.made;
+        agree = λ _. same;
+        differ = λ e. absurd (cc e);
+        callers = these ∙ followed.callers_counted;
+        others = omega (arith, followed.others_counted, those);
+        whole = λ e. absurd (cc e);
+        full = λ e. absurd (cc e);
+        already = λ _. (stops.altitude, stops.rest, refl);
+      }
 
   -- what doesn't agree differs
   pub ends_apart : (IsPermutation (receipts_in entries) receipts → ⊥) → IsEnded commands entries made Differ
@@ -84,4 +108,5 @@ module _ (commands : Commands) (entries : List JournalEntry) (receipts : List Re
     others = omega (arith, followed.others_counted, those);
     whole = λ e. absurd (cc e);
     full = λ e. absurd (cc e);
+    already = λ e. absurd (cc e);
   }

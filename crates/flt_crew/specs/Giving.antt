@@ -14,6 +14,10 @@ abbrev pub IsAimed : List Filter → Command → Type 0
 IsAimed filters (Detach altitude) = has_altitude filters altitude ≡ true
 IsAimed filters _ = Unit {0}
 
+-- the command detaches some filter
+abbrev pub IsDetach : Command → Type 0
+IsDetach command = (altitude : ℕ) × (command ≡ Detach altitude)
+
 -- one more receipt, of this move
 abbrev pub Adds : Move → List Receipt → List Receipt → Type 0
 Adds move before later = (r : Receipt) × (r.entry ≡ move) × (later ≡ before ++ r ∷ [])
@@ -40,4 +44,13 @@ pub record AreGiven (script : Commands) (receipts : List Receipt) (asked : List 
   pub given : Commands
   pub rest : Commands
   pub parts : script ≡ given ++ rest
+  pub made : AreMade given receipts asked
+
+-- the commands of a script before one that detaches a filter were given, and these are the receipts and the serial numbers that were asked to
+-- be cancelled
+pub record StopsAtDetach (script : Commands) (receipts : List Receipt) (asked : List ℕ) : Type 0 where
+  pub given : Commands
+  pub altitude : ℕ
+  pub rest : Commands
+  pub parts : script ≡ given ++ Detach altitude ∷ rest
   pub made : AreMade given receipts asked

@@ -1,10 +1,10 @@
 -- What a script comes to on some texts. This project's own program.
-use Rattle.std.specs.Prelude.{◌≡◌, ◌≢◌, ◌≤◌, ℕ, List, [], ◌++◌, length, None, Result, Ok, Err, IsPermutation}
+use Rattle.std.specs.Prelude.{◌≡◌, ◌≢◌, ◌≤◌, ℕ, List, [], ◌∷◌, ◌++◌, length, None, Result, Ok, Err, IsPermutation}
 use Rattle.flt_receipts.specs.declared.receipt.Receipt.{Receipt}
 use Rattle.flt_core.specs.Counting.{callers_in, others_in}
 use Rattle.flt_crew.specs.Giving.{AreMade}
 use Rattle.flt_crew.specs.declared.ending.Ending.{Ending}
-use Rattle.flt_crew.specs.declared.ending.Ending.TheVariants.{Whole, Full, Differ}
+use Rattle.flt_crew.specs.declared.ending.Ending.TheVariants.{Whole, Full, Already, Differ}
 use Rattle.flt_crew.specs.declared.running.Ran.{Ran}
 use Rattle.flt_driven.specs.Preparing.{Fails, IsScript}
 use Rattle.flt_driven.specs.Texts.{AreSpelled, HaveCertificates}
@@ -20,6 +20,7 @@ use Rattle.flt_model.specs.declared.verdict.Verdict.TheVariants.{Legal}
 use Rattle.flt_receipts.specs.Bounds.{IsFull}
 use Rattle.flt_receipts.specs.Receipts.{receipts_in}
 use Rattle.flt_script.specs.ScriptText.{Commands}
+use Rattle.flt_script.specs.declared.command.Command.TheVariants.{Detach}
 use Rattle.flt_stack.specs.Loading.{IsCount}
 use Rattle.flt_tree.specs.declared.filter.Filter.{Filter}
 
@@ -43,8 +44,10 @@ pub record IsEnded (commands : Commands) (entries : List JournalEntry) (made : �
   pub others : made ≤ others_in entries
   -- the whole script was given, and workers were answered of each entry that they made
   pub whole : ending ≡ Whole → (rest ≡ []) × (others_in entries ≡ made)
-  -- the script was broken off only where the journal or the number of operations is full
+  -- it was found full only where the journal or the number of operations is full
   pub full : ending ≡ Full → IsFull entries
+  -- it was broken off at a detach only where that was refused
+  pub already : ending ≡ Already → (altitude : ℕ) × (more : Commands) × (rest ≡ Detach altitude ∷ more)
 
 -- the journal is a run of the machine on what is loaded that breaks nothing, and ends so
 pub record IsDriven (loaded : List Filter) (commands : Commands) (entries : List JournalEntry) (made : ℕ) (ending : Ending) : Type 0 where

@@ -6,9 +6,10 @@ ghost use Rattle.flt_crew.specs.Giving as spec;
 ghost use Rattle.flt_workers.specs.Places.{IsCallerOf, IsWorkerOf, asked_by};
 
 use crate::giving::give;
+use crate::stopping::Stop;
 use crate::watch::Watch;
 use crate::working::Ungated;
-use flt_running::{CallerSeat, Stack, StackName, TurnFault, WorkerSeat};
+use flt_running::{CallerSeat, Stack, StackName, WorkerSeat};
 use flt_script::Script;
 use std::alloc::Global;
 use std::sync::Wait;
@@ -24,7 +25,7 @@ pub(crate) fn follow<N: StackName, R: Wait, W: Watch>(
     script: &Script,
     made: &mut u64,
     watch: &mut W,
-) -> Result<(), TurnFault>
+) -> Result<(), Stop>
     requires script { All (spec.IsAimed N.trees) script.now }
     requires caller { IsCallerOf stack.now.exchange caller.old.place }
     requires worker { IsWorkerOf stack.now.exchange worker.old.place }
@@ -36,7 +37,9 @@ pub(crate) fn follow<N: StackName, R: Wait, W: Watch>(
     ensures callers { caller.new.receipts.share.amount ≡ length caller.new.receipts.list.items }
     ensures others { made.new ≤ worker.new.share.amount }
     ensures told { OnOk result (IsSum made.new worker.new.share.amount) }
-    ensures full { result ≡ Err TurnFault.Full → 0 < caller.new.fulls.amount + worker.new.fulls.amount }
+    ensures full { result ≡ Err Stop.Full → 0 < caller.new.fulls.amount + worker.new.fulls.amount }
+    ensures refused { result ≡ Err Stop.Already
+        → spec.StopsAtDetach script.now caller.new.receipts.list.items (asked_by caller.new.place).asked }
     ensures parts { (caller.new.receipts.share.parts ≡ caller.old.receipts.share.parts)
         × (worker.new.share.parts ≡ worker.old.share.parts) }
 {

@@ -7,6 +7,8 @@ pub enum Ending {
     Whole,
     /// The journal, or the number of operations, was full before that.
     Full,
+    /// The teardown of a filter that the script detaches had begun before that.
+    Already,
     /// The caller's receipts aren't those of the journal.
     Differ,
 }

@@ -1,14 +1,15 @@
 //! What a stack's caller does with a command.
 
-ghost use Rattle.std.specs.Prelude.{◌≡◌, ◌<◌, ◌++◌, true, IsTrue, Err, OnErr, OnOk, length};
+ghost use Rattle.std.specs.Prelude.{◌≡◌, ◌≢◌, ◌<◌, ◌++◌, true, IsTrue, Err, OnErr, OnOk, length};
 ghost use Rattle.flt_core.specs.Refusals.{has_altitude};
 ghost use Rattle.flt_crew.specs.Giving as spec;
 ghost use Rattle.flt_model.specs.Moves.{fits_mode};
 ghost use Rattle.flt_script.specs.ScriptText.{is_command};
 ghost use Rattle.flt_workers.specs.Places.{IsCallerOf, asked_by};
 
+use crate::stopping::Stop;
 use flt_rules::{Mode, Operation};
-use flt_running::{ArriveFault, CallerSeat, DetachFault, Stack, StackName, TurnFault};
+use flt_running::{ArriveFault, CallerSeat, DetachFault, Stack, StackName};
 use flt_script::Command;
 use std::alloc::Global;
 use std::sync::Wait;
@@ -22,7 +23,7 @@ fn arrive<N: StackName, R: Wait>(
     operation: Operation,
     mode: Mode,
     file: u32,
-) -> Result<u64, TurnFault>
+) -> Result<u64, Stop>
     requires seat { IsCallerOf stack.now.exchange seat.old.place }
     requires counted { seat.old.receipts.share.amount ≡ length seat.old.receipts.list.items }
     requires mode { fits_mode operation mode ≡ true }
@@ -30,15 +31,16 @@ fn arrive<N: StackName, R: Wait>(
     ensures seat { IsCallerOf stack.now.exchange seat.new.place }
     ensures counted { seat.new.receipts.share.amount ≡ length seat.new.receipts.list.items }
     ensures parts { seat.new.receipts.share.parts ≡ seat.old.receipts.share.parts }
-    ensures full { result ≡ Err TurnFault.Full → 0 < seat.new.fulls.amount }
+    ensures full { result ≡ Err Stop.Full → 0 < seat.new.fulls.amount }
+    ensures room { result ≢ Err Stop.Already }
     ensures made { OnOk result (spec.Makes (Command.Arrive operation mode file) seat.old.receipts.list.items seat.new.receipts.list.items) }
     ensures requests { asked_by seat.new.place ≡ asked_by seat.old.place }
     ensures refused { OnErr result (seat.new.receipts.list.items ≡ seat.old.receipts.list.items) }
 {
     match stack.arrive(rt, alloc, seat, operation, mode, file) {
         Ok(_) => Ok(1),
-        Err(ArriveFault::Full) => Err(TurnFault::Full),
-        Err(ArriveFault::OutOfMemory) => Err(TurnFault::OutOfMemory),
+        Err(ArriveFault::Full) => Err(Stop::Full),
+        Err(ArriveFault::OutOfMemory) => Err(Stop::OutOfMemory),
     }
 }
 
@@ -49,14 +51,14 @@ fn detach<N: StackName, R: Wait>(
     stack: &Stack<N>,
     seat: &mut CallerSeat<N>,
     altitude: u32,
-) -> Result<u64, TurnFault>
+) -> Result<u64, Stop>
     requires seat { IsCallerOf stack.now.exchange seat.old.place }
     requires known { has_altitude N.trees altitude ≡ true }
     requires counted { seat.old.receipts.share.amount ≡ length seat.old.receipts.list.items }
     ensures seat { IsCallerOf stack.now.exchange seat.new.place }
     ensures counted { seat.new.receipts.share.amount ≡ length seat.new.receipts.list.items }
     ensures parts { seat.new.receipts.share.parts ≡ seat.old.receipts.share.parts }
-    ensures full { result ≡ Err TurnFault.Full → 0 < seat.new.fulls.amount }
+    ensures full { result ≡ Err Stop.Full → 0 < seat.new.fulls.amount }
     ensures made { OnOk result (spec.Makes (Command.Detach altitude) seat.old.receipts.list.items seat.new.receipts.list.items) }
     ensures requests { asked_by seat.new.place ≡ asked_by seat.old.place }
     ensures refused { OnErr result (seat.new.receipts.list.items ≡ seat.old.receipts.list.items) }
@@ -64,9 +66,9 @@ fn detach<N: StackName, R: Wait>(
     match stack.detach(rt, alloc, seat, altitude) {
         Ok(()) => Ok(1),
         Err(DetachFault::NoSuch) => unreachable!(),
-        Err(DetachFault::Full) => Err(TurnFault::Full),
-        // A script detaches a filter once, so none is detached already; no clause of the stack says so.
-        Err(DetachFault::Already | DetachFault::OutOfMemory) => Err(TurnFault::OutOfMemory),
+        Err(DetachFault::Full) => Err(Stop::Full),
+        Err(DetachFault::Already) => Err(Stop::Already),
+        Err(DetachFault::OutOfMemory) => Err(Stop::OutOfMemory),
     }
 }
 
@@ -77,7 +79,7 @@ pub(crate) fn give<N: StackName, R: Wait>(
     stack: &Stack<N>,
     seat: &mut CallerSeat<N>,
     command: Command,
-) -> Result<u64, TurnFault>
+) -> Result<u64, Stop>
     requires seat { IsCallerOf stack.now.exchange seat.old.place }
     requires counted { seat.old.receipts.share.amount ≡ length seat.old.receipts.list.items }
     requires aimed { spec.IsAimed N.trees command }
@@ -85,7 +87,8 @@ pub(crate) fn give<N: StackName, R: Wait>(
     ensures seat { IsCallerOf stack.now.exchange seat.new.place }
     ensures counted { seat.new.receipts.share.amount ≡ length seat.new.receipts.list.items }
     ensures parts { seat.new.receipts.share.parts ≡ seat.old.receipts.share.parts }
-    ensures full { result ≡ Err TurnFault.Full → 0 < seat.new.fulls.amount }
+    ensures full { result ≡ Err Stop.Full → 0 < seat.new.fulls.amount }
+    ensures already { result ≡ Err Stop.Already → spec.IsDetach command }
     ensures made { OnOk result (spec.Makes command seat.old.receipts.list.items seat.new.receipts.list.items) }
     ensures asked { OnOk result ((asked_by seat.new.place).asked ≡ (asked_by seat.old.place).asked ++ spec.asks command) }
     ensures refused { OnErr result ((seat.new.receipts.list.items ≡ seat.old.receipts.list.items)

@@ -5,14 +5,15 @@ ghost use Rattle.flt_crew.specs.Following.{IsFollowed, IsSum};
 ghost use Rattle.flt_crew.specs.Giving as spec;
 ghost use Rattle.flt_workers.specs.Places.{IsCallerOf, IsWorkerOf, asked_by};
 
-use crate::followed::{Followed, is_full_by};
+use crate::followed::{Cut, Followed, cut_by, is_full_by};
 use crate::giving::give;
 use crate::progress::Progress;
+use crate::stopping::Stop;
 use crate::watch::Watch;
 use crate::working::{Worked, work_in};
 use flt_core::{CallerEntries, Fulls, Locked, OtherEntries};
 use flt_running::sharing::{loaded_is_shared, sent, shared};
-use flt_running::{CallerSeat, Stack, StackName, TurnFault, WorkerSeat};
+use flt_running::{CallerSeat, Stack, StackName, WorkerSeat};
 use flt_script::Script;
 use flt_workers::Exchange;
 use std::alloc::{AllocError, Global};
@@ -28,7 +29,7 @@ use std::thread::{Threads, join};
 #[derive(Drop)]
 struct Given<N: StackName> {
     seat: CallerSeat<N>,
-    outcome: Result<(), TurnFault>,
+    outcome: Result<(), Stop>,
 }
 
 /// The commands are given one after the other.
@@ -40,7 +41,7 @@ fn give_each<N: StackName, R: Wait, W: Watch>(
     script: &Script,
     progress: &Progress,
     watch: &mut W,
-) -> Result<(), TurnFault>
+) -> Result<(), Stop>
     requires script { All (spec.IsAimed N.trees) script.now }
     requires seat { IsCallerOf stack.now.exchange seat.old.place }
     requires fresh { (seat.old.receipts.list.items ≡ []) × ((asked_by seat.old.place).asked ≡ []) }
@@ -50,7 +51,9 @@ fn give_each<N: StackName, R: Wait, W: Watch>(
     ensures given { spec.AreGiven script.now seat.new.receipts.list.items (asked_by seat.new.place).asked }
     ensures counted { seat.new.receipts.share.amount ≡ length seat.new.receipts.list.items }
     ensures parts { seat.new.receipts.share.parts ≡ seat.old.receipts.share.parts }
-    ensures full { result ≡ Err TurnFault.Full → 0 < seat.new.fulls.amount }
+    ensures full { result ≡ Err Stop.Full → 0 < seat.new.fulls.amount }
+    ensures refused { result ≡ Err Stop.Already
+        → spec.StopsAtDetach script.now seat.new.receipts.list.items (asked_by seat.new.place).asked }
 {
     let commands = script.commands();
     for command in commands {
@@ -80,7 +83,9 @@ fn give_all<N: StackName, R: Wait, W: Watch>(
     ensures given { spec.AreGiven script.now result.seat.receipts.list.items (asked_by result.seat.place).asked }
     ensures counted { result.seat.receipts.share.amount ≡ length result.seat.receipts.list.items }
     ensures parts { result.seat.receipts.share.parts ≡ seat.receipts.share.parts }
-    ensures full { result.outcome ≡ Err TurnFault.Full → 0 < result.seat.fulls.amount }
+    ensures full { result.outcome ≡ Err Stop.Full → 0 < result.seat.fulls.amount }
+    ensures refused { result.outcome ≡ Err Stop.Already
+        → spec.StopsAtDetach script.now result.seat.receipts.list.items (asked_by result.seat.place).asked }
 {
     let outcome = give_each(rt, alloc, stack, &mut seat, script, progress, watch);
     progress.end();
@@ -194,7 +199,7 @@ pub(crate) fn follow<N: StackName + Send + Sync, R: Threads + Wait + Sync, W: Wa
         workers.items }
     ensures followed { IfOk result (λ f. IsFollowed script.now f.caller.receipts.list.items (asked_by f.caller.place).asked
         f.caller.receipts.share.amount (sum_by (λ seat. seat.share.amount) f.workers.items) f.made
-        (f.caller.fulls.amount + sum_by (λ seat. seat.fulls.amount) f.workers.items) f.is_full) }
+        (f.caller.fulls.amount + sum_by (λ seat. seat.fulls.amount) f.workers.items) f.is_full f.is_refused) }
     ensures parts { IfOk result (λ f. f.caller.receipts.share.parts ≡ caller.receipts.share.parts) }
     ensures workers { IfOk result (λ f. All (λ seat. IsWorkerOf stack.now.exchange seat.place × (seat.share.parts ≡ 1)) f.workers.items) }
     ensures count { IfOk result (λ f. length f.workers.items ≡ length workers.items) }
@@ -225,11 +230,16 @@ pub(crate) fn follow<N: StackName + Send + Sync, R: Threads + Wait + Sync, W: Wa
             ensures given { spec.AreGiven script.entry.now result.seat.receipts.list.items (asked_by result.seat.place).asked }
             ensures counted { result.seat.receipts.share.amount ≡ length result.seat.receipts.list.items }
             ensures parts { result.seat.receipts.share.parts ≡ caller.receipts.share.parts }
-            ensures full { result.outcome ≡ Err TurnFault.Full → 0 < result.seat.fulls.amount }
+            ensures full { result.outcome ≡ Err Stop.Full → 0 < result.seat.fulls.amount }
+            ensures refused { result.outcome ≡ Err Stop.Already → spec.StopsAtDetach script.entry.now result.seat.receipts.list.items
+                (asked_by result.seat.place).asked }
         { give_all(rt, alloc, stack, caller, script, &progress, watch) },
     );
     let Given { seat, outcome } = given;
-    let is_cut = is_full_by(outcome)?;
+    let Cut {
+        is_full: is_cut,
+        is_refused,
+    } = cut_by(outcome)?;
     let Ended {
         seats: workers,
         made,
@@ -240,5 +250,6 @@ pub(crate) fn follow<N: StackName + Send + Sync, R: Threads + Wait + Sync, W: Wa
         workers,
         made,
         is_full: is_cut || is_full,
+        is_refused,
     })
 }

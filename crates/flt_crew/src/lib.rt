@@ -11,6 +11,7 @@ mod giving;
 mod joining;
 mod progress;
 mod running;
+mod stopping;
 mod watch;
 mod working;
 

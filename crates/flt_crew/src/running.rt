@@ -10,7 +10,7 @@ ghost use Rattle.flt_script.specs.ScriptText.{Commands};
 ghost use Rattle.flt_workers.specs.Places.{IsCallerOf, IsWorkerOf, asked_by};
 
 use crate::ending::Ending;
-use crate::followed::{Followed, is_full_by};
+use crate::followed::{Cut, Followed, cut_by, is_full_by};
 use crate::watch::Watch;
 use crate::working::Ungated;
 use crate::{alone, joining};
@@ -65,7 +65,7 @@ fn follow_alone<N: StackName, R: Wait, W: Watch>(
     requires one { length workers.items ≡ 1 }
     ensures followed { IfOk result (λ f. IsFollowed script.now f.caller.receipts.list.items (asked_by f.caller.place).asked
         f.caller.receipts.share.amount (sum_by (λ seat. seat.share.amount) f.workers.items) f.made
-        (f.caller.fulls.amount + sum_by (λ seat. seat.fulls.amount) f.workers.items) f.is_full) }
+        (f.caller.fulls.amount + sum_by (λ seat. seat.fulls.amount) f.workers.items) f.is_full f.is_refused) }
     ensures parts { IfOk result (λ f. f.caller.receipts.share.parts ≡ caller.receipts.share.parts) }
     ensures workers { IfOk result (λ f. All (λ seat. seat.share.parts ≡ 1) f.workers.items) }
     ensures count { IfOk result (λ f. length f.workers.items ≡ length workers.items) }
@@ -81,12 +81,16 @@ fn follow_alone<N: StackName, R: Wait, W: Watch>(
         &mut made,
         watch,
     );
-    let is_full = is_full_by(outcome)?;
+    let Cut {
+        is_full,
+        is_refused,
+    } = cut_by(outcome)?;
     Ok(Followed {
         caller,
         workers,
         made,
         is_full,
+        is_refused,
     })
 }
 
@@ -131,13 +135,13 @@ fn follow_together<N: StackName + Send + Sync, R: Threads + Wait + Sync, W: Watc
     requires some { 0 < length workers.items }
     ensures followed { IfOk result (λ f. IsFollowed script.now f.caller.receipts.list.items (asked_by f.caller.place).asked
         f.caller.receipts.share.amount (sum_by (λ seat. seat.share.amount) f.workers.items) f.made
-        (f.caller.fulls.amount + sum_by (λ seat. seat.fulls.amount) f.workers.items) f.is_full) }
+        (f.caller.fulls.amount + sum_by (λ seat. seat.fulls.amount) f.workers.items) f.is_full f.is_refused) }
     ensures parts { IfOk result (λ f. f.caller.receipts.share.parts ≡ caller.receipts.share.parts) }
     ensures workers { IfOk result (λ f. All (λ seat. seat.share.parts ≡ 1) f.workers.items) }
     ensures count { IfOk result (λ f. length f.workers.items ≡ length workers.items) }
 {
     let mut followed = joining::follow(rt, alloc, stack, caller, workers, script, watch)?;
-    if !followed.is_full {
+    if !followed.is_full && !followed.is_refused {
         let outcome = work_again(rt, alloc, stack, &mut followed.workers, &mut followed.made);
         followed.is_full = is_full_by(outcome)?;
     }
@@ -163,7 +167,7 @@ fn follow<N: StackName + Send + Sync, R: Threads + Wait + Sync, W: Watch>(
     requires some { 0 < length workers.items }
     ensures followed { IfOk result (λ f. IsFollowed script.now f.caller.receipts.list.items (asked_by f.caller.place).asked
         f.caller.receipts.share.amount (sum_by (λ seat. seat.share.amount) f.workers.items) f.made
-        (f.caller.fulls.amount + sum_by (λ seat. seat.fulls.amount) f.workers.items) f.is_full) }
+        (f.caller.fulls.amount + sum_by (λ seat. seat.fulls.amount) f.workers.items) f.is_full f.is_refused) }
     ensures parts { IfOk result (λ f. f.caller.receipts.share.parts ≡ caller.receipts.share.parts) }
     ensures workers { IfOk result (λ f. All (λ seat. seat.share.parts ≡ 1) f.workers.items) }
     ensures count { IfOk result (λ f. length f.workers.items ≡ length workers.items) }
@@ -206,7 +210,7 @@ fn finish<N: StackName>(
     ensures ended { IfOk result (λ driven. (commands : Commands) → IsFollowed commands followed.caller.receipts.list.items
         (asked_by followed.caller.place).asked followed.caller.receipts.share.amount
         (sum_by (λ seat. seat.share.amount) followed.workers.items) followed.made
-        (followed.caller.fulls.amount + sum_by (λ seat. seat.fulls.amount) followed.workers.items) followed.is_full
+        (followed.caller.fulls.amount + sum_by (λ seat. seat.fulls.amount) followed.workers.items) followed.is_full followed.is_refused
         → spec.IsEnded commands driven.journal driven.made driven.ending) }
 {
     let Followed {
@@ -214,6 +218,7 @@ fn finish<N: StackName>(
         workers,
         made,
         is_full,
+        is_refused,
     } = followed;
     let callers = callers_of(alloc, caller)?;
     let journal = match stack.finish(callers, workers) {
@@ -232,6 +237,13 @@ fn finish<N: StackName>(
             journal,
             made,
             ending: Ending::Full,
+        });
+    }
+    if is_refused {
+        return Ok(Driven {
+            journal,
+            made,
+            ending: Ending::Already,
         });
     }
     Ok(Driven {

@@ -1,6 +1,6 @@
-use Rattle.std.proofs.Common.{◌≡◌, ◌≤◌, ◌∙◌, length, ap, refl, sym, arith}
+use Rattle.std.proofs.Common.{rules, ◌≡◌, ◌≤◌, ◌∙◌, length, ap, refl, sym, arith}
 use Rattle.flt_crew.proofs.Sums.{sum_more}
-use Rattle.flt_crew.proofs.Commands.{given_so_far, given_still, made_more, made_none}
+use Rattle.flt_crew.proofs.Commands.{given_so_far, given_still, made_more, made_none, stops_here}
 use Rattle.flt_crew.proofs.alone.follow.Goals as goal
 
 pub loop-command-init : goal.loop-command-init
@@ -18,6 +18,12 @@ pub returns-in_err-given-clause-given : goal.returns-in_err-given-clause-given
 returns-in_err-given-clause-given g c =
     given_still c.args.script.now c.commands-commands.result.now c.loop-command.command-index _ _ _ _ c.commands-commands.ensures.value
     c.loop-command.invariant.given c.in_err-given.ensures.refused.0 (ap (λ v. v.asked) c.in_err-given.ensures.refused.1)
+
+pub returns-in_err-given-clause-refused : goal.returns-in_err-given-clause-refused
+returns-in_err-given-clause-refused g c = λ is.
+    stops_here c.args.script.now c.commands-commands.result.now c.loop-command.command-index _ _ _ _ _ c.commands-commands.ensures.value
+    c.loop-command-test.true (c.in_err-given.ensures.already (search rules)) c.loop-command.invariant.given
+    c.in_err-given.ensures.refused.0 (ap (λ v. v.asked) c.in_err-given.ensures.refused.1)
 
 pub returns-in_err-more-clause-given : goal.returns-in_err-more-clause-given
 returns-in_err-more-clause-given g c =
