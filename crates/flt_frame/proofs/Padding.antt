@@ -1,11 +1,10 @@
 -- Lists in padded places.
-use Rattle.std.proofs.Common.{◌≡◌, ℕ, suc, ◌+◌, ◌-◌, ◌<◌, ◌≤◌, true, nat_lt, List, [], ◌∷◌, ◌++◌, length, take, drop, replicate, Some, append_assoc, length-append, refl, sym, ap, ◌∙◌, arith}
-use Rattle.std.proofs.lemmas.Bool.{lt-ltb}
+use Rattle.std.proofs.Common.{◌≡◌, ℕ, suc, ◌+◌, ◌-◌, ◌<◌, ◌≤◌, true, List, [], ◌∷◌, ◌++◌, length, take, drop, replicate, append_assoc, length-append, refl, sym, ap, ◌∙◌, arith}
 use Rattle.std.proofs.Math.Seq.{take-append_seam, set-append_seam}
 use Rattle.std.proofs.Math.ListN.{set}
 use Rattle.flt_graph.specs.declared.turns.Turn.{Turn}
 use Rattle.flt_frame.specs.Padded.{padded, IsPadded}
-use Rattle.flt_frame.specs.Turns.{no_turn, without_first, with_turn}
+use Rattle.flt_frame.specs.Turns.{has_first, no_turn, without_first}
 
 -- places that are padded behind a list hold the list
 pub holds : (A : Type 0) (places : ℕ) (blank : A) (xs cells : List A) (used : ℕ) → length xs ≤ places → cells ≡ padded places blank xs →
@@ -61,15 +60,6 @@ one_more t cells used p less =
     holds Turn 4 no_turn (t ∷ take used cells) (t ∷ take 3 cells) (used + 1) most
     (ap (λ (l : List Turn). t ∷ take 3 l) (sym p.filled) ∙ first_more t (take used cells) few) counts
 
--- as `with_turn` says
-pub one_within : (t : Turn) (cells more : List Turn) (used : ℕ) (turns : List Turn) → IsPadded Turn 4 no_turn cells used → used < 4 →
-    more ≡ t ∷ take 3 cells → take used cells ≡ turns → Some (take (used + 1) more) ≡ with_turn t turns
-one_within t cells more used turns p less is seen =
-    let counted : length (take used cells) ≡ used = p.counted in
-    let long : length turns ≡ used = ap (λ (l : List Turn). length l) (sym seen) ∙ counted in
-    let room : nat_lt (length turns) 4 ≡ true = lt-ltb (length turns) 4 (omega arith) in
-    rw (room, is) (ap (λ (l : List Turn). Some l) ((one_more t cells used p less).1 ∙ ap (λ (l : List Turn). t ∷ l) seen))
-
 length_behind : (xs : List Turn) → length (drop 1 xs) ≡ length xs - 1
 length_behind [] = refl
 length_behind (x ∷ xs) = omega arith
@@ -87,3 +77,12 @@ one_less cells used p some =
     let counts : used - 1 ≡ length (drop 1 (take used cells)) = omega arith in
     holds Turn 4 no_turn (drop 1 (take used cells)) (without_first cells) (used - 1) most
     (ap (λ (l : List Turn). without_first l) (sym p.filled) ∙ first_less (take used cells) one four) counts
+
+-- where the first of some turns is of a point, a place is in use
+pub some_are_used : (point : ℕ) (cells : List Turn) (used : ℕ) → IsPadded Turn 4 no_turn cells used →
+    has_first point (take used cells) ≡ true → 0 < used
+some_are_used point cells used p is = by (take used cells) p.counted is
+  where
+    by : (xs : List Turn) → length xs ≡ used → has_first point xs ≡ true → 0 < used
+    by [] counted is = absurd (cc)
+    by (x ∷ xs) counted is = omega arith

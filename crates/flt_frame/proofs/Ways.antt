@@ -1,7 +1,8 @@
 -- The way of an advance: how far it has come after some steps, and that it comes to its end.
-use Rattle.std.proofs.Common.{◌≡◌, ℕ, zero, suc, ◌+◌, ◌≤◌, Bool, true, nat_le, List, [], ◌∷◌, Option, Some, None, refl, sym, ap, ◌∙◌, subst, arith, add-one}
-use Rattle.std.specs.Prelude.{slice_get, option_map, if◌then◌else◌}
+use Rattle.std.proofs.Common.{◌≡◌, ℕ, zero, suc, ◌+◌, ◌≤◌, Bool, true, false, nat_le, List, [], ◌∷◌, Option, Some, None, refl, sym, ap, ◌∙◌, subst, arith, add-one}
+use Rattle.std.specs.Prelude.{slice_get, is_some, option_map, if◌then◌else◌}
 use Rattle.std.specs.List.{list_all}
+use Rattle.std.specs.Option.{unwrap_or}
 use Rattle.std.proofs.lemmas.Bool.{and_parts, leb-true}
 use Rattle.std.proofs.lemmas.Option.{none-some, same_Some}
 use Rattle.flt_tree.specs.Measures.{cost, points, is_small, max_points, max_cost}
@@ -29,7 +30,6 @@ use Rattle.flt_frame.specs.Loading.{IsLoaded, AreGraphsOfFilters}
 use Rattle.flt_frame.specs.Standings.{activation_with, StandsFor}
 use Rattle.flt_frame.specs.Steps.{stepped, turned_with}
 use Rattle.flt_frame.specs.Turns.{with_turn}
-use Rattle.flt_frame.specs.declared.frame.Advanced.{Advanced}
 use Rattle.flt_frame.specs.declared.frame.Frame.{Frame}
 use Rattle.flt_frame.specs.declared.standing.Standing.{Standing}
 
@@ -187,13 +187,15 @@ module _ (laws : Laws) (f : Filter) (g : Graph) (loaded : IsLoaded f g) (frame :
 
 -- ---- answers
 
--- an advance by its parts
-pub put_together : (cs : List Callback) (a : Advanced) (frame : Frame) (steps : ℕ) → a.frame ≡ frame → a.steps ≡ steps →
-    IsAdvanceOn cs (record { frame = frame; after = a.after; steps = steps }) → IsAdvanceOn cs a
-put_together cs a frame steps frame_is steps_is advance =
-    let same : record { frame = frame; after = a.after; steps = steps } ≡ a =
-    (λ i. record { frame = sym frame_is i; after = a.after; steps = sym steps_is i }) in
-    subst (λ (x : Advanced). IsAdvanceOn cs x) same advance
+-- a step that was made in place leads to what now stands there
+pub made : (o : Option Standing) (s t : Standing) → is_some o ≡ true → t ≡ unwrap_or o s → o ≡ Some t
+made None s t some is = absurd (cc)
+made (Some u) s t some is = ap Some (sym is)
+
+-- where none was made, all stands as it did
+pub unmade : (o : Option Standing) (s t : Standing) → is_some o ≡ false → t ≡ unwrap_or o s → (o ≡ None) × (t ≡ s)
+unmade None s t none is = (refl, is)
+unmade (Some u) s t none is = absurd (cc)
 
 -- where the frame's filter isn't there, nothing remains of what the frame stands for
 pub stays : (p : List Filter) (gs : List Graph) (frame : Frame) → AreGraphsOfFilters p gs → slice_get gs frame.filter ≡ None →

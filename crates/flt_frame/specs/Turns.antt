@@ -1,11 +1,16 @@
 -- The repeats in progress round a point, the innermost first. This project's own representation.
-use Rattle.std.specs.Prelude.{Bool, ◌&&◌, ◌==◌, ◌++◌, nat_lt, if◌then◌else◌, List, [], ◌∷◌, drop, length, Option, Some, None}
+use Rattle.std.specs.Prelude.{ℕ, Bool, false, ◌&&◌, ◌==◌, ◌++◌, nat_lt, if◌then◌else◌, List, [], ◌∷◌, drop, length, Option, Some, None}
 use Rattle.flt_tree.specs.Limits.{max_repeats}
 use Rattle.flt_graph.specs.declared.turns.Turn.{Turn}
 
 -- what stands in an unused place
 abbrev pub no_turn : Turn
 no_turn = record { point = 0; left = 0 }
+
+-- whether the innermost `repeat` is the one at a point
+abbrev pub has_first : ℕ → List Turn → Bool
+has_first point [] = false
+has_first point (first ∷ rest) = first.point == point
 
 -- the places without the first one, and a blank behind them
 abbrev pub without_first : List Turn → List Turn

@@ -1,6 +1,7 @@
 //! Local steps, as many as come one after another.
 
-ghost use Rattle.std.specs.Prelude.{◌≡◌, ◌≤◌, List};
+ghost use Rattle.std.specs.Prelude.{◌≡◌, ◌≤◌, List, is_some};
+ghost use Rattle.std.specs.Option.{unwrap_or};
 ghost use Rattle.flt_frame.specs.Leads.{IsAdvance, IsAdvanceOn};
 ghost use Rattle.flt_frame.specs.Loading.{AreLoaded, IsLoaded};
 ghost use Rattle.flt_frame.specs.Steps.{stepped};
@@ -15,38 +16,32 @@ use flt_graph::{Graph, callbacks_have_graphs, lists_have_points, lists_have_turn
 /// No callback costs as much, and each local step costs one at least.
 const MAX_COST: u32 = 1_000_000;
 
-/// One local step more; none where others see the next step.
-fn further(graph: &Graph, advanced: &Advanced) -> Option<Standing>
-    ensures { result ≡ stepped advanced.now.frame.draining
-        (instruction_at graph.now advanced.now.after.callback advanced.now.after.point) advanced.now.after }
+/// One local step more of a standing, and whether there was one: where others see the next step, nothing is changed.
+fn go_further(graph: &Graph, draining: bool, after: &mut Standing) -> bool
+    ensures local { result ≡ is_some (stepped draining (instruction_at graph.now after.old.callback after.old.point) after.old) }
+    ensures after { after.new
+        ≡ unwrap_or (stepped draining (instruction_at graph.now after.old.callback after.old.point) after.old) after.old }
 {
-    let after = advanced.after;
-    let instruction = graph.instruction(after.callback, after.point);
-    after.step_locally(advanced.frame.draining, instruction)
+    let instruction = graph.instruction_ref(after.callback, after.point);
+    after.step_locally(draining, instruction)
 }
 
-/// On the points of the frame's filter.
-fn advance_on(graph: &Graph, frame: Frame) -> Advanced
-    ensures frame { result.frame ≡ frame }
-    ensures few { result.steps ≤ 1000000 }
-    ensures advance { (f : Filter) → IsLoaded f graph.now → IsAdvanceOn f.callbacks result }
+/// Makes a frame's local steps on the points of its filter, and answers how many. The standing that is lent is the frame's before them.
+fn go_locally(graph: &Graph, frame: &Frame, after: &mut Standing) -> u32
+    requires { after.old ≡ frame.now.standing }
+    ensures few { result ≤ 1000000 }
+    ensures advance { (f : Filter) → IsLoaded f graph.now →
+        IsAdvanceOn f.callbacks (record { frame = frame.now; after = after.new; steps = result }) }
 {
     lists_have_points();
     callbacks_have_graphs();
     lists_have_turns();
-    let mut advanced = Advanced {
-        frame,
-        after: frame.standing,
-        steps: 0,
-    };
     for steps in 0..MAX_COST {
-        let Some(after) = further(graph, &advanced) else {
-            return advanced;
-        };
-        advanced.after = after;
-        advanced.steps = steps + 1;
+        if !go_further(graph, frame.draining, after) {
+            return steps;
+        }
     }
-    advanced
+    MAX_COST
 }
 
 /// Makes the local steps of a frame, up to the next step that others see. The machine isn't needed for it, and nothing is gained or lost.
@@ -55,11 +50,19 @@ pub fn advance(loaded: &Loaded, frame: Frame) -> Advanced
     ensures few { result.steps ≤ 1000000 }
     ensures advance { (p : List Filter) → AreLoaded p loaded.now → IsAdvance p result }
 {
+    let mut after = frame.standing;
     match loaded.graphs.get(frame.filter) {
-        Some(graph) => advance_on(graph, frame),
+        Some(graph) => {
+            let steps = go_locally(graph, &frame, &mut after);
+            Advanced {
+                frame,
+                after,
+                steps,
+            }
+        }
         None => Advanced {
             frame,
-            after: frame.standing,
+            after,
             steps: 0,
         },
     }

@@ -1,6 +1,7 @@
 //! The steps of an activation that nobody else can see.
 
-ghost use Rattle.std.specs.Prelude.{◌≡◌, [], option_map};
+ghost use Rattle.std.specs.Prelude.{◌≡◌, [], is_some, option_map};
+ghost use Rattle.std.specs.Option.{unwrap_or};
 ghost use Rattle.flt_model.specs.LocalSteps as model;
 ghost use Rattle.flt_frame.specs.Standings.{activation_with, with_variables};
 ghost use Rattle.flt_frame.specs.Steps as spec;
@@ -10,24 +11,28 @@ use flt_graph::{Instruction, Turn};
 use flt_tree::{Action, OperationVariable, Test};
 
 impl Standing {
-    /// Computes a number, or sets a variable to NULL. None where others see the action.
-    fn act(self, action: Action) -> Option<Standing>
-        ensures { result ≡ option_map (with_variables self) (model.after_action (activation_with self []) action) }
+    /// Computes a number, or sets a variable to NULL, and answers whether it did: where others see the action, nothing is changed.
+    fn act(&mut self, action: &Action) -> bool
+        ensures local { result ≡ is_some (model.after_action (activation_with self.old []) action.now) }
+        ensures after { self.new
+            ≡ unwrap_or (option_map (with_variables self.old) (model.after_action (activation_with self.old []) action.now)) self.old }
     {
-        let mut after = self;
         match action {
             Action::SetNumber(variable, expression) => {
-                after.set_number(variable, self.expression(expression));
+                let value = self.expression(expression);
+                self.set_number(*variable, value);
+                true
             }
-            Action::ClearContext(variable) => after.set_context(variable, None),
+            Action::ClearContext(variable) => {
+                self.set_context(*variable, None);
+                true
+            }
             Action::ClearOperation(variable) => {
-                after.set_operation(OperationVariable::Removed(variable), None);
+                self.set_operation(OperationVariable::Removed(*variable), None);
+                true
             }
-            Action::ReadValue(_, _) | Action::ReadFile(_, _) | Action::WriteValue(_, _) => {
-                return None;
-            }
+            Action::ReadValue(_, _) | Action::ReadFile(_, _) | Action::WriteValue(_, _) => false,
         }
-        Some(after)
     }
 
     /// What a test says of the activation's own variables and flag; none where it asks of the operation.
@@ -49,55 +54,51 @@ impl Standing {
         }
     }
 
-    /// A turn of the `repeat` at the standing's point, whose text has so many: at its body where one is left, otherwise behind it.
-    /// None where the body would nest too deep.
-    fn turn(self, text: u64, body: usize, behind: usize) -> Option<Standing>
-        ensures { result ≡ spec.turned text body behind self }
+    /// A turn of the `repeat` at the standing's point, whose text has so many: to its body where one is left, otherwise behind it.
+    /// False, and nothing is changed, where the body would nest too deep.
+    fn turn(&mut self, text: u64, body: usize, behind: usize) -> bool
+        ensures local { result ≡ is_some (spec.turned text body behind self.old) }
+        ensures after { self.new ≡ unwrap_or (spec.turned text body behind self.old) self.old }
     {
         let left = self.turns.left_at(self.point, text);
-        let round = self.turns.round(self.point);
         if left == 0 {
-            return Some(Standing {
-                point: behind,
-                turns: round,
-                ..self
-            });
+            self.turns.leave(self.point);
+            self.point = behind;
+            return true;
         }
         let turn = Turn {
             point: self.point,
             left: left - 1,
         };
-        match round.with(turn) {
-            Some(turns) => Some(Standing {
-                point: body,
-                turns,
-                ..self
-            }),
-            None => None,
+        if self.turns.begin(turn) {
+            self.point = body;
+            return true;
         }
+        false
     }
 
-    /// The step of an instruction, where it is local. None where others see it.
-    pub(crate) fn step_locally(self, draining: bool, instruction: Instruction) -> Option<Standing>
-        ensures { result ≡ spec.stepped draining instruction self }
+    /// Makes the step of an instruction, and answers whether it is local: where others see it, nothing is changed.
+    pub(crate) fn step_locally(&mut self, draining: bool, instruction: &Instruction) -> bool
+        ensures local { result ≡ is_some (spec.stepped draining instruction.now self.old) }
+        ensures after { self.new ≡ unwrap_or (spec.stepped draining instruction.now self.old) self.old }
     {
         match instruction {
-            Instruction::Act(action, next) => match self.act(action) {
-                Some(after) => Some(Standing {
-                    point: next,
-                    ..after
-                }),
-                None => None,
+            Instruction::Act(action, next) => {
+                if self.act(action) {
+                    self.point = *next;
+                    return true;
+                }
+                false
+            }
+            Instruction::Test(test, granted, refused) => match self.test(draining, *test) {
+                Some(holds) => {
+                    self.point = if holds { *granted } else { *refused };
+                    true
+                }
+                None => false,
             },
-            Instruction::Test(test, granted, refused) => match self.test(draining, test) {
-                Some(holds) => Some(Standing {
-                    point: if holds { granted } else { refused },
-                    ..self
-                }),
-                None => None,
-            },
-            Instruction::Repeat(text, body, behind) => self.turn(text, body, behind),
-            Instruction::Call(_, _, _) | Instruction::Return(_) | Instruction::End => None,
+            Instruction::Repeat(text, body, behind) => self.turn(*text, *body, *behind),
+            Instruction::Call(_, _, _) | Instruction::Return(_) | Instruction::End => false,
         }
     }
 }

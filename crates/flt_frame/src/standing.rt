@@ -123,13 +123,13 @@ impl Standing {
     }
 
     /// The value of a number, a sum or a difference; these wrap.
-    pub(crate) fn expression(&self, expression: Expression) -> u64
-        ensures { result ≡ model.expression_value (spec.activation_with self.now []) expression }
+    pub(crate) fn expression(&self, expression: &Expression) -> u64
+        ensures { result ≡ model.expression_value (spec.activation_with self.now []) expression.now }
     {
         match expression {
-            Expression::Atom(atom) => self.atom(atom),
-            Expression::Sum(left, right) => self.atom(left).wrapping_add(self.atom(right)),
-            Expression::Difference(left, right) => self.atom(left).wrapping_sub(self.atom(right)),
+            Expression::Atom(atom) => self.atom(*atom),
+            Expression::Sum(left, right) => self.atom(*left).wrapping_add(self.atom(*right)),
+            Expression::Difference(left, right) => self.atom(*left).wrapping_sub(self.atom(*right)),
         }
     }
 

@@ -1,6 +1,7 @@
 //! The repeats in progress round a point.
 
-ghost use Rattle.std.specs.Prelude.{◌≡◌, ◌↔◌, ◌<◌, ◌≤◌, [], ◌∷◌, take, drop, length, IsTrue};
+ghost use Rattle.std.specs.Prelude.{◌≡◌, ◌↔◌, ◌<◌, ◌≤◌, [], ◌∷◌, is_some, take, drop, length, IsTrue};
+ghost use Rattle.std.specs.Option.{unwrap_or};
 ghost use Rattle.std.specs.Cmp.Lexicographic.{pointwise};
 ghost use Rattle.flt_graph.specs.Turns as graph;
 ghost use Rattle.flt_frame.specs.Turns as spec;
@@ -103,41 +104,42 @@ impl Turns {
         }
     }
 
-    /// Without the innermost.
-    fn outer(&self) -> Turns
-        ensures { result ≡ drop 1 self.now }
-    {
-        if self.used == 0 {
-            return *self;
-        }
-        Turns {
-            turns: without_first(self.turns),
-            used: self.used - 1,
-        }
-    }
-
-    /// The repeats round the one at a point, without itself.
-    pub(crate) fn round(&self, point: usize) -> Turns
-        ensures { result ≡ graph.turns_round point self.now }
+    /// Whether the first one is of the `repeat` at a point.
+    fn has_first(&self, point: usize) -> bool
+        ensures { result ≡ spec.has_first point self.now }
     {
         match self.as_slice() {
-            [first, ..] if first.point == point => self.outer(),
-            _ => *self,
+            [first, ..] => first.point == point,
+            _ => false,
         }
     }
 
-    /// The repeats with one more within them; none where four are in progress.
-    pub(crate) fn with(&self, turn: Turn) -> Option<Turns>
-        ensures { result ≡ spec.with_turn turn self.now }
+    /// The `repeat` at a point is left, if it is in progress: what remains are those round it.
+    pub(crate) fn leave(&mut self, point: usize)
+        ensures { self.new ≡ graph.turns_round point self.old }
     {
-        if self.used < MAX_REPEATS {
-            Some(Turns {
-                turns: with_first(self.turns, turn),
-                used: self.used + 1,
-            })
-        } else {
-            None
+        if self.has_first(point) {
+            self.turns = without_first(self.turns);
+            self.used -= 1;
         }
+    }
+
+    /// A turn of a `repeat` begins: it takes the place of that repeat's turn before, or comes within the others. False, and nothing is
+    /// changed, where four others are in progress.
+    pub(crate) fn begin(&mut self, turn: Turn) -> bool
+        ensures begun { result ≡ is_some (spec.with_turn turn (graph.turns_round turn.point self.old)) }
+        ensures after { self.new ≡ unwrap_or (spec.with_turn turn (graph.turns_round turn.point self.old)) self.old }
+    {
+        if self.has_first(turn.point) {
+            self.turns[0] = turn;
+            return true;
+        }
+        if self.used < MAX_REPEATS {
+            self.turns = with_first(self.turns, turn);
+            self.used += 1;
+            return true;
+        }
+        false
     }
 
     pub(crate) fn is_same(&self, other: &Turns) -> bool
