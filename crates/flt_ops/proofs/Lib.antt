@@ -1,5 +1,6 @@
 pub mod FirstPlaces
 pub mod Counts
+pub mod Rows
 pub mod Framed
 pub mod OtherFrames
 pub mod Changes

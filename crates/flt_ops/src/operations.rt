@@ -5,6 +5,7 @@ ghost use Rattle.flt_model.specs.Moves as moves;
 ghost use Rattle.flt_model.specs.Settling as settling;
 ghost use Rattle.flt_model.specs.World as machine;
 ghost use Rattle.flt_ops.specs.Operating.{store_of, after, no_operations, route_of, filter_at, is_past_filters, frame_at, in_pre_visit, past_filter, lowered, in_post_visit, in_draining_visit, with_cancel, IsStarted};
+ghost use Rattle.flt_ops.specs.Numbered.{numbers_of};
 ghost use Rattle.flt_ops.specs.Parts.{position_of, outcome_of, way_of};
 ghost use Rattle.flt_ops.specs.declared.fault.ArriveFault.TheVariants.{Full};
 
@@ -157,6 +158,13 @@ impl Operations {
         ensures { result ≡ machine.visit_at (store_of self.now) visit }
     {
         self.visits.get(visit)
+    }
+
+    /// The numbers of an operation's visits, in order.
+    pub fn visits_of(&self, serial: u32) -> &[usize]
+        ensures { result.now ≡ numbers_of serial self.now.visits }
+    {
+        self.visits.of(serial)
     }
 
     /// Whether the filter's part in a visit is over. It is in one that isn't there.

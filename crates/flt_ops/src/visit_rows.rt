@@ -1,10 +1,12 @@
-//! Visits, with a count of the unsettled ones of each operation.
+//! Visits, with the numbers of those of each operation, and a count of the unsettled ones.
 
 ghost use Rattle.std.specs.Prelude.{◌≡◌, ℕ, ◌<◌, ◌≤◌, true, false, List, [], ◌∷◌, ◌++◌, length, set, get_or, OnOk, OnErr, IfOk};
 ghost use Rattle.flt_model.specs.Moves as moves;
 ghost use Rattle.flt_model.specs.World as machine;
 ghost use Rattle.flt_ops.specs.Unsettled.{count_unsettled};
+ghost use Rattle.flt_ops.specs.Numbered.{numbers_of};
 
+use crate::numbers::Numbers;
 use crate::parts::Visit;
 use flt_rules::Stage;
 use std::alloc::{AllocError, Global};
@@ -13,21 +15,25 @@ use std::marker::Model;
 /// Visits by number, and whether each is settled.
 #[derive(Drop)]
 pub(crate) struct Visits {
+    alloc: Global,
     visits: Vec<Visit>,
     settled: Vec<bool>,
     /// Of each operation, how many of its visits aren't settled.
     unsettled: Vec<usize>,
+    /// Of each operation, the numbers of its visits.
+    numbers: Vec<Numbers>,
 }
 
 impl Model for Visits {
     ghost use Rattle.std.specs.Prelude.{length};
-    ghost use Rattle.flt_ops.specs.Unsettled.{VisitRows, AreCounted};
+    ghost use Rattle.flt_ops.specs.Unsettled.{VisitRows};
+    ghost use Rattle.flt_ops.specs.Numbered.{AreRows};
 
     ghost Value = { VisitRows };
 
     ghost view = { λ v. record { room = length v.unsettled.items; visits = v.visits.items; settled = v.settled.items } };
 
-    ghost invariant = { λ v. AreCounted v.visits.items v.settled.items v.unsettled.items };
+    ghost invariant = { λ v. AreRows v.visits.items v.settled.items v.unsettled.items v.numbers.items };
 }
 
 impl Visits {
@@ -35,9 +41,11 @@ impl Visits {
         ensures { result ≡ record { room = 0; visits = []; settled = [] } }
     {
         Visits {
+            alloc,
             visits: Vec::new(alloc),
             settled: Vec::new(alloc),
             unsettled: Vec::new(alloc),
+            numbers: Vec::new(alloc),
         }
     }
 
@@ -70,6 +78,16 @@ impl Visits {
         match self.settled.get(visit) {
             Some(settled) => *settled,
             None => true,
+        }
+    }
+
+    /// The numbers of the visits of an operation, in order.
+    pub(crate) fn of(&self, operation: u32) -> &[usize]
+        ensures { result.now ≡ numbers_of operation self.now.visits }
+    {
+        match self.numbers.get(operation as usize) {
+            Some(numbers) => numbers.as_slice(),
+            None => &[],
         }
     }
 
@@ -114,13 +132,14 @@ impl Visits {
         ensures same { self.new ≡ record self.old { room = self.new.room } }
     {
         if operation == self.unsettled.len() {
-            self.unsettled.push(0)?;
+            self.unsettled.reserve(1)?;
+            self.numbers.push(Numbers::new(self.alloc))?;
+            self.unsettled.push_reserved(0);
         }
         Ok(())
     }
 
     /// A new visit, which isn't settled. The answer is its number.
-    #[tactic(auto, using(std::proofs::lemmas::Grind::common_steps, crate::proofs::Counts::counted_more, crate::proofs::Counts::count_within))]
     pub(crate) fn add(&mut self, visit: Visit) -> Result<usize, AllocError>
         requires { visit.operation < self.old.room }
         ensures number { IfOk result (λ number. number ≡ length self.old.visits) }
@@ -133,11 +152,12 @@ impl Visits {
         self.visits.reserve(1)?;
         self.settled.reserve(1)?;
         let operation = visit.operation as usize;
+        let number = self.visits.len();
+        self.numbers[operation].push(number)?;
         self.visits.push_reserved(visit);
         self.settled.push_reserved(false);
-        let visits = self.visits.len();
         self.unsettled[operation] += 1;
-        Ok(visits - 1)
+        Ok(number)
     }
 
     /// The filter's part in the operation is over.
