@@ -19,6 +19,7 @@ ghost use Rattle.flt_model.specs.declared.subject.Subject.TheVariants as subject
 ghost use Rattle.flt_store.specs.Changes.{after_change, cancels_entries, IsPossible};
 ghost use Rattle.flt_tree.specs.declared.filter.Filter.{Filter};
 
+use crate::active::{count_start, make_room};
 use crate::actor::Actor;
 use crate::board::{Board, MAX_ENTRIES};
 use crate::events::{Events, events_of};
@@ -212,6 +213,7 @@ impl Board {
     {
         self.actors.reserve(1)?;
         self.standings.reserve(1)?;
+        make_room(&mut self.active, start.filter)?;
         let kept = Kept::new(alloc, standing_of(start))?;
         write(
             &mut self.journal,
@@ -225,6 +227,7 @@ impl Board {
             draining: start.draining,
         });
         self.standings.push_reserved(Some(kept));
+        count_start(&mut self.active, start.filter);
         Ok(())
     }
 }

@@ -17,6 +17,7 @@ ghost use Rattle.flt_ops.specs.Parts.{outcome_of};
 ghost use Rattle.flt_tree.specs.Measures.{max_cost};
 ghost use Rattle.flt_tree.specs.declared.filter.Filter.{Filter};
 
+use crate::active::has_any;
 use crate::actor::Actor;
 use crate::kept::Kept;
 use flt_costs::journals_stay_within_costs;
@@ -36,13 +37,15 @@ pub const MAX_ENTRIES: usize = 1_000_000;
 pub struct Board {
     pub(crate) actors: Vec<Actor>,
     pub(crate) standings: Vec<Option<Kept>>,
+    /// By filter, how many of its activations go on. A filter without a count has none.
+    pub(crate) active: Vec<usize>,
     pub(crate) store: Store,
     pub(crate) journal: Journal,
 }
 
 impl Model for Board {
     ghost use Rattle.flt_machine.specs.Situations.{Situation};
-    ghost use Rattle.flt_machine.specs.Counted.{IsBounded};
+    ghost use Rattle.flt_machine.specs.Active.{IsConsistent};
 
     ghost Value = { Situation };
 
@@ -53,12 +56,12 @@ impl Model for Board {
       entries = b.journal;
     } };
 
-    ghost invariant = { λ b. IsBounded (record {
+    ghost invariant = { λ b. IsConsistent (record {
       actors = b.actors.items;
       standings = b.standings.items;
       store = b.store;
       entries = b.journal;
-    }) };
+    }) b.active.items };
 }
 
 impl Board {
@@ -70,6 +73,7 @@ impl Board {
         Ok(Board {
             actors: Vec::new(alloc),
             standings: Vec::new(alloc),
+            active: Vec::new(alloc),
             store: Store::new(alloc, loaded.filters())?,
             journal: Journal::new(alloc),
         })
@@ -120,14 +124,7 @@ impl Board {
     pub(crate) fn has_active(&self, filter: usize) -> bool
         ensures { result ≡ spec.has_standing filter self.now.actors self.now.standings }
     {
-        let mut activation = 0;
-        while activation < self.standings.len() {
-            if self.actor(activation).filter == filter && self.standing(activation).is_some() {
-                return true;
-            }
-            activation += 1;
-        }
-        false
+        has_any(self.active.as_slice(), filter)
     }
 
     // ---- what is there
@@ -176,6 +173,7 @@ impl Board {
         let Board {
             actors: _,
             standings: _,
+            active: _,
             store: _,
             journal,
         } = self;

@@ -20,6 +20,7 @@ ghost use Rattle.flt_tree.specs.declared.filter.Callback.{Callback};
 ghost use Rattle.flt_tree.specs.declared.filter.Filter.{Filter};
 ghost use Rattle.flt_tree.specs.declared.filter.Statement.{Statement};
 
+use crate::active::count_end;
 use crate::board::{Board, MAX_ENTRIES};
 use crate::events::Events;
 use crate::kept::Kept;
@@ -201,8 +202,18 @@ impl Board {
     {
         match later {
             Some(standing) => renew(&mut self.standings, activation, standing),
-            None => end(&mut self.standings, activation),
+            None => self.end(activation),
         }
+    }
+
+    /// An activation that goes on has ended.
+    fn end(&mut self, activation: usize)
+        requires there { IsSome (standing_of self.old activation) }
+        ensures { self.new ≡ record self.old { standings = set self.old.standings activation None } }
+    {
+        let filter = self.actor(activation).filter;
+        self.standings[activation] = None;
+        count_end(&mut self.active, filter);
     }
 }
 
@@ -242,15 +253,6 @@ fn standing_after(caller: &Caller, instruction: Instruction, plan: &Plan) -> Opt
     match plan.write {
         Write::End => None,
         _ => Some(continued(&caller.standing, instruction, plan)),
-    }
-}
-
-/// The activation has ended.
-fn end(standings: &mut Vec<Option<Kept>>, activation: usize)
-    ensures { standings.new.items ≡ set standings.old.items activation None }
-{
-    if activation < standings.len() {
-        standings[activation] = None;
     }
 }
 

@@ -4,6 +4,7 @@
 //! alone; then what may need memory grows; then the change is made. So a refusal leaves board and journal as they were.
 #![tactic(auto)]
 
+mod active;
 mod actor;
 mod applying;
 mod board;

@@ -20,14 +20,14 @@ standing_after-later-requires-clause-free c =
 pub standing_after-later-requires-clause-small : goal.standing_after-later-requires-clause-small
 standing_after-later-requires-clause-small c =
     small_ever c.args.loaded.now c.args.self.now c.args.advanced.now c.args.grant c.args.caller.now c.args.instruction c.standings_have_points.ensures.told c.requires.own c.requires.advance c.requires.fresh
-    c.requires.caller c.requires.instruction (subst (λ (b : Situation). IsBounded b) c.self.view_is c.self.invariant)
+    c.requires.caller c.requires.instruction (subst (λ (b : Situation). IsBounded b) c.self.view_is c.self.invariant.bounded)
 
 pub put-requires-clause-small : goal.put-requires-clause-small
 put-requires-clause-small c =
     small_after c.args.self.now c.write_down.new.self _ c.entry_of.result c.standing_after-later.result c.in_ok-write_down.ensures.ok
     (c.standing_after-later.ensures.small (length c.args.self.now.entries)
     (small_before c.args.loaded.now c.args.self.now c.args.advanced.now c.args.grant c.args.caller.now c.args.instruction c.standings_have_points.ensures.told c.requires.own c.requires.advance c.requires.fresh
-    c.requires.caller c.requires.instruction (subst (λ (b : Situation). IsBounded b) c.self.view_is c.self.invariant)))
+    c.requires.caller c.requires.instruction (subst (λ (b : Situation). IsBounded b) c.self.view_is c.self.invariant.bounded)))
 
 pub returns-clause-committed : goal.returns-clause-committed
 returns-clause-committed c =

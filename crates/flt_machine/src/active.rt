@@ -1,0 +1,45 @@
+//! How many activations of each filter go on: a count beside the activations, so that nobody walks along them.
+
+ghost use Rattle.std.specs.Prelude.{◌≡◌, ℕ, ◌+◌, ◌-◌, ◌^◌, ◌<◌, ◌≤◌, nat_lt, length, get_or, set, OnOk};
+
+use std::alloc::AllocError;
+
+/// Makes room for the count of a filter. Those up to it that weren't there count nothing.
+pub(crate) fn make_room(counts: &mut Vec<usize>, filter: usize) -> Result<(), AllocError>
+    ensures room { OnOk result (filter < length counts.new.items) }
+    ensures same { (other : ℕ) → get_or counts.new.items other 0 ≡ get_or counts.old.items other 0 }
+{
+    while counts.len() <= filter {
+        counts.push(0)?;
+    }
+    Ok(())
+}
+
+/// One activation more of the filter goes on.
+pub(crate) fn count_start(counts: &mut Vec<usize>, filter: usize)
+    requires room { filter < length counts.old.items }
+    requires few { get_or counts.old.items filter 0 < 2 ^ 64 - 1 }
+    ensures { counts.new.items ≡ set counts.old.items filter (get_or counts.old.items filter 0 + 1) }
+{
+    counts[filter] += 1;
+}
+
+/// One that went on has ended.
+pub(crate) fn count_end(counts: &mut Vec<usize>, filter: usize)
+    requires { 1 ≤ get_or counts.old.items filter 0 }
+    ensures { counts.new.items ≡ set counts.old.items filter (get_or counts.old.items filter 0 - 1) }
+{
+    if filter < counts.len() {
+        counts[filter] -= 1;
+    }
+}
+
+/// Whether one goes on.
+pub(crate) fn has_any(counts: &[usize], filter: usize) -> bool
+    ensures { result ≡ nat_lt 0 (get_or counts.now filter 0) }
+{
+    match counts.get(filter) {
+        Some(count) => *count > 0,
+        None => false,
+    }
+}
