@@ -3,7 +3,9 @@ use Rattle.std.proofs.Common.{◌≡◌, ℕ, zero, suc, ◌≤◌, true, false,
 use Rattle.std.proofs.Math.ListN.{get_or}
 use Rattle.std.proofs.lemmas.Bool.{cases_lt}
 use Rattle.std.proofs.lemmas.List.{get_or-replicate, get_or_past, length-replicate}
+use Rattle.std.proofs.lemmas.List.Elements.{All-nil, All-same}
 use Rattle.flt_cbdq.specs.Queues as cbdq
+use Rattle.flt_cbdq.specs.declared.entry.Entry as kept
 use Rattle.flt_ctx.specs.Contexts as ctx
 use Rattle.flt_model.specs.World.{Presence, Attached, Detached, Holder, Entry, is_attached}
 use Rattle.flt_ops.specs.Operating.{Operating, no_operations}
@@ -20,18 +22,26 @@ opened n f = elim (cases_lt f n) [
       get_or_past (replicate n false) f true long ∙ sym (ap (λ (p : Presence). not (is_attached p)) (get_or_past (replicate n Attached) f Detached all))
 ]
 
-pub fresh_parts : (presences : List Presence) (queues : cbdq.Queueing) (contexts : ctx.ContextTable) (operations : Operating)
+-- no queue has an entry
+none_queued : (n f : ℕ) → get_or (replicate {A = List kept.Entry} n []) f [] ≡ []
+none_queued zero f = refl
+none_queued (suc n) zero = refl
+none_queued (suc n) (suc f) = none_queued n f
+
+pub fresh_parts : (presences : List Presence) (queues : cbdq.Queueing) (greatest : ℕ) (contexts : ctx.ContextTable) (operations : Operating)
     (holders : List (List (List Holder))) (n : ℕ) → presences ≡ replicate n Attached →
     queues ≡ record { queues = replicate n []; disabled = replicate n false } →
     contexts ≡ record { contexts = []; closed = replicate n false } → operations ≡ no_operations n →
-    holders ≡ replicate n (replicate 8 []) → AreParts presences queues contexts operations holders
-fresh_parts presences queues contexts operations holders n attached empty none idle free =
+    holders ≡ replicate n (replicate 8 []) → AreParts presences queues greatest contexts operations holders
+fresh_parts presences queues greatest contexts operations holders n attached empty none idle free =
     let as_many : length presences ≡ n = ap (λ (ps : List Presence). length ps) attached ∙ length-replicate n Attached in
     record {
       filters = ap (λ (o : Operating). o.filters) idle ∙ sym as_many;
       locked = ap (λ (hs : List (List (List Holder))). length hs) free ∙ length-replicate n (replicate 8 []) ∙ sym as_many;
       closed = λ f. rw (none, attached) (opened n f);
       disabled = λ f. rw (empty, attached) (opened n f);
+      queued = λ f. All-same (λ (e : kept.Entry). e.visit ≤ greatest) (get_or queues.queues f []) []
+          (ap (λ (q : cbdq.Queueing). get_or q.queues f []) empty ∙ none_queued n f) (All-nil (λ (e : kept.Entry). e.visit ≤ greatest));
     }
 
 -- empty queues are the machine's

@@ -1,7 +1,8 @@
 -- What activations share, by its parts.
-use Rattle.std.specs.Prelude.{◌≡◌, ℕ, ◌+◌, Bool, true, not, ◌&&◌, List, [], length, replicate, get_or}
-use Rattle.std.specs.List.{list_any}
+use Rattle.std.specs.Prelude.{◌≡◌, ℕ, ◌+◌, ◌≤◌, Bool, true, not, ◌&&◌, List, [], length, replicate, get_or}
+use Rattle.std.specs.List.{All, list_any}
 use Rattle.flt_cbdq.specs.Queues as cbdq
+use Rattle.flt_cbdq.specs.declared.entry.Entry.{Entry}
 use Rattle.flt_ctx.specs.Contexts as ctx
 use Rattle.flt_model.specs.Moves.{has_frame, is_empty, is_item_of, is_linked_by}
 use Rattle.flt_model.specs.World.{World, Store, Actor, Activation, Context, Presence, Attached, Detached, Holder, is_attached, queue_at}
@@ -31,12 +32,18 @@ world_of store actors activations = record { actors = actors; activations = acti
 abbrev pub AreClosed : List Bool → List Presence → Type 0
 AreClosed closed presences = (f : ℕ) → get_or closed f true ≡ not (is_attached (get_or presences f Detached))
 
--- what holds of the parts at all times: each has as many filters, and closed are those that aren't attached
-pub record AreParts (presences : List Presence) (queues : cbdq.Queueing) (contexts : ctx.ContextTable) (operations : Operating) (holders : List (List (List Holder))) : Type 0 where
+-- no queue has an entry of a greater visit
+abbrev pub AreUpTo : ℕ → List (List Entry) → Type 0
+AreUpTo greatest queues = (f : ℕ) → All (λ (e : Entry). e.visit ≤ greatest) (get_or queues f [])
+
+-- what holds of the parts at all times: each has as many filters, closed are those that aren't attached, and the greatest visit that was
+-- queued is known
+pub record AreParts (presences : List Presence) (queues : cbdq.Queueing) (greatest : ℕ) (contexts : ctx.ContextTable) (operations : Operating) (holders : List (List (List Holder))) : Type 0 where
   pub filters : operations.filters ≡ length presences
   pub locked : length holders ≡ length presences
   pub closed : AreClosed contexts.closed presences
   pub disabled : AreClosed queues.disabled presences
+  pub queued : AreUpTo greatest queues.queues
 
 -- the filter has nothing left but activations
 abbrev pub is_emptied : Store → ℕ → Bool

@@ -161,7 +161,10 @@ impl Store {
         ensures refused { OnErr result (self.new ≡ self.old) }
     {
         match self.queues.insert(filter, Entry { visit, context }) {
-            Ok(()) => Ok(()),
+            Ok(()) => {
+                self.greatest_queued = self.greatest_queued.max(visit);
+                Ok(())
+            }
             Err(InsertFault::OutOfMemory(_)) => Err(AllocError),
             // The queue of an attached filter takes entries.
             Err(InsertFault::Disabled(_)) => unreachable!(),

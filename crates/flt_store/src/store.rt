@@ -28,6 +28,8 @@ use std::marker::Model;
 pub struct Store {
     pub(crate) presences: Vec<Instance>,
     pub(crate) queues: Queues,
+    /// No visit with a greater number was ever put into a queue.
+    pub(crate) greatest_queued: usize,
     /// By filter and lock.
     pub(crate) holders: Vec<[Holders; 8]>,
     pub(crate) operations: Operations,
@@ -55,7 +57,7 @@ impl Model for Store {
       items = s.items;
     } };
 
-    ghost invariant = { λ s. AreParts s.presences.items s.queues s.contexts s.operations s.holders.items };
+    ghost invariant = { λ s. AreParts s.presences.items s.queues s.greatest_queued s.contexts s.operations s.holders.items };
 }
 
 impl Store {
@@ -74,6 +76,7 @@ impl Store {
         Ok(Store {
             presences,
             queues: Queues::new(alloc, filters)?,
+            greatest_queued: 0,
             holders,
             operations: Operations::new(alloc, filters),
             contexts: Contexts::new(alloc, filters)?,
@@ -197,8 +200,20 @@ impl Store {
         self.queues.entry(filter, 0).copied()
     }
 
-    /// The first entry of an operation in a filter's queue.
+    /// The first entry of an operation in a filter's queue. It takes a walk along the queue only where an entry's visit isn't there,
+    /// which counts as one of the first operation and stands in no list of visits.
     pub fn first_entry(&self, filter: usize, serial: u32) -> Option<Entry>
+        ensures { option_map entry_of result ≡ find (moves.is_entry_of self.now serial) (spec.queue_at self.now filter) }
+    {
+        if self.greatest_queued >= self.operations.visits() {
+            return self.walk_to_entry(filter, serial);
+        }
+        let visits = self.operations.visits_of(serial);
+        self.queues.first_of(filter, visits).copied()
+    }
+
+    /// The same, by a walk from the front.
+    fn walk_to_entry(&self, filter: usize, serial: u32) -> Option<Entry>
         ensures { option_map entry_of result ≡ find (moves.is_entry_of self.now serial) (spec.queue_at self.now filter) }
     {
         let mut left = self.queues.walk(filter);

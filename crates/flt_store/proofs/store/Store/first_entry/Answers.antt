@@ -1,40 +1,18 @@
-use Rattle.std.proofs.Common.{◌≡◌, ◌≢◌, List, find, map, sym, subst, ap, length, ◌<◌, ◌∙◌}
-use Rattle.flt_cbdq.specs.declared.entry.Entry as cbdq
+use Rattle.std.proofs.Common.{find, ap, List, ℕ, Option, option_map, ◌∙◌, arith}
+use Rattle.flt_cbdq.specs.Queues.{is_of, queue_of}
+use Rattle.flt_cbdq.specs.declared.entry.Entry as kept
 use Rattle.flt_model.specs.Moves.{is_entry_of}
-use Rattle.flt_model.specs.World.{Store, Visit, queue_at, visit_at}
+use Rattle.flt_model.specs.World.{Store, queue_at}
+use Rattle.flt_store.proofs.Listed.{listed_there}
 use Rattle.flt_store.specs.Parts.{entry_of}
-use Rattle.flt_store.proofs.Reading.{queue_there, walk_found, walk_past, walk_over, walk_shorter}
+use Rattle.flt_store.specs.contracts.store.Store.{the_view}
 use Rattle.flt_store.proofs.store.Store.first_entry.Goals as goal
-
-pub loop-entry-init : goal.loop-entry-init
-loop-entry-init c =
-    ap (λ (s : Store). find (is_entry_of c.args.self.now c.args.serial) (queue_at s c.args.filter)) (sym c.self.view_is) ∙
-    ap (find (is_entry_of c.args.self.now c.args.serial)) (queue_there c.self.inside.queues.queues c.args.filter) ∙
-    ap (λ (q : List cbdq.Entry). find (is_entry_of c.args.self.now c.args.serial) (map entry_of q)) (sym c.walk-left.ensures)
-
-pub returns-then-visit-serial : goal.returns-then-visit-serial
-returns-then-visit-serial c =
-    let visit_is : c.visit.result ≡ visit_at c.args.self.now c.in-Some.entry.visit =
-    c.visit.ensures ∙ ap (λ (s : Store). visit_at s c.in-Some.entry.visit) c.self.view_is in
-    let here = ap (λ (v : Visit). v.operation) (sym c.visit-in-Some.view_is) ∙ c.if-visit-serial.true in
-    walk_found c.args.self.now c.args.serial c.loop-entry.left c.in-Some.entry c.visit.result (sym c.in-Some.is ∙ c.next_entry.ensures.first)
-    visit_is here ∙ sym c.loop-entry.invariant
-
-pub loop-entry-smaller : goal.loop-entry-smaller
-loop-entry-smaller c =
-    let shorter = walk_shorter c.loop-entry.left c.in-Some.entry (sym c.in-Some.is ∙ c.next_entry.ensures.first) in
-    subst (λ (q : List cbdq.Entry). length q < length c.loop-entry.left) (sym c.next_entry.ensures.rest) shorter
-
-pub loop-entry-preserved : goal.loop-entry-preserved
-loop-entry-preserved c =
-    let visit_is : c.visit.result ≡ visit_at c.args.self.now c.in-Some.entry.visit =
-    c.visit.ensures ∙ ap (λ (s : Store). visit_at s c.in-Some.entry.visit) c.self.view_is in
-    let other : c.visit.result.operation ≢ c.args.serial = λ is. c.if-visit-serial.false (ap (λ (v : Visit). v.operation) c.visit-in-Some.view_is ∙ is) in
-    c.loop-entry.invariant ∙
-    walk_past c.args.self.now c.args.serial c.loop-entry.left c.in-Some.entry c.visit.result (sym c.in-Some.is ∙ c.next_entry.ensures.first)
-    visit_is other ∙
-    ap (λ (q : List cbdq.Entry). find (is_entry_of c.args.self.now c.args.serial) (map entry_of q)) (sym c.next_entry.ensures.rest)
 
 pub returns : goal.returns
 returns c =
-    walk_over c.args.self.now c.args.serial c.loop-entry.left (sym c.in_default.is ∙ c.next_entry.ensures.first) ∙ sym c.loop-entry.invariant
+    let q = c.self.inside.queues in
+    ap (λ (e : Option kept.Entry). option_map entry_of e) (c.copied.ensures ∙ c.first_of.ensures
+    ∙ ap (λ (vs : List ℕ). find (is_of vs) (queue_of q c.args.filter)) c.visits_of-visits.ensures)
+    ∙ listed_there (the_view c.self.inside) q c.args.filter c.args.serial c.self.inside.greatest_queued c.self.invariant.queued
+    (omega (arith, c.if-self-visits.false, c.visits.ensures))
+    ∙ ap (λ (s : Store). find (is_entry_of s c.args.serial) (queue_at s c.args.filter)) c.self.view_is

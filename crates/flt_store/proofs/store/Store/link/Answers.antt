@@ -38,6 +38,7 @@ invariant_of-self-2 c =
           ∙ ap (λ (l : List Bool). get_or l f true) (closed_same t c.args.context c.key_at.result c.args.over (is_some c.args.old))
           ∙ c.self.invariant.closed f;
       disabled = c.self.invariant.disabled;
+      queued = c.self.invariant.queued;
     }
 
 pub returns-clause-ok : goal.returns-clause-ok

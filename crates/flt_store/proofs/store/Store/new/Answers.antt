@@ -8,7 +8,7 @@ use Rattle.flt_store.proofs.store.Store.new.Goals as goal
 pub invariant_of-result : goal.invariant_of-result
 invariant_of-result c =
     let all : c.loop.counter ≡ c.args.filters = omega arith in
-    fresh_parts c.loop.presences.items c.in_ok-new.field-0 c.in_ok-new-2.field-0 c.new-2.result c.loop.holders.items c.args.filters
+    fresh_parts c.loop.presences.items c.in_ok-new.field-0 0 c.in_ok-new-2.field-0 c.new-2.result c.loop.holders.items c.args.filters
     (c.loop.invariant.presences ∙ ap (λ (n : ℕ). replicate n Attached) all) c.in_ok-new.ensures c.in_ok-new-2.ensures c.new-2.ensures
     (c.loop.invariant.holders ∙ ap (λ (n : ℕ). replicate n (replicate 8 [])) all)
 

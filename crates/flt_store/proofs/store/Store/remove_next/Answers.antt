@@ -2,8 +2,18 @@ use Rattle.std.proofs.Common.{drop, ap, ◌∙◌}
 use Rattle.flt_cbdq.specs.Queues.{Queueing}
 use Rattle.flt_model.specs.World.{Store, queue_at, with_queue}
 use Rattle.flt_store.proofs.Carried.{with_queues, next_carried}
+use Rattle.flt_store.proofs.Listed.{next_up_to}
 use Rattle.flt_store.specs.contracts.store.Store.{the_view}
 use Rattle.flt_store.proofs.store.Store.remove_next.Goals as goal
+
+pub invariant_of-self : goal.invariant_of-self
+invariant_of-self c = rw c.remove_next.ensures.rest (record {
+  filters = c.self.invariant.filters;
+  locked = c.self.invariant.locked;
+  closed = c.self.invariant.closed;
+  disabled = c.self.invariant.disabled;
+  queued = next_up_to c.self.inside.greatest_queued c.self.inside.queues.queues c.args.filter c.self.invariant.queued;
+})
 
 pub returns : goal.returns
 returns c =

@@ -2,7 +2,7 @@ use Rattle.std.proofs.Common.{◌≡◌, find, length, map}
 use Rattle.flt_model.specs.Moves.{is_entry_of}
 use Rattle.flt_model.specs.World.{queue_at}
 use Rattle.flt_store.specs.Parts.{entry_of}
-use Rattle.flt_store.proofs.store.Store.first_entry.Given as goal
+use Rattle.flt_store.proofs.store.Store.walk_to_entry.Given as goal
 
 abbrev pub invariant-loop-entry : goal.invariant-loop-entry
 invariant-loop-entry l =
