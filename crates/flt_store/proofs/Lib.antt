@@ -6,3 +6,4 @@ pub mod Reading
 pub mod Listed
 pub mod Marked
 pub mod Carried
+pub mod Holding

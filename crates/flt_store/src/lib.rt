@@ -8,6 +8,7 @@ mod change;
 mod holders;
 mod items;
 mod performing;
+mod places;
 mod presence;
 mod store;
 
