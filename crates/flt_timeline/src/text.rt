@@ -69,12 +69,12 @@ fn times(fold: Fold) -> usize {
     (fold.repeated / fold.block).saturating_add(1)
 }
 
-/// How wide the numbers of some rows are at most.
+/// How wide the numbers of some rows are at most. The last row has the greatest number.
 fn widest(rows: &[Row]) -> usize {
-    let mut digits = 1;
-    for row in rows {
-        digits = width(row.first.saturating_add(row.count.saturating_sub(1)));
-    }
+    let digits = match rows.last() {
+        Some(row) => width(row.first.saturating_add(row.count.saturating_sub(1))),
+        None => 1,
+    };
     digits.saturating_mul(2).saturating_add(1)
 }
 
@@ -285,10 +285,9 @@ impl<'a> Timeline<'a> {
         &self,
         alloc: Global,
         out: &mut String,
-        indent: usize,
+        field: usize,
         fold: Fold,
     ) -> Result<(), AllocError> {
-        let field = widest(self.rows.as_slice()).saturating_add(indent);
         for number in 0..fold.block {
             let row = self.row(fold.first.saturating_add(number));
             self.put_line(alloc, out, field, row)?;
@@ -300,8 +299,9 @@ impl<'a> Timeline<'a> {
     }
 
     fn put_folds(&self, alloc: Global, out: &mut String, indent: usize) -> Result<(), AllocError> {
+        let field = widest(self.rows.as_slice()).saturating_add(indent);
         for fold in self.folds.as_slice() {
-            self.put_fold(alloc, out, indent, *fold)?;
+            self.put_fold(alloc, out, field, *fold)?;
         }
         Ok(())
     }
