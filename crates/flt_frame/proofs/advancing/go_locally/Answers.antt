@@ -19,7 +19,8 @@ loop-steps-preserved c =
       nested = c.lists_have_turns.ensures.nested;
     } in
     let after = c.loop-steps.after in
-    let is : stepped c.args.frame.now.draining (instruction_at c.args.graph.now after.callback after.point) after ≡ Some c.go_further.new.after =
+    let is : stepped c.args.frame.now.draining (instruction_at c.args.graph.now after.callback after.point) after
+    ≡ Some c.go_further.new.after =
     made _ after c.go_further.new.after (sym c.if-not-go_further.ensures.local) c.if-not-go_further.ensures.after in
     λ f loaded. goes_further laws f c.args.graph.now loaded c.args.frame.now c.loop-steps.steps after (c.loop-steps.invariant f loaded)
     c.go_further.new.after is
