@@ -7,5 +7,6 @@ pub mod NumberMaps
 pub mod PlaceSets
 pub mod Queues
 pub mod Remaining
+pub mod Slots
 pub mod SparseCounting
 pub mod VisitLinks

@@ -5,6 +5,7 @@ pub mod Links
 pub mod Parts
 pub mod Places
 pub mod Rest
+pub mod Slots
 pub mod Tickets
 pub mod Unsettled
 pub mod Variables

@@ -29,7 +29,7 @@ mod waiting_list;
 
 pub use activation::{Activation, Write};
 pub use counts::Counts;
-pub use holders::{Holders, is_free_for};
+pub use holders::Holders;
 pub use laws::same_tests_find_the_same;
 pub use linked::Contexts;
 pub use lock_list::holds_lock;

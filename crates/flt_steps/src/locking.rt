@@ -8,7 +8,7 @@ ghost use Rattle.flt_rules.specs.Held as held;
 ghost use Rattle.flt_world.specs.Happening.{later, Happened};
 
 use flt_model::Event;
-use flt_records::{Holder, Write, is_free_for};
+use flt_records::{Holder, Write};
 use flt_rules::{Access, Call, HeldLock, LockKind, LockNumber};
 use flt_world::{World, push_event};
 use std::alloc::AllocError;
@@ -17,7 +17,7 @@ use std::alloc::AllocError;
 pub(crate) fn may_take(world: &World<'_>, a: usize, lock: LockNumber, access: Access) -> bool
     ensures { result ≡ steps.may_take world.now a lock access }
 {
-    is_free_for(a, access, world.holders(world.filter(a), lock))
+    world.is_free_for(world.filter(a), lock, a, access)
 }
 
 fn holds_lock(world: &World<'_>, a: usize, lock: LockNumber) -> bool

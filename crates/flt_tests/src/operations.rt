@@ -299,7 +299,6 @@ fn agree_on_visits(operations: &Operations, plain: &Plain) -> bool {
             || matches!(visit.stage, Stage::Post) != passing.is_post
             || visit.draining != passing.draining
             || operations.is_settled(number) != passing.settled
-            || !operations.visits_of(visit.operation).contains(&number)
             || operations.makes_frame(number, Way::Frames)
                 != (!passing.settled && !passing.draining)
             || operations.makes_frame(number, Way::Passes)

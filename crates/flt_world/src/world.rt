@@ -19,7 +19,7 @@ use flt_records::{
     Activation, Actor, Arrival, Context, Contexts, Entry, Holder, Holders, Item, Link, Position,
     Presence, Route, Standing, Visit, Visits, Waiting, Write, same_tests_find_the_same,
 };
-use flt_rules::{HeldLock, LockNumber, Mode, Operation, Place, Stage};
+use flt_rules::{Access, HeldLock, LockNumber, Mode, Operation, Place, Stage};
 use flt_tree::{Atom, ContextVariable, OperationVariable, Statement};
 use sqlite_items::{Items, at};
 use std::alloc::{AllocError, Global};
@@ -384,14 +384,20 @@ impl<'a> World<'a> {
         }
     }
 
-    /// Who holds a lock of a filter, in the order in which they took it.
+    /// Whether an activation may take a lock of a filter so, beside those that hold it.
     #[tactic(auto, using(crate::proofs::Reading::found, crate::proofs::Reading::missing))]
-    pub fn holders(&self, filter: usize, lock: LockNumber) -> &[Holder]
-        ensures { result.now ≡ locks.holders_of self.now.store filter lock }
+    pub fn is_free_for(
+        &self,
+        filter: usize,
+        lock: LockNumber,
+        activation: usize,
+        access: Access,
+    ) -> bool
+        ensures { result ≡ locks.is_free_for activation access (locks.holders_of self.now.store filter lock) }
     {
         match self.holders.get(filter) {
-            Some(holders) => holders[usize::from(lock.place())].as_slice(),
-            None => &[],
+            Some(holders) => holders[usize::from(lock.place())].is_free_for(activation, access),
+            None => true,
         }
     }
 
