@@ -19,9 +19,38 @@ abbrev pub faults : List (List ℕ)
 faults =
     codes "E01" ∷ codes "E02" ∷ codes "E03" ∷ codes "E04" ∷ codes "E05" ∷ codes "E06" ∷ codes "E07" ∷ codes "E08" ∷ []
 
+-- the calls that work on contexts and operations
+abbrev pub calls : List (List ℕ)
+calls =
+    codes "FltAllocateContext" ∷ codes "FltGetStreamContext" ∷ codes "FltGetInstanceContext" ∷ codes "FltSetStreamContext"
+    ∷ codes "FltSetInstanceContext" ∷ codes "FltDeleteStreamContext" ∷ codes "FltDeleteInstanceContext"
+    ∷ codes "FltDeleteContext" ∷ codes "FltReferenceContext" ∷ codes "FltReleaseContext" ∷ codes "FltCbdqInsertIo"
+    ∷ codes "FltCbdqRemoveNextIo" ∷ codes "FltQueueDeferredIoWorkItem" ∷ codes "FltQueueGenericWorkItem"
+    ∷ codes "FltCompletePendedPreOperation" ∷ codes "FltCompletePendedPostOperation" ∷ []
+
+-- the calls that take and release locks
+abbrev pub lock_calls : List (List ℕ)
+lock_calls =
+    codes "KeAcquireSpinLock" ∷ codes "KeReleaseSpinLock" ∷ codes "ExAcquireFastMutex" ∷ codes "ExReleaseFastMutex"
+    ∷ codes "FltAcquirePushLockExclusive" ∷ codes "FltAcquirePushLockShared" ∷ codes "FltReleasePushLock" ∷ []
+
+-- the statuses of callbacks
+abbrev pub statuses : List (List ℕ)
+statuses =
+    codes "WITH_CALLBACK" ∷ codes "SYNCHRONIZE" ∷ codes "NO_CALLBACK" ∷ codes "COMPLETE" ∷ codes "PENDING"
+    ∷ codes "DISALLOW_FASTIO" ∷ codes "FINISHED_PROCESSING" ∷ codes "MORE_PROCESSING_REQUIRED" ∷ []
+
 abbrev pub is_among : List (List ℕ) → List ℕ → Bool
 is_among names name = list_any (λ n. bytes_eq name n) names
 
+-- the name of a rule, a violation or a fault
+abbrev pub is_code : List ℕ → Bool
+is_code name = is_among rules name || (is_among violations name || is_among faults name)
+
+-- the name of a call or a status
+abbrev pub is_word : List ℕ → Bool
+is_word name = is_among calls name || (is_among lock_calls name || is_among statuses name)
+
 -- a page has this name
 abbrev pub has_page : List ℕ → Bool
-has_page name = is_among rules name || (is_among violations name || is_among faults name)
+has_page name = is_code name || is_word name

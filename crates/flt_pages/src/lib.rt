@@ -1,9 +1,11 @@
-//! What `explain` prints of a rule, a violation or a fault of a text: its page. It exports `page`.
+//! What `explain` prints of a rule, a violation, a fault of a text, a call or a status: its page. It exports `page`.
 #![tactic(auto)]
 
+mod calls;
 mod faults;
 mod pages;
 mod rules;
+mod statuses;
 mod violations;
 
 pub use pages::page;

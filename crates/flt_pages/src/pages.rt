@@ -4,7 +4,7 @@ ghost use Rattle.std.specs.Io.{StartsWith};
 ghost use Rattle.std.specs.Prelude.{◌≡◌, IfSome, is_some};
 ghost use Rattle.flt_pages.specs.Pages as spec;
 
-use crate::{faults, rules, violations};
+use crate::{calls, faults, rules, statuses, violations};
 
 /// The page of a rule.
 fn rule_page(name: &str) -> Option<&'static str>
@@ -67,10 +67,84 @@ fn fault_page(name: &str) -> Option<&'static str>
     }
 }
 
-/// The page of `R01` to `R15` (a rule), `V1` to `V8` (a violation) or `E01` to `E08` (a fault of a text): lines of text for people, which
-/// begin with that name. No other name has one.
-pub fn page(name: &str) -> Option<&'static str>
-    ensures known { is_some result ≡ spec.has_page name.now }
+/// The page of a call that works on contexts and operations.
+fn call_page(name: &str) -> Option<&'static str>
+    ensures known { is_some result ≡ spec.is_among spec.calls name.now }
+    ensures begins { IfSome result (λ found. StartsWith found.now name.now) }
+{
+    match name {
+        "FltAllocateContext" => Some(calls::FLT_ALLOCATE_CONTEXT),
+        "FltGetStreamContext" => Some(calls::FLT_GET_STREAM_CONTEXT),
+        "FltGetInstanceContext" => Some(calls::FLT_GET_INSTANCE_CONTEXT),
+        "FltSetStreamContext" => Some(calls::FLT_SET_STREAM_CONTEXT),
+        "FltSetInstanceContext" => Some(calls::FLT_SET_INSTANCE_CONTEXT),
+        "FltDeleteStreamContext" => Some(calls::FLT_DELETE_STREAM_CONTEXT),
+        "FltDeleteInstanceContext" => Some(calls::FLT_DELETE_INSTANCE_CONTEXT),
+        "FltDeleteContext" => Some(calls::FLT_DELETE_CONTEXT),
+        "FltReferenceContext" => Some(calls::FLT_REFERENCE_CONTEXT),
+        "FltReleaseContext" => Some(calls::FLT_RELEASE_CONTEXT),
+        "FltCbdqInsertIo" => Some(calls::FLT_CBDQ_INSERT_IO),
+        "FltCbdqRemoveNextIo" => Some(calls::FLT_CBDQ_REMOVE_NEXT_IO),
+        "FltQueueDeferredIoWorkItem" => Some(calls::FLT_QUEUE_DEFERRED_IO_WORK_ITEM),
+        "FltQueueGenericWorkItem" => Some(calls::FLT_QUEUE_GENERIC_WORK_ITEM),
+        "FltCompletePendedPreOperation" => Some(calls::FLT_COMPLETE_PENDED_PRE_OPERATION),
+        "FltCompletePendedPostOperation" => Some(calls::FLT_COMPLETE_PENDED_POST_OPERATION),
+        _ => None,
+    }
+}
+
+/// The page of a call that takes or releases a lock.
+fn lock_page(name: &str) -> Option<&'static str>
+    ensures known { is_some result ≡ spec.is_among spec.lock_calls name.now }
+    ensures begins { IfSome result (λ found. StartsWith found.now name.now) }
+{
+    match name {
+        "KeAcquireSpinLock" => Some(calls::KE_ACQUIRE_SPIN_LOCK),
+        "KeReleaseSpinLock" => Some(calls::KE_RELEASE_SPIN_LOCK),
+        "ExAcquireFastMutex" => Some(calls::EX_ACQUIRE_FAST_MUTEX),
+        "ExReleaseFastMutex" => Some(calls::EX_RELEASE_FAST_MUTEX),
+        "FltAcquirePushLockExclusive" => Some(calls::FLT_ACQUIRE_PUSH_LOCK_EXCLUSIVE),
+        "FltAcquirePushLockShared" => Some(calls::FLT_ACQUIRE_PUSH_LOCK_SHARED),
+        "FltReleasePushLock" => Some(calls::FLT_RELEASE_PUSH_LOCK),
+        _ => None,
+    }
+}
+
+/// The page of a status.
+fn status_page(name: &str) -> Option<&'static str>
+    ensures known { is_some result ≡ spec.is_among spec.statuses name.now }
+    ensures begins { IfSome result (λ found. StartsWith found.now name.now) }
+{
+    match name {
+        "WITH_CALLBACK" => Some(statuses::WITH_CALLBACK),
+        "SYNCHRONIZE" => Some(statuses::SYNCHRONIZE),
+        "NO_CALLBACK" => Some(statuses::NO_CALLBACK),
+        "COMPLETE" => Some(statuses::COMPLETE),
+        "PENDING" => Some(statuses::PENDING),
+        "DISALLOW_FASTIO" => Some(statuses::DISALLOW_FASTIO),
+        "FINISHED_PROCESSING" => Some(statuses::FINISHED_PROCESSING),
+        "MORE_PROCESSING_REQUIRED" => Some(statuses::MORE_PROCESSING_REQUIRED),
+        _ => None,
+    }
+}
+
+/// The page of what a text is made of: of a call or a status.
+fn word_page(name: &str) -> Option<&'static str>
+    ensures known { is_some result ≡ spec.is_word name.now }
+    ensures begins { IfSome result (λ found. StartsWith found.now name.now) }
+{
+    if let Some(found) = call_page(name) {
+        return Some(found);
+    }
+    if let Some(found) = lock_page(name) {
+        return Some(found);
+    }
+    status_page(name)
+}
+
+/// The page of what is said of a text: of a rule, a violation or a fault.
+fn code_page(name: &str) -> Option<&'static str>
+    ensures known { is_some result ≡ spec.is_code name.now }
     ensures begins { IfSome result (λ found. StartsWith found.now name.now) }
 {
     if let Some(found) = rule_page(name) {
@@ -80,4 +154,16 @@ pub fn page(name: &str) -> Option<&'static str>
         return Some(found);
     }
     fault_page(name)
+}
+
+/// The page of `R01` to `R15` (a rule), `V1` to `V8` (a violation), `E01` to `E08` (a fault of a text), a call or a status: lines of text
+/// for people, which begin with that name. No other name has one.
+pub fn page(name: &str) -> Option<&'static str>
+    ensures known { is_some result ≡ spec.has_page name.now }
+    ensures begins { IfSome result (λ found. StartsWith found.now name.now) }
+{
+    match code_page(name) {
+        Some(found) => Some(found),
+        None => word_page(name),
+    }
 }

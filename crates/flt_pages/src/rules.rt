@@ -203,8 +203,8 @@ To mend it, complete the operation on each path to the end.
 
 pub(crate) const R06: &str = "R06: status not legal
 
-A status is returned, or given to `FltCompletePendedPreOperation`, where the tables above don't allow it. An operation that may be
-fast I/O is queued or deferred.
+A status is returned, or given to `FltCompletePendedPreOperation`, where the tables of the statuses don't allow it. An
+operation that may be fast I/O is queued or deferred.
 
 The bugs. `PENDING` while the callback still owns the operation, which is then lost. `NO_CALLBACK` after the operation was
 queued, so that it is processed twice. `WITH_CALLBACK` without a postoperation callback. A pended fast I/O, which the filter
@@ -254,11 +254,40 @@ To mend it, test `irp data` first, queue the operation, and return `PENDING` onl
       }
       FltCompletePendedPreOperation data COMPLETE STATUS_CANCELLED
     }
+
+What a callback may return:
+
+  Status                      Callback                `data`             Mode  Further condition
+  --------------------------  ----------------------  -----------------  ----  ---------------------------------------
+  `WITH_CALLBACK`             `pre`                   held               any   there is a `post` of the same operation
+  `SYNCHRONIZE`               `pre`, not of a create  held               IRP   there is a `post` of the same operation
+  `NO_CALLBACK`               `pre`                   held               any
+  `COMPLETE S`                `pre`                   held               any   S isn't `STATUS_PENDING`
+  `PENDING`                   `pre`                   stale: given away  IRP
+  `DISALLOW_FASTIO`           `pre`                   held               fast
+  `FINISHED_PROCESSING`       `post`                  held               any
+  `MORE_PROCESSING_REQUIRED`  `post`                  stale: given away  IRP   draining isn't possible
+
+What `FltCompletePendedPreOperation` may be given:
+
+  Status  `COMPLETE S`, S not `STATUS_PENDING`
+  Where   wherever the call is legal
+
+  Status  `NO_CALLBACK`
+  Where   wherever the call is legal, but not for `data` in `canceled`
+
+  Status  `WITH_CALLBACK`
+  Where   as `NO_CALLBACK`, where each operation with a `pre` has its `post` in this filter
+
+  Status  all others
+  Where   nowhere
 ";
 
 pub(crate) const R07: &str = "R07: call above its level
 
-The level at the point is greater than the call allows. See the table of calls, and how the level is found.
+The level at the point is greater than the table of the calls allows. The level is the greatest of the callback's own level
+and those to which held locks raise it. `pre` callbacks and `canceled` run at APC_LEVEL, `post create` and routines of work items at
+PASSIVE_LEVEL, all other `post` callbacks at DISPATCH_LEVEL. A held spin lock raises the level to DISPATCH_LEVEL, a fast mutex to APC_LEVEL.
 
 The bug. Paged code or a wait at DISPATCH_LEVEL. The system stops with `IRQL_NOT_LESS_OR_EQUAL`, or deadlocks. This shows only
 when a completion happens to run at DISPATCH_LEVEL.
@@ -310,6 +339,37 @@ deferred work item. Take fast mutexes before spin locks.
       }
       return FINISHED_PROCESSING
     }
+
+The greatest level of each call:
+
+  Call                                               Level
+  -------------------------------------------------  --------
+  `FltAllocateContext c`                             APC
+  `FltGetStreamContext c`                            APC
+  `FltGetInstanceContext c`                          APC
+  `FltSetStreamContext KEEP_IF_EXISTS c old d`       APC
+  `FltSetInstanceContext KEEP_IF_EXISTS c old d`     APC
+  `FltSetStreamContext REPLACE_IF_EXISTS c old d`    APC
+  `FltSetInstanceContext REPLACE_IF_EXISTS c old d`  APC
+  `FltDeleteStreamContext old d`                     APC
+  `FltDeleteInstanceContext old d`                   APC
+  `FltDeleteContext c`                               APC
+  `FltReferenceContext c as d`                       DISPATCH
+  `FltReleaseContext c`                              DISPATCH
+  `KeAcquireSpinLock l`                              DISPATCH
+  `KeReleaseSpinLock l`                              DISPATCH
+  `ExAcquireFastMutex l`                             APC
+  `ExReleaseFastMutex l`                             APC
+  `FltAcquirePushLockExclusive l`                    APC
+  `FltAcquirePushLockShared l`                       APC
+  `FltReleasePushLock l`                             APC
+  `FltCbdqInsertIo data context c`                   APC
+  `FltCbdqRemoveNextIo o context c`                  APC
+  `FltQueueDeferredIoWorkItem data r context c`      DISPATCH
+  `FltQueueGenericWorkItem r context c`              DISPATCH
+  `FltCompletePendedPreOperation data st`            APC
+  `FltCompletePendedPreOperation o st`               APC
+  `FltCompletePendedPostOperation data`              DISPATCH
 ";
 
 pub(crate) const R08: &str = "R08: call not legal at this place
@@ -573,14 +633,23 @@ pub(crate) const R14: &str = "R14: certificate does not cover
 This is a fault of the certificate, not of the driver: the certificate doesn't say everything that may be so. Mostly the text was
 changed and its certificate wasn't.
 
-| What is wrong | Reported at |
-|---|---|
-| a callback of the text isn't in the certificate, or has another number of points there | point 0 of the first such callback |
-| the certificate has more callbacks than the text, and those of the text agree | point 0 of the text's last callback |
-| a thin certificate doesn't give a point that is kept | that point |
-| a thin certificate gives a point that isn't kept | that point |
-| the entry's state isn't within that of point 0, or point 0 is `!` or has locks | point 0 of the callback |
-| a point leads to a state that isn't within the next point's, or to a point that is `!` | the point that leads there |
+  What is wrong  a callback of the text isn't in the certificate, or has another number of points there
+  Reported at    point 0 of the first such callback
+
+  What is wrong  the certificate has more callbacks than the text, and those of the text agree
+  Reported at    point 0 of the text's last callback
+
+  What is wrong  a thin certificate doesn't give a point that is kept
+  Reported at    that point
+
+  What is wrong  a thin certificate gives a point that isn't kept
+  Reported at    that point
+
+  What is wrong  the entry's state isn't within that of point 0, or point 0 is `!` or has locks
+  Reported at    point 0 of the callback
+
+  What is wrong  a point leads to a state that isn't within the next point's, or to a point that is `!`
+  Reported at    the point that leads there
 
 Here the certificate says that `c0` is NULL at point 2, where the allocation succeeded:
 

@@ -119,7 +119,7 @@ impl Unread {
     pub fn help(self) -> &'static str {
         match self {
             Unread::Missing =>
-                "a name is a path from the current folder, or `-` for the standard input; R01 to R15, V1 to V8 and E01 to E08 alone are pages",
+                "a name is a path from the current folder, or `-` for the standard input; R01 to R15, V1 to V8, E01 to E08, calls and statuses alone are pages",
             Unread::Folder => "name the files in it",
             Unread::Denied => "see who may read it",
             Unread::TooLong => "a text has at most 65,536 bytes, a journal 1,000,000 entries",
