@@ -4,8 +4,10 @@
 
 mod advice;
 mod branches;
+mod case;
 mod closing;
 mod judged;
+mod names;
 mod page;
 mod pieces;
 mod scene;

@@ -4,6 +4,21 @@ ghost use Rattle.std.specs.Prelude.{◌<◌};
 
 use std::alloc::{AllocError, Global};
 
+/// A part of a sentence.
+#[derive(Clone, Copy)]
+pub(crate) enum Part<'a> {
+    /// Words of the program.
+    Text(&'a str),
+    /// Words of a text, between marks.
+    Quoted(&'a [u8]),
+    /// A word of the language, between marks.
+    Word(&'a str),
+    /// What a finding is about, with its marks.
+    Marked((&'a [u8], &'a [u8])),
+    Number(usize),
+    Value(u64),
+}
+
 /// What is written so far.
 #[derive(Drop)]
 pub struct Page {
@@ -62,6 +77,25 @@ impl Page {
             self.out.push(shown(*byte))?;
         }
         Ok(())
+    }
+
+    /// The parts of a sentence, one behind the other.
+    pub(crate) fn say(&mut self, parts: &[Part<'_>]) -> Result<(), AllocError> {
+        for part in parts {
+            self.part(*part)?;
+        }
+        Ok(())
+    }
+
+    fn part(&mut self, part: Part<'_>) -> Result<(), AllocError> {
+        match part {
+            Part::Text(text) => self.bytes(text.as_bytes()),
+            Part::Quoted(name) => self.words(&[b"`", name, b"`"]),
+            Part::Word(word) => self.texts(&["`", word, "`"]),
+            Part::Marked((mark, name)) => self.words(&[mark, name, mark]),
+            Part::Number(number) => digits(&mut self.out, number as u64),
+            Part::Value(value) => digits(&mut self.out, value),
+        }
     }
 
     /// A line of such words.

@@ -2,12 +2,13 @@
 
 ghost use Rattle.std.specs.Prelude.{◌≡◌, IfOk, map};
 
-use crate::advice::{tell_advice, tell_title};
+use crate::advice::{tell_advice, tell_note, tell_title};
 use crate::branches::{step_outcome, tell_branch};
+use crate::case::Case;
 use crate::page::Page;
 use crate::scene::Scene;
 use crate::sites::Sites;
-use crate::subjects::{state_word, subject_words};
+use crate::subjects::state_word;
 use crate::tracing::{Shown, trace};
 use flt_explain::Finding;
 use flt_graph::Graph;
@@ -47,8 +48,10 @@ pub enum WayKind {
 pub struct Words {
     /// What is wrong.
     pub title: Vec<u8>,
-    /// How to mend it.
+    /// How to mend it; it may have several lines.
     pub help: Vec<u8>,
+    /// That the rule is stricter there than the driver kit, or that numbers rule out the path; or nothing.
+    pub note: Vec<u8>,
     /// The head of its callback.
     pub head: Vec<u8>,
     /// What it is about.
@@ -176,37 +179,55 @@ fn origin_of(
 
 // ---- words
 
-fn title_of(alloc: Global, scene: &Scene<'_>, finding: &Finding) -> Result<Vec<u8>, AllocError> {
+fn title_of(alloc: Global, case: &Case<'_>) -> Result<Vec<u8>, AllocError> {
     let mut page = Page::new(alloc);
-    tell_title(&mut page, scene.tree, scene.head(finding.callback), finding)?;
+    tell_title(&mut page, case)?;
     Ok(page.out)
 }
 
-fn help_of(alloc: Global, scene: &Scene<'_>, finding: &Finding) -> Result<Vec<u8>, AllocError> {
+fn help_of(alloc: Global, case: &Case<'_>) -> Result<Vec<u8>, AllocError> {
     let mut page = Page::new(alloc);
-    tell_advice(&mut page, scene.tree, finding)?;
+    tell_advice(&mut page, case)?;
     Ok(page.out)
 }
 
-fn subject_of(alloc: Global, scene: &Scene<'_>, finding: &Finding) -> Result<Vec<u8>, AllocError> {
+fn note_of(alloc: Global, case: &Case<'_>) -> Result<Vec<u8>, AllocError> {
     let mut page = Page::new(alloc);
-    let (mark, name) = subject_words(scene.tree, finding.subject);
+    tell_note(&mut page, case)?;
+    Ok(page.out)
+}
+
+fn subject_of(alloc: Global, case: &Case<'_>) -> Result<Vec<u8>, AllocError> {
+    let mut page = Page::new(alloc);
+    let (mark, name) = case.subject();
     page.words(&[mark, name, mark])?;
     Ok(page.out)
 }
 
-/// What is said of a finding in words.
-pub fn words_of(alloc: Global, scene: &Scene<'_>, finding: &Finding) -> Result<Words, AllocError> {
-    let title = title_of(alloc, scene, finding)?;
-    let help = help_of(alloc, scene, finding)?;
-    let subject = subject_of(alloc, scene, finding)?;
-    let head = Vec::from_slice(alloc, scene.head(finding.callback))?;
+/// The words of a case.
+fn words_in(alloc: Global, case: &Case<'_>) -> Result<Words, AllocError> {
+    let title = title_of(alloc, case)?;
+    let help = help_of(alloc, case)?;
+    let note = note_of(alloc, case)?;
+    let subject = subject_of(alloc, case)?;
+    let head = Vec::from_slice(alloc, case.head())?;
     Ok(Words {
         title,
         help,
+        note,
         head,
         subject,
     })
+}
+
+/// What is said of a finding in words, by what shows it.
+pub fn words_of(
+    alloc: Global,
+    scene: &Scene<'_>,
+    finding: &Finding,
+    shown: Option<&Shown>,
+) -> Result<Words, AllocError> {
+    words_in(alloc, &Case::of(scene, finding, shown))
 }
 
 /// What a finding is about at the end of a way, in a word.
@@ -260,24 +281,32 @@ fn route_by(
     Ok(route)
 }
 
-fn route_of(alloc: Global, scene: &Scene<'_>, finding: &Finding) -> Result<Route, AllocError> {
-    let shown = trace(alloc, scene.graph, finding)?;
-    let route = route_by(alloc, scene, finding, &shown);
-    drop(shown);
-    route
-}
-
-fn detail_of(alloc: Global, scene: &Scene<'_>, finding: &Finding) -> Result<Detail, AllocError>
+/// What is said of a finding, by what shows it.
+fn detail_by(
+    alloc: Global,
+    scene: &Scene<'_>,
+    finding: &Finding,
+    shown: &Shown,
+) -> Result<Detail, AllocError>
     ensures { IfOk result (λ d. d.finding ≡ finding.now) }
 {
-    let words = words_of(alloc, scene, finding)?;
-    let route = route_of(alloc, scene, finding)?;
+    let words = words_of(alloc, scene, finding, Some(shown))?;
+    let route = route_by(alloc, scene, finding, shown)?;
     Ok(Detail {
         finding: *finding,
         column: scene.column(finding.callback, finding.point),
         words,
         route,
     })
+}
+
+fn detail_of(alloc: Global, scene: &Scene<'_>, finding: &Finding) -> Result<Detail, AllocError>
+    ensures { IfOk result (λ d. d.finding ≡ finding.now) }
+{
+    let shown = trace(alloc, scene.graph, finding)?;
+    let detail = detail_by(alloc, scene, finding, &shown);
+    drop(shown);
+    detail
 }
 
 /// What is said of each finding of a text that parses, in their order.

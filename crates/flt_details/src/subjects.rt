@@ -10,11 +10,11 @@ const CONTEXTS: [&str; 9] = ["c0", "c1", "c2", "c3", "c4", "c5", "c6", "c7", "ar
 
 const OPERATIONS: [&str; 5] = ["o0", "o1", "o2", "o3", "data"];
 
-/// A lock by its name, with a mark.
-fn lock_words(tree: &Tree, place: usize) -> (&[u8], &[u8]) {
+/// The name of a lock; nothing where it isn't there.
+pub(crate) fn lock_name(tree: &Tree, place: usize) -> &[u8] {
     match tree.filter.locks.get(place) {
-        Some(lock) => (b"`", lock.name.as_slice()),
-        None => (b"", b"a lock"),
+        Some(lock) => lock.name.as_slice(),
+        None => &[],
     }
 }
 
@@ -23,7 +23,7 @@ pub(crate) fn subject_words(tree: &Tree, subject: Subject) -> (&[u8], &[u8]) {
     match subject {
         Subject::Context(variable) => (b"`", CONTEXTS[variable.place()].as_bytes()),
         Subject::Operation(variable) => (b"`", OPERATIONS[variable.place()].as_bytes()),
-        Subject::Lock(lock) => lock_words(tree, lock.place() as usize),
+        Subject::Lock(lock) => (b"`", lock_name(tree, lock.place() as usize)),
         Subject::Mode => (b"", b"the mode of the operation"),
         Subject::Draining => (b"", b"FLTFL_POST_OPERATION_DRAINING"),
         Subject::Call => (b"", b"this call"),

@@ -16,6 +16,18 @@ use std::fmt::Write;
 /// How many blanks stand before a timeline's rows.
 const INDENT: usize = 4;
 
+/// How the rows of a journal are read.
+const LEGEND: &str =
+    "    (in front: entries; behind: lines, without those that nobody else sees; `yes` and `no`: how a call went)\n";
+
+/// Why `arg` is never held.
+const NEVER_HANDED: &str =
+    ": nothing hands this callback a context, so `arg` is never held in it\n";
+
+/// That the rule asks for its release all the same.
+const IS_STRICTER: &str =
+    "   = note: stricter than the driver kit: this rule takes `arg` as possibly held in each callback that has one\n";
+
 // ---- how a note begins
 
 /// What a journal breaks, and where, as `replay` says it.
@@ -132,6 +144,7 @@ fn put_journal(
     put_counts(out, &broken.journal)?;
     put_filters(out, trees, own)?;
     out.push_str("\n")?;
+    out.push_str(LEGEND)?;
     put_rows(alloc, out, own, broken)
 }
 
@@ -146,22 +159,21 @@ pub(crate) struct Bounds {
     pub(crate) states: usize,
 }
 
+/// Why no run is shown. That the search ended is never taken for more than that.
 fn put_missing(out: &mut String, bounds: Bounds, is_cut: bool) -> Result<(), AllocError> {
     if bounds.is_behind {
         return out.push_str(
-            " was found: a run ends with what it breaks first, which is something else here\n",
+            ": each path there that is known breaks another rule first, and a run ends where it breaks something\n",
         );
     }
     if is_cut {
         let states = bounds.states;
         return write!(
             out,
-            " was found in {states} states a round: `--states N` sets another bound\n"
+            ": no run was found in {states} states a round; `--states N` sets another bound\n"
         );
     }
-    out.push_str(
-        " was found: no run within the bounds of the search breaks what the rule prevents\n",
-    )
+    out.push_str(": no run was found among those of up to 3 operations that are tried\n")
 }
 
 // ---- both
@@ -188,7 +200,8 @@ fn put_rest(
         Schedule::NotWithin => put_missing(out, bounds, false),
         Schedule::Cut => put_missing(out, bounds, true),
         Schedule::NeverHanded => {
-            out.push_str(": nothing hands this callback a context, so `arg` is never held in it\n")
+            out.push_str(NEVER_HANDED)?;
+            out.push_str(IS_STRICTER)
         }
     }
 }

@@ -52,11 +52,11 @@ fn notes(answer: &Answer) -> &'static str {
     match answer {
         Answer::Clean(_) => "",
         Answer::Behind(_) =>
-            "   = note: each way that was found breaks another rule before: mend that first\n",
+            "   = note: each path that was found breaks another rule before: fix that first\n",
         Answer::Unreached =>
-            "   = note: no way was found: the text is refused because the sets of the rules forget what goes together\n   = help: test the variable itself, as by `if c0 != NULL`, and not what it depends on\n",
+            "   = note: no path was found: the text is refused because the sets of the rules forget what goes together\n   = help: test the variable itself, as by `if c0 != NULL`, and not what it depends on\n",
         Answer::Unknown =>
-            "   = note: the search for a way was ended, since there are too many situations\n",
+            "   = note: the search for a path was ended, since there are too many situations\n",
     }
 }
 
@@ -68,8 +68,8 @@ fn tell_ways(
     shown: &Shown,
 ) -> Result<(), AllocError> {
     let (way, other) = shown.ways();
-    tell_way(page, scene, callback, "   = way: ", way)?;
-    tell_way(page, scene, callback, "   = other way: ", other)?;
+    tell_way(page, scene, callback, "   = path: ", way)?;
+    tell_way(page, scene, callback, "   = other path: ", other)?;
     page.texts(&[notes(&shown.answer)])
 }
 
@@ -91,6 +91,26 @@ fn tell_others(page: &mut Page, others: &[Traced]) -> Result<(), AllocError> {
     page.texts(&[if last == 0 { "" } else { "\n" }])
 }
 
+/// Writes how to mend it: further lines stand under the first.
+fn tell_help(page: &mut Page, help: &[u8]) -> Result<(), AllocError> {
+    let mut before = "   = help: ";
+    for line in help.split(|byte| *byte == b'\n') {
+        page.texts(&[before])?;
+        page.line(&[line])?;
+        before = "           ";
+    }
+    Ok(())
+}
+
+/// Writes what else is said of it, if there is more.
+fn tell_note(page: &mut Page, note: &[u8]) -> Result<(), AllocError> {
+    if note.is_empty() {
+        Ok(())
+    } else {
+        page.line(&[b"   = note: ", note])
+    }
+}
+
 /// Writes the report of a finding: what is wrong and where, what shows it, where the others of its group are, and how to mend it.
 pub(crate) fn report_finding(
     alloc: Global,
@@ -109,5 +129,6 @@ pub(crate) fn report_finding(
         tell_ways(page, scene, finding.callback, shown)?;
     }
     tell_others(page, others)?;
-    page.line(&[b"   = help: ", words.help.as_slice()])
+    tell_help(page, words.help.as_slice())?;
+    tell_note(page, words.note.as_slice())
 }

@@ -46,8 +46,8 @@ fn report_group(
     group: &Group,
 ) -> Result<(), AllocError> {
     let finding = group.first.finding;
-    let words = words_of(alloc, scene, &finding)?;
     let shown = traces.shown(&group.first);
+    let words = words_of(alloc, scene, &finding, shown)?;
     let others = group.others.as_slice();
     report_finding(
         alloc, page, coloured, name, scene, &finding, &words, shown, others,

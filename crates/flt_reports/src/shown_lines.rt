@@ -4,8 +4,9 @@ use crate::marks::Drawing;
 use flt_details::{
     Page, Scene, Shown, Site, Words, fact_word, line_at, state_at_end, step_call_outcome,
 };
-use flt_explain::Finding;
-use flt_origins::{Cause, Fact, Origin};
+use flt_explain::{Finding, Subject};
+use flt_graph::{Call, Instruction};
+use flt_origins::{Cause, Fact, Origin, VariableStatus};
 use flt_rules::Rule;
 use flt_ways::{Step, Way};
 use std::alloc::{AllocError, Global};
@@ -85,14 +86,46 @@ fn add_marks(
     marks.sort_by_key(|mark| mark.site.line)
 }
 
-/// What becomes of a subject, where this is known.
-fn becomes(finding: &Finding, way: Option<&Way>, fact: Fact) -> (&'static str, &'static str) {
-    if way.is_none() {
-        return (" may become ", fact_word(fact));
+/// What a call does to what it gives away or releases.
+fn lost_by(call: Call, is_operation: bool) -> &'static str {
+    match (call, is_operation) {
+        (Call::InsertIo, _) => "queued",
+        (Call::QueueDeferredIoWorkItem | Call::QueueGenericWorkItem, _) => "handed to a work item",
+        (Call::CompletePendedPreOperation(_), false) => "handed to the `post` callback",
+        (_, false) => "released",
+        (_, true) => "completed",
     }
-    match state_at_end(finding, way) {
-        Some(word) => (" becomes ", word),
-        None => ("", ""),
+}
+
+/// What is done to a subject at a step that makes it stale; none where the step does something else to it.
+fn lost(scene: &Scene<'_>, finding: &Finding, fact: Fact, step: Step) -> Option<&'static str> {
+    let is_operation = match fact {
+        Fact::Context(_, VariableStatus::Stale) => false,
+        Fact::Operation(_, VariableStatus::Stale) => true,
+        _ => return None,
+    };
+    match scene.graph.instruction(finding.callback, step.point) {
+        Instruction::Call(call, _, _) => Some(lost_by(call.call, is_operation)),
+        _ => None,
+    }
+}
+
+/// What becomes of a subject: on a path, or where none is known.
+fn becomes(
+    scene: &Scene<'_>,
+    finding: &Finding,
+    way: Option<&Way>,
+    fact: Fact,
+    step: Step,
+) -> (&'static str, &'static str) {
+    match (lost(scene, finding, fact, step), way) {
+        (Some(lost), Some(_)) => (" is ", lost),
+        (Some(lost), None) => (" might be ", lost),
+        (None, Some(_)) => match state_at_end(finding, way) {
+            Some(word) => (" becomes ", word),
+            None => ("", ""),
+        },
+        (None, None) => (" might become ", fact_word(fact)),
     }
 }
 
@@ -104,7 +137,7 @@ fn call_side(scene: &Scene<'_>, finding: &Finding, step: Step) -> (&'static str,
     }
 }
 
-/// Writes what the mark of an origin says: on a way what becomes of the subject, else what may become of it.
+/// Writes what the mark of an origin says: on a path what becomes of the subject, else what might become of it.
 fn tell_origin(
     page: &mut Page,
     scene: &Scene<'_>,
@@ -121,15 +154,43 @@ fn tell_origin(
             " released here\n"
         }]);
     }
-    let (becomes, word) = becomes(finding, way, fact);
+    let (becomes, word) = becomes(scene, finding, way, fact, step);
     let (before, outcome) = call_side(scene, finding, step);
     page.words(&[b" ", words.subject.as_slice()])?;
     page.texts(&[becomes, word, " here", before, outcome, "\n"])
 }
 
-/// Writes what a subject is at a point.
-fn tell_state(page: &mut Page, subject: &[u8], state: &str) -> Result<(), AllocError> {
-    page.line(&[b" ", subject, b" is ", state.as_bytes(), b" here"])
+/// Writes what a subject is at a point. What a callback is entered with is only possible.
+fn tell_state(
+    page: &mut Page,
+    subject: Subject,
+    words: &[u8],
+    state: &str,
+) -> Result<(), AllocError> {
+    match subject {
+        Subject::Mode => {
+            let article = if state == "IRP" { "an " } else { "" };
+            page.texts(&[" the operation might be ", article, state, " here\n"])
+        }
+        Subject::Draining => page.line(&[b" ", words, b" might be ", state.as_bytes(), b" here"]),
+        _ => page.line(&[b" ", words, b" is ", state.as_bytes(), b" here"]),
+    }
+}
+
+/// Writes which locks a path brings to where it joins another one.
+fn tell_joining(
+    page: &mut Page,
+    finding: &Finding,
+    words: &Words,
+    shown: &Shown,
+) -> Result<(), AllocError> {
+    let (way, other) = shown.ways();
+    let behind = match (state_at_end(finding, way), state_at_end(finding, other)) {
+        (Some("taken"), Some("not taken")) => " is held on this path",
+        (Some("not taken"), Some("taken")) => " isn't held on this path",
+        _ => return page.bytes(b" this path leads on with other locks held\n"),
+    };
+    page.line(&[b" ", words.subject.as_slice(), behind.as_bytes()])
 }
 
 /// Writes what the mark of the finding's point says.
@@ -137,13 +198,14 @@ fn tell_point(
     page: &mut Page,
     finding: &Finding,
     words: &Words,
-    way: Option<&Way>,
+    shown: &Shown,
 ) -> Result<(), AllocError> {
     if let Rule::R12 = finding.rule {
-        return page.bytes(b" this way leads on with other locks\n");
+        return tell_joining(page, finding, words, shown);
     }
+    let (way, _) = shown.ways();
     match state_at_end(finding, way) {
-        Some(state) => tell_state(page, words.subject.as_slice(), state),
+        Some(state) => tell_state(page, finding.subject, words.subject.as_slice(), state),
         None => page.bytes(b"\n"),
     }
 }
@@ -160,8 +222,8 @@ fn tell_mark(
     let (way, _) = shown.ways();
     match sign {
         Sign::Origin(fact, step) => tell_origin(page, scene, finding, words, way, fact, step),
-        Sign::Point => tell_point(page, finding, words, way),
-        Sign::Meeting => page.bytes(b" the ways meet here\n"),
+        Sign::Point => tell_point(page, finding, words, shown),
+        Sign::Meeting => page.bytes(b" the paths join here\n"),
     }
 }
 

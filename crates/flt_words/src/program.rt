@@ -264,10 +264,10 @@ fn bare_explain<'a>(alloc: Global) -> Command<'a>
             "Says all that is wrong with filters' texts, where it comes from, how to get there and how to mend it",
         )
         .override_usage(
-            "fltstack explain [--form <FORM>] [--states <N>] [--journal <JOURNAL>] <FILE>...\n       fltstack explain <R01 to R15, V1 to V8 or E01 to E08>",
+            "fltstack explain [--form <FORM>] [--states <N>] [--journal <JOURNAL>] <FILE>...\n       fltstack explain <R01 to R15, V1 to V8, E01 to E08, a call or a status>",
         )
         .after_help(
-            "Prints a report for each finding, with a run that breaks something because of it, and last what `analyse`\nsays (exit 1), or `nothing found` (exit 0). Where a text doesn't parse, it says where and why (exit 2).\n`--form lines` prints a JSON object for each finding, `--form sarif` a SARIF document. Of a rule, a violation\nor a fault of a text it prints the page (exit 0); `./R02` is a file of that name. Errors go to the standard\nerror with exit 2.\n\nExample: fltstack explain examples/leaked_context.flt",
+            "Prints a report for each finding, with a run that breaks something because of it, and last what `analyse`\nsays (exit 1), or `nothing found` (exit 0). Where a text doesn't parse, it says where and why (exit 2).\n`--form lines` prints a JSON object for each finding, `--form sarif` a SARIF document. Of a rule, a violation,\na fault of a text, a call or a status it prints the page (exit 0); `./R02` is a file of that name. Errors\ngo to the standard error with exit 2.\n\nExample: fltstack explain examples/leaked_context.flt",
         )
 }
 
