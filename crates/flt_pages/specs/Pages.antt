@@ -52,5 +52,5 @@ abbrev pub is_word : List ℕ → Bool
 is_word name = is_among calls name || (is_among lock_calls name || is_among statuses name)
 
 -- a page has this name
-abbrev pub has_page : List ℕ → Bool
+unfoldable pub has_page : List ℕ → Bool
 has_page name = is_code name || is_word name

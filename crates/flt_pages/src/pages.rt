@@ -158,6 +158,7 @@ fn code_page(name: &str) -> Option<&'static str>
 
 /// The page of `R01` to `R15` (a rule), `V1` to `V8` (a violation), `E01` to `E08` (a fault of a text), a call or a status: lines of text
 /// for people, which begin with that name. No other name has one.
+#[tactic(auto, unfolding(crate::specs::Pages::has_page))]
 pub fn page(name: &str) -> Option<&'static str>
     ensures known { is_some result ≡ spec.has_page name.now }
     ensures begins { IfSome result (λ found. StartsWith found.now name.now) }
