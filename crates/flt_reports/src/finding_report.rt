@@ -93,11 +93,10 @@ fn tell_others(page: &mut Page, others: &[Traced]) -> Result<(), AllocError> {
 
 /// Writes how to mend it: further lines stand under the first.
 fn tell_help(page: &mut Page, help: &[u8]) -> Result<(), AllocError> {
-    let mut before = "   = help: ";
+    let mut before: &[u8] = b"   = help: ";
     for line in help.split(|byte| *byte == b'\n') {
-        page.texts(&[before])?;
-        page.line(&[line])?;
-        before = "           ";
+        page.line(&[before, line])?;
+        before = b"           ";
     }
     Ok(())
 }
