@@ -111,7 +111,7 @@ pub record IsCountedOn (a : ℕ) (s later : Standing) (plan : Plan) : Type 0 whe
 
 -- whether a statement is a call that the system may refuse
 abbrev pub leaves_choice_by : Statement-F Statement → Bool
-leaves_choice_by (Statement-F.If line asked granted refused) = leaves_choice asked
+leaves_choice_by (Statement-F.If span asked granted refused) = leaves_choice asked
 leaves_choice_by _ = false
 
 -- whether a list begins with a call that the system may refuse

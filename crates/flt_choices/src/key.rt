@@ -233,8 +233,8 @@ fn put_locks(
 fn put_upcoming(mix: &mut Mix, upcoming: Upcoming<'_>) {
     match upcoming {
         Upcoming::Statement(statement) => mix.put_size(line_of(statement)),
-        Upcoming::Repeat(line, turns, _) => {
-            mix.put_size(line);
+        Upcoming::Repeat(span, turns, _) => {
+            mix.put_size(span.line);
             mix.put(turns);
         }
     }

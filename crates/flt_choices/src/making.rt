@@ -148,7 +148,7 @@ fn upcoming<'a>(
 fn line_at(upcoming: Option<Upcoming<'_>>) -> usize {
     match upcoming {
         Some(Upcoming::Statement(statement)) => line_of(statement),
-        Some(Upcoming::Repeat(line, _, _)) => line,
+        Some(Upcoming::Repeat(span, _, _)) => span.line,
         None => 0,
     }
 }

@@ -101,11 +101,11 @@ fn routine_run<'a>(
 
 pub(crate) fn line_of(statement: &Statement) -> usize {
     match statement {
-        Statement::Act(line, _)
-        | Statement::Call(line, _)
-        | Statement::Return(line, _)
-        | Statement::If(line, _, _, _)
-        | Statement::Repeat(line, _, _) => *line,
+        Statement::Act(span, _)
+        | Statement::Call(span, _)
+        | Statement::Return(span, _)
+        | Statement::If(span, _, _, _)
+        | Statement::Repeat(span, _, _) => span.line,
     }
 }
 
@@ -119,8 +119,8 @@ fn line_at(world: &mut World<'_>, callback: &Callback, step: Step) -> Result<usi
     };
     match activation.first()? {
         Some(Upcoming::Statement(statement)) => Ok(line_of(statement)),
-        Some(Upcoming::Repeat(line, _, _)) => Ok(line),
-        None => Ok(callback.end_line),
+        Some(Upcoming::Repeat(span, _, _)) => Ok(span.line),
+        None => Ok(callback.end.line),
     }
 }
 

@@ -5,6 +5,7 @@ use Rattle.std.proofs.lemmas.List.{map-append}
 use Rattle.std.proofs.lemmas.List.Sums.{sum_by-append, sum_by-cons}
 use Rattle.flt_tree.specs.Measures.{cost, cost_of, cost_step}
 use Rattle.flt_tree.specs.declared.filter.Action.{Action}
+use Rattle.flt_tree.specs.declared.filter.Span.{Span}
 use Rattle.flt_tree.specs.declared.filter.Statement.{Statement, out-Statement}
 use Rattle.flt_tree.specs.declared.filter.Statement.TheFolds.{map-Statement, fold_out-Statement}
 use Rattle.flt_tree.specs.declared.filter.Statement.TheOpen.{Statement-F}
@@ -26,16 +27,16 @@ pub layer_cost : (s : Statement) → cost_of s ≡ cost_step (map-Statement Stat
 layer_cost s = fold_out-Statement ℕ cost_step s
 
 -- a `repeat` costs its turns, with 1 for each, and 1
-pub repeat_cost : (line turns : ℕ) (block : List Statement) → cost_of (tree.Repeat line turns block) ≡ 1 + turns * (1 + cost block)
-repeat_cost line turns block =
-    layer_cost (tree.Repeat line turns block) ∙
-    ap (λ (s : Statement-F Statement). cost_step (map-Statement Statement ℕ cost_of s)) (outs-Repeat line turns block)
+pub repeat_cost : (span : Span) (turns : ℕ) (block : List Statement) → cost_of (tree.Repeat span turns block) ≡ 1 + turns * (1 + cost block)
+repeat_cost span turns block =
+    layer_cost (tree.Repeat span turns block) ∙
+    ap (λ (s : Statement-F Statement). cost_step (map-Statement Statement ℕ cost_of s)) (outs-Repeat span turns block)
 
 -- an action costs 1
-pub act_cost : (line : ℕ) (a : Action) → cost_of (tree.Act line a) ≡ 1
-act_cost line a =
-    layer_cost (tree.Act line a) ∙
-    ap (λ (s : Statement-F Statement). cost_step (map-Statement Statement ℕ cost_of s)) (outs-Act line a)
+pub act_cost : (span : Span) (a : Action) → cost_of (tree.Act span a) ≡ 1
+act_cost span a =
+    layer_cost (tree.Act span a) ∙
+    ap (λ (s : Statement-F Statement). cost_step (map-Statement Statement ℕ cost_of s)) (outs-Act span a)
 
 -- what remains of an activation, if it goes on, costs less than so much
 abbrev pub IsCheaper : ℕ → Option Activation → Type 0
@@ -52,23 +53,23 @@ chosen None act granted refused rest = tt
 chosen (Some true) act granted refused rest = omega (arith, cost_append granted rest)
 chosen (Some false) act granted refused rest = omega (arith, cost_append refused rest)
 
-turned : (line turns : ℕ) (block rest : List Statement) →
-    cost (turns_left line turns block rest) + 1 ≤ 1 + turns * (1 + cost block) + cost rest
-turned line zero block rest = omega arith
-turned line (suc turns) block rest =
-    let whole = cost_append block (tree.Repeat line turns block ∷ rest) in
-    let one = repeat_cost line turns block in
+turned : (span : Span) (turns : ℕ) (block rest : List Statement) →
+    cost (turns_left span turns block rest) + 1 ≤ 1 + turns * (1 + cost block) + cost rest
+turned span zero block rest = omega arith
+turned span (suc turns) block rest =
+    let whole = cost_append block (tree.Repeat span turns block ∷ rest) in
+    let one = repeat_cost span turns block in
     let more : suc turns * (1 + cost block) ≡ (1 + cost block) + turns * (1 + cost block) = grind arith in
-    omega (arith, whole, one, more, cost_cons (tree.Repeat line turns block) rest)
+    omega (arith, whole, one, more, cost_cons (tree.Repeat span turns block) rest)
 
 layer_cheaper : (draining : Bool) (act : Activation) (rest : List Statement) (layer : Statement-F Statement) →
     IsCheaper (cost_step (map-Statement Statement ℕ cost_of layer) + cost rest) (after_statement draining act rest layer)
-layer_cheaper draining act rest (Statement-F.Act line a) = acted (after_action act a) rest
-layer_cheaper draining act rest (Statement-F.Call line c) = tt
-layer_cheaper draining act rest (Statement-F.Return line st) = tt
-layer_cheaper draining act rest (Statement-F.If line asked granted refused) =
+layer_cheaper draining act rest (Statement-F.Act span a) = acted (after_action act a) rest
+layer_cheaper draining act rest (Statement-F.Call span c) = tt
+layer_cheaper draining act rest (Statement-F.Return span st) = tt
+layer_cheaper draining act rest (Statement-F.If span asked granted refused) =
     chosen (holds_condition draining act asked) act granted refused rest
-layer_cheaper draining act rest (Statement-F.Repeat line turns block) = turned line turns block rest
+layer_cheaper draining act rest (Statement-F.Repeat span turns block) = turned span turns block rest
 
 -- what remains after a local step
 pub local_cheaper : (draining : Bool) (act : Activation) (list : List Statement) → IsCheaper (cost list) (local_step draining act list)

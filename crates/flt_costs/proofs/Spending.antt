@@ -70,19 +70,19 @@ module _ (p : List Filter) (t : List Event) (w : World) (a : ℕ) where
   -- after the first statement no more is left than what it costs, and what is behind it
   statement_within : (rest : List Statement) (grant : Bool) (layer : Statement-F Statement) (s : Step) →
       statement_step p t w a rest grant layer ≡ Some s → Within (cost_step (map-Statement Statement ℕ cost_of layer) + cost rest) s
-  statement_within rest grant (Statement-F.Act line x) s e =
+  statement_within rest grant (Statement-F.Act span x) s e =
       leaves_more w a (cost rest + 1) (1 + cost rest) s.world.activations (omega arith) (act_within rest x s e)
-  statement_within rest grant (Statement-F.Call line c) s e =
+  statement_within rest grant (Statement-F.Call span c) s e =
       leaves_more w a (cost rest + 1) (1 + cost rest) s.world.activations (omega arith)
       (some_within (cost rest + 1) (plain_step p t w a rest c) s (plain_to w a (cost rest) rest (omega arith) p t c) e)
-  statement_within rest grant (Statement-F.Return line st) s e =
+  statement_within rest grant (Statement-F.Return span st) s e =
       some_within (1 + cost rest) (returns p t w a st) s (returns_leaves p t w a (1 + cost rest) st) e
-  statement_within rest grant (Statement-F.If line asked granted refused) s e =
+  statement_within rest grant (Statement-F.If span asked granted refused) s e =
       let n = max (cost granted) (cost refused) + cost rest in
       leaves_more w a (n + 1) (1 + max (cost granted) (cost refused) + cost rest) s.world.activations (omega arith)
       (if_within n (granted ++ rest) (refused ++ rest) (omega (arith, cost_append granted rest)) (omega (arith, cost_append refused rest))
       grant asked s e)
-  statement_within rest grant (Statement-F.Repeat line turns block) s e = absurd (cc)
+  statement_within rest grant (Statement-F.Repeat span turns block) s e = absurd (cc)
 
   list_within : (list : List Statement) (grant : Bool) (s : Step) → list_step p t w a list grant ≡ Some s → Within (cost list) s
   list_within [] grant s e =

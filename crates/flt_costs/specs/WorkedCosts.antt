@@ -10,15 +10,15 @@ use Rattle.flt_tree.specs.declared.variable.Atom.TheVariants as atom
 use Rattle.flt_tree.specs.declared.variable.Expression.TheVariants as expression
 use Rattle.flt_tree.specs.declared.variable.NumberVariable.TheVariants.{N0}
 use Rattle.flt_model.specs.declared.moves.JournalEntry.{JournalEntry}
-use Rattle.flt_model.specs.WorkedParts.{computed, on, filter, arrive, pre, go, played}
+use Rattle.flt_model.specs.WorkedParts.{computed, here, on, filter, arrive, pre, go, played}
 use Rattle.flt_costs.specs.Costs.{steps_of}
 
 -- two turns of one assignment. They cost 1 + 2 * (1 + 1)
 abbrev pub block : List Statement
-block = tree.Act 1 (action.SetNumber N0 (expression.Atom (atom.Number 7))) ∷ []
+block = tree.Act here (action.SetNumber N0 (expression.Atom (atom.Number 7))) ∷ []
 
 abbrev pub body : List Statement
-body = tree.Repeat 1 2 block ∷ []
+body = tree.Repeat here 2 block ∷ []
 
 -- pre read: these, and the end, which costs 1
 abbrev pub turns : List Filter

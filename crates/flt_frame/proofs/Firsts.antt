@@ -38,12 +38,12 @@ module _ (cs : List Callback) (s : Standing) (first : Statement) (later : List S
   same_text layer text is known = subst (λ (x : Statement-F Statement). RemainsAt layer x) (sym is) known
 
   remains_of : (layer text : Statement-F Statement) → out-Statement first ≡ layer → IsLeftOf layer text → RemainsAt layer text
-  remains_of (Statement-F.Act line a) text is left =
-      same_text (Statement-F.Act line a) text left
-      (λ leads counted. record { line = line; first = first; later = later; rest_is = refl; text = is; on = leads true })
-  remains_of (Statement-F.Call line call) text is left =
-      same_text (Statement-F.Call line call) text left (λ leads counted. inl (record {
-        line = line;
+  remains_of (Statement-F.Act span a) text is left =
+      same_text (Statement-F.Act span a) text left
+      (λ leads counted. record { span = span; first = first; later = later; rest_is = refl; text = is; on = leads true })
+  remains_of (Statement-F.Call span call) text is left =
+      same_text (Statement-F.Call span call) text left (λ leads counted. inl (record {
+        span = span;
         call = call;
         first = first;
         later = later;
@@ -53,12 +53,12 @@ module _ (cs : List Callback) (s : Standing) (first : Statement) (later : List S
         same = refl;
         on = leads true;
       }))
-  remains_of (Statement-F.Return line status) text is left =
-      same_text (Statement-F.Return line status) text left
-      (λ leads counted. record { line = line; first = first; later = later; rest_is = refl; text = is })
-  remains_of (Statement-F.If line (condition.Test t) granted refused) text is left =
-      same_text (Statement-F.If line (condition.Test t) granted refused) text left (λ leads counted. record {
-        line = line;
+  remains_of (Statement-F.Return span status) text is left =
+      same_text (Statement-F.Return span status) text left
+      (λ leads counted. record { span = span; first = first; later = later; rest_is = refl; text = is })
+  remains_of (Statement-F.If span (condition.Test t) granted refused) text is left =
+      same_text (Statement-F.If span (condition.Test t) granted refused) text left (λ leads counted. record {
+        span = span;
         granted_block = granted;
         refused_block = refused;
         first = first;
@@ -68,9 +68,9 @@ module _ (cs : List Callback) (s : Standing) (first : Statement) (later : List S
         granted_on = leads true;
         refused_on = leads false;
       })
-  remains_of (Statement-F.If line (condition.Succeeds call) granted refused) text is left =
-      same_text (Statement-F.If line (condition.Succeeds call) granted refused) text left (λ leads counted. inr (record {
-        line = line;
+  remains_of (Statement-F.If span (condition.Succeeds call) granted refused) text is left =
+      same_text (Statement-F.If span (condition.Succeeds call) granted refused) text left (λ leads counted. inr (record {
+        span = span;
         call = call;
         granted_block = granted;
         refused_block = refused;
@@ -82,14 +82,14 @@ module _ (cs : List Callback) (s : Standing) (first : Statement) (later : List S
         granted_on = leads true;
         refused_on = leads false;
       }))
-  remains_of (Statement-F.Repeat line turns block) text is left =
-      subst (λ (x : Statement-F Statement). RemainsAt (Statement-F.Repeat line turns block) x) (sym left.1.1) (λ leads counted. record {
-        line = line;
+  remains_of (Statement-F.Repeat span turns block) text is left =
+      subst (λ (x : Statement-F Statement). RemainsAt (Statement-F.Repeat span turns block) x) (sym left.1.1) (λ leads counted. record {
+        span = span;
         block = block;
         first = first;
         later = later;
         rest_is = refl;
-        text = is ∙ ap (λ (n : ℕ). Statement-F.Repeat line n block) counted;
+        text = is ∙ ap (λ (n : ℕ). Statement-F.Repeat span n block) counted;
       })
 
 module _ (laws : Laws) (f : Filter) (g : Graph) (lowered : IsLowered f g) (s : Standing) where

@@ -10,6 +10,7 @@ use Rattle.flt_tree.specs.declared.filter.Action.TheVariants as action
 use Rattle.flt_tree.specs.declared.filter.Callback.{Callback}
 use Rattle.flt_tree.specs.declared.filter.Condition.TheVariants as condition
 use Rattle.flt_tree.specs.declared.filter.Filter.{Filter}
+use Rattle.flt_tree.specs.declared.filter.Span.{Span}
 use Rattle.flt_tree.specs.declared.filter.Statement.{Statement, out-Statement}
 use Rattle.flt_tree.specs.declared.filter.Statement.TheOpen.{Statement-F}
 use Rattle.flt_tree.specs.declared.filter.Statement.TheVariants as tree
@@ -104,15 +105,15 @@ FollowsAt all body draining s list rest after layer text =
     Follows body (after_statement draining (activation_with s list) rest layer) (stepped draining (instruction_of all text s.point after) s)
 
 module _ (all : List Callback) (body : List Statement) (draining : Bool) (s : Standing) (list rest : List Statement) (after : ℕ) where
-  act_follows : (line : ℕ) (a : Action) → StandsWith body after s.turns rest →
+  act_follows : (span : Span) (a : Action) → StandsWith body after s.turns rest →
       Follows body (option_map (goes_on_to rest) (after_action (activation_with s list) a)) (stepped draining (instruction.Act a after) s)
-  act_follows line (action.SetNumber n e) on =
+  act_follows span (action.SetNumber n e) on =
       (rest, (rw (value_same s list e) refl, on))
-  act_follows line (action.ClearContext c) on = (rest, (refl, on))
-  act_follows line (action.ClearOperation o) on = (rest, (refl, on))
-  act_follows line (action.ReadValue n c) on = refl
-  act_follows line (action.ReadFile n d) on = refl
-  act_follows line (action.WriteValue c x) on = refl
+  act_follows span (action.ClearContext c) on = (rest, (refl, on))
+  act_follows span (action.ClearOperation o) on = (rest, (refl, on))
+  act_follows span (action.ReadValue n c) on = refl
+  act_follows span (action.ReadFile n d) on = refl
+  act_follows span (action.WriteValue c x) on = refl
 
   chosen_follows : (granted refused : List Statement) (yes_at no_at : ℕ) (o : Option Bool) →
       ((outcome : Bool) → StandsWith body (if outcome then yes_at else no_at) s.turns ((if outcome then granted else refused) ++ rest)) →
@@ -121,37 +122,37 @@ module _ (all : List Callback) (body : List Statement) (draining : Bool) (s : St
   chosen_follows granted refused yes_at no_at None on = refl
   chosen_follows granted refused yes_at no_at (Some b) on = ((if b then granted else refused) ++ rest, (refl, on b))
 
-  test_follows : (line : ℕ) (t : Test) (granted refused : List Statement) →
-      LeadsOn all body s rest after (Statement-F.If line (condition.Test t) granted refused)
-      (Statement-F.If line (condition.Test t) granted refused) →
-      FollowsAt all body draining s list rest after (Statement-F.If line (condition.Test t) granted refused)
-      (Statement-F.If line (condition.Test t) granted refused)
-  test_follows line t granted refused on =
+  test_follows : (span : Span) (t : Test) (granted refused : List Statement) →
+      LeadsOn all body s rest after (Statement-F.If span (condition.Test t) granted refused)
+      (Statement-F.If span (condition.Test t) granted refused) →
+      FollowsAt all body draining s list rest after (Statement-F.If span (condition.Test t) granted refused)
+      (Statement-F.If span (condition.Test t) granted refused)
+  test_follows span t granted refused on =
       subst (λ (o : Option Bool). Follows body
       (option_map (λ (b : Bool). goes_on_to ((if b then granted else refused) ++ rest) (activation_with s list)) o)
-      (stepped draining (instruction_of all (Statement-F.If line (condition.Test t) granted refused) s.point after) s))
+      (stepped draining (instruction_of all (Statement-F.If span (condition.Test t) granted refused) s.point after) s))
       (sym (test_same s list draining t))
       (chosen_follows granted refused _ _ (holds_test draining (activation_with s []) t) on)
 
-  turn_follows : (line left text body_at : ℕ) (block : List Statement) →
+  turn_follows : (span : Span) (left text body_at : ℕ) (block : List Statement) →
       ((turns : List Turn) (l : List Statement) → StandsWith body body_at turns l → length turns ≤ max_repeats) →
       left ≡ left_at s.point text s.turns →
       ((outcome : Bool) → StandsAtWith body (Some (if outcome then body_at else after))
       (turns_after (instruction.Repeat text body_at after) s.point outcome s.turns)
-      (remaining_of (Statement-F.Repeat line left block) rest outcome)) →
-      Follows body (after_statement draining (activation_with s list) rest (Statement-F.Repeat line left block))
+      (remaining_of (Statement-F.Repeat span left block) rest outcome)) →
+      Follows body (after_statement draining (activation_with s list) rest (Statement-F.Repeat span left block))
       (turned_with left body_at after s)
-  turn_follows line zero text body_at block few is on = (rest, (refl, on false))
-  turn_follows line (suc left) text body_at block few is on =
+  turn_follows span zero text body_at block few is on = (rest, (refl, on false))
+  turn_follows span (suc left) text body_at block few is on =
       let less : left_at s.point text s.turns - 1 ≡ left = omega arith in
       let stands : StandsWith body body_at (record { point = s.point; left = left } ∷ turns_round s.point s.turns)
-      (block ++ tree.Repeat line left block ∷ rest) =
+      (block ++ tree.Repeat span left block ∷ rest) =
       subst (λ (n : ℕ). StandsWith body body_at (record { point = s.point; left = n } ∷ turns_round s.point s.turns)
-      (block ++ tree.Repeat line left block ∷ rest)) less (on true) in
+      (block ++ tree.Repeat span left block ∷ rest)) less (on true) in
       let most : length (record { point = s.point; left = left } ∷ turns_round s.point s.turns) ≤ max_repeats = few _ _ stands in
       let room : nat_lt (length (turns_round s.point s.turns)) max_repeats ≡ true =
       lt-ltb (length (turns_round s.point s.turns)) max_repeats (omega arith) in
-      rw room (block ++ tree.Repeat line left block ∷ rest, (refl, stands))
+      rw room (block ++ tree.Repeat span left block ∷ rest, (refl, stands))
 
   -- a statement that the text has so
   text_follows : (layer text : Statement-F Statement) → text ≡ layer →
@@ -162,39 +163,39 @@ module _ (all : List Callback) (body : List Statement) (draining : Bool) (s : St
       (same (subst (λ (x : Statement-F Statement). LeadsOn all body s rest after layer x) is on))
 
   -- a `repeat` with so many turns left, where the text has others
-  repeat_follows : (line left turns : ℕ) (block : List Statement) (text : Statement-F Statement) →
+  repeat_follows : (span : Span) (left turns : ℕ) (block : List Statement) (text : Statement-F Statement) →
       ((p : ℕ) (ts : List Turn) (l : List Statement) → StandsWith body p ts l → length ts ≤ max_repeats) →
-      text ≡ Statement-F.Repeat line turns block → LeadsOn all body s rest after (Statement-F.Repeat line left block) text →
-      HasLeft s.point s.turns (instruction_of all text s.point after) (Statement-F.Repeat line left block) →
-      FollowsAt all body draining s list rest after (Statement-F.Repeat line left block) text
-  repeat_follows line left turns block text few is on counted =
-      subst (λ (x : Statement-F Statement). LeadsOn all body s rest after (Statement-F.Repeat line left block) x →
-      HasLeft s.point s.turns (instruction_of all x s.point after) (Statement-F.Repeat line left block) →
-      FollowsAt all body draining s list rest after (Statement-F.Repeat line left block) x) (sym is) known on counted
+      text ≡ Statement-F.Repeat span turns block → LeadsOn all body s rest after (Statement-F.Repeat span left block) text →
+      HasLeft s.point s.turns (instruction_of all text s.point after) (Statement-F.Repeat span left block) →
+      FollowsAt all body draining s list rest after (Statement-F.Repeat span left block) text
+  repeat_follows span left turns block text few is on counted =
+      subst (λ (x : Statement-F Statement). LeadsOn all body s rest after (Statement-F.Repeat span left block) x →
+      HasLeft s.point s.turns (instruction_of all x s.point after) (Statement-F.Repeat span left block) →
+      FollowsAt all body draining s list rest after (Statement-F.Repeat span left block) x) (sym is) known on counted
     where
-      known : LeadsOn all body s rest after (Statement-F.Repeat line left block) (Statement-F.Repeat line turns block) →
+      known : LeadsOn all body s rest after (Statement-F.Repeat span left block) (Statement-F.Repeat span turns block) →
           left ≡ left_at s.point turns s.turns →
-          FollowsAt all body draining s list rest after (Statement-F.Repeat line left block) (Statement-F.Repeat line turns block)
+          FollowsAt all body draining s list rest after (Statement-F.Repeat span left block) (Statement-F.Repeat span turns block)
       known leads e =
-          subst (λ (n : ℕ). Follows body (after_statement draining (activation_with s list) rest (Statement-F.Repeat line left block))
+          subst (λ (n : ℕ). Follows body (after_statement draining (activation_with s list) rest (Statement-F.Repeat span left block))
           (turned_with n (entry block (s.point + 1) s.point) after s)) e
-          (turn_follows line left turns (entry block (s.point + 1) s.point) block (few (entry block (s.point + 1) s.point)) e leads)
+          (turn_follows span left turns (entry block (s.point + 1) s.point) block (few (entry block (s.point + 1) s.point)) e leads)
 
   -- a statement, whatever it is
   layer_follows : (layer text : Statement-F Statement) →
       ((p : ℕ) (ts : List Turn) (l : List Statement) → StandsWith body p ts l → length ts ≤ max_repeats) → IsLeftOf layer text →
       LeadsOn all body s rest after layer text → HasLeft s.point s.turns (instruction_of all text s.point after) layer →
       FollowsAt all body draining s list rest after layer text
-  layer_follows (Statement-F.Act line a) text few is on counted =
-      text_follows (Statement-F.Act line a) text is (λ leads. act_follows line a (leads true)) on
-  layer_follows (Statement-F.Call line call) text few is on counted = text_follows (Statement-F.Call line call) text is (λ leads. refl) on
-  layer_follows (Statement-F.Return line status) text few is on counted =
-      text_follows (Statement-F.Return line status) text is (λ leads. refl) on
-  layer_follows (Statement-F.If line (condition.Test t) granted refused) text few is on counted =
-      text_follows (Statement-F.If line (condition.Test t) granted refused) text is (λ leads. test_follows line t granted refused leads) on
-  layer_follows (Statement-F.If line (condition.Succeeds call) granted refused) text few is on counted =
-      text_follows (Statement-F.If line (condition.Succeeds call) granted refused) text is (λ leads. refl) on
-  layer_follows (Statement-F.Repeat line left block) text few is on counted = repeat_follows line left is.0 block text few is.1.1 on counted
+  layer_follows (Statement-F.Act span a) text few is on counted =
+      text_follows (Statement-F.Act span a) text is (λ leads. act_follows span a (leads true)) on
+  layer_follows (Statement-F.Call span call) text few is on counted = text_follows (Statement-F.Call span call) text is (λ leads. refl) on
+  layer_follows (Statement-F.Return span status) text few is on counted =
+      text_follows (Statement-F.Return span status) text is (λ leads. refl) on
+  layer_follows (Statement-F.If span (condition.Test t) granted refused) text few is on counted =
+      text_follows (Statement-F.If span (condition.Test t) granted refused) text is (λ leads. test_follows span t granted refused leads) on
+  layer_follows (Statement-F.If span (condition.Succeeds call) granted refused) text few is on counted =
+      text_follows (Statement-F.If span (condition.Succeeds call) granted refused) text is (λ leads. refl) on
+  layer_follows (Statement-F.Repeat span left block) text few is on counted = repeat_follows span left is.0 block text few is.1.1 on counted
 
 -- the step of an activation that stands in a callback that is there
 step_within : Laws → (f : Filter) (g : Graph) → IsLoaded f g → (c : Callback) (s : Standing) →

@@ -6,6 +6,7 @@ use Rattle.flt_tree.specs.declared.filter.Callback.{Callback}
 use Rattle.flt_tree.specs.declared.filter.Condition.TheVariants as condition
 use Rattle.flt_tree.specs.declared.filter.FallibleCall.{FallibleCall}
 use Rattle.flt_tree.specs.declared.filter.PlainCall.{PlainCall}
+use Rattle.flt_tree.specs.declared.filter.Span.{Span}
 use Rattle.flt_tree.specs.declared.filter.Statement.{Statement, out-Statement}
 use Rattle.flt_tree.specs.declared.filter.Statement.TheOpen.{Statement-F}
 use Rattle.flt_tree.specs.declared.filter.Status.{Status}
@@ -36,22 +37,22 @@ GoesOnAt cs s point list = StandsWith (body_of (slice_get cs s.callback)) point 
 
 -- an action remains first; what is behind it stands at the next point
 pub record ActsFirst (cs : List Callback) (s : Standing) (rest : List Statement) (action : Action) (next : ℕ) : Type 0 where
-  pub line : ℕ
+  pub span : Span
   pub first : Statement
   pub later : List Statement
   pub rest_is : rest ≡ first ∷ later
-  pub text : out-Statement first ≡ Statement-F.Act line action
+  pub text : out-Statement first ≡ Statement-F.Act span action
   pub on : GoesOnAt cs s next later
 
 -- a call that always succeeds remains first; what is behind it stands at the next point, which is named twice
 pub record CallsFirst (cs : List Callback) (s : Standing) (rest : List Statement) (made : Invocation) (granted refused : ℕ)
     : Type 0 where
-  pub line : ℕ
+  pub span : Span
   pub call : PlainCall
   pub first : Statement
   pub later : List Statement
   pub rest_is : rest ≡ first ∷ later
-  pub text : out-Statement first ≡ Statement-F.Call line call
+  pub text : out-Statement first ≡ Statement-F.Call span call
   pub made_is : made ≡ invocation.plain call
   pub same : refused ≡ granted
   pub on : GoesOnAt cs s granted later
@@ -59,46 +60,46 @@ pub record CallsFirst (cs : List Callback) (s : Standing) (rest : List Statement
 -- an `if` of a call that can fail remains first; each of its blocks, with what is behind it, stands at its point
 pub record AsksCallFirst (cs : List Callback) (s : Standing) (rest : List Statement) (made : Invocation) (granted refused : ℕ)
     : Type 0 where
-  pub line : ℕ
+  pub span : Span
   pub call : FallibleCall
   pub granted_block : List Statement
   pub refused_block : List Statement
   pub first : Statement
   pub later : List Statement
   pub rest_is : rest ≡ first ∷ later
-  pub text : out-Statement first ≡ Statement-F.If line (condition.Succeeds call) granted_block refused_block
+  pub text : out-Statement first ≡ Statement-F.If span (condition.Succeeds call) granted_block refused_block
   pub made_is : made ≡ invocation.fallible cs call
   pub granted_on : GoesOnAt cs s granted (granted_block ++ later)
   pub refused_on : GoesOnAt cs s refused (refused_block ++ later)
 
 -- an `if` of a test remains first; each of its blocks, with what is behind it, stands at its point
 pub record TestsFirst (cs : List Callback) (s : Standing) (rest : List Statement) (test : Test) (granted refused : ℕ) : Type 0 where
-  pub line : ℕ
+  pub span : Span
   pub granted_block : List Statement
   pub refused_block : List Statement
   pub first : Statement
   pub later : List Statement
   pub rest_is : rest ≡ first ∷ later
-  pub text : out-Statement first ≡ Statement-F.If line (condition.Test test) granted_block refused_block
+  pub text : out-Statement first ≡ Statement-F.If span (condition.Test test) granted_block refused_block
   pub granted_on : GoesOnAt cs s granted (granted_block ++ later)
   pub refused_on : GoesOnAt cs s refused (refused_block ++ later)
 
 -- a `return` remains first
 pub record ReturnsFirst (rest : List Statement) (status : Option Status) : Type 0 where
-  pub line : ℕ
+  pub span : Span
   pub first : Statement
   pub later : List Statement
   pub rest_is : rest ≡ first ∷ later
-  pub text : out-Statement first ≡ Statement-F.Return line status
+  pub text : out-Statement first ≡ Statement-F.Return span status
 
 -- a `repeat` remains first, with as many turns as are left at the point
 pub record RepeatsFirst (s : Standing) (rest : List Statement) (turns : ℕ) : Type 0 where
-  pub line : ℕ
+  pub span : Span
   pub block : List Statement
   pub first : Statement
   pub later : List Statement
   pub rest_is : rest ≡ first ∷ later
-  pub text : out-Statement first ≡ Statement-F.Repeat line (left_at s.point turns s.turns) block
+  pub text : out-Statement first ≡ Statement-F.Repeat span (left_at s.point turns s.turns) block
 
 -- what remains of an activation, where its standing's point has this instruction
 abbrev pub Remains : List Callback → Standing → List Statement → Instruction → Type 0

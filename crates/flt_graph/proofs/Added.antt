@@ -4,6 +4,7 @@ use Rattle.std.proofs.lemmas.List.{length-append, length-drop, append-nil, drop_
 use Rattle.flt_tree.specs.Measures.{points_of, points, points_step}
 use Rattle.flt_tree.specs.declared.filter.Callback.{Callback}
 use Rattle.flt_tree.specs.declared.filter.Condition.{Condition}
+use Rattle.flt_tree.specs.declared.filter.Span.{Span}
 use Rattle.flt_tree.specs.declared.filter.Statement.{Statement, out-Statement, roll-Statement}
 use Rattle.flt_tree.specs.declared.filter.Statement.TheOpen.{Statement-F}
 use Rattle.flt_tree.specs.declared.filter.Statement.TheVariants as tree
@@ -25,7 +26,7 @@ added_layer all s layer f0 f1 f3 after o h1 h3 =
     ++ (point_of all (out-Statement s) (length f0) after ∷ inner_code all l (length f0) after)) (sym o) ∙
     ap (λ (l : List Point). f0 ++ l) (sym (out_code all s (length f0) after)))))
 
-pub added_if : (all : List Callback) (s : Statement) (l : ℕ) (a : Condition) (g r : List Statement) (f0 f1 f2 f3 : List Point)
+pub added_if : (all : List Callback) (s : Statement) (l : Span) (a : Condition) (g r : List Statement) (f0 f1 f2 f3 : List Point)
     (after : ℕ) → s ≡ tree.If l a g r → f1 ≡ f0 ++ point_of all (out-Statement s) (length f0) after ∷ [] →
     f2 ≡ f1 ++ block_code all g (length f1) after → f3 ≡ f2 ++ block_code all r (length f2) after →
     f3 ≡ f0 ++ statement_code all s (length f0) after
@@ -40,7 +41,7 @@ added_if all s l a g r f0 f1 f2 f3 after is h1 h2 h3 =
     (k3 ∙ (ap (λ (x : List Point). x ++ block_code all r (length f0 + 1 + points g) after) k2
     ∙ append_assoc f1 (block_code all g (length f0 + 1) after) (block_code all r (length f0 + 1 + points g) after)))
 
-pub added_repeat : (all : List Callback) (s : Statement) (l k : ℕ) (b : List Statement) (f0 f1 f3 : List Point) (at after : ℕ) →
+pub added_repeat : (all : List Callback) (s : Statement) (l : Span) (k : ℕ) (b : List Statement) (f0 f1 f3 : List Point) (at after : ℕ) →
     at ≡ length f0 → s ≡ tree.Repeat l k b → f1 ≡ f0 ++ point_of all (out-Statement s) (length f0) after ∷ [] →
     f3 ≡ f1 ++ block_code all b (length f1) at → f3 ≡ f0 ++ statement_code all s (length f0) after
 added_repeat all s l k b f0 f1 f3 at after hat is h1 h3 =
@@ -95,7 +96,7 @@ pub points_more : (block : List Statement) (i : ℕ) (s : Statement) → i < len
 points_more block i s below is = ap points (drop_more block i s below ∙ ap (λ (x : Statement). x ∷ drop (i + 1) block) (sym is))
     ∙ points_cons s (drop (i + 1) block)
 
-pub points_repeat : (s : Statement) (l k : ℕ) (b : List Statement) → s ≡ tree.Repeat l k b → points_of s ≡ 1 + points b
+pub points_repeat : (s : Statement) (l : Span) (k : ℕ) (b : List Statement) → s ≡ tree.Repeat l k b → points_of s ≡ 1 + points b
 points_repeat s l k b is = out_points s
     ∙ ap (λ (x : Statement-F Statement). points_step (map-Statement Statement ℕ points_of x)) (ap out-Statement is ∙ outs-Repeat l k b)
 
@@ -106,17 +107,17 @@ pub record IsPlain (all : List Callback) (layer : Statement-F Statement) (at aft
   pub one : points_step (map-Statement Statement ℕ points_of layer) ≡ 1
 
 layer_plain : (all : List Callback) (layer : Statement-F Statement) (at after : ℕ) →
-    ((l : ℕ) (a : Condition) (g r : List Statement) → layer ≡ Statement-F.If l a g r → ⊥) →
-    ((l k : ℕ) (b : List Statement) → layer ≡ Statement-F.Repeat l k b → ⊥) → IsPlain all layer at after
-layer_plain all (Statement-F.Act line action) at after hi hr = record { inner = refl; one = refl }
-layer_plain all (Statement-F.Call line call) at after hi hr = record { inner = refl; one = refl }
-layer_plain all (Statement-F.Return line status) at after hi hr = record { inner = refl; one = refl }
-layer_plain all (Statement-F.If line asked granted refused) at after hi hr = absurd (hi line asked granted refused refl)
-layer_plain all (Statement-F.Repeat line turns block) at after hi hr = absurd (hr line turns block refl)
+    ((l : Span) (a : Condition) (g r : List Statement) → layer ≡ Statement-F.If l a g r → ⊥) →
+    ((l : Span) (k : ℕ) (b : List Statement) → layer ≡ Statement-F.Repeat l k b → ⊥) → IsPlain all layer at after
+layer_plain all (Statement-F.Act span action) at after hi hr = record { inner = refl; one = refl }
+layer_plain all (Statement-F.Call span call) at after hi hr = record { inner = refl; one = refl }
+layer_plain all (Statement-F.Return span status) at after hi hr = record { inner = refl; one = refl }
+layer_plain all (Statement-F.If span asked granted refused) at after hi hr = absurd (hi span asked granted refused refl)
+layer_plain all (Statement-F.Repeat span turns block) at after hi hr = absurd (hr span turns block refl)
 
 pub is_plain : (all : List Callback) (s : Statement) (at after : ℕ) →
-    ((l : ℕ) (a : Condition) (g r : List Statement) → s ≡ tree.If l a g r → ⊥) →
-    ((l k : ℕ) (b : List Statement) → s ≡ tree.Repeat l k b → ⊥) → IsPlain all (out-Statement s) at after
+    ((l : Span) (a : Condition) (g r : List Statement) → s ≡ tree.If l a g r → ⊥) →
+    ((l : Span) (k : ℕ) (b : List Statement) → s ≡ tree.Repeat l k b → ⊥) → IsPlain all (out-Statement s) at after
 is_plain all s at after hi hr =
     layer_plain all (out-Statement s) at after
     (λ l a g r e. hi l a g r (sym (roll-out-Statement s) ∙ (ap roll-Statement e ∙ rolls-If l a g r)))

@@ -33,12 +33,12 @@ block_cons all s rest at after = rw
 
 -- the points of a statement's blocks
 abbrev pub inner_code : List Callback → Statement-F Statement → Code
-inner_code all (Statement-F.Act line action) at after = []
-inner_code all (Statement-F.Call line call) at after = []
-inner_code all (Statement-F.Return line status) at after = []
-inner_code all (Statement-F.If line asked granted refused) at after =
+inner_code all (Statement-F.Act span action) at after = []
+inner_code all (Statement-F.Call span call) at after = []
+inner_code all (Statement-F.Return span status) at after = []
+inner_code all (Statement-F.If span asked granted refused) at after =
     block_code all granted (at + 1) after ++ block_code all refused (at + 1 + points granted) after
-inner_code all (Statement-F.Repeat line turns block) at after = block_code all block (at + 1) at
+inner_code all (Statement-F.Repeat span turns block) at after = block_code all block (at + 1) at
 
 first_back : (f : Statement → Code) (block : List Statement) →
     map (λ (x : Statement × Code). x.0) (map (λ (s : Statement). (s, f s)) block) ≡ block
@@ -47,26 +47,26 @@ first_back f (s ∷ block) = ap (λ (l : List Statement). s ∷ l) (first_back f
 
 layer_back : (f : Statement → Code) (s : Statement-F Statement) →
     map-Statement (Statement × Code) Statement (λ x. x.0) (map-Statement Statement (Statement × Code) (λ y. (y, f y)) s) ≡ s
-layer_back f (Statement-F.Act line action) = refl
-layer_back f (Statement-F.Call line call) = refl
-layer_back f (Statement-F.Return line status) = refl
-layer_back f (Statement-F.If line asked granted refused) =
-    ap (λ (l : List Statement). Statement-F.If line asked l
+layer_back f (Statement-F.Act span action) = refl
+layer_back f (Statement-F.Call span call) = refl
+layer_back f (Statement-F.Return span status) = refl
+layer_back f (Statement-F.If span asked granted refused) =
+    ap (λ (l : List Statement). Statement-F.If span asked l
     (map (λ (x : Statement × Code). x.0) (map (λ (y : Statement). (y, f y)) refused))) (first_back f granted) ∙
-    ap (λ (l : List Statement). Statement-F.If line asked granted l) (first_back f refused)
-layer_back f (Statement-F.Repeat line turns block) = ap (λ (l : List Statement). Statement-F.Repeat line turns l) (first_back f block)
+    ap (λ (l : List Statement). Statement-F.If span asked granted l) (first_back f refused)
+layer_back f (Statement-F.Repeat span turns block) = ap (λ (l : List Statement). Statement-F.Repeat span turns l) (first_back f block)
 
 inner_is : (all : List Callback) (s : Statement-F Statement) (at after : ℕ) →
     codes_in (map-Statement Statement (Statement × Code) (λ y. (y, statement_code all y)) s) at after ≡ inner_code all s at after
 unfolding block_code
-inner_is all (Statement-F.Act line action) at after = refl
-inner_is all (Statement-F.Call line call) at after = refl
-inner_is all (Statement-F.Return line status) at after = refl
-inner_is all (Statement-F.If line asked granted refused) at after =
+inner_is all (Statement-F.Act span action) at after = refl
+inner_is all (Statement-F.Call span call) at after = refl
+inner_is all (Statement-F.Return span status) at after = refl
+inner_is all (Statement-F.If span asked granted refused) at after =
     ap (λ (l : List Statement). codes (map (λ (y : Statement). (y, statement_code all y)) granted) (at + 1) after
     ++ codes (map (λ (y : Statement). (y, statement_code all y)) refused) (at + 1 + points l) after)
     (first_back (statement_code all) granted)
-inner_is all (Statement-F.Repeat line turns block) at after = refl
+inner_is all (Statement-F.Repeat span turns block) at after = refl
 
 roll_code : (all : List Callback) (s : Statement-F Statement) (at after : ℕ) →
     statement_code all (roll-Statement s) at after ≡ point_of all s at after ∷ inner_code all s at after
@@ -111,10 +111,10 @@ layer_length : (all : List Callback) (y : Statement-F ((s : Statement) × HasLen
     length (point_of all (map-Statement ((s : Statement) × HasLength all s) Statement (λ x. x.0) y) at after
     ∷ inner_code all (map-Statement ((s : Statement) × HasLength all s) Statement (λ x. x.0) y) at after) ≡
     points_step (map-Statement Statement ℕ points_of (map-Statement ((s : Statement) × HasLength all s) Statement (λ x. x.0) y))
-layer_length all (Statement-F.Act line action) at after = refl
-layer_length all (Statement-F.Call line call) at after = refl
-layer_length all (Statement-F.Return line status) at after = refl
-layer_length all (Statement-F.If line asked granted refused) at after =
+layer_length all (Statement-F.Act span action) at after = refl
+layer_length all (Statement-F.Call span call) at after = refl
+layer_length all (Statement-F.Return span status) at after = refl
+layer_length all (Statement-F.If span asked granted refused) at after =
     let g = map (λ (x : (s : Statement) × HasLength all s). x.0) granted in
     let r = map (λ (x : (s : Statement) × HasLength all s). x.0) refused in
     omega (
@@ -123,7 +123,7 @@ layer_length all (Statement-F.If line asked granted refused) at after =
       blocks_length all granted (at + 1) after,
       blocks_length all refused (at + 1 + points g) after,
     )
-layer_length all (Statement-F.Repeat line turns block) at after = omega (arith, blocks_length all block (at + 1) at)
+layer_length all (Statement-F.Repeat span turns block) at after = omega (arith, blocks_length all block (at + 1) at)
 
 made_length : (all : List Callback) (s : Statement-F Statement) →
     ((at after : ℕ) → length (point_of all s at after ∷ inner_code all s at after) ≡ points_step

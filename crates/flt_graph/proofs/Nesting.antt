@@ -23,8 +23,8 @@ IsNested locks queue r block = (d : ℕ) × AreStatements locks queue d r block
 
 -- so do the blocks of a statement; those of a `repeat` less deep than itself
 abbrev AreNested : List Lock → Bool → ℕ → Statement-F Statement → Type 0
-AreNested locks queue r (Statement-F.If line asked granted refused) = IsNested locks queue r granted × IsNested locks queue r refused
-AreNested locks queue r (Statement-F.Repeat line text block) = (inner : ℕ) × ((inner < r) × IsNested locks queue inner block)
+AreNested locks queue r (Statement-F.If span asked granted refused) = IsNested locks queue r granted × IsNested locks queue r refused
+AreNested locks queue r (Statement-F.Repeat span text block) = (inner : ℕ) × ((inner < r) × IsNested locks queue inner block)
 AreNested locks queue r s = Unit {0}
 
 else_nested : {locks : List Lock} {queue : Bool} {d r : ℕ} {ss : List Statement} → IsElse locks queue d r ss → IsNested locks queue r ss

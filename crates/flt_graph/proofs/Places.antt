@@ -46,16 +46,16 @@ module _ (all : List Callback) (whole : List Point) where
       In body block n q follows → IsAt whole (block_code all block n q) n
   places h top = h
   places h (later {s = s} {rest = rest} {n = n} {q = q} i) = at_rest s rest n q (places h i)
-  places h (granted_block {s = s} {rest = rest} {yes_block = g} {no_block = r} {asked = a} {line = l} {n = n} {q = q} i o) =
+  places h (granted_block {s = s} {rest = rest} {yes_block = g} {no_block = r} {asked = a} {span = l} {n = n} {q = q} i o) =
       at_first (block_code all g (n + 1) (entry rest (n + points_of s) q))
       (block_code all r (n + 1 + points g) (entry rest (n + points_of s) q))
       (at_inner s (Statement-F.If l a g r) n (entry rest (n + points_of s) q) o (at_statement s rest n q (places h i)))
-  places h (refused_block {s = s} {rest = rest} {yes_block = g} {no_block = r} {asked = a} {line = l} {n = n} {q = q} i o) =
+  places h (refused_block {s = s} {rest = rest} {yes_block = g} {no_block = r} {asked = a} {span = l} {n = n} {q = q} i o) =
       at_second (block_code all g (n + 1) (entry rest (n + points_of s) q))
       (block_code all r (n + 1 + points g) (entry rest (n + points_of s) q)) (points g)
       (block_length all g (n + 1) (entry rest (n + points_of s) q))
       (at_inner s (Statement-F.If l a g r) n (entry rest (n + points_of s) q) o (at_statement s rest n q (places h i)))
-  places h (turn {s = s} {rest = rest} {block = b} {line = l} {turns = k} {n = n} {q = q} i o less) =
+  places h (turn {s = s} {rest = rest} {block = b} {span = l} {turns = k} {n = n} {q = q} i o less) =
       at_inner s (Statement-F.Repeat l k b) n (entry rest (n + points_of s) q) o (at_statement s rest n q (places h i))
 
 -- what a callback's points are

@@ -1,11 +1,13 @@
 -- Which remaining lists stand where, and what is there.
 use Rattle.std.proofs.Common.{◌≡◌, ℕ, zero, suc, ◌+◌, ◌≤◌, Bool, true, false, List, [], ◌∷◌, length, slice_get, slice_index_or, ◌++◌, Option, Some, None, ap, sym, subst, refl, arith}
 use Rattle.std.proofs.lemmas.List.{append-nil}
+use Rattle.flt_tree.specs.Filter.{no_span}
 use Rattle.flt_tree.specs.Measures.{points_of}
 use Rattle.flt_tree.specs.declared.filter.Callback.{Callback}
 use Rattle.flt_tree.specs.declared.filter.Condition.{Condition}
 use Rattle.flt_tree.specs.declared.filter.Condition.TheVariants as condition
 use Rattle.flt_tree.specs.declared.filter.Filter.{Filter}
+use Rattle.flt_tree.specs.declared.filter.Span.{Span}
 use Rattle.flt_tree.specs.declared.filter.Statement.{Statement, out-Statement}
 use Rattle.flt_tree.specs.declared.filter.Statement.TheOpen.{Statement-F}
 use Rattle.flt_tree.specs.declared.filter.Statement.TheViews.{outs-Repeat}
@@ -43,24 +45,24 @@ first_of_body [] = end
 first_of_body (s ∷ rest) = subst (λ (l : List Statement). Stands (s ∷ rest) 0 (s ∷ l)) (append-nil rest) (before top)
 
 left_of_self : (s : Statement-F Statement) → IsLeftOf s s
-left_of_self (Statement-F.Act line action) = refl
-left_of_self (Statement-F.Call line call) = refl
-left_of_self (Statement-F.Return line status) = refl
-left_of_self (Statement-F.If line asked granted refused) = refl
-left_of_self (Statement-F.Repeat line turns block) = (turns, (omega arith, refl))
+left_of_self (Statement-F.Act span action) = refl
+left_of_self (Statement-F.Call span call) = refl
+left_of_self (Statement-F.Return span status) = refl
+left_of_self (Statement-F.If span asked granted refused) = refl
+left_of_self (Statement-F.Repeat span turns block) = (turns, (omega arith, refl))
 
 pub first_there : (all : List Callback) (c : Callback) (g : CallbackGraph) (p : ℕ) (list : List Statement) → IsGraphOf all c g →
     Stands c.body p list → IsFirst all (end_of c) p list (point_in g p)
 first_there all c g p list made end = made.end
 first_there all c g p list made (before {s = s} {rest = rest} {n = n} {q = q} {follows = follows} i) =
     (out-Statement s, (entry rest (n + points_of s) q, (left_of_self (out-Statement s), made.statements s rest follows n q i)))
-first_there all c g p list made (again {s = s} {rest = rest} {block = block} {line = line} {turns = turns} {left = left} {n = n}
+first_there all c g p list made (again {s = s} {rest = rest} {block = block} {span = span} {turns = turns} {left = left} {n = n}
     {q = q} {follows = follows} i o h) = (
       out-Statement s,
       (
         entry rest (n + points_of s) q,
         (
-          subst (λ (x : Statement-F Statement). IsLeftOf x (out-Statement s)) (sym (outs-Repeat line left block)) (turns, (h, o)),
+          subst (λ (x : Statement-F Statement). IsLeftOf x (out-Statement s)) (sym (outs-Repeat span left block)) (turns, (h, o)),
           made.statements s rest follows n q i,
         ),
       ),
@@ -72,16 +74,16 @@ choice_leads : {body : List Statement} {yes_at no_at : ℕ} (granted refused fol
     (asked : Condition) (outcome : Bool) →
     Stands body yes_at (granted ++ follows) → Stands body no_at (refused ++ follows) →
     StandsAt body (successor (choice all asked yes_at no_at) outcome)
-    (remaining_of (Statement-F.If 0 asked granted refused) follows outcome)
+    (remaining_of (Statement-F.If no_span asked granted refused) follows outcome)
 choice_leads granted refused follows all (condition.Test t) true u v = u
 choice_leads granted refused follows all (condition.Test t) false u v = v
 choice_leads granted refused follows all (condition.Succeeds c) true u v = u
 choice_leads granted refused follows all (condition.Succeeds c) false u v = v
 
-turns_lead : {body rest follows block : List Statement} {s : Statement} {line turns n q : ℕ} (left : ℕ) (outcome : Bool) →
-    In body (s ∷ rest) n q follows → out-Statement s ≡ Statement-F.Repeat line turns block → left ≤ turns →
+turns_lead : {body rest follows block : List Statement} {s : Statement} {span : Span} {turns n q : ℕ} (left : ℕ) (outcome : Bool) →
+    In body (s ∷ rest) n q follows → out-Statement s ≡ Statement-F.Repeat span turns block → left ≤ turns →
     StandsAt body (successor (instruction.Repeat turns (entry block (n + 1) n) (entry rest (n + points_of s) q)) outcome)
-    (remaining_turns line left block (rest ++ follows) outcome)
+    (remaining_turns span left block (rest ++ follows) outcome)
 turns_lead zero true i o h = tt
 turns_lead {rest = rest} zero false i o h = stands rest (later i)
 turns_lead {block = block} (suc left) true i o h = stands block (turn i o (omega arith))
@@ -91,14 +93,14 @@ layer_leads : {body rest follows : List Statement} {s : Statement} {n q : ℕ} (
     (outcome : Bool) → In body (s ∷ rest) n q follows → out-Statement s ≡ layer →
     StandsAt body (successor (instruction_of all layer n (entry rest (n + points_of s) q)) outcome)
     (remaining_of layer (rest ++ follows) outcome)
-layer_leads {rest = rest} all (Statement-F.Act line action) outcome i o = stands rest (later i)
-layer_leads {rest = rest} all (Statement-F.Call line call) true i o = stands rest (later i)
-layer_leads {rest = rest} all (Statement-F.Call line call) false i o = stands rest (later i)
-layer_leads all (Statement-F.Return line status) outcome i o = tt
-layer_leads {rest = rest} {follows = follows} all (Statement-F.If line asked granted refused) outcome i o =
+layer_leads {rest = rest} all (Statement-F.Act span action) outcome i o = stands rest (later i)
+layer_leads {rest = rest} all (Statement-F.Call span call) true i o = stands rest (later i)
+layer_leads {rest = rest} all (Statement-F.Call span call) false i o = stands rest (later i)
+layer_leads all (Statement-F.Return span status) outcome i o = tt
+layer_leads {rest = rest} {follows = follows} all (Statement-F.If span asked granted refused) outcome i o =
     choice_leads granted refused (rest ++ follows) all asked outcome (stands granted (granted_block i o))
     (stands refused (refused_block i o))
-layer_leads all (Statement-F.Repeat line turns block) outcome i o = turns_lead turns outcome i o (omega arith)
+layer_leads all (Statement-F.Repeat span turns block) outcome i o = turns_lead turns outcome i o (omega arith)
 
 at_end : (body : List Statement) (p : Option ℕ) → StandsAt body p None
 at_end body None = tt
@@ -111,8 +113,8 @@ next_there all c g p list outcome made end = at_end c.body (successor (point_in 
 next_there all c g p list outcome made (before {s = s} {rest = rest} {n = n} {q = q} {follows = follows} i) =
     rw (made.statements s rest follows n q i) (layer_leads all (out-Statement s) outcome i refl)
 next_there all c g p list outcome made
-    (again {s = s} {rest = rest} {block = block} {line = line} {turns = turns} {left = left} {n = n} {q = q} {follows = follows} i o h) =
-    rw (made.statements s rest follows n q i, o, outs-Repeat line left block) (turns_lead left outcome i o h)
+    (again {s = s} {rest = rest} {block = block} {span = span} {turns = turns} {left = left} {n = n} {q = q} {follows = follows} i o h) =
+    rw (made.statements s rest follows n q i, o, outs-Repeat span left block) (turns_lead left outcome i o h)
 
 -- ---- the callbacks of a filter
 

@@ -3,10 +3,12 @@
 use Rattle.std.proofs.Common.{◌≡◌, ℕ, zero, suc, ◌+◌, ◌-◌, ◌<◌, ◌≤◌, Bool, true, false, eqb, List, [], ◌∷◌, ◌++◌, Option, Some, None, refl, sym, subst, arith}
 use Rattle.std.proofs.lemmas.Bool.{eq-eqb, ne_eqb}
 use Rattle.std.proofs.lemmas.List.{append-nil}
+use Rattle.flt_tree.specs.Filter.{no_span}
 use Rattle.flt_tree.specs.Measures.{points_of, points}
 use Rattle.flt_tree.specs.declared.filter.Callback.{Callback}
 use Rattle.flt_tree.specs.declared.filter.Condition.{Condition}
 use Rattle.flt_tree.specs.declared.filter.Condition.TheVariants as condition
+use Rattle.flt_tree.specs.declared.filter.Span.{Span}
 use Rattle.flt_tree.specs.declared.filter.Statement.{Statement, out-Statement}
 use Rattle.flt_tree.specs.declared.filter.Statement.TheOpen.{Statement-F}
 use Rattle.flt_tree.specs.declared.filter.Statement.TheViews.{outs-Repeat}
@@ -89,19 +91,19 @@ choice_with : {body : List Statement} {yes_at no_at : ℕ} (n : ℕ) (turns : Li
     (all : List Callback) (asked : Condition) (outcome : Bool) →
     StandsWith body yes_at turns (granted ++ follows) → StandsWith body no_at turns (refused ++ follows) →
     StandsAtWith body (successor (choice all asked yes_at no_at) outcome) (turns_after (choice all asked yes_at no_at) n outcome turns)
-    (remaining_of (Statement-F.If 0 asked granted refused) follows outcome)
+    (remaining_of (Statement-F.If no_span asked granted refused) follows outcome)
 choice_with n turns granted refused follows all (condition.Test t) true u v = u
 choice_with n turns granted refused follows all (condition.Test t) false u v = v
 choice_with n turns granted refused follows all (condition.Succeeds c) true u v = u
 choice_with n turns granted refused follows all (condition.Succeeds c) false u v = v
 
 -- a `repeat` with so many turns left, where the turns round it are these
-turns_with : {body rest follows block : List Statement} {s : Statement} {line text n q : ℕ} (left : ℕ) (outcome : Bool) (turns : List Turn)
-    (i : In body (s ∷ rest) n q follows) → AreBegun i → out-Statement s ≡ Statement-F.Repeat line text block → left ≤ text →
+turns_with : {body rest follows block : List Statement} {s : Statement} {span : Span} {text n q : ℕ} (left : ℕ) (outcome : Bool) (turns : List Turn)
+    (i : In body (s ∷ rest) n q follows) → AreBegun i → out-Statement s ≡ Statement-F.Repeat span text block → left ≤ text →
     left_at n text turns ≡ left → turns_round n turns ≡ turns_in i →
     StandsAtWith body (successor (instruction.Repeat text (entry block (n + 1) n) (entry rest (n + points_of s) q)) outcome)
     (turns_after (instruction.Repeat text (entry block (n + 1) n) (entry rest (n + points_of s) q)) n outcome turns)
-    (remaining_turns line left block (rest ++ follows) outcome)
+    (remaining_turns span left block (rest ++ follows) outcome)
 turns_with zero true turns i b o h is round = tt
 turns_with {rest = rest} zero false turns i b o h is round = rw round (stands_with rest (later i) b)
 turns_with {block = block} {text = text} {n = n} (suc left) true turns i b o h is round =
@@ -116,14 +118,14 @@ layer_with : {body rest follows : List Statement} {s : Statement} {n q : ℕ} (a
     StandsAtWith body (successor (instruction_of all layer n (entry rest (n + points_of s) q)) outcome)
     (turns_after (instruction_of all layer n (entry rest (n + points_of s) q)) n outcome (turns_in i))
     (remaining_of layer (rest ++ follows) outcome)
-layer_with {rest = rest} all (Statement-F.Act line action) outcome i b o = stands_with rest (later i) b
-layer_with {rest = rest} all (Statement-F.Call line call) true i b o = stands_with rest (later i) b
-layer_with {rest = rest} all (Statement-F.Call line call) false i b o = stands_with rest (later i) b
-layer_with all (Statement-F.Return line status) outcome i b o = tt
-layer_with {rest = rest} {follows = follows} {n = n} all (Statement-F.If line asked granted refused) outcome i b o =
+layer_with {rest = rest} all (Statement-F.Act span action) outcome i b o = stands_with rest (later i) b
+layer_with {rest = rest} all (Statement-F.Call span call) true i b o = stands_with rest (later i) b
+layer_with {rest = rest} all (Statement-F.Call span call) false i b o = stands_with rest (later i) b
+layer_with all (Statement-F.Return span status) outcome i b o = tt
+layer_with {rest = rest} {follows = follows} {n = n} all (Statement-F.If span asked granted refused) outcome i b o =
     choice_with n (turns_in i) granted refused (rest ++ follows) all asked outcome
     (stands_with granted (granted_block i o) b) (stands_with refused (refused_block i o) b)
-layer_with {n = n} all (Statement-F.Repeat line text block) outcome i b o =
+layer_with {n = n} all (Statement-F.Repeat span text block) outcome i b o =
     turns_with text outcome (turns_in i) i b o (omega arith)
     (fresh_left (turns_in i) n text (turns_before i)) (fresh_round (turns_in i) n (turns_before i))
 
@@ -140,8 +142,8 @@ leads_with all c g p list outcome made end b =
 leads_with all c g p list outcome made (before {s = s} {rest = rest} {n = n} {q = q} {follows = follows} i) b =
     rw (made.statements s rest follows n q i) (layer_with all (out-Statement s) outcome i b refl)
 leads_with all c g p list outcome made
-    (again {s = s} {rest = rest} {block = block} {line = line} {turns = text} {left = left} {n = n} {q = q} {follows = follows} i o h) b =
-    rw (made.statements s rest follows n q i, o, outs-Repeat line left block)
+    (again {s = s} {rest = rest} {block = block} {span = span} {turns = text} {left = left} {n = n} {q = q} {follows = follows} i o h) b =
+    rw (made.statements s rest follows n q i, o, outs-Repeat span left block)
     (turns_with left outcome (record { point = n; left = left } ∷ turns_in i) i b o h (begun_left (turns_in i) n left text)
     (begun_round (turns_in i) n left))
 
@@ -160,20 +162,20 @@ next_with all c g p turns list outcome made h =
 
 layer_left : (all : List Callback) (layer : Statement-F Statement) (n next : ℕ) (turns : List Turn) → AreBefore turns n →
     HasLeft n turns (instruction_of all layer n next) layer
-layer_left all (Statement-F.Act line action) n next turns h = tt
-layer_left all (Statement-F.Call line call) n next turns h = tt
-layer_left all (Statement-F.Return line status) n next turns h = tt
-layer_left all (Statement-F.If line (condition.Test t) granted refused) n next turns h = tt
-layer_left all (Statement-F.If line (condition.Succeeds c) granted refused) n next turns h = tt
-layer_left all (Statement-F.Repeat line text block) n next turns h = sym (fresh_left turns n text h)
+layer_left all (Statement-F.Act span action) n next turns h = tt
+layer_left all (Statement-F.Call span call) n next turns h = tt
+layer_left all (Statement-F.Return span status) n next turns h = tt
+layer_left all (Statement-F.If span (condition.Test t) granted refused) n next turns h = tt
+layer_left all (Statement-F.If span (condition.Succeeds c) granted refused) n next turns h = tt
+layer_left all (Statement-F.Repeat span text block) n next turns h = sym (fresh_left turns n text h)
 
 first_left : (all : List Callback) (c : Callback) (g : CallbackGraph) (p : ℕ) (s : Statement) (rest : List Statement) → IsGraphOf all c g →
     (st : Stands c.body p (s ∷ rest)) → HasLeft p (turns_at st) (point_in g p).instruction (out-Statement s)
 first_left all c g p _ rest made (before {s = s} {rest = more} {n = n} {q = q} {follows = follows} i) =
     rw (made.statements s more follows n q i) (layer_left all (out-Statement s) n _ (turns_in i) (turns_before i))
-first_left all c g p _ rest made (again {s = t} {rest = more} {block = block} {line = line} {turns = text} {left = left} {n = n}
+first_left all c g p _ rest made (again {s = t} {rest = more} {block = block} {span = span} {turns = text} {left = left} {n = n}
     {q = q} {follows = follows} i o h) =
-    rw (made.statements t more follows n q i, o, outs-Repeat line left block) (sym (begun_left (turns_in i) n left text))
+    rw (made.statements t more follows n q i, o, outs-Repeat span left block) (sym (begun_left (turns_in i) n left text))
 
 -- where a list begins with a `repeat`, its turns are those that are left at the point
 pub left_with : (all : List Callback) (c : Callback) (g : CallbackGraph) (p : ℕ) (turns : List Turn) (s : Statement)

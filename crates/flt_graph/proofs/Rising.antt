@@ -46,11 +46,11 @@ sizes : (s : Statement) (layer : Statement-F Statement) → out-Statement s ≡ 
 sizes s layer o = out_points s ∙ ap (λ (y : Statement-F Statement). points_step (map-Statement Statement ℕ points_of y)) o
 
 some_point : (layer : Statement-F Statement) → 1 ≤ points_step (map-Statement Statement ℕ points_of layer)
-some_point (Statement-F.Act line action) = omega arith
-some_point (Statement-F.Call line call) = omega arith
-some_point (Statement-F.Return line status) = omega arith
-some_point (Statement-F.If line asked granted refused) = omega arith
-some_point (Statement-F.Repeat line turns block) = omega arith
+some_point (Statement-F.Act span action) = omega arith
+some_point (Statement-F.Call span call) = omega arith
+some_point (Statement-F.Return span status) = omega arith
+some_point (Statement-F.If span asked granted refused) = omega arith
+some_point (Statement-F.Repeat span turns block) = omega arith
 
 -- a statement has its own point
 pub own_size : (s : Statement) → 1 ≤ points_of s
@@ -83,19 +83,19 @@ module _ (all : List Callback) (c : Callback) (g : CallbackGraph) (made : IsGrap
         | inl h ↦ inl (omega arith)
         | inr h ↦ inr h
       ]
-  in_onwards (granted_block {s = s} {rest = rest} {yes_block = y} {no_block = z} {asked = a} {line = l} {n = n} {q = q} i o) =
+  in_onwards (granted_block {s = s} {rest = rest} {yes_block = y} {no_block = z} {asked = a} {span = l} {n = n} {q = q} i o) =
       let size : points_of s ≡ 1 + (points y + points z) = sizes s (Statement-F.If l a y z) o in
       elim (next_onwards g s rest n q (in_onwards i)) [
         | inl h ↦ inl (omega arith)
         | inr h ↦ inr h
       ]
-  in_onwards (refused_block {s = s} {rest = rest} {yes_block = y} {no_block = z} {asked = a} {line = l} {n = n} {q = q} i o) =
+  in_onwards (refused_block {s = s} {rest = rest} {yes_block = y} {no_block = z} {asked = a} {span = l} {n = n} {q = q} i o) =
       let size : points_of s ≡ 1 + (points y + points z) = sizes s (Statement-F.If l a y z) o in
       elim (next_onwards g s rest n q (in_onwards i)) [
         | inl h ↦ inl (omega arith)
         | inr h ↦ inr h
       ]
-  in_onwards (turn {s = s} {rest = rest} {block = b} {line = l} {turns = k} {left = left} {n = n} {q = q} {follows = follows} i o less) =
+  in_onwards (turn {s = s} {rest = rest} {block = b} {span = l} {turns = k} {left = left} {n = n} {q = q} {follows = follows} i o less) =
       inr (ap (λ (p : Point). is_repeat p.instruction) (made.statements s rest follows n q i)
       ∙ ap (λ (y : Statement-F Statement). is_repeat (instruction_of all y n (entry rest (n + points_of s) q))) o)
 
@@ -129,13 +129,13 @@ choice_rises all g n a b to (condition.Succeeds k) r s h = call_rises g n a b to
 layer_rises : (all : List Callback) (g : CallbackGraph) (layer : Statement-F Statement) (n after to : ℕ) → Rises g n after →
     (is_repeat (instruction_of all layer n after) ≡ true → is_repeat (point_in g n).instruction ≡ true) →
     0 < edges_of (instruction_of all layer n after) to → Rises g n to
-layer_rises all g (Statement-F.Act line action) n after to r own h = along g n after to (edge_hits after to h) r
-layer_rises all g (Statement-F.Call line call) n after to r own h = call_rises g n after after to (row (plain call).call).on_fail r r h
-layer_rises all g (Statement-F.Return line status) n after to r own h = absurd (omega arith)
-layer_rises all g (Statement-F.If line asked granted refused) n after to r own h =
+layer_rises all g (Statement-F.Act span action) n after to r own h = along g n after to (edge_hits after to h) r
+layer_rises all g (Statement-F.Call span call) n after to r own h = call_rises g n after after to (row (plain call).call).on_fail r r h
+layer_rises all g (Statement-F.Return span status) n after to r own h = absurd (omega arith)
+layer_rises all g (Statement-F.If span asked granted refused) n after to r own h =
     choice_rises all g n (entry granted (n + 1) after) (entry refused (n + 1 + points granted) after) to asked
     (entry_rises g granted n (n + 1) after (omega arith) r) (entry_rises g refused n (n + 1 + points granted) after (omega arith) r) h
-layer_rises all g (Statement-F.Repeat line turns block) n after to r own h =
+layer_rises all g (Statement-F.Repeat span turns block) n after to r own h =
     two_rise g n (entry block (n + 1) n) after to (entry_rises g block n (n + 1) n (omega arith) (inr (own refl))) r h
 
 -- each edge out of a statement's point leads onwards, or to a `repeat`

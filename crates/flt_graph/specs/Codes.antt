@@ -21,12 +21,12 @@ codes (x ∷ rest) at after =
 
 -- the points of a statement's blocks, which stand behind its own
 abbrev pub codes_in : Statement-F (Statement × Code) → Code
-codes_in (Statement-F.Act line action) at after = []
-codes_in (Statement-F.Call line call) at after = []
-codes_in (Statement-F.Return line status) at after = []
-codes_in (Statement-F.If line asked granted refused) at after =
+codes_in (Statement-F.Act span action) at after = []
+codes_in (Statement-F.Call span call) at after = []
+codes_in (Statement-F.Return span status) at after = []
+codes_in (Statement-F.If span asked granted refused) at after =
     codes granted (at + 1) after ++ codes refused (at + 1 + points (map (λ (x : Statement × Code). x.0) granted)) after
-codes_in (Statement-F.Repeat line turns block) at after = codes block (at + 1) at
+codes_in (Statement-F.Repeat span turns block) at after = codes block (at + 1) at
 
 -- a statement's own point, and those of its blocks
 abbrev pub code_step : List Callback → Statement-F (Statement × Code) → Code

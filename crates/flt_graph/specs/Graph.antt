@@ -3,6 +3,8 @@
 use Rattle.std.specs.Prelude.{ℕ, [], length, slice_index_or}
 use Rattle.flt_rules.specs.declared.place.Place.{Place}
 use Rattle.flt_rules.specs.declared.place.Place.TheVariants as place
+use Rattle.flt_tree.specs.Filter.{no_span}
+use Rattle.flt_tree.specs.declared.filter.Span.{Span}
 use Rattle.flt_graph.specs.declared.graph.CallbackGraph.{CallbackGraph}
 use Rattle.flt_graph.specs.declared.graph.Graph.{Graph}
 use Rattle.flt_graph.specs.declared.graph.Point.{Point}
@@ -13,7 +15,7 @@ abbrev pub no_callback : CallbackGraph
 no_callback = record { place = place.Generic; points = [] }
 
 abbrev pub no_point : Point
-no_point = record { line = 0; instruction = instruction.End }
+no_point = record { span = no_span; instruction = instruction.End }
 
 abbrev pub callback_at : Graph → ℕ → CallbackGraph
 callback_at g callback = slice_index_or g.callbacks callback no_callback
@@ -33,7 +35,10 @@ abbrev pub point_at : Graph → ℕ → ℕ → Point
 point_at g callback point = point_in (callback_at g callback) point
 
 abbrev pub line_at : Graph → ℕ → ℕ → ℕ
-line_at g callback point = (point_at g callback point).line
+line_at g callback point = (point_at g callback point).span.line
+
+abbrev pub span_at : Graph → ℕ → ℕ → Span
+span_at g callback point = (point_at g callback point).span
 
 abbrev pub instruction_at : Graph → ℕ → ℕ → Instruction
 instruction_at g callback point = (point_at g callback point).instruction

@@ -14,9 +14,9 @@ use Rattle.flt_graph.specs.declared.graph.Graph.{Graph}
 use Rattle.flt_graph.specs.declared.graph.Point.{Point}
 use Rattle.flt_graph.specs.declared.instruction.Instruction.TheVariants as instruction
 
--- the end of a callback's body, which has the line of the closing brace
+-- the end of a callback's body, which stands at the closing brace
 abbrev pub end_of : Callback → Point
-end_of c = record { line = c.end_line; instruction = instruction.End }
+end_of c = record { span = c.end; instruction = instruction.End }
 
 -- a callback has the point of each of its statements, whose next one is where the text goes on, and one for its end
 pub record IsGraphOf (all : List Callback) (c : Callback) (g : CallbackGraph) : Type 0 where

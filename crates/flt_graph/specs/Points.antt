@@ -5,6 +5,7 @@ use Rattle.flt_tree.specs.Measures.{points_of, points}
 use Rattle.flt_tree.specs.declared.filter.Callback.{Callback}
 use Rattle.flt_tree.specs.declared.filter.Condition.{Condition}
 use Rattle.flt_tree.specs.declared.filter.Condition.TheVariants as condition
+use Rattle.flt_tree.specs.declared.filter.Span.{Span}
 use Rattle.flt_tree.specs.declared.filter.Statement.{Statement, out-Statement}
 use Rattle.flt_tree.specs.declared.filter.Statement.TheOpen.{Statement-F}
 use Rattle.flt_tree.specs.declared.filter.Statement.TheVariants as tree
@@ -20,13 +21,13 @@ abbrev pub entry : {A : Type 0} → List A → ℕ → ℕ → ℕ
 entry [] at after = after
 entry (s ∷ rest) at after = at
 
--- the line of a statement's first token
-abbrev pub line_of : Statement-F Statement → ℕ
-line_of (Statement-F.Act line action) = line
-line_of (Statement-F.Call line call) = line
-line_of (Statement-F.Return line status) = line
-line_of (Statement-F.If line condition granted refused) = line
-line_of (Statement-F.Repeat line turns body) = line
+-- where a statement stands
+abbrev pub span_of : Statement-F Statement → Span
+span_of (Statement-F.Act span action) = span
+span_of (Statement-F.Call span call) = span
+span_of (Statement-F.Return span status) = span
+span_of (Statement-F.If span condition granted refused) = span
+span_of (Statement-F.Repeat span turns body) = span
 
 -- what an `if` asks, with the point where it holds and the point where it doesn't
 abbrev pub choice : List Callback → Condition → ℕ → ℕ → Instruction
@@ -35,16 +36,16 @@ choice cs (condition.Succeeds c) granted refused = instruction.Call (fallible cs
 
 -- what is done at the point of a statement, where it stands at a point and what follows it at another
 abbrev pub instruction_of : List Callback → Statement-F Statement → ℕ → ℕ → Instruction
-instruction_of cs (Statement-F.Act line action) at after = instruction.Act action after
-instruction_of cs (Statement-F.Call line call) at after = instruction.Call (plain call) after after
-instruction_of cs (Statement-F.Return line status) at after = instruction.Return status
-instruction_of cs (Statement-F.If line asked granted refused) at after =
+instruction_of cs (Statement-F.Act span action) at after = instruction.Act action after
+instruction_of cs (Statement-F.Call span call) at after = instruction.Call (plain call) after after
+instruction_of cs (Statement-F.Return span status) at after = instruction.Return status
+instruction_of cs (Statement-F.If span asked granted refused) at after =
     choice cs asked (entry granted (at + 1) after) (entry refused (at + 1 + points granted) after)
-instruction_of cs (Statement-F.Repeat line turns body) at after = instruction.Repeat turns (entry body (at + 1) at) after
+instruction_of cs (Statement-F.Repeat span turns body) at after = instruction.Repeat turns (entry body (at + 1) at) after
 
 -- the point of a statement, where it stands at a point and what follows it at another
 abbrev pub point_of : List Callback → Statement-F Statement → ℕ → ℕ → Point
-point_of cs s at after = record { line = line_of s; instruction = instruction_of cs s at after }
+point_of cs s at after = record { span = span_of s; instruction = instruction_of cs s at after }
 
 -- ---- remaining lists
 
@@ -57,16 +58,16 @@ pub data In (body : List Statement) : List Statement → ℕ → ℕ → List St
   later : {s : Statement} {rest : List Statement} {n q : ℕ} {follows : List Statement} →
       In body (s ∷ rest) n q follows → In body rest (n + points_of s) q follows
   -- the blocks of an `if`, each followed by what stands behind the `if`
-  granted_block : {s : Statement} {rest yes_block no_block : List Statement} {asked : Condition} {line n q : ℕ} {follows : List Statement} →
-      In body (s ∷ rest) n q follows → out-Statement s ≡ Statement-F.If line asked yes_block no_block →
+  granted_block : {s : Statement} {rest yes_block no_block : List Statement} {asked : Condition} {span : Span} {n q : ℕ} {follows : List Statement} →
+      In body (s ∷ rest) n q follows → out-Statement s ≡ Statement-F.If span asked yes_block no_block →
       In body yes_block (n + 1) (entry rest (n + points_of s) q) (rest ++ follows)
-  refused_block : {s : Statement} {rest yes_block no_block : List Statement} {asked : Condition} {line n q : ℕ} {follows : List Statement} →
-      In body (s ∷ rest) n q follows → out-Statement s ≡ Statement-F.If line asked yes_block no_block →
+  refused_block : {s : Statement} {rest yes_block no_block : List Statement} {asked : Condition} {span : Span} {n q : ℕ} {follows : List Statement} →
+      In body (s ∷ rest) n q follows → out-Statement s ≡ Statement-F.If span asked yes_block no_block →
       In body no_block (n + 1 + points yes_block) (entry rest (n + points_of s) q) (rest ++ follows)
   -- the body of a `repeat`, followed by the `repeat`
-  turn : {s : Statement} {rest block : List Statement} {line turns left n q : ℕ} {follows : List Statement} →
-      In body (s ∷ rest) n q follows → out-Statement s ≡ Statement-F.Repeat line turns block → left ≤ turns →
-      In body block (n + 1) n (tree.Repeat line left block ∷ (rest ++ follows))
+  turn : {s : Statement} {rest block : List Statement} {span : Span} {turns left n q : ℕ} {follows : List Statement} →
+      In body (s ∷ rest) n q follows → out-Statement s ≡ Statement-F.Repeat span turns block → left ≤ turns →
+      In body block (n + 1) n (tree.Repeat span left block ∷ (rest ++ follows))
 
 -- a remaining list of a body stands at a point: that of its first statement in the text, or the end's
 pub data Stands (body : List Statement) : ℕ → List Statement → Type 0 where
@@ -76,24 +77,24 @@ pub data Stands (body : List Statement) : ℕ → List Statement → Type 0 wher
   before : {s : Statement} {rest : List Statement} {n q : ℕ} {follows : List Statement} →
       In body (s ∷ rest) n q follows → Stands body n (s ∷ (rest ++ follows))
   -- a `repeat` of the text with the turns that are left of it, and all that follows it
-  again : {s : Statement} {rest block : List Statement} {line turns left n q : ℕ} {follows : List Statement} →
-      In body (s ∷ rest) n q follows → out-Statement s ≡ Statement-F.Repeat line turns block → left ≤ turns →
-      Stands body n (tree.Repeat line left block ∷ (rest ++ follows))
+  again : {s : Statement} {rest block : List Statement} {span : Span} {turns left n q : ℕ} {follows : List Statement} →
+      In body (s ∷ rest) n q follows → out-Statement s ≡ Statement-F.Repeat span turns block → left ≤ turns →
+      Stands body n (tree.Repeat span left block ∷ (rest ++ follows))
 
 -- what remains of a `repeat` and the list behind it: one turn more where one is left, otherwise what is behind
-abbrev pub remaining_turns : ℕ → ℕ → List Statement → List Statement → Bool → Option (List Statement)
-remaining_turns line (suc left) block rest true = Some (block ++ tree.Repeat line left block ∷ rest)
-remaining_turns line zero block rest false = Some rest
-remaining_turns line (suc left) block rest false = None
-remaining_turns line zero block rest true = None
+abbrev pub remaining_turns : Span → ℕ → List Statement → List Statement → Bool → Option (List Statement)
+remaining_turns span (suc left) block rest true = Some (block ++ tree.Repeat span left block ∷ rest)
+remaining_turns span zero block rest false = Some rest
+remaining_turns span (suc left) block rest false = None
+remaining_turns span zero block rest true = None
 
 -- what remains of a statement and the list behind it, by the outcome: that a call succeeds, a test holds, a turn is left
 abbrev pub remaining_of : Statement-F Statement → List Statement → Bool → Option (List Statement)
-remaining_of (Statement-F.Act line action) rest outcome = Some rest
-remaining_of (Statement-F.Call line call) rest outcome = Some rest
-remaining_of (Statement-F.Return line status) rest outcome = None
-remaining_of (Statement-F.If line asked granted refused) rest outcome = Some ((if outcome then granted else refused) ++ rest)
-remaining_of (Statement-F.Repeat line turns block) rest outcome = remaining_turns line turns block rest outcome
+remaining_of (Statement-F.Act span action) rest outcome = Some rest
+remaining_of (Statement-F.Call span call) rest outcome = Some rest
+remaining_of (Statement-F.Return span status) rest outcome = None
+remaining_of (Statement-F.If span asked granted refused) rest outcome = Some ((if outcome then granted else refused) ++ rest)
+remaining_of (Statement-F.Repeat span turns block) rest outcome = remaining_turns span turns block rest outcome
 
 -- the list that remains after an outcome of the first statement, if it goes on
 abbrev pub remaining : List Statement → Bool → Option (List Statement)
@@ -117,8 +118,8 @@ StandsAt body p None = Unit {0}
 
 -- a statement is one of the text, or a `repeat` of the text with the turns that are left of it
 abbrev pub IsLeftOf : Statement-F Statement → Statement-F Statement → Type 0
-IsLeftOf (Statement-F.Repeat line left block) text =
-    (turns : ℕ) × (left ≤ turns × (text ≡ Statement-F.Repeat line turns block))
+IsLeftOf (Statement-F.Repeat span left block) text =
+    (turns : ℕ) × (left ≤ turns × (text ≡ Statement-F.Repeat span turns block))
 IsLeftOf s text = text ≡ s
 
 -- a point is that of the first statement of a remaining list, as the text has it; the empty list has the end's point

@@ -73,6 +73,6 @@ turns_after _ n outcome turns = turns
 
 -- where a statement is a `repeat`, the instruction at its point is one too, and as many turns are left there as the statement has
 abbrev pub HasLeft : ℕ → List Turn → Instruction → Statement-F Statement → Type 0
-HasLeft n turns (instruction.Repeat text block next) (Statement-F.Repeat line left body) = left ≡ left_at n text turns
-HasLeft n turns i (Statement-F.Repeat line left body) = ⊥
+HasLeft n turns (instruction.Repeat text block next) (Statement-F.Repeat span left body) = left ≡ left_at n text turns
+HasLeft n turns i (Statement-F.Repeat span left body) = ⊥
 HasLeft n turns i s = Unit {0}

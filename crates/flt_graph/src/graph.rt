@@ -5,18 +5,23 @@ ghost use Rattle.flt_graph.specs.Graph as spec;
 
 use crate::instruction::Instruction;
 use flt_rules::{LockKind, Place};
+use flt_tree::Span;
 use sqlite_items::Items;
 
-/// A point: what is done there, and the line of its first token, from 1.
+/// A point: what is done there, and where that stands.
 #[derive(Clone, Copy)]
 pub struct Point {
-    pub line: usize,
+    pub span: Span,
     pub instruction: Instruction,
 }
 
-/// An end that stands on no line.
+/// An end that stands nowhere.
 static NO_POINT: Point = Point {
-    line: 0,
+    span: Span {
+        line: 0,
+        start: 0,
+        end: 0,
+    },
     instruction: Instruction::End,
 };
 
@@ -64,7 +69,7 @@ impl Graph {
         }
     }
 
-    /// A point of a callback; where it isn't there, an end that stands on no line.
+    /// A point of a callback; where it isn't there, an end that stands nowhere.
     #[tactic(auto, using(crate::proofs::Reading::found, crate::proofs::Reading::missing))]
     #[inline(always)]
     fn point(&self, callback: usize, point: usize) -> &Point
@@ -85,7 +90,14 @@ impl Graph {
     pub fn line(&self, callback: usize, point: usize) -> usize
         ensures { result ≡ spec.line_at self.now callback point }
     {
-        self.point(callback, point).line
+        self.span(callback, point).line
+    }
+
+    /// Where a point stands: its statement, or the closing brace for the end. Where the point isn't there it is nowhere: all is 0.
+    pub fn span(&self, callback: usize, point: usize) -> Span
+        ensures { result ≡ spec.span_at self.now callback point }
+    {
+        self.point(callback, point).span
     }
 
     /// What is done at a point, and where that leads; the end where the point isn't there.

@@ -9,7 +9,7 @@ ghost use Rattle.flt_graph.specs.Points.{entry as entry_of, point_of};
 
 use crate::graph::{CallbackGraph, Graph, Point};
 use crate::instruction::{Instruction, fallible, plain};
-use flt_tree::{Callback, Condition, Statement, Tree};
+use flt_tree::{Callback, Condition, Span, Statement, Tree};
 use sqlite_items::Items;
 use std::alloc::{AllocError, Global};
 
@@ -65,13 +65,13 @@ fn entry_behind(before: &[Statement], block: &[Statement], at: usize, after: usi
 #[inline(always)]
 fn push_point(
     found: &mut Vec<Point>,
-    line: usize,
+    span: Span,
     instruction: Instruction,
 ) -> Result<(), AllocError>
-    ensures { OnOk result (found.new.items ≡ found.old.items ++ record { line = line; instruction = instruction } ∷ []) }
+    ensures { OnOk result (found.new.items ≡ found.old.items ++ record { span = span; instruction = instruction } ∷ []) }
 {
     found.reserve(1)?;
-    found.push_reserved(Point { line, instruction });
+    found.push_reserved(Point { span, instruction });
     Ok(())
 }
 
@@ -90,28 +90,28 @@ fn push_statement(
 {
     let at = found.len();
     match statement {
-        Statement::Act(line, action) => push_point(found, *line, Instruction::Act(*action, after)),
-        Statement::Call(line, call) => {
-            push_point(found, *line, Instruction::Call(plain(*call), after, after))
+        Statement::Act(span, action) => push_point(found, *span, Instruction::Act(*action, after)),
+        Statement::Call(span, call) => {
+            push_point(found, *span, Instruction::Call(plain(*call), after, after))
         }
-        Statement::Return(line, status) => push_point(found, *line, Instruction::Return(*status)),
-        Statement::If(line, condition, granted, refused) => {
+        Statement::Return(span, status) => push_point(found, *span, Instruction::Return(*status)),
+        Statement::If(span, condition, granted, refused) => {
             let (granted, refused) = (granted.as_slice(), refused.as_slice());
             let yes = entry(granted, at + 1, after);
             let no = entry_behind(granted, refused, at + 1, after);
             match condition {
                 Condition::Test(test) => {
-                    push_point(found, *line, Instruction::Test(*test, yes, no))
+                    push_point(found, *span, Instruction::Test(*test, yes, no))
                 }
                 Condition::Succeeds(call) => {
                     let call = fallible(callbacks, call);
-                    push_point(found, *line, Instruction::Call(call, yes, no))
+                    push_point(found, *span, Instruction::Call(call, yes, no))
                 }
             }
         }
-        Statement::Repeat(line, turns, body) => {
+        Statement::Repeat(span, turns, body) => {
             let inside = entry(body.as_slice(), at + 1, at);
-            push_point(found, *line, Instruction::Repeat(*turns, inside, after))
+            push_point(found, *span, Instruction::Repeat(*turns, inside, after))
         }
     }
 }
@@ -179,7 +179,7 @@ fn callback_graph(
     let len = total(body);
     found.reserve(len + 1)?;
     add_block(callbacks, &mut found, body, len)?;
-    push_point(&mut found, callback.end_line, Instruction::End)?;
+    push_point(&mut found, callback.end, Instruction::End)?;
     Ok(CallbackGraph {
         place: callback.head.place(),
         points: Items::from_vec(found),

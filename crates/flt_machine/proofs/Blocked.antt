@@ -6,6 +6,7 @@ use Rattle.flt_tree.specs.declared.filter.Condition.TheVariants as condition
 use Rattle.flt_tree.specs.declared.filter.Filter.{Filter}
 use Rattle.flt_tree.specs.declared.filter.PlainCall.{PlainCall}
 use Rattle.flt_tree.specs.declared.filter.PlainCall.TheVariants as plain
+use Rattle.flt_tree.specs.declared.filter.Span.{Span}
 use Rattle.flt_tree.specs.declared.filter.Statement.{Statement, out-Statement}
 use Rattle.flt_tree.specs.declared.filter.Statement.TheOpen.{Statement-F}
 use Rattle.flt_tree.specs.declared.filter.Test.{Test}
@@ -43,42 +44,42 @@ module _ (p : List Filter) (t : List Event) (w : World) (a : ℕ) (grant drainin
   abbrev first : Statement-F Statement → Option Step
   first s = first_step p t w a rest (if leaves_choice_by s then grant else true) s
 
-  action_exact : (line : ℕ) (x : Action) → after_statement draining act rest (Statement-F.Act line x) ≡ None → Exact (first (Statement-F.Act line x)) false
-  action_exact line (action.SetNumber n e) is = absurd (cc)
-  action_exact line (action.ClearContext c) is = absurd (cc)
-  action_exact line (action.ClearOperation o) is = absurd (cc)
-  action_exact line (action.ReadValue n c) is = there (first (Statement-F.Act line (action.ReadValue n c))) _ refl
-  action_exact line (action.ReadFile n d) is = there (first (Statement-F.Act line (action.ReadFile n d))) _ refl
-  action_exact line (action.WriteValue c x) is = there (first (Statement-F.Act line (action.WriteValue c x))) _ refl
+  action_exact : (span : Span) (x : Action) → after_statement draining act rest (Statement-F.Act span x) ≡ None → Exact (first (Statement-F.Act span x)) false
+  action_exact span (action.SetNumber n e) is = absurd (cc)
+  action_exact span (action.ClearContext c) is = absurd (cc)
+  action_exact span (action.ClearOperation o) is = absurd (cc)
+  action_exact span (action.ReadValue n c) is = there (first (Statement-F.Act span (action.ReadValue n c))) _ refl
+  action_exact span (action.ReadFile n d) is = there (first (Statement-F.Act span (action.ReadFile n d))) _ refl
+  action_exact span (action.WriteValue c x) is = there (first (Statement-F.Act span (action.WriteValue c x))) _ refl
 
-  call_exact : (line : ℕ) (c : PlainCall) → Exact (first (Statement-F.Call line c)) (is_blocked_by w a (Statement-F.Call line c))
-  call_exact line (plain.DeleteContext c) = there (first (Statement-F.Call line (plain.DeleteContext c))) _ refl
-  call_exact line (plain.ReferenceContext c d) = there (first (Statement-F.Call line (plain.ReferenceContext c d))) _ refl
-  call_exact line (plain.ReleaseContext c) = there (first (Statement-F.Call line (plain.ReleaseContext c))) _ refl
-  call_exact line (plain.AcquireLock k l) = free_or_not (may_take w a l Exclusive) (plain_step p t w a rest (plain.AcquireLock k l))
-  call_exact line (plain.AcquirePushLockShared l) = free_or_not (may_take w a l Shared) (plain_step p t w a rest (plain.AcquirePushLockShared l))
-  call_exact line (plain.ReleaseLock k l) = there (first (Statement-F.Call line (plain.ReleaseLock k l))) _ refl
-  call_exact line (plain.CompletePendedPreOperation d st) = there (first (Statement-F.Call line (plain.CompletePendedPreOperation d st))) _ refl
-  call_exact line plain.CompletePendedPostOperation = there (first (Statement-F.Call line plain.CompletePendedPostOperation)) _ refl
+  call_exact : (span : Span) (c : PlainCall) → Exact (first (Statement-F.Call span c)) (is_blocked_by w a (Statement-F.Call span c))
+  call_exact span (plain.DeleteContext c) = there (first (Statement-F.Call span (plain.DeleteContext c))) _ refl
+  call_exact span (plain.ReferenceContext c d) = there (first (Statement-F.Call span (plain.ReferenceContext c d))) _ refl
+  call_exact span (plain.ReleaseContext c) = there (first (Statement-F.Call span (plain.ReleaseContext c))) _ refl
+  call_exact span (plain.AcquireLock k l) = free_or_not (may_take w a l Exclusive) (plain_step p t w a rest (plain.AcquireLock k l))
+  call_exact span (plain.AcquirePushLockShared l) = free_or_not (may_take w a l Shared) (plain_step p t w a rest (plain.AcquirePushLockShared l))
+  call_exact span (plain.ReleaseLock k l) = there (first (Statement-F.Call span (plain.ReleaseLock k l))) _ refl
+  call_exact span (plain.CompletePendedPreOperation d st) = there (first (Statement-F.Call span (plain.CompletePendedPreOperation d st))) _ refl
+  call_exact span plain.CompletePendedPostOperation = there (first (Statement-F.Call span plain.CompletePendedPostOperation)) _ refl
 
-  test_exact : (line : ℕ) (x : Test) (granted refused : List Statement) → after_statement draining act rest (Statement-F.If line (condition.Test x) granted refused) ≡ None →
-      Exact (first (Statement-F.If line (condition.Test x) granted refused)) false
-  test_exact line (test.ContextIsSome c) granted refused is = absurd (cc)
-  test_exact line (test.OperationIsSome o) granted refused is = absurd (cc)
-  test_exact line (test.Equal n x) granted refused is = absurd (cc)
-  test_exact line (test.Less n x) granted refused is = absurd (cc)
-  test_exact line test.IsDraining granted refused is = absurd (cc)
-  test_exact line test.IsIrp granted refused is = there (first (Statement-F.If line (condition.Test test.IsIrp) granted refused)) _ refl
+  test_exact : (span : Span) (x : Test) (granted refused : List Statement) → after_statement draining act rest (Statement-F.If span (condition.Test x) granted refused) ≡ None →
+      Exact (first (Statement-F.If span (condition.Test x) granted refused)) false
+  test_exact span (test.ContextIsSome c) granted refused is = absurd (cc)
+  test_exact span (test.OperationIsSome o) granted refused is = absurd (cc)
+  test_exact span (test.Equal n x) granted refused is = absurd (cc)
+  test_exact span (test.Less n x) granted refused is = absurd (cc)
+  test_exact span test.IsDraining granted refused is = absurd (cc)
+  test_exact span test.IsIrp granted refused is = there (first (Statement-F.If span (condition.Test test.IsIrp) granted refused)) _ refl
 
   layer_exact : (s : Statement-F Statement) → after_statement draining act rest s ≡ None → Exact (first s) (is_blocked_by w a s)
-  layer_exact (Statement-F.Act line x) is = action_exact line x is
-  layer_exact (Statement-F.Call line c) is = call_exact line c
-  layer_exact (Statement-F.Return line st) is = there (first (Statement-F.Return line st)) _ refl
-  layer_exact (Statement-F.If line (condition.Test x) granted refused) is = test_exact line x granted refused is
-  layer_exact (Statement-F.If line (condition.Succeeds c) granted refused) is =
-      there (first (Statement-F.If line (condition.Succeeds c) granted refused)) (fallible_step p t w a (if may_be_refused c then grant else true) (granted ++ rest) (refused ++ rest) c)
+  layer_exact (Statement-F.Act span x) is = action_exact span x is
+  layer_exact (Statement-F.Call span c) is = call_exact span c
+  layer_exact (Statement-F.Return span st) is = there (first (Statement-F.Return span st)) _ refl
+  layer_exact (Statement-F.If span (condition.Test x) granted refused) is = test_exact span x granted refused is
+  layer_exact (Statement-F.If span (condition.Succeeds c) granted refused) is =
+      there (first (Statement-F.If span (condition.Succeeds c) granted refused)) (fallible_step p t w a (if may_be_refused c then grant else true) (granted ++ rest) (refused ++ rest) c)
       (may (may_be_refused c) grant (fallible_step p t w a (if may_be_refused c then grant else true) (granted ++ rest) (refused ++ rest) c))
-  layer_exact (Statement-F.Repeat line turns block) is = absurd (cc)
+  layer_exact (Statement-F.Repeat span turns block) is = absurd (cc)
 
 list_exact : (p : List Filter) (t : List Event) (w : World) (a : ℕ) (grant draining : Bool) (act : Activation) (list : List Statement) → local_step draining act list ≡ None →
     Exact (list_step p t w a list (if begins_with_choice list then grant else true)) (is_blocked w a list)

@@ -62,11 +62,11 @@ branch_stays act granted refused rest None = tt
 branch_stays act granted refused rest (Some b) = record { ended = refl; given = refl; locks = refl }
 
 layer_stays : (draining : Bool) (act : Activation) (rest : List Statement) (layer : Statement-F Statement) → StaysIn act (after_statement draining act rest layer)
-layer_stays draining act rest (Statement-F.Act line x) = action_stays act rest x
-layer_stays draining act rest (Statement-F.Call line c) = tt
-layer_stays draining act rest (Statement-F.Return line st) = tt
-layer_stays draining act rest (Statement-F.If line asked granted refused) = branch_stays act granted refused rest (holds_condition draining act asked)
-layer_stays draining act rest (Statement-F.Repeat line turns block) = record { ended = refl; given = refl; locks = refl }
+layer_stays draining act rest (Statement-F.Act span x) = action_stays act rest x
+layer_stays draining act rest (Statement-F.Call span c) = tt
+layer_stays draining act rest (Statement-F.Return span st) = tt
+layer_stays draining act rest (Statement-F.If span asked granted refused) = branch_stays act granted refused rest (holds_condition draining act asked)
+layer_stays draining act rest (Statement-F.Repeat span turns block) = record { ended = refl; given = refl; locks = refl }
 
 step_stays : (draining : Bool) (act : Activation) (list : List Statement) → StaysIn act (local_step draining act list)
 step_stays draining act [] = tt

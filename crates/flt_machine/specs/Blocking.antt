@@ -9,8 +9,8 @@ use Rattle.flt_model.specs.World.{World}
 
 -- a statement asks for a lock that other activations hold in a way that refuses it
 abbrev pub is_blocked_by : World → ℕ → Statement-F Statement → Bool
-is_blocked_by w a (Statement-F.Call line (plain.AcquireLock k l)) = not (may_take w a l Exclusive)
-is_blocked_by w a (Statement-F.Call line (plain.AcquirePushLockShared l)) = not (may_take w a l Shared)
+is_blocked_by w a (Statement-F.Call span (plain.AcquireLock k l)) = not (may_take w a l Exclusive)
+is_blocked_by w a (Statement-F.Call span (plain.AcquirePushLockShared l)) = not (may_take w a l Shared)
 is_blocked_by w a _ = false
 
 -- a list begins with such a statement

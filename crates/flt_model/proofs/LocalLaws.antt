@@ -45,12 +45,12 @@ module _ (act next_act : Activation) (rest : List Statement) where
 
   statement_ended : (draining : Bool) (layer : Statement-F Statement) → after_statement draining act rest layer ≡ Some next_act →
       next_act.ended ≡ act.ended
-  statement_ended draining (Statement-F.Act line a) e = action_ended a e
-  statement_ended draining (Statement-F.Call line c) e = absurd (cc)
-  statement_ended draining (Statement-F.Return line st) e = absurd (cc)
-  statement_ended draining (Statement-F.If line asked granted refused) e =
+  statement_ended draining (Statement-F.Act span a) e = action_ended a e
+  statement_ended draining (Statement-F.Call span c) e = absurd (cc)
+  statement_ended draining (Statement-F.Return span st) e = absurd (cc)
+  statement_ended draining (Statement-F.If span asked granted refused) e =
       branch_ended granted refused (holds_condition draining act asked) e
-  statement_ended draining (Statement-F.Repeat line turns block) e = ap (ended_in act.ended) (sym e)
+  statement_ended draining (Statement-F.Repeat span turns block) e = ap (ended_in act.ended) (sym e)
 
 step_ended : (draining : Bool) (act next_act : Activation) (list : List Statement) → local_step draining act list ≡ Some next_act →
     next_act.ended ≡ act.ended

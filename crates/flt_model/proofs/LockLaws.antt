@@ -27,6 +27,7 @@ use Rattle.flt_tree.specs.declared.filter.FallibleCall.TheVariants as fallible
 use Rattle.flt_tree.specs.declared.filter.Filter.{Filter}
 use Rattle.flt_tree.specs.declared.filter.PlainCall.{PlainCall}
 use Rattle.flt_tree.specs.declared.filter.PlainCall.TheVariants as plain
+use Rattle.flt_tree.specs.declared.filter.Span.{Span}
 use Rattle.flt_tree.specs.declared.filter.Statement.{Statement, out-Statement}
 use Rattle.flt_tree.specs.declared.filter.Statement.TheOpen.{Statement-F}
 use Rattle.flt_tree.specs.declared.filter.Status.{Status}
@@ -401,22 +402,22 @@ module _ (p : List Filter) (t : List Event) (w : World) (a : ℕ) where
   granted_of : (grant free : Bool) → (grant && free) ≡ true → free ≡ true
   granted_of grant free h = (and_parts grant free h).1
 
-  plain_excludes : (line : ℕ) (rest : List Statement) (grant : Bool) (c : PlainCall) → may_go w a grant (Statement-F.Call line c) ≡ true →
+  plain_excludes : (span : Span) (rest : List Statement) (grant : Bool) (c : PlainCall) → may_go w a grant (Statement-F.Call span c) ≡ true →
       Excludes w (plain_step p t w a rest c)
-  plain_excludes line rest grant (plain.DeleteContext c) go =
+  plain_excludes span rest grant (plain.DeleteContext c) go =
       left_excludes w (delete w a c rest) (deleted_leaves w a rest (context_in now c))
-  plain_excludes line rest grant (plain.ReferenceContext c d) go =
+  plain_excludes span rest grant (plain.ReferenceContext c d) go =
       left_excludes w (reference w a c d rest) (referenced_leaves w a d rest (context_in now c))
-  plain_excludes line rest grant (plain.ReleaseContext c) go =
+  plain_excludes span rest grant (plain.ReleaseContext c) go =
       left_excludes w (release w a c rest) (released_leaves w a rest (context_in now c))
-  plain_excludes line rest grant (plain.AcquireLock k l) go =
+  plain_excludes span rest grant (plain.AcquireLock k l) go =
       taken_excludes l Exclusive rest (granted_of grant (may_take w a l Exclusive) go)
-  plain_excludes line rest grant (plain.AcquirePushLockShared l) go =
+  plain_excludes span rest grant (plain.AcquirePushLockShared l) go =
       taken_excludes l Shared rest (granted_of grant (may_take w a l Shared) go)
-  plain_excludes line rest grant (plain.ReleaseLock k l) go = given_up_excludes l rest
-  plain_excludes line rest grant (plain.CompletePendedPreOperation d st) go =
+  plain_excludes span rest grant (plain.ReleaseLock k l) go = given_up_excludes l rest
+  plain_excludes span rest grant (plain.CompletePendedPreOperation d st) go =
       left_excludes w (complete_pre w a p d st rest) (complete_leaves w a p d st rest (operation_in now d) (named_in now (context_of st)))
-  plain_excludes line rest grant plain.CompletePendedPostOperation go =
+  plain_excludes span rest grant plain.CompletePendedPostOperation go =
       left_excludes w (complete_post w a p rest) (complete_post_leaves w a p rest (operation_in now Data))
 
   act_excludes : (rest : List Statement) (x : Action) (s : Step) → act_step p t w a rest x ≡ Some s → Excludes w s
@@ -453,13 +454,13 @@ module _ (p : List Filter) (t : List Event) (w : World) (a : ℕ) where
 
   statement_excludes : (rest : List Statement) (grant : Bool) (layer : Statement-F Statement) (s : Step) → may_go w a grant layer ≡ true →
       statement_step p t w a rest grant layer ≡ Some s → Excludes w s
-  statement_excludes rest grant (Statement-F.Act line x) s go e = act_excludes rest x s e
-  statement_excludes rest grant (Statement-F.Call line c) s go e =
-      some_excludes w (plain_step p t w a rest c) s (plain_excludes line rest grant c go) e
-  statement_excludes rest grant (Statement-F.Return line st) s go e = return_excludes st s e
-  statement_excludes rest grant (Statement-F.If line asked granted refused) s go e =
+  statement_excludes rest grant (Statement-F.Act span x) s go e = act_excludes rest x s e
+  statement_excludes rest grant (Statement-F.Call span c) s go e =
+      some_excludes w (plain_step p t w a rest c) s (plain_excludes span rest grant c go) e
+  statement_excludes rest grant (Statement-F.Return span st) s go e = return_excludes st s e
+  statement_excludes rest grant (Statement-F.If span asked granted refused) s go e =
       branch_excludes grant (granted ++ rest) (refused ++ rest) asked s e
-  statement_excludes rest grant (Statement-F.Repeat line turns block) s go e = absurd (cc)
+  statement_excludes rest grant (Statement-F.Repeat span turns block) s go e = absurd (cc)
 
   list_excludes : (list : List Statement) (grant : Bool) (s : Step) → list_step p t w a list grant ≡ Some s → Excludes w s
   list_excludes [] grant s e = when_excludes w grant (Some (returns p t w a None)) s e (λ go k. return_excludes None s k)

@@ -5,6 +5,7 @@ use Rattle.flt_tree.specs.declared.filter.Action.{Action}
 use Rattle.flt_tree.specs.declared.filter.Action.TheVariants as action
 use Rattle.flt_tree.specs.declared.filter.Condition.{Condition}
 use Rattle.flt_tree.specs.declared.filter.Condition.TheVariants as condition
+use Rattle.flt_tree.specs.declared.filter.Span.{Span}
 use Rattle.flt_tree.specs.declared.filter.Statement.{Statement, out-Statement}
 use Rattle.flt_tree.specs.declared.filter.Statement.TheOpen.{Statement-F}
 use Rattle.flt_tree.specs.declared.filter.Statement.TheVariants as tree
@@ -31,9 +32,9 @@ holds_test draining act test.IsDraining = Some draining
 holds_test draining act test.IsIrp = None
 
 -- a `repeat` is its body and then the `repeat` with a turn less; with no turn left it is done
-abbrev pub turns_left : ℕ → ℕ → List Statement → List Statement → List Statement
-turns_left line zero block rest = rest
-turns_left line (suc turns) block rest = block ++ tree.Repeat line turns block ∷ rest
+abbrev pub turns_left : Span → ℕ → List Statement → List Statement → List Statement
+turns_left span zero block rest = rest
+turns_left span (suc turns) block rest = block ++ tree.Repeat span turns block ∷ rest
 
 -- these statements remain
 abbrev pub goes_on_to : List Statement → Activation → Activation
@@ -46,12 +47,12 @@ holds_condition draining act (condition.Succeeds c) = None
 
 -- the activation after its first statement, where that is local
 abbrev pub after_statement : Bool → Activation → List Statement → Statement-F Statement → Option Activation
-after_statement draining act rest (Statement-F.Act line a) = option_map (goes_on_to rest) (after_action act a)
-after_statement draining act rest (Statement-F.Call line c) = None
-after_statement draining act rest (Statement-F.Return line status) = None
-after_statement draining act rest (Statement-F.If line asked granted refused) =
+after_statement draining act rest (Statement-F.Act span a) = option_map (goes_on_to rest) (after_action act a)
+after_statement draining act rest (Statement-F.Call span c) = None
+after_statement draining act rest (Statement-F.Return span status) = None
+after_statement draining act rest (Statement-F.If span asked granted refused) =
     option_map (λ b. goes_on_to ((if b then granted else refused) ++ rest) act) (holds_condition draining act asked)
-after_statement draining act rest (Statement-F.Repeat line turns block) = Some (goes_on_to (turns_left line turns block rest) act)
+after_statement draining act rest (Statement-F.Repeat span turns block) = Some (goes_on_to (turns_left span turns block rest) act)
 
 -- the same of the statements that remain; the end of a body is seen by others
 abbrev pub local_step : Bool → Activation → List Statement → Option Activation

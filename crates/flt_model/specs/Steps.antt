@@ -55,9 +55,9 @@ may_take w a l access = is_free_for a access (holders_of w.store (actor_at w a).
 
 -- whether the first statement can go on with this choice: a lock that it asks for isn't held by others in a way that refuses it
 abbrev pub may_go : World → ℕ → Bool → Statement-F Statement → Bool
-may_go w a grant (Statement-F.If line asked granted refused) = grant || leaves_choice asked
-may_go w a grant (Statement-F.Call line (plain.AcquireLock k l)) = grant && may_take w a l Exclusive
-may_go w a grant (Statement-F.Call line (plain.AcquirePushLockShared l)) = grant && may_take w a l Shared
+may_go w a grant (Statement-F.If span asked granted refused) = grant || leaves_choice asked
+may_go w a grant (Statement-F.Call span (plain.AcquireLock k l)) = grant && may_take w a l Exclusive
+may_go w a grant (Statement-F.Call span (plain.AcquirePushLockShared l)) = grant && may_take w a l Shared
 may_go w a grant _ = grant
 
 -- ---- steps that others see; a local one is none
@@ -106,11 +106,11 @@ module _ (p : List Filter) (t : List Event) (w : World) (a : ℕ) where
 
   -- the first statement, as it stands before the rest
   abbrev pub statement_step : List Statement → Bool → Statement-F Statement → Option Step
-  statement_step rest grant (Statement-F.Act line x) = act_step rest x
-  statement_step rest grant (Statement-F.Call line c) = Some (plain_step rest c)
-  statement_step rest grant (Statement-F.Return line st) = Some (returns p t w a st)
-  statement_step rest grant (Statement-F.If line asked granted refused) = if_step grant (granted ++ rest) (refused ++ rest) asked
-  statement_step rest grant (Statement-F.Repeat line turns block) = None
+  statement_step rest grant (Statement-F.Act span x) = act_step rest x
+  statement_step rest grant (Statement-F.Call span c) = Some (plain_step rest c)
+  statement_step rest grant (Statement-F.Return span st) = Some (returns p t w a st)
+  statement_step rest grant (Statement-F.If span asked granted refused) = if_step grant (granted ++ rest) (refused ++ rest) asked
+  statement_step rest grant (Statement-F.Repeat span turns block) = None
 
   -- only with a choice that there is
   abbrev pub first_step : List Statement → Bool → Statement-F Statement → Option Step

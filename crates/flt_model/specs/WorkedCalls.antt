@@ -27,7 +27,7 @@ use Rattle.flt_model.specs.declared.moves.Move.TheVariants as move
 use Rattle.flt_model.specs.declared.verdict.Verdict.TheVariants.{Legal, NotARun}
 use Rattle.flt_model.specs.Expansion.{verdict}
 use Rattle.flt_model.specs.World.{Disallowed}
-use Rattle.flt_model.specs.WorkedParts.{computed, references_after, outcomes_after, call, return, if_call, if_test, release_if, on, filter, routine, passes, arrive, pre, lower, post, cancel, canceled, go}
+use Rattle.flt_model.specs.WorkedParts.{computed, here, references_after, outcomes_after, call, return, if_call, if_test, release_if, on, filter, routine, passes, arrive, pre, lower, post, cancel, canceled, go}
 use Rattle.flt_model.specs.WorkedQueue.{cancels}
 
 abbrev pub no_callback : Statement
@@ -103,11 +103,11 @@ nothing_linked = refl
 abbrev pub counts : List Filter
 counts = filter 100 (on (head.Pre Read)
     (if_call (fallible.AllocateContext C0)
-    (tree.Act 1 (action.SetNumber N0 (expression.Difference (atom.Number 0) (atom.Number 1)))
-    ∷ tree.Act 1 (action.SetNumber N0 (expression.Sum (atom.Variable N0) (atom.Number 1)))
-    ∷ if_test (test.Equal N0 (atom.Number 0)) (tree.Act 1 (action.WriteValue C0 (atom.Number 3)) ∷ []) []
-    ∷ tree.Act 1 (action.ReadValue N1 C0)
-    ∷ tree.Repeat 1 2 (tree.Act 1 (action.SetNumber N1 (expression.Difference (atom.Variable N1) (atom.Number 1))) ∷ [])
+    (tree.Act here (action.SetNumber N0 (expression.Difference (atom.Number 0) (atom.Number 1)))
+    ∷ tree.Act here (action.SetNumber N0 (expression.Sum (atom.Variable N0) (atom.Number 1)))
+    ∷ if_test (test.Equal N0 (atom.Number 0)) (tree.Act here (action.WriteValue C0 (atom.Number 3)) ∷ []) []
+    ∷ tree.Act here (action.ReadValue N1 C0)
+    ∷ tree.Repeat here 2 (tree.Act here (action.SetNumber N1 (expression.Difference (atom.Variable N1) (atom.Number 1))) ∷ [])
     ∷ if_test (test.Less N1 (atom.Number 2)) (call (plain.ReleaseContext C0) ∷ []) [] ∷ []) []
     ∷ no_callback ∷ []) ∷ []) ∷ []
 

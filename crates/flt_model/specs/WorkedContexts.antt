@@ -20,7 +20,7 @@ use Rattle.flt_model.specs.declared.moves.Move.TheVariants as move
 use Rattle.flt_model.specs.declared.verdict.Verdict.TheVariants.{Legal, NotARun, Breaks}
 use Rattle.flt_model.specs.declared.verdict.Violation.TheVariants.{V1}
 use Rattle.flt_model.specs.Expansion.{verdict}
-use Rattle.flt_model.specs.WorkedParts.{computed, references_after, broken_by, call, return, if_call, release_if, on, filter, cleans_up, arrive, pre, lower, canceled, go}
+use Rattle.flt_model.specs.WorkedParts.{computed, here, references_after, broken_by, call, return, if_call, release_if, on, filter, cleans_up, arrive, pre, lower, canceled, go}
 use Rattle.flt_model.specs.WorkedQueue.{pends, cancels}
 
 -- ---- two reads race to set the stream's context
@@ -85,7 +85,7 @@ torn_down_early = refl
 
 abbrev pub reads_late : Callback
 reads_late = on (head.Pre Read)
-    (if_call (fallible.GetContext Instance C0) (call (plain.ReleaseContext C0) ∷ tree.Act 1 (action.ReadValue N0 C0) ∷ []) []
+    (if_call (fallible.GetContext Instance C0) (call (plain.ReleaseContext C0) ∷ tree.Act here (action.ReadValue N0 C0) ∷ []) []
     ∷ return status.NoCallback ∷ [])
 
 abbrev pub sets : Callback

@@ -15,6 +15,7 @@ use Rattle.flt_tree.specs.declared.filter.PlainCall.{PlainCall}
 use Rattle.flt_tree.specs.declared.filter.PlainCall.TheVariants as plain
 use Rattle.flt_tree.specs.declared.filter.Position.{Position as Place}
 use Rattle.flt_tree.specs.declared.filter.Routine.{Routine}
+use Rattle.flt_tree.specs.declared.filter.Span.{Span}
 use Rattle.flt_tree.specs.declared.filter.Statement.{Statement, out-Statement}
 use Rattle.flt_tree.specs.declared.filter.Statement.TheVariants as tree
 use Rattle.flt_tree.specs.declared.filter.Status.{Status}
@@ -34,19 +35,27 @@ use Rattle.flt_model.specs.Trace.{one_if, of_actor, gains, loses, frees, settles
 use Rattle.flt_model.specs.World.{Activation, Context, Outcome, Position, Route}
 use Rattle.flt_model.specs.Violations.{is_live, holding, in_queue, owners}
 
+-- ---- places
+
+abbrev pub corner : Place
+corner = record { line = 1; column = 1 }
+
+abbrev pub here : Span
+here = record { line = 1; start = 0; end = 0 }
+
 -- ---- statements
 
 abbrev pub call : PlainCall → Statement
-call c = tree.Call 1 c
+call c = tree.Call here c
 
 abbrev pub return : Status → Statement
-return st = tree.Return 1 (Some st)
+return st = tree.Return here (Some st)
 
 abbrev pub if_call : FallibleCall → List Statement → List Statement → Statement
-if_call c granted refused = tree.If 1 (condition.Succeeds c) granted refused
+if_call c granted refused = tree.If here (condition.Succeeds c) granted refused
 
 abbrev pub if_test : Test → List Statement → List Statement → Statement
-if_test t holds fails = tree.If 1 (condition.Test t) holds fails
+if_test t holds fails = tree.If here (condition.Test t) holds fails
 
 -- a context is released, where the variable isn't NULL
 abbrev pub release_if : ContextVariable → Statement
@@ -54,11 +63,8 @@ release_if c = if_test (test.ContextIsSome c) (call (plain.ReleaseContext c) ∷
 
 -- ---- filters
 
-abbrev pub corner : Place
-corner = record { line = 1; column = 1 }
-
 abbrev pub on : Head → List Statement → Callback
-on head body = record { head = head; position = corner; body = body; end_line = 1 }
+on head body = record { head = head; position = corner; span = here; body = body; end = here }
 
 -- a pre callback that asks for its post callback, and a post callback that cleans up its completion context
 abbrev pub passes : Operation → Callback

@@ -1,5 +1,7 @@
 -- What is spelled spells the same before any other tokens: words, calls, statements and blocks.
-use Rattle.std.proofs.Common.{◌≡◌, ◌≢◌, ℕ, List, [], ◌∷◌, ◌++◌, refl, sym, ap, subst, ◌∙◌, append_assoc}
+use Rattle.std.proofs.Common.{◌≡◌, ◌≢◌, ◌-◌, ℕ, suc, List, [], ◌∷◌, ◌++◌, length, refl, sym, ap, subst, ◌∙◌, append_assoc, arith}
+use Rattle.std.proofs.Math.Seq.{take-append_seam}
+use Rattle.std.proofs.lemmas.List.{length-append}
 use Rattle.std.specs.Prelude.{Bool, true, false, Option, Some, None}
 use Rattle.flt_rules.specs.declared.call.LockKind.{LockKind}
 use Rattle.flt_rules.specs.declared.call.LockNumber.{LockNumber}
@@ -12,8 +14,9 @@ use Rattle.flt_tree.specs.declared.filter.Condition.{Condition}
 use Rattle.flt_tree.specs.declared.filter.FallibleCall.{FallibleCall}
 use Rattle.flt_tree.specs.declared.filter.PlainCall.{PlainCall}
 use Rattle.flt_tree.specs.declared.filter.Routine.{Routine}
+use Rattle.flt_tree.specs.declared.filter.Span.{Span}
 use Rattle.flt_tree.specs.declared.filter.Statement.{Statement}
-use Rattle.flt_tree.specs.declared.filter.Statement.TheVariants.{Act, Call}
+use Rattle.flt_tree.specs.declared.filter.Statement.TheVariants.{Act, Call, Return, If, Repeat}
 use Rattle.flt_tree.specs.declared.filter.Status.{Status}
 use Rattle.flt_tree.specs.declared.filter.Test.{Test}
 use Rattle.flt_tree.specs.declared.variable.Atom.{Atom}
@@ -24,12 +27,12 @@ use Rattle.flt_syntax.specs.ActionGrammar.{AtomAt, ExpressionAt, ActionAt, TestA
 use Rattle.flt_syntax.specs.CallGrammar as calling
 use Rattle.flt_syntax.specs.CallGrammar.{StatusAt, OptionalStatusAt, RoutineAt, LockAt, FallibleAt, PlainAt}
 use Rattle.flt_syntax.specs.Grammar as grammar
-use Rattle.flt_syntax.specs.Grammar.{line, StatementAt, ElseAt, BlockAt, StatementsAt}
+use Rattle.flt_syntax.specs.Grammar.{StatementAt, ElseAt, BlockAt, StatementsAt}
 use Rattle.flt_syntax.specs.Words as words
 use Rattle.flt_syntax.specs.Words.{Next, Meant, NameAt, NumberAt, OptionalAt}
 use Rattle.flt_syntax.specs.Scope.{Scope}
 use Rattle.flt_syntax.specs.FirstWords.{begins_status}
-use Rattle.flt_syntax.specs.Cursor.{Input, front, kind, is_word}
+use Rattle.flt_syntax.specs.Cursor.{Input, front, kind, is_word, span_of, span}
 use Rattle.flt_syntax.specs.Over.{OptionalOver, StatusOver, OptionalStatusOver, FallibleOver, PlainOver, ExpressionOver, ActionOver, ConditionOver, ElseOver, StatementOver}
 
 -- the kinds of token that productions take: not the end, nor what is no token
@@ -358,35 +361,59 @@ pub same_token : (taken z i o : Input) → i ≡ taken ++ o → (taken ≡ [] �
 same_token [] z i o e some = elim (some refl) [ ]
 same_token (t ∷ taken) z i o e some = sym (ap front e)
 
-lined : {A : Type 0} {P : Input → A → Input → Type 0} {R : Input → Statement → Input → Type 0} {i o : Input} {x : A} (s : ℕ → Statement) →
-    ((j z : Input) → P j x z → j ≡ [] → ⊥) → Detached P i x o → ((j z : Input) → P j x z → R j (s (line j)) z) → Detached R i (s (line i)) o
-lined {R = R} {i = i} {o = o} s some d h = record {
+-- what was taken stands at the same place, whatever is behind it
+pub taken_span : (taken z : Input) → span (taken ++ z) z ≡ span_of taken
+unfolding span
+taken_span taken z =
+    let all : length (taken ++ z) - length z ≡ length taken = omega (arith, length-append taken z) in
+    rw (all, take-append_seam taken z) refl
+
+pub same_span : {A : Type 0} {R : Input → A → Input → Type 0} {i o : Input} {x : A} (d : Detached R i x o) (z : Input) →
+    span (d.taken ++ z) z ≡ span i o
+same_span {o = o} d z = taken_span d.taken z ∙ sym (ap (λ j. span j o) d.parts ∙ taken_span d.taken o)
+
+-- the same of a token and what was taken behind it
+behind_span : {A : Type 0} {R : Input → A → Input → Type 0} {a o : Input} {x : A} (t : Token) (d : Detached R a x o) (z : Input) →
+    span (t ∷ (d.taken ++ z)) z ≡ span (t ∷ a) o
+behind_span {o = o} t d z = taken_span (t ∷ d.taken) z ∙ sym (ap (λ j. span (t ∷ j) o) d.parts ∙ taken_span (t ∷ d.taken) o)
+
+-- a statement is made of what was taken, with where that stands
+spanned : {A : Type 0} {P : Input → A → Input → Type 0} {R : Input → Statement → Input → Type 0} {i o : Input} {x : A}
+    (s : Span → Statement) → Detached P i x o → ((j z : Input) → P j x z → R j (s (span j z)) z) → Detached R i (s (span i o)) o
+spanned {R = R} s d h = record {
   taken = d.taken;
   parts = d.parts;
   passed = d.passed;
-  again = λ z.
-      subst (λ (t : Token). R (d.taken ++ z) (s t.position.line) z)
-      (same_token d.taken z i o d.parts (λ e. some (d.taken ++ []) [] (d.again []) (ap (λ t. t ++ []) e))) (h (d.taken ++ z) z (d.again z));
+  again = λ z. subst (λ p. R (d.taken ++ z) (s p) z) (same_span d z) (h (d.taken ++ z) z (d.again z));
 }
+
+-- "return" [ status ]
+abbrev Returned : {i o : Input} {s : Option Status} → OptionalStatusAt i s o → Input → Option Status → Input → Type 0
+Returned {o = o} p j s z =
+    (b : Input) × Next k.Return j b × ((q : OptionalStatusAt b s z) × (OptionalStatusOver p → front z ≡ front o → OptionalStatusOver q))
 
 mutual
   -- stmt, which stays over where the next token is the same
   pub statement_free : {scope : Scope} {d r : ℕ} {i o : Input} {s : Statement} (p : StatementAt scope d r i s o) →
       Detached (λ j s z. (q : StatementAt scope d r j s z) × (StatementOver p → front z ≡ front o → StatementOver q)) i s o
   statement_free (grammar.act {a = a} p) =
-      lined (λ l. Act l a) (λ j z y. action_some y.0) (action_free p) (λ j z y. (grammar.act y.0, y.1))
+      spanned (λ l. Act l a) (action_free p) (λ j z y. (grammar.act y.0, y.1))
   statement_free (grammar.call {c = c} p) =
-      lined (λ l. Call l c) (λ j z y. plain_some y.0) (plain_free p) (λ j z y. (grammar.call y.0, y.1))
-  statement_free (grammar.return (words.next {t = t} e) p) =
-      shift_token t e refl (made (optional_status_free p) (λ j z y. (grammar.return (words.next e) y.0, y.1)))
-  statement_free (grammar.choice (words.next {t = t} e) p q x) =
+      spanned (λ l. Call l c) (plain_free p) (λ j z y. (grammar.call y.0, y.1))
+  statement_free {scope = scope} {d = d} {r = r} (grammar.return {o = o} {s = s} (words.next {t = t} e) p) =
+      spanned (λ l. Return l s) (shift_token {R = Returned p} t e refl (made (optional_status_free p) (λ j z y. (j, words.next e, y))))
+      (λ j z y. (grammar.return y.1 y.2.0, y.2.1))
+  statement_free {scope = scope} {d = d} {r = r} {o = o} (grammar.choice {c = c} {granted = g} {refused = f} (words.next {t = t} e) p q x) =
       let dp = condition_free p in let dq = block_free q in
-      shift_token t e refl (shift dp (shift dq (made (else_free x)
-      (λ j z y. (grammar.choice (words.next e) (dp.again (dq.taken ++ j)).0 (dq.again j) y.0, y.1)))))
-  statement_free (grammar.repeat (words.next {t = t} e) p h q) =
+      shift_token t e refl (shift dp (shift dq (made (else_free x) (λ j z y.
+      subst (λ l. (s : StatementAt scope d r (t ∷ (dp.taken ++ (dq.taken ++ j))) (If (record l { line = t.position.line }) c g f) z)
+      × (ElseOver x → front z ≡ front o → StatementOver s)) (same_span dp (dq.taken ++ j))
+      (grammar.choice (words.next e) (dp.again (dq.taken ++ j)).0 (dq.again j) y.0, y.1)))))
+  statement_free {scope = scope} {d = d} {o = o} (grammar.repeat {r = r} {n = n} {body = body} (words.next {t = t} e) p h q) =
       let dp = number_free p in
-      shift_token t e refl (shift dp (made (block_free q)
-      (λ j z y. (grammar.repeat (words.next e) (dp.again j) h y, λ over same. tt))))
+      shift_token t e refl (shift dp (made (block_free q) (λ j z y.
+      subst (λ l. (s : StatementAt scope d (suc r) (t ∷ (dp.taken ++ j)) (Repeat l n body) z) × (Unit {0} → front z ≡ front o → StatementOver s))
+      (behind_span t dp j) (grammar.repeat (words.next e) (dp.again j) h y, λ over same. tt))))
 
   else_free : {scope : Scope} {d r : ℕ} {i o : Input} {ss : List Statement} (p : ElseAt scope d r i ss o) →
       Detached (λ j ss z. (q : ElseAt scope d r j ss z) × (ElseOver p → front z ≡ front o → ElseOver q)) i ss o

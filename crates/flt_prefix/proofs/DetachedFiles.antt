@@ -1,23 +1,24 @@
 -- What is spelled spells the same before any other tokens: heads, callbacks and what stands before them.
-use Rattle.std.proofs.Common.{◌≡◌, ℕ, ◌-◌, List, [], ◌∷◌, ◌++◌, refl, ap, subst}
+use Rattle.std.proofs.Common.{◌≡◌, ◌∙◌, ℕ, ◌-◌, List, [], ◌∷◌, ◌++◌, refl, sym, ap, subst}
 use Rattle.std.specs.Prelude.{Option}
 use Rattle.flt_syntax.specs.declared.token.Kind.TheVariants as k
 use Rattle.flt_syntax.specs.declared.token.Token.{Token}
 use Rattle.flt_tree.specs.Limits.{max_depth, max_repeats}
 use Rattle.flt_tree.specs.Names.{Text}
+use Rattle.flt_tree.specs.declared.filter.Span.{Span}
 use Rattle.flt_tree.specs.declared.filter.Callback.{Callback}
 use Rattle.flt_tree.specs.declared.filter.Head.{Head}
 use Rattle.flt_tree.specs.declared.filter.Lock.{Lock}
 use Rattle.flt_tree.specs.declared.filter.Position.{Position}
 use Rattle.flt_tree.specs.declared.filter.Statement.{Statement}
 use Rattle.flt_syntax.specs.Grammar as grammar
-use Rattle.flt_syntax.specs.Grammar.{line, StatementsAt, HeadAt, CallbackAt, LocksAt, QueueAt}
+use Rattle.flt_syntax.specs.Grammar.{StatementsAt, HeadAt, CallbackAt, LocksAt, QueueAt}
 use Rattle.flt_syntax.specs.Words as words
 use Rattle.flt_syntax.specs.Words.{Next}
 use Rattle.flt_syntax.specs.Scope.{Scope}
-use Rattle.flt_syntax.specs.Cursor.{Input, front, position}
+use Rattle.flt_syntax.specs.Cursor.{Input, front, position, span}
 use Rattle.flt_syntax.specs.Over.{QueueOver}
-use Rattle.flt_prefix.proofs.Detached.{passable, Detached, shift, made, left_out, next_free, meant_free, name_free, statements_free, other_kind, next_some, same_token}
+use Rattle.flt_prefix.proofs.Detached.{passable, Detached, shift, made, left_out, next_free, meant_free, name_free, statements_free, other_kind, next_some, same_token, taken_span, same_span}
 
 -- a head
 pub head_free : {text : Text} {i o : Input} {h : Head} → HeadAt text i h o → Detached (HeadAt text) i h o
@@ -44,26 +45,32 @@ head_some (grammar.generic n p) e = next_some n e
 
 -- the closing brace
 closing : {t : Token} {o : Input} → t.word.kind ≡ k.CloseBrace →
-    Detached (λ j (u : Unit {0}) z. Next k.CloseBrace j z × (line j ≡ t.position.line)) (t ∷ o) tt o
-closing {t = t} e = record { taken = t ∷ []; parts = refl; passed = (ap passable e, tt); again = λ z. (words.next e, refl) }
+    Detached (λ j (u : Unit {0}) z. Next k.CloseBrace j z × (span j z ≡ span (t ∷ o) o)) (t ∷ o) tt o
+closing {t = t} {o = o} e = record {
+  taken = t ∷ [];
+  parts = refl;
+  passed = (ap passable e, tt);
+  again = λ z. (words.next e, taken_span (t ∷ []) z ∙ sym (taken_span (t ∷ []) o));
+}
 
 -- the parts of a callback
-abbrev PartsAt : Scope → Head → List Statement → ℕ → Input → Unit {0} → Input → Type 0
-PartsAt scope h body end j u z =
+abbrev PartsAt : Scope → Head → List Statement → Span → Span → Input → Unit {0} → Input → Type 0
+PartsAt scope h body head end j u z =
     (a b l : Input) × HeadAt scope.text j h a × Next k.OpenBrace a b × StatementsAt scope (max_depth - 1) max_repeats b body l
-    × Next k.CloseBrace l z × (line l ≡ end)
+    × Next k.CloseBrace l z × (span j a ≡ head) × (span l z ≡ end)
 
-parts_at : {scope : Scope} {h : Head} {body : List Statement} {end : ℕ} (j z : Input) → PartsAt scope h body end j tt z →
-    CallbackAt scope j (record { head = h; position = position j; body = body; end_line = end }) z
-parts_at {scope = scope} {h = h} {body = body} j z y =
-    subst (λ e. CallbackAt scope j (record { head = h; position = position j; body = body; end_line = e }) z) y.7
-    (grammar.callback y.3 y.4 y.5 y.6)
+parts_at : {scope : Scope} {h : Head} {body : List Statement} {head end : Span} (j z : Input) → PartsAt scope h body head end j tt z →
+    CallbackAt scope j (record { head = h; position = position j; span = head; body = body; end = end }) z
+parts_at {scope = scope} {h = h} {body = body} {end = end} j z y =
+    subst (λ x. CallbackAt scope j (record { head = h; position = position j; span = x; body = body; end = end }) z) y.7
+    (subst (λ x. CallbackAt scope j (record { head = h; position = position j; span = span j y.0; body = body; end = x }) z) y.8
+    (grammar.callback y.3 y.4 y.5 y.6))
 
 -- a callback
 pub callback_free : {scope : Scope} {i o : Input} {c : Callback} → CallbackAt scope i c o → Detached (CallbackAt scope) i c o
-callback_free {scope = scope} {i = i} {o = o} (grammar.callback {h = h} {body = body} p n q (words.next {t = t} e)) =
+callback_free {scope = scope} {i = i} {o = o} (grammar.callback {a = a} {h = h} {body = body} p n q (words.next {t = t} e)) =
     let dp = head_free p in let dn = next_free refl n in let dq = statements_free q in
-    let d : Detached (PartsAt scope h body t.position.line) i tt o =
+    let d : Detached (PartsAt scope h body (span i a) (span (t ∷ o) o)) i tt o =
     shift dp (shift dn (shift dq (made (closing e) (λ j z y. (
       dn.taken ++ (dq.taken ++ j),
       dq.taken ++ j,
@@ -73,6 +80,7 @@ callback_free {scope = scope} {i = i} {o = o} (grammar.callback {h = h} {body = 
           (dq.taken ++ j),
       dq.again j,
       y.0,
+      same_span dp (dn.taken ++ (dq.taken ++ j)),
       y.1,
     )))))
     in
@@ -81,7 +89,8 @@ callback_free {scope = scope} {i = i} {o = o} (grammar.callback {h = h} {body = 
       parts = d.parts;
       passed = d.passed;
       again =
-          λ z. subst (λ x. CallbackAt scope (d.taken ++ z) (record { head = h; position = x; body = body; end_line = t.position.line }) z)
+          λ z. subst (λ x. CallbackAt scope (d.taken ++ z)
+          (record { head = h; position = x; span = span i a; body = body; end = span (t ∷ o) o }) z)
           (ap (λ (t : Token). t.position) (same_token d.taken z i o d.parts (λ e. head_some (d.again []).3 (ap
           (λ t. t ++ []) e)))) (parts_at (d.taken ++ z) z (d.again z));
     }

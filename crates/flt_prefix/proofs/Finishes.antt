@@ -30,11 +30,11 @@ use Rattle.flt_syntax.specs.ActionGrammar.{AtomAt, ExpressionAt, ActionAt, Condi
 use Rattle.flt_syntax.specs.CallGrammar as calling
 use Rattle.flt_syntax.specs.CallGrammar.{StatusAt, OptionalStatusAt, RoutineAt, FallibleAt, PlainAt}
 use Rattle.flt_syntax.specs.Grammar as grammar
-use Rattle.flt_syntax.specs.Grammar.{line, StatementAt, ElseAt, BlockAt, StatementsAt}
+use Rattle.flt_syntax.specs.Grammar.{StatementAt, ElseAt, BlockAt, StatementsAt}
 use Rattle.flt_syntax.specs.Words as words
 use Rattle.flt_syntax.specs.Words.{Next, Meant, NameAt, NumberAt, ContextAt, OptionalAt}
 use Rattle.flt_syntax.specs.Scope.{Scope}
-use Rattle.flt_syntax.specs.Cursor.{Input, bytes_of, fault_at}
+use Rattle.flt_syntax.specs.Cursor.{span, Input, bytes_of, fault_at}
 use Rattle.flt_prefix.proofs.Detached.{passable, AllPassed, passed_both, Detached, next_free, meant_free, number_free, routine_free, atom_free, condition_free, statement_free, block_free}
 use Rattle.flt_prefix.proofs.DetachedFiles.{head_free, callback_free}
 use Rattle.flt_syntax.specs.WordFails as word_fails
@@ -573,9 +573,9 @@ module _ (scope : Scope) where
   mutual
     statement_fin : {d r : ℕ} {i : Input} {f : SyntaxFault} → AsksNoLock i f → StatementFails scope d r i f → f.kind ≡ E03 →
         Finishes (SomeStatement r) i f
-    statement_fin g (statement_fails.act h) e = fin_by (action_fin h e) (λ j o u y. (statements.Act (line j) u, (0, grammar.act y)))
+    statement_fin g (statement_fails.act h) e = fin_by (action_fin h e) (λ j o u y. (statements.Act (span j o) u, (0, grammar.act y)))
     statement_fin g (statement_fails.call b h) e =
-        fin_by (plain_fin scope g h e) (λ j o u y. (statements.Call (line j) u, (0, grammar.call y)))
+        fin_by (plain_fin scope g h e) (λ j o u y. (statements.Call (span j o) u, (0, grammar.call y)))
     statement_fin g (statement_fails.return n h) e =
         let dn = next_free refl n in
         fin_shift dn (fin_by (optional_status_fin h e) (λ j o u y. (_, (0, grammar.return (dn.again j) y))))

@@ -5,7 +5,7 @@ use Rattle.flt_syntax.specs.ActionGrammar as acting
 use Rattle.flt_syntax.specs.ActionGrammar.{ConditionAt}
 use Rattle.flt_syntax.specs.CallGrammar as calling
 use Rattle.flt_syntax.specs.CallGrammar.{RoutineAt, FallibleAt}
-use Rattle.flt_syntax.specs.Cursor.{Input, position, fault}
+use Rattle.flt_syntax.specs.Cursor.{Input, position, fault, span}
 use Rattle.flt_syntax.specs.Grammar as grammar
 use Rattle.flt_syntax.specs.Grammar.{StatementAt, ElseAt, BlockAt, StatementsAt, HeadAt, CallbackAt, CallbacksAt, QueueAt, FileAt}
 use Rattle.flt_syntax.specs.Scope.{Scope}
@@ -25,6 +25,7 @@ use Rattle.flt_tree.specs.declared.filter.Head.{Head}
 use Rattle.flt_tree.specs.declared.filter.Head.TheVariants.{Canceled}
 use Rattle.flt_tree.specs.declared.filter.Position.{Position}
 use Rattle.flt_tree.specs.declared.filter.Routine.{Routine}
+use Rattle.flt_tree.specs.declared.filter.Span.{Span}
 use Rattle.flt_tree.specs.declared.filter.Statement.{Statement, roll-Statement}
 use Rattle.flt_tree.specs.declared.filter.Statement.TheVariants.{Act, Call, Return, If, Repeat, rolls-Act, rolls-Call, rolls-Return, rolls-If, rolls-Repeat}
 use Rattle.flt_tree.specs.declared.filter.Statement.TheOpen.{Statement-F}
@@ -115,20 +116,21 @@ module _ (scope : Scope) (cs : List Callback) (from : Head) where
 
   mutual
     statement_spans : {d r : ℕ} {i o : Input} {s : Statement} → StatementAt scope d r i s o → Spans here i (lacking_of cs from s) o
-    statement_spans {d = d} {r = r} (grammar.act {i = i} {a = a} p) =
-        by_layer (Act (grammar.line i) a) (Statement-F.Act (grammar.line i) a) (rolls-Act (grammar.line i) a)
+    statement_spans {d = d} {r = r} (grammar.act {i = i} {o = o} {a = a} p) =
+        by_layer (Act (span i o) a) (Statement-F.Act (span i o) a) (rolls-Act (span i o) a)
         (over (statement_free {scope = scope} {d = d} {r = r} (grammar.act p)))
-    statement_spans {d = d} {r = r} (grammar.call {i = i} {c = c} p) =
-        by_layer (Call (grammar.line i) c) (Statement-F.Call (grammar.line i) c) (rolls-Call (grammar.line i) c)
+    statement_spans {d = d} {r = r} (grammar.call {i = i} {o = o} {c = c} p) =
+        by_layer (Call (span i o) c) (Statement-F.Call (span i o) c) (rolls-Call (span i o) c)
         (over (statement_free {scope = scope} {d = d} {r = r} (grammar.call p)))
-    statement_spans {d = d} {r = r} (grammar.return {i = i} {s = x} n p) =
-        by_layer (Return (grammar.line i) x) (Statement-F.Return (grammar.line i) x) (rolls-Return (grammar.line i) x)
+    statement_spans {d = d} {r = r} (grammar.return {i = i} {o = o} {s = x} n p) =
+        by_layer (Return (span i o) x) (Statement-F.Return (span i o) x) (rolls-Return (span i o) x)
         (over (statement_free {scope = scope} {d = d} {r = r} (grammar.return n p)))
-    statement_spans (grammar.choice {i = i} {c = c} {granted = g} {refused = f} n p q x) =
-        by_layer (If (grammar.line i) c g f) (Statement-F.If (grammar.line i) c g f) (rolls-If (grammar.line i) c g f)
+    statement_spans (grammar.choice {i = i} {a = a} {b = b} {c = c} {granted = g} {refused = f} n p q x) =
+        let l : Span = record (span a b) { line = grammar.line i } in
+        by_layer (If l c g f) (Statement-F.If l c g f) (rolls-If l c g f)
         (then_some (next_over n) (behind (condition_spans p) (behind (block_spans q) (else_spans x))))
-    statement_spans (grammar.repeat {n = turns} {i = i} {body = b} n p h q) =
-        by_layer (Repeat (grammar.line i) turns b) (Statement-F.Repeat (grammar.line i) turns b) (rolls-Repeat (grammar.line i) turns b)
+    statement_spans (grammar.repeat {n = turns} {i = i} {b = l} {body = b} n p h q) =
+        by_layer (Repeat (span i l) turns b) (Statement-F.Repeat (span i l) turns b) (rolls-Repeat (span i l) turns b)
         (then_some (next_over n) (then_some (over (number_free p)) (block_spans q)))
 
     else_spans : {d r : ℕ} {i o : Input} {ss : List Statement} → ElseAt scope d r i ss o → Spans here i (lacking cs from ss) o

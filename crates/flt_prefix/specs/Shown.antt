@@ -42,12 +42,12 @@ lacking_by cs from _ = []
 
 -- the same of a statement, given those of its blocks
 abbrev pub lacking_step : List Callback → Head → Statement-F (List Position) → List Position
-lacking_step cs from (Statement-F.Act line action) = []
-lacking_step cs from (Statement-F.Call line call) = []
-lacking_step cs from (Statement-F.Return line status) = []
-lacking_step cs from (Statement-F.If line condition granted refused) =
+lacking_step cs from (Statement-F.Act span action) = []
+lacking_step cs from (Statement-F.Call span call) = []
+lacking_step cs from (Statement-F.Return span status) = []
+lacking_step cs from (Statement-F.If span condition granted refused) =
     lacking_by cs from condition ++ (all_of granted ++ all_of refused)
-lacking_step cs from (Statement-F.Repeat line turns body) = all_of body
+lacking_step cs from (Statement-F.Repeat span turns body) = all_of body
 
 -- all that a statement names so
 abbrev pub lacking_of : List Callback → Head → Statement → List Position

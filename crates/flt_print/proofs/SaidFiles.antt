@@ -3,7 +3,7 @@ use Rattle.std.proofs.Common.{◌≡◌, ℕ, ◌<◌, ◌≤◌, ◌^◌, Bool,
 use Rattle.std.proofs.lemmas.Bool.{and_parts}
 use Rattle.std.specs.List.{list_all}
 use Rattle.std.specs.Prelude.{Option, Some, None, is_some, flat_map}
-use Rattle.flt_syntax.specs.Cursor.{kind, position}
+use Rattle.flt_syntax.specs.Cursor.{kind, position, span}
 use Rattle.flt_syntax.specs.Grammar as g
 use Rattle.flt_syntax.specs.Grammar.{HeadAt, CallbackAt, CallbacksAt, LocksAt, QueueAt, FileAt}
 use Rattle.flt_tree.specs.Names.{Text, is_name}
@@ -74,7 +74,7 @@ module _ (text : Text) where
         (says_both (says_both (says_head c.head h) (says_next k.OpenBrace open_piece))
         (says_lines (body_lines locks c.body 1) (closing 0) (says_body text locks queue c.body 1 b) (says_next k.CloseBrace close_piece)))
         (λ i o p. (
-          record { head = c.head; position = position i; body = p.2.1.0; end_line = g.line p.2.0 },
+          record { head = c.head; position = position i; span = span i p.1.0; body = p.2.1.0; end = span p.2.0 o },
           g.callback p.1.1 p.1.2 p.2.1.1 p.2.2,
           record { head = refl; body = p.2.1.2 },
         ))

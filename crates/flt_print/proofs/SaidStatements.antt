@@ -4,6 +4,7 @@ use Rattle.std.proofs.lemmas.Grind.{flat_map-append}
 use Rattle.std.specs.Prelude.{flat_map}
 use Rattle.flt_print.specs.ActionWords.{action_words}
 use Rattle.flt_print.specs.CallWords.{plain_words, optional_status_words}
+use Rattle.flt_syntax.specs.Cursor.{span}
 use Rattle.flt_syntax.specs.Grammar as g
 use Rattle.flt_syntax.specs.Grammar.{StatementAt, ElseAt, BlockAt, StatementsAt}
 use Rattle.flt_tree.specs.Names.{Text}
@@ -88,15 +89,15 @@ module _ (text : Text) (locks : List Lock) (queue : Bool) where
         Says text (words_of (statement_lines locks s level)) (LikeStatement d r s)
     says_statement _ level (fine.act {at = at} {a = a} h) =
         layer (Act at a) (Statement-F.Act at a) level (rolls-Act at a)
-        (says_line (action_words a) (says_by (says_action text locks queue a h) (λ i o p. (Act (g.line i) a, g.act p, alike.act))))
+        (says_line (action_words a) (says_by (says_action text locks queue a h) (λ i o p. (Act (span i o) a, g.act p, alike.act))))
     says_statement _ level (fine.call {at = at} {c = c} h) =
         layer (Call at c) (Statement-F.Call at c) level (rolls-Call at c)
-        (says_line (plain_words locks c) (says_by (says_plain text locks queue c h) (λ i o p. (Call (g.line i) c, g.call p, alike.call))))
+        (says_line (plain_words locks c) (says_by (says_plain text locks queue c h) (λ i o p. (Call (span i o) c, g.call p, alike.call))))
     says_statement _ level (fine.return {at = at} {s = s}) =
         layer (Return at s) (Statement-F.Return at s) level (rolls-Return at s)
         (says_line (spelling k.Return ∷ optional_status_words s)
         (says_by (says_both says_return (says_optional_status text locks queue s))
-        (λ i o p. (Return (g.line i) s, g.return p.1 p.2, alike.return))))
+        (λ i o p. (Return (span i o) s, g.return p.1 p.2, alike.return))))
     says_statement _ level (fine.choice {at = at} {c = c} {granted = granted} {refused = refused} h (fine.block p) q) =
         layer (If at c granted refused) (Statement-F.If at c granted refused) level (rolls-If at c granted refused)
         (says_by
@@ -104,7 +105,7 @@ module _ (text : Text) (locks : List Lock) (queue : Bool) where
         (says_lines (inside (map (statement_lines locks) granted) level) (otherwise (map (statement_lines locks) refused) level)
         (says_body granted (level + 1) p) (says_otherwise refused level q)))
         (λ i o p. (
-          If (g.line i) p.1.2.1.0 p.2.1.0 p.2.2.2.0,
+          If (record (span p.1.0 p.1.2.0) { line = g.line i }) p.1.2.1.0 p.2.1.0 p.2.2.2.0,
           g.choice p.1.1 p.1.2.1.1 (g.block p.1.2.2 p.2.1.1 p.2.2.1) p.2.2.2.1,
           alike.choice p.1.2.1.2 p.2.1.2 p.2.2.2.2,
         )))
@@ -114,7 +115,7 @@ module _ (text : Text) (locks : List Lock) (queue : Bool) where
         (says_both (says_both says_repeat (says_both (says_number n (turns_fit n h)) opens))
         (says_lines (inside (map (statement_lines locks) body) level) (closing level) (says_body body (level + 1) p) closes))
         (λ i o p. (
-          Repeat (g.line i) n p.2.1.0,
+          Repeat (span i p.1.2.0) n p.2.1.0,
           g.repeat p.1.1 p.1.2.1 h (g.block p.1.2.2 p.2.1.1 p.2.2),
           alike.repeat p.2.1.2,
         )))

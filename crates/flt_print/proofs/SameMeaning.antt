@@ -4,7 +4,7 @@ use Rattle.std.proofs.lemmas.Bool.{false≢true}
 use Rattle.std.specs.List.{list_all, list_any}
 use Rattle.std.specs.Prelude.{◌&&◌, ◌||◌, not, sum, nat_le, Option, Some, None, is_some, option_map}
 use Rattle.flt_tree.specs.Declarations.{same_event, has_event, has_routine, is_declared, AreNewCallbacks, finds_routine, test_finds, finds_step, finds_routines, AreWhole, IsServed, runs_deferred, runs_generic, has_deferred, has_generic, lacks_pre}
-use Rattle.flt_tree.specs.Filter.{is_named}
+use Rattle.flt_tree.specs.Filter.{is_named, no_span}
 use Rattle.flt_tree.specs.Names.{Text}
 use Rattle.flt_tree.specs.Measures.{points_step, points, cost_step, cost, max_points, max_cost, is_small}
 use Rattle.flt_print.specs.Reprinting.{nowhere, call_without, condition_without, step_without, statement_without, callback_without, without_places}
@@ -20,6 +20,7 @@ use Rattle.flt_tree.specs.declared.filter.Head.TheVariants.{Pre, Post, Canceled,
 use Rattle.flt_tree.specs.declared.filter.Lock.{Lock}
 use Rattle.flt_tree.specs.declared.filter.Position.{Position}
 use Rattle.flt_tree.specs.declared.filter.PlainCall.{PlainCall}
+use Rattle.flt_tree.specs.declared.filter.Span.{Span}
 use Rattle.flt_tree.specs.declared.filter.Statement.{Statement, roll-Statement}
 use Rattle.flt_tree.specs.declared.filter.Statement.TheVariants.{Act, Call, Return, If, Repeat, rolls-Act, rolls-Call, rolls-Return, rolls-If, rolls-Repeat}
 use Rattle.flt_tree.specs.declared.filter.Statement.TheOpen.{Statement-F}
@@ -32,11 +33,11 @@ use Rattle.flt_print.proofs.Alike.{AlikeCall, AlikeCondition, Alike, AlikeAll, A
 
 -- two steps agree wherever the parts stand
 record Agree (X : Type 0) (a b : Statement-F X → X) : Type 0 where
-  acts : (m n : ℕ) (x : Action) → a (Statement-F.Act m x) ≡ b (Statement-F.Act n x)
-  calls : (m n : ℕ) (c : PlainCall) → a (Statement-F.Call m c) ≡ b (Statement-F.Call n c)
-  returns : (m n : ℕ) (s : Option Status) → a (Statement-F.Return m s) ≡ b (Statement-F.Return n s)
-  choices : (m n : ℕ) (c d : Condition) (gs rs : List X) → AlikeCondition c d → a (Statement-F.If m c gs rs) ≡ b (Statement-F.If n d gs rs)
-  repeats : (m n turns : ℕ) (bs : List X) → a (Statement-F.Repeat m turns bs) ≡ b (Statement-F.Repeat n turns bs)
+  acts : (m n : Span) (x : Action) → a (Statement-F.Act m x) ≡ b (Statement-F.Act n x)
+  calls : (m n : Span) (c : PlainCall) → a (Statement-F.Call m c) ≡ b (Statement-F.Call n c)
+  returns : (m n : Span) (s : Option Status) → a (Statement-F.Return m s) ≡ b (Statement-F.Return n s)
+  choices : (m n : Span) (c d : Condition) (gs rs : List X) → AlikeCondition c d → a (Statement-F.If m c gs rs) ≡ b (Statement-F.If n d gs rs)
+  repeats : (m n : Span) (turns : ℕ) (bs : List X) → a (Statement-F.Repeat m turns bs) ≡ b (Statement-F.Repeat n turns bs)
 
 unrolled : (X : Type 0) (step : Statement-F X → X) (s : Statement) (y : Statement-F Statement) → roll-Statement y ≡ s →
     fold-Statement X step s ≡ step (map-Statement Statement X (fold-Statement X step) y)
@@ -211,7 +212,7 @@ without_agree =
       acts = λ m n x. refl;
       calls = λ m n c. refl;
       returns = λ m n s. refl;
-      choices = λ m n c d gs rs q. ap (λ x. If 0 x gs rs) (condition_alike q);
+      choices = λ m n c d gs rs q. ap (λ x. If no_span x gs rs) (condition_alike q);
       repeats = λ m n turns bs. refl;
     }
 
@@ -221,8 +222,8 @@ body_alike p = folds_alike Statement step_without step_without without_agree p
 callbacks_alike : {cs ds : List Callback} → AlikeCallbacks cs ds → map callback_without cs ≡ map callback_without ds
 callbacks_alike no_callback = refl
 callbacks_alike (one_callback {c} {d} {cs} {ds} a r) =
-    ap (λ h. record { head = h; position = nowhere; body = map statement_without c.body; end_line = 0 } ∷ map callback_without cs) a.head
-    ∙ ap (λ b. record { head = d.head; position = nowhere; body = b; end_line = 0 } ∷ map callback_without cs) (body_alike a.body)
+    ap (λ h. record { head = h; position = nowhere; span = no_span; body = map statement_without c.body; end = no_span } ∷ map callback_without cs) a.head
+    ∙ ap (λ b. record { head = d.head; position = nowhere; span = no_span; body = b; end = no_span } ∷ map callback_without cs) (body_alike a.body)
     ∙ ap (λ l. callback_without d ∷ l) (callbacks_alike r)
 
 queue_alike : (q r : Option Position) → is_some q ≡ is_some r → option_map (λ at. nowhere) q ≡ option_map (λ at. nowhere) r

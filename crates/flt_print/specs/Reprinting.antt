@@ -1,5 +1,6 @@
 -- A filter apart from where its parts stand, and the laws that its canonical text spells it so.
 use Rattle.std.specs.Prelude.{◌≡◌, ◌≤◌, map, length, option_map}
+use Rattle.flt_tree.specs.Filter.{no_span}
 use Rattle.flt_tree.specs.Names.{Text}
 use Rattle.flt_tree.specs.Limits.{max_text}
 use Rattle.flt_print.specs.Printing.{canonical_text}
@@ -35,20 +36,20 @@ condition_without (made.Test t) = made.Test t
 condition_without (made.Succeeds c) = made.Succeeds (call_without c)
 
 abbrev pub step_without : Statement-F Statement → Statement
-step_without (Statement-F.Act at a) = Act 0 a
-step_without (Statement-F.Call at c) = Call 0 c
-step_without (Statement-F.Return at s) = Return 0 s
-step_without (Statement-F.If at c granted refused) = If 0 (condition_without c) granted refused
-step_without (Statement-F.Repeat at n body) = Repeat 0 n body
+step_without (Statement-F.Act at a) = Act no_span a
+step_without (Statement-F.Call at c) = Call no_span c
+step_without (Statement-F.Return at s) = Return no_span s
+step_without (Statement-F.If at c granted refused) = If no_span (condition_without c) granted refused
+step_without (Statement-F.Repeat at n body) = Repeat no_span n body
 
--- a statement without lines and columns
+-- a statement without places
 abbrev pub statement_without : Statement → Statement
 statement_without = fold-Statement Statement step_without
 
 abbrev pub callback_without : Callback → Callback
-callback_without c = record { head = c.head; position = nowhere; body = map statement_without c.body; end_line = 0 }
+callback_without c = record { head = c.head; position = nowhere; span = no_span; body = map statement_without c.body; end = no_span }
 
--- a filter without lines and columns
+-- a filter without places
 abbrev pub without_places : Filter → Filter
 without_places f =
     record {
@@ -59,17 +60,17 @@ without_places f =
       callbacks = map callback_without f.callbacks;
     }
 
--- the canonical text of a well-formed filter spells it, apart from lines and columns, if it is not too long
+-- the canonical text of a well-formed filter spells it, apart from places, if it is not too long
 abbrev pub ParsesAgain : Type 0
 ParsesAgain = (f : Filter) → IsWellFormed f → length (canonical_text f) ≤ max_text →
     (g : Filter) × Spells (canonical_text f) g × (without_places g ≡ without_places f)
 
--- what a text spells is spelled by its canonical text too, apart from lines and columns, if that is not too long
+-- what a text spells is spelled by its canonical text too, apart from places, if that is not too long
 abbrev pub PrintAndParse : Type 0
 PrintAndParse = (text : Text) (f : Filter) → Spells text f → length (canonical_text f) ≤ max_text →
     (g : Filter) × Spells (canonical_text f) g × (without_places g ≡ without_places f)
 
--- well-formed filters with one canonical text differ in lines and columns alone, if the text is not too long
+-- well-formed filters with one canonical text differ in places alone, if the text is not too long
 abbrev pub PrintsAtMostOne : Type 0
 PrintsAtMostOne = (f g : Filter) → IsWellFormed f → IsWellFormed g → length (canonical_text f) ≤ max_text →
     canonical_text f ≡ canonical_text g → without_places f ≡ without_places g

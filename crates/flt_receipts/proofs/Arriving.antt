@@ -276,12 +276,12 @@ module _ (w : World) (a : ℕ) where
 
     statement_to : (rest : List Statement) (grant : Bool) (layer : Statement-F Statement) (s : Step) →
         statement_step p t w a rest grant layer ≡ Some s → To s
-    statement_to rest grant (Statement-F.Act line x) s e = act_to rest x s e
-    statement_to rest grant (Statement-F.Call line c) s e = some_to (plain_step p t w a rest c) s (plain_to rest p t c) e
-    statement_to rest grant (Statement-F.Return line st) s e = some_to (returns p t w a st) s (returns_to st) e
-    statement_to rest grant (Statement-F.If line asked granted refused) s e =
+    statement_to rest grant (Statement-F.Act span x) s e = act_to rest x s e
+    statement_to rest grant (Statement-F.Call span c) s e = some_to (plain_step p t w a rest c) s (plain_to rest p t c) e
+    statement_to rest grant (Statement-F.Return span st) s e = some_to (returns p t w a st) s (returns_to st) e
+    statement_to rest grant (Statement-F.If span asked granted refused) s e =
         condition_to (granted ++ rest) (refused ++ rest) grant asked s e
-    statement_to rest grant (Statement-F.Repeat line turns block) s e = absurd (cc)
+    statement_to rest grant (Statement-F.Repeat span turns block) s e = absurd (cc)
 
     list_to : (list : List Statement) (grant : Bool) (s : Step) → list_step p t w a list grant ≡ Some s → To s
     list_to [] grant s e = when_to grant (Some (returns p t w a None)) s (λ h. some_to (returns p t w a None) s (returns_to None) h) e

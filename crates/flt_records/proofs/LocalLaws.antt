@@ -50,8 +50,8 @@ module _ (draining : Bool) (act : Activation) (others rest : List Statement) whe
   condition_same (condition.Succeeds c) = refl
 
   pub statement_same : (s : Statement-F Statement) → after_statement draining elsewhere rest s ≡ after_statement draining act rest s
-  statement_same (Statement-F.Act line a) = action_same a
-  statement_same (Statement-F.Call line c) = refl
-  statement_same (Statement-F.Return line status) = refl
-  statement_same (Statement-F.If line asked granted refused) = rw (condition_same asked) refl
-  statement_same (Statement-F.Repeat line turns block) = refl
+  statement_same (Statement-F.Act span a) = action_same a
+  statement_same (Statement-F.Call span c) = refl
+  statement_same (Statement-F.Return span status) = refl
+  statement_same (Statement-F.If span asked granted refused) = rw (condition_same asked) refl
+  statement_same (Statement-F.Repeat span turns block) = refl

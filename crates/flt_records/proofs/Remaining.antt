@@ -1,6 +1,7 @@
 -- One part more, and one turn less.
 use Rattle.std.proofs.Common.{◌≡◌, ℕ, zero, suc, ◌-◌, ◌<◌, List, [], ◌∷◌, ◌++◌, length, refl, sym, ap, ◌∙◌, arith, sub-one}
 use Rattle.flt_model.specs.LocalSteps.{turns_left}
+use Rattle.flt_tree.specs.declared.filter.Span.{Span}
 use Rattle.flt_tree.specs.declared.filter.Statement.{Statement}
 use Rattle.flt_tree.specs.declared.filter.Statement.TheVariants as tree
 use Rattle.flt_records.specs.Rest.{statements_of, before, remaining, others}
@@ -12,10 +13,10 @@ unfolding before
 before_push others [] p = refl
 before_push others (q ∷ parts) p = before_push (statements_of q ++ others) parts p
 
-pub turn_left : (line turns : ℕ) (body others : List Statement) → (turns ≡ 0 → ⊥) →
-    turns_left line turns body others ≡ body ++ tree.Repeat line (turns - 1) body ∷ others
-turn_left line zero body others h = absurd (h refl)
-turn_left line (suc n) body others h = rw sub-one refl
+pub turn_left : (span : Span) (turns : ℕ) (body others : List Statement) → (turns ≡ 0 → ⊥) →
+    turns_left span turns body others ≡ body ++ tree.Repeat span (turns - 1) body ∷ others
+turn_left span zero body others h = absurd (h refl)
+turn_left span (suc n) body others h = rw sub-one refl
 
 -- ---- short lists
 

@@ -10,11 +10,11 @@ use Rattle.flt_records.specs.declared.rest.Upcoming.TheVariants as upcoming
 
 abbrev pub statement_of : Upcoming → Statement
 statement_of (upcoming.Statement s) = s.now
-statement_of (upcoming.Repeat line turns body) = tree.Repeat line turns body.now
+statement_of (upcoming.Repeat span turns body) = tree.Repeat span.now turns body.now
 
 abbrev pub statements_of : Part → List Statement
 statements_of (Block b) = b.now
-statements_of (Repeat line turns body) = tree.Repeat line turns body.now ∷ []
+statements_of (Repeat span turns body) = tree.Repeat span.now turns body.now ∷ []
 
 -- what the parts say before other statements, the last part first
 unfoldable pub before : List Statement → List Part → List Statement

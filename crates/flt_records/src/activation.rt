@@ -10,7 +10,7 @@ use crate::kept::Kept;
 use crate::rest::{Rest, Upcoming};
 use flt_rules::{HeldLock, LockNumber};
 use flt_tree::{
-    Atom, ContextVariable, Expression, NumberVariable, OperationVariable, RemovedVariable,
+    Atom, ContextVariable, Expression, NumberVariable, OperationVariable, RemovedVariable, Span,
     Statement,
 };
 use std::alloc::{AllocError, Global};
@@ -216,13 +216,13 @@ impl<'a> Activation<'a> {
     /// Goes through a turn of a `repeat`, if one is left.
     pub(crate) fn turn(
         &mut self,
-        line: usize,
+        span: &'a Span,
         turns: u64,
         body: &'a [Statement],
     ) -> Result<(), AllocError>
-        ensures { OnOk result (self.new ≡ record self.old { rest = turns_left line turns body.now self.old.rest }) }
+        ensures { OnOk result (self.new ≡ record self.old { rest = turns_left span.now turns body.now self.old.rest }) }
     {
-        self.rest.turn(&mut self.kept, line, turns, body)
+        self.rest.turn(&mut self.kept, span, turns, body)
     }
 
     /// Whether it ended.

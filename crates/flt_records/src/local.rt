@@ -85,8 +85,8 @@ impl<'a> Activation<'a> {
                     None => Ok(false),
                 }
             }
-            Statement::Repeat(line, turns, body) => {
-                self.turn(*line, *turns, body.as_slice())?;
+            Statement::Repeat(span, turns, body) => {
+                self.turn(span, *turns, body.as_slice())?;
                 Ok(true)
             }
         }
@@ -99,8 +99,8 @@ impl<'a> Activation<'a> {
     {
         match self.next() {
             Some(Upcoming::Statement(statement)) => self.statement(draining, statement),
-            Some(Upcoming::Repeat(line, turns, body)) => {
-                self.turn(line, turns, body)?;
+            Some(Upcoming::Repeat(span, turns, body)) => {
+                self.turn(span, turns, body)?;
                 Ok(true)
             }
             None => Ok(false),

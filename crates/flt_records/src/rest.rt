@@ -6,7 +6,7 @@ ghost use Rattle.flt_records.specs.Kept.{contents};
 ghost use Rattle.flt_records.specs.Rest.{statement_of, before, remains, others};
 
 use crate::kept::Kept;
-use flt_tree::Statement;
+use flt_tree::{Span, Statement};
 use std::alloc::AllocError;
 
 /// What is gone on with where a block ends.
@@ -14,16 +14,16 @@ use std::alloc::AllocError;
 pub enum Part<'a> {
     /// The statements that are left of the block round it.
     Block(&'a [Statement]),
-    /// A `repeat`: its line, the turns that are left, and its body.
-    Repeat(usize, u64, &'a [Statement]),
+    /// A `repeat`: where it stands, the turns that are left, and its body.
+    Repeat(&'a Span, u64, &'a [Statement]),
 }
 
 /// A statement of the text, or a `repeat` that has gone through some of its turns.
 #[derive(Clone, Copy)]
 pub enum Upcoming<'a> {
     Statement(&'a Statement),
-    /// Its line, the turns that are left, and its body.
-    Repeat(usize, u64, &'a [Statement]),
+    /// Where it stands, the turns that are left, and its body.
+    Repeat(&'a Span, u64, &'a [Statement]),
 }
 
 /// The two blocks in which a callback stands. What is round these is kept apart, since most callbacks stand in two at most.
@@ -61,8 +61,8 @@ impl<'a> Rest<'a> {
             }
             match kept.resume() {
                 Some(Part::Block(block)) => self.block = block,
-                Some(Part::Repeat(line, turns, body)) => {
-                    return Some(Upcoming::Repeat(line, turns, body));
+                Some(Part::Repeat(span, turns, body)) => {
+                    return Some(Upcoming::Repeat(span, turns, body));
                 }
                 None => return None,
             }
@@ -85,9 +85,9 @@ impl<'a> Rest<'a> {
             }
             match kept.resume() {
                 Some(Part::Block(block)) => self.block = block,
-                Some(Part::Repeat(line, turns, body)) => {
-                    kept.suspend(Part::Repeat(line, turns, body))?;
-                    return Ok(Some(Upcoming::Repeat(line, turns, body)));
+                Some(Part::Repeat(span, turns, body)) => {
+                    kept.suspend(Part::Repeat(span, turns, body))?;
+                    return Ok(Some(Upcoming::Repeat(span, turns, body)));
                 }
                 None => return Ok(None),
             }
@@ -135,11 +135,11 @@ impl<'a> Rest<'a> {
     pub(crate) fn turn(
         &mut self,
         kept: &mut Kept<'a>,
-        line: usize,
+        span: &'a Span,
         turns: u64,
         body: &'a [Statement],
     ) -> Result<(), AllocError>
-        ensures rest { OnOk result (remains self.new (contents kept.new).after ≡ turns_left line turns body.now (remains self.old (contents kept.old).after)) }
+        ensures rest { OnOk result (remains self.new (contents kept.new).after ≡ turns_left span.now turns body.now (remains self.old (contents kept.old).after)) }
         ensures others { OnOk result (contents kept.new ≡ record (contents kept.old) { after = (contents kept.new).after }) }
     {
         if turns == 0 {
@@ -150,7 +150,7 @@ impl<'a> Rest<'a> {
         suspend(kept, outer)?;
         self.outer = &[];
         suspend(kept, here)?;
-        kept.suspend(Part::Repeat(line, turns - 1, body))?;
+        kept.suspend(Part::Repeat(span, turns - 1, body))?;
         self.block = body;
         Ok(())
     }

@@ -23,7 +23,7 @@ use Rattle.flt_tree.specs.declared.filter.Test.TheVariants as test
 use Rattle.flt_tree.specs.declared.variable.ContextVariable.TheVariants.{C0, Arg}
 use Rattle.flt_tree.specs.declared.variable.OperationVariable.TheVariants.{Data, Removed}
 use Rattle.flt_tree.specs.declared.variable.RemovedVariable.TheVariants.{O0}
-use Rattle.flt_model.specs.WorkedParts.{call, return, if_call, if_test, release_if, corner, on, routine, cleans_up}
+use Rattle.flt_model.specs.WorkedParts.{call, return, if_call, if_test, release_if, corner, here, on, routine, cleans_up}
 use Rattle.flt_abs.specs.Sets.{ModeSet, DrainingSet, statuses, either_mode, either_draining, irp_alone, fast_alone, no_alone, yes_alone}
 use Rattle.flt_abs.specs.State.{State}
 use Rattle.flt_graph.specs.Instruction as graph
@@ -79,7 +79,7 @@ worked = record {
 -- ---- its graph, callback by callback: the points of the statements in their order, and the end
 
 abbrev pub point : Instruction → Point
-point i = record { line = 1; instruction = i }
+point i = record { span = here; instruction = i }
 
 abbrev pub asks : FallibleCall → ℕ → ℕ → Point
 asks c granted refused = point (instruction.Call (graph.fallible worked.callbacks c) granted refused)

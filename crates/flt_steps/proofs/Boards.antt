@@ -5,6 +5,7 @@ use Rattle.flt_tree.specs.declared.filter.Condition.{Condition}
 use Rattle.flt_tree.specs.declared.filter.Condition.TheVariants as condition
 use Rattle.flt_tree.specs.declared.filter.Filter.{Filter}
 use Rattle.flt_tree.specs.declared.filter.PlainCall.{PlainCall}
+use Rattle.flt_tree.specs.declared.filter.Span.{Span}
 use Rattle.flt_tree.specs.declared.filter.Statement.{Statement, out-Statement}
 use Rattle.flt_tree.specs.declared.filter.Statement.TheVariants as tree
 use Rattle.flt_tree.specs.declared.filter.Statement.TheViews.{outs-Act, outs-Call}
@@ -19,10 +20,10 @@ whatever_trace P (Ok v) h = λ t. h
 whatever_trace P (Err e) h = h
 
 module _ (p : List Filter) (w x : World) (a : ℕ) (grant : Bool) (earlier events : List Event) where
-  pub called : (t : List Event) (rest : List Statement) (s : Statement) (line : ℕ) (call : PlainCall) → s ≡ tree.Call line call →
+  pub called : (t : List Event) (rest : List Statement) (s : Statement) (span : Span) (call : PlainCall) → s ≡ tree.Call span call →
       Happened x earlier events (plain_step p t w a rest call) →
       ComesOf (statement_step p t w a rest grant (out-Statement s)) true x earlier events
-  called t rest s line call is h = rw (is, outs-Call line call) (refl, h)
+  called t rest s span call is h = rw (is, outs-Call span call) (refl, h)
 
 module _ {E : Type 0} (p : List Filter) (w x : World) (a : ℕ) (grant : Bool) (earlier events : List Event) where
   pub tested : (r : Result Bool E) (granted refused : List Statement) (k : Condition) (test : Test) → k ≡ condition.Test test →
@@ -31,10 +32,10 @@ module _ {E : Type 0} (p : List Filter) (w x : World) (a : ℕ) (grant : Bool) (
   tested (Ok seen) granted refused k test is h = λ t. rw is (h p t)
   tested (Err e) granted refused k test is h = h
 
-  pub acted : (r : Result Bool E) (held : Bool) (rest : List Statement) (s : Statement) (line : ℕ) (action : Action) →
-      s ≡ tree.Act line action →
+  pub acted : (r : Result Bool E) (held : Bool) (rest : List Statement) (s : Statement) (span : Span) (action : Action) →
+      s ≡ tree.Act span action →
       IfOk r (λ seen. (q : List Filter) → (t : List Event) → ComesOf (act_step q t w a rest action) seen x earlier events) →
       IfOk r (λ seen. (t : List Event) → held ≡ holds_given t w a →
       ComesOf (statement_step p t w a rest grant (out-Statement s)) seen x earlier events)
-  acted (Ok seen) held rest s line action is h = λ t same. rw (is, outs-Act line action) (h p t)
-  acted (Err e) held rest s line action is h = h
+  acted (Ok seen) held rest s span action is h = λ t same. rw (is, outs-Act span action) (h p t)
+  acted (Err e) held rest s span action is h = h

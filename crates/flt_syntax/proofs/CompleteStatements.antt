@@ -31,12 +31,12 @@ use Rattle.flt_syntax.specs.Words.{Next, Meant, NumberAt, ContextAt}
 use Rattle.flt_syntax.specs.Operand.{context_variable, removed_variable_of, operation_variable, number_variable_of, atom_by, atom, leading_atom}
 use Rattle.flt_syntax.specs.Scope.{Scope}
 use Rattle.flt_syntax.specs.Status.{optional_status}
-use Rattle.flt_syntax.specs.Action.{expression_by, expression, number_by, set_number, clear_context, clear_operation, write_value, word_statement_by, word_statement, simple_statement}
+use Rattle.flt_syntax.specs.Action.{expression_by, expression, number_by, set_number, clear_context, clear_operation, write_value, spanned, word_statement_by, word_statement, simple_statement}
 use Rattle.flt_syntax.specs.Call.{fallible_call, plain_call}
 use Rattle.flt_syntax.specs.Condition.{context_test, operation_test, comparison_by, number_test, word_test_by, word_test, condition}
 use Rattle.flt_tree.specs.Limits.{max_turns}
 use Rattle.flt_syntax.specs.Statement.{otherwise, choice, repetition, statement_by, statement, statements_from, statements, block}
-use Rattle.flt_syntax.specs.Cursor.{Input, Parser, and_then, ◌<$>◌, kind, next, refusal, unknown, expect, number_within}
+use Rattle.flt_syntax.specs.Cursor.{Input, Parser, and_then, ◌<$>◌, kind, span, next, refusal, unknown, expect, number_within}
 use Rattle.flt_syntax.specs.FirstWords.{begins_fallible, begins_plain, is_variable, is_test_word, begins_test, is_simple_word, has_blocks, begins_other}
 use Rattle.flt_syntax.specs.Over.{ExpressionOver, ActionOver, ConditionOver, ElseOver, StatementOver}
 use Rattle.flt_syntax.proofs.TokenKinds.{differ, suc_some, not_seen}
@@ -116,22 +116,22 @@ no_words _ e h = refl
 pub value_at : {kd : Kind} {i o : Input} (n : NumberVariable) → Next kd i o → number_by n (kind i) i ≡ number_by n kd i
 value_at {i = i} n m = ap (λ y. number_by n y i) (kind_is m)
 
-module _ (scope : Scope) (l : ℕ) where
+module _ (scope : Scope) where
   -- a statement that begins with N
   pub at_number : {i a : Input} {n : NumberVariable} → Meant number_variable_of i n a →
-      simple_statement scope l i ≡ (statements_made.Act l <$> set_number n) i
+      simple_statement scope i ≡ spanned statements_made.Act i (set_number n) i
   unfolding simple_statement
   at_number p = rw (means p) refl
 
   -- a statement that begins with C
   pub at_context : {i a : Input} {c : ContextVariable} → ContextAt i c a →
-      simple_statement scope l i ≡ (statements_made.Act l <$> clear_context c) i
+      simple_statement scope i ≡ spanned statements_made.Act i (clear_context c) i
   unfolding simple_statement
   at_context {i = i} p = rw (none_of _ (other is_context is_number (kind i) (context_number (kind i)) (some_of (means p))), means p) refl
 
   -- a statement that begins with O
   pub at_removed : {i a : Input} {x : RemovedVariable} → Meant removed_variable_of i x a →
-      simple_statement scope l i ≡ (statements_made.Act l <$> clear_operation x) i
+      simple_statement scope i ≡ spanned statements_made.Act i (clear_operation x) i
   unfolding simple_statement
   at_removed {i = i} p =
       rw (
@@ -140,7 +140,7 @@ module _ (scope : Scope) (l : ℕ) where
         means p,
       ) refl
 
-  at_word : (i : Input) → is_variable (kind i) ≡ false → simple_statement scope l i ≡ word_statement scope l i
+  at_word : (i : Input) → is_variable (kind i) ≡ false → simple_statement scope i ≡ word_statement scope i
   unfolding simple_statement
   at_word i e =
       let e1 = left_false (is_number (kind i)) _ e in let e2 = right_false (is_number (kind i)) _ e in
@@ -148,23 +148,23 @@ module _ (scope : Scope) (l : ℕ) where
 
   -- the rule for a word, at that word
   pub word_at : {kd : Kind} {i a : Input} → Next kd i a → is_variable kd ≡ false →
-      simple_statement scope l i ≡ word_statement_by scope l kd i
+      simple_statement scope i ≡ word_statement_by scope i kd i
   unfolding word_statement
-  word_at {i = i} n e = at_word i (ap is_variable (kind_is n) ∙ e) ∙ ap (λ x. word_statement_by scope l x i) (kind_is n)
+  word_at {i = i} n e = at_word i (ap is_variable (kind_is n) ∙ e) ∙ ap (λ x. word_statement_by scope i x i) (kind_is n)
 
   by_plain : (i : Input) (a : Kind) → is_simple_word a ≡ false →
-      word_statement_by scope l a i ≡ (statements_made.Call l <$> plain_call scope) i
+      word_statement_by scope i a i ≡ spanned statements_made.Call i (plain_call scope) i
   by_plain i k.Value e = elim (differ (sym e)) [ ]
   by_plain i k.Return e = elim (differ (sym e)) [ ]
   by_plain i _ e = refl
 
   at_plain : (i : Input) → is_variable (kind i) ≡ false → is_simple_word (kind i) ≡ false →
-      simple_statement scope l i ≡ (statements_made.Call l <$> plain_call scope) i
+      simple_statement scope i ≡ spanned statements_made.Call i (plain_call scope) i
   unfolding word_statement
   at_plain i v e = at_word i v ∙ by_plain i (kind i) e
 
   action_again : {i o : Input} {a : Action} (p : ActionAt i a o) → ActionOver p →
-      simple_statement scope l i ≡ Ok (statements_made.Act l a, o)
+      simple_statement scope i ≡ Ok (statements_made.Act (span i o) a, o)
   unfolding set_number clear_context clear_operation write_value
   action_again (g.set_number {b = b} {n = n} p m q) f =
       at_number p ∙ then_again _ (then_again _ (ap (expect k.Assign) (left_is p) ∙ expect_again m)
@@ -269,24 +269,24 @@ plain_other k.OpenBrace = refl
 plain_other _ = refl
 
 by_simple : (scope : Scope) (inner : ℕ → Parser (List Statement)) (r : ℕ) (i : Input) (a : Kind) → has_blocks a ≡ false →
-    statement_by scope inner r a i ≡ simple_statement scope (line i) i
+    statement_by scope inner r a i ≡ simple_statement scope i
 by_simple scope inner r i k.If e = elim (differ (sym e)) [ ]
 by_simple scope inner r i k.Repeat e = elim (differ (sym e)) [ ]
 by_simple scope inner r i _ e = refl
 
 module _ (scope : Scope) (inner : ℕ → Parser (List Statement)) (r : ℕ) where
   -- a statement without blocks
-  pub at_simple : (i : Input) → has_blocks (kind i) ≡ false → statement scope inner r i ≡ simple_statement scope (line i) i
+  pub at_simple : (i : Input) → has_blocks (kind i) ≡ false → statement scope inner r i ≡ simple_statement scope i
   unfolding statement
   at_simple i e = by_simple scope inner r i (kind i) e
 
   -- what begins no other statement is read as a call
   pub at_call : (i : Input) → begins_other (kind i) ≡ false →
-      statement scope inner r i ≡ (statements_made.Call (line i) <$> plain_call scope) i
+      statement scope inner r i ≡ spanned statements_made.Call i (plain_call scope) i
   at_call i e =
       let rest = right_false (is_variable (kind i)) _ e in
       at_simple i (right_false (is_simple_word (kind i)) _ rest)
-      ∙ at_plain scope (line i) i (left_false (is_variable (kind i)) _ e) (left_false (is_simple_word (kind i)) _ rest)
+      ∙ at_plain scope i (left_false (is_variable (kind i)) _ e) (left_false (is_simple_word (kind i)) _ rest)
 
   -- the rule for a kind, at a token of that kind
   pub statement_at : {kd : Kind} {i j : Input} → Next kd i j → statement scope inner r i ≡ statement_by scope inner r kd i
@@ -295,7 +295,7 @@ module _ (scope : Scope) (inner : ℕ → Parser (List Statement)) (r : ℕ) whe
 
 -- a `repeat` inside has one level less
 pub repeats_less : (scope : Scope) (inner : ℕ → Parser (List Statement)) (r : ℕ) (i : Input) → repetition scope inner (suc r) i ≡
-    and_then (number_within 0 max_turns (next i)) (λ q. and_then (inner r q.1) (λ x. Ok (statements_made.Repeat (line i) q.0 x.0, x.1)))
+    and_then (number_within 0 max_turns (next i)) (λ q. and_then (inner r q.1) (λ x. Ok (statements_made.Repeat (span i q.1) q.0 x.0, x.1)))
 unfolding repetition
 repeats_less scope inner r i = let e : suc r - 1 ≡ r = omega arith in rw (ne_eqb (suc r) 0 (suc_some r), e) refl
 
@@ -360,17 +360,18 @@ mutual
   pub statement_again : {scope : Scope} {d r : ℕ} {i o : Input} {s : Statement} (p : StatementAt scope d r i s o) → StatementOver p →
       statement scope (block scope d) r i ≡ Ok (s, o)
   statement_again {scope = scope} {d = d} {r = r} {i = i} (s.act p) f =
-      at_simple scope (block scope d) r i (no_blocks i (action_simply p)) ∙ action_again scope (line i) p f
+      at_simple scope (block scope d) r i (no_blocks i (action_simply p)) ∙ action_again scope p f
   statement_again {scope = scope} {d = d} {r = r} {i = i} (s.call p) f =
       at_call scope (block scope d) r i (other begins_plain begins_other (kind i) (plain_other (kind i)) (plain_begins p))
       ∙ then_again _ (plain_again p f) refl
   statement_again {scope = scope} {d = d} {r = r} {i = i} (s.return n p) f =
-      at_simple scope (block scope d) r i (ap has_blocks (kind_is n)) ∙ word_at scope (line i) n refl
+      at_simple scope (block scope d) r i (ap has_blocks (kind_is n)) ∙ word_at scope n refl
       ∙ then_again _ (ap optional_status (rest_is n) ∙ optional_status_again p f) refl
-  statement_again {scope = scope} {d = d} {r = r} (s.choice n p q x) f =
+  statement_again {scope = scope} {d = d} {r = r} {i = i} {o = o} (s.choice {b = b} {c = c} {granted = granted} {refused = refused} n p q x) f =
       statement_at scope (block scope d) r n ∙
       then_again _ (ap (condition scope) (rest_is n) ∙ condition_again scope p (condition_over p (block_follows q)))
-      (then_again _ (block_again q) (then_again _ (else_again x f) refl))
+      (then_again _ (block_again q) (then_again _ (else_again x f)
+      (ap (λ j. Ok (statements_made.If (record (span j b) { line = line i }) c granted refused, o)) (rest_is n))))
   statement_again {scope = scope} {d = d} (s.repeat {r = r} {i = i} n p h q) f =
       statement_at scope (block scope d) (suc r) n ∙ repeats_less scope (block scope d) r i ∙
       then_again _ (ap (number_within 0 max_turns) (rest_is n) ∙ within_again 0 max_turns p (omega arith) h)

@@ -26,7 +26,7 @@ use Rattle.flt_syntax.specs.Grammar.{line, StatementAt, ElseAt, BlockAt, Stateme
 use Rattle.flt_syntax.specs.Words.{Next, Meant, ContextAt}
 use Rattle.flt_syntax.specs.Operand.{context_variable_of, removed_variable_of, number_variable_of, atom_by, atom, leading_atom}
 use Rattle.flt_syntax.specs.Scope.{Scope}
-use Rattle.flt_syntax.specs.Action.{expression_by, expression, number_by, set_number, clear_context, clear_operation, write_value, word_statement_by, word_statement, simple_statement}
+use Rattle.flt_syntax.specs.Action.{expression_by, expression, number_by, set_number, clear_context, clear_operation, write_value, spanned, word_statement_by, word_statement, simple_statement}
 use Rattle.flt_syntax.specs.Condition.{context_test, operation_test, comparison_by, number_test, word_test_by, word_test, condition}
 use Rattle.flt_tree.specs.Limits.{max_turns}
 use Rattle.flt_syntax.specs.Statement.{otherwise, choice, repetition, statement_by, statement, statements_from, statements, braced, block}
@@ -155,7 +155,7 @@ StatementHere scope d r i s o = (p : StatementAt scope d r i s o) × StatementOv
 
 module _ (scope : Scope) (d r : ℕ) where
   word_statement_by_ends : (i : Input) (kd : Kind) → kind i ≡ kd → is_variable (kind i) ≡ false → has_blocks (kind i) ≡ false →
-      Ends (StatementHere scope d r i) (StatementFails scope d r i) (word_statement_by scope (line i) kd i)
+      Ends (StatementHere scope d r i) (StatementFails scope d r i) (word_statement_by scope i kd i)
   unfolding same_kind
   word_statement_by_ends i k.Value e v b =
       then_ends _ (write_value_ends i (took i k.Value refl e)) (λ f h. statement_fails.act h) (λ a o p. gives (s.act p.0, p.1))
@@ -167,17 +167,17 @@ module _ (scope : Scope) (d r : ℕ) where
       (λ c o p. gives (s.call p.0, p.1))
 
   word_statement_ends : (i : Input) → is_variable (kind i) ≡ false → has_blocks (kind i) ≡ false →
-      Ends (StatementHere scope d r i) (StatementFails scope d r i) (word_statement scope (line i) i)
+      Ends (StatementHere scope d r i) (StatementFails scope d r i) (word_statement scope i)
   unfolding word_statement
   word_statement_ends i v b = word_statement_by_ends i (kind i) refl v b
 
   simple_by_ends : (i : Input) (n : Option NumberVariable) (c : Option ContextVariable) (x : Option RemovedVariable) →
       number_variable_of (kind i) ≡ n → context_variable_of (kind i) ≡ c → removed_variable_of (kind i) ≡ x → has_blocks (kind i) ≡ false →
       Ends (StatementHere scope d r i) (StatementFails scope d r i)
-      (given n (λ n. statements_made.Act (line i) <$> set_number n)
-      (given c (λ c. statements_made.Act (line i) <$> clear_context c)
-      (given x (λ o. statements_made.Act (line i) <$> clear_operation o)
-      (word_statement scope (line i)))) i)
+      (given n (λ n. spanned statements_made.Act i (set_number n))
+      (given c (λ c. spanned statements_made.Act i (clear_context c))
+      (given x (λ o. spanned statements_made.Act i (clear_operation o))
+      (word_statement scope))) i)
   simple_by_ends i (Some n) c x e f h b =
       then_ends _ (set_number_ends i n (meant_at number_variable_of i n refl e)) (λ y q. statement_fails.act q)
       (λ a o p. gives (s.act p.0, p.1))
@@ -191,7 +191,7 @@ module _ (scope : Scope) (d r : ℕ) where
       word_statement_ends i (neither _ _ (ap is_some e) (neither _ _ (ap is_some f) (ap is_some h))) b
 
   simple_ends : (i : Input) → has_blocks (kind i) ≡ false →
-      Ends (StatementHere scope d r i) (StatementFails scope d r i) (simple_statement scope (line i) i)
+      Ends (StatementHere scope d r i) (StatementFails scope d r i) (simple_statement scope i)
   unfolding simple_statement
   simple_ends i b = simple_by_ends i _ _ _ refl refl refl b
 

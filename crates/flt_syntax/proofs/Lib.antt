@@ -19,6 +19,7 @@ pub mod Misses
 pub mod Numbers
 pub mod Onto
 pub mod Routines
+pub mod Spans
 pub mod TellCalls
 pub mod TellFiles
 pub mod TellStatements

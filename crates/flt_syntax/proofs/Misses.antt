@@ -10,6 +10,7 @@ use Rattle.flt_tree.specs.declared.filter.FallibleCall.{FallibleCall}
 use Rattle.flt_tree.specs.declared.filter.FallibleCall.TheVariants.{QueueDeferredIoWorkItem, QueueGenericWorkItem}
 use Rattle.flt_tree.specs.declared.filter.Head.{Head}
 use Rattle.flt_tree.specs.declared.filter.Position.{Position}
+use Rattle.flt_tree.specs.declared.filter.Span.{Span}
 use Rattle.flt_tree.specs.declared.filter.Statement.{Statement, roll-Statement}
 use Rattle.flt_tree.specs.declared.filter.Statement.TheVariants.{If, Repeat, rolls-If, rolls-Repeat}
 use Rattle.flt_tree.specs.declared.filter.Statement.TheOpen.{Statement-F}
@@ -138,7 +139,7 @@ module _ (cs : List Callback) (from : Head) where
   body_by [] at e = elim (none_some at e) [ ]
   body_by (x ∷ es) at e = body_turn x.0 (map (λ e. e.0) es) at (missing_of cs from x.0) refl x.1 (body_by es at) e
 
-  choice_by : (l : ℕ) (c : Condition) (g r : List Statement) (at : Position) (m n : Option Position) →
+  choice_by : (l : Span) (c : Condition) (g r : List Statement) (at : Position) (m n : Option Position) →
       missing_by cs from c ≡ m → missing cs from g ≡ n → (missing cs from g ≡ Some at → BodyMisses cs from g at) →
       (missing cs from r ≡ Some at → BodyMisses cs from r at) → first_of m (first_of n (missing cs from r)) ≡ Some at →
       StatementMisses cs from (If l c g r) at

@@ -52,8 +52,8 @@ module _ (cs : List Callback) (from : Head) where
       (map-Statement ((s : Statement) × Same s) Statement (λ e. e.0) y)))
       ≡ finds_step cs from (map-Statement Statement Bool (statement_finds cs from)
       (map-Statement ((s : Statement) × Same s) Statement (λ e. e.0) y))
-  step_same (Statement-F.If line c granted refused) = both _ _ _ _ (test_same c) (both _ _ _ _ (all_same granted) (all_same refused))
-  step_same (Statement-F.Repeat line turns body) = all_same body
+  step_same (Statement-F.If span c granted refused) = both _ _ _ _ (test_same c) (both _ _ _ _ (all_same granted) (all_same refused))
+  step_same (Statement-F.Repeat span turns body) = all_same body
   step_same _ = refl
 
   statement_same : (s : Statement) → Same s

@@ -57,36 +57,36 @@ expression_tells (bad.sum {x = x} p n h) =
 expression_tells (bad.difference {x = x} p n h) =
     then_again _ (leading_again p) (sign_at x n ∙ then_fails _ (ap atom (rest_is n) ∙ atom_tells h))
 
-module _ (scope : Scope) (l : ℕ) where
-  action_tells : {i : Input} {f : SyntaxFault} → ActionFails i f → simple_statement scope l i ≡ Err f
+module _ (scope : Scope) where
+  action_tells : {i : Input} {f : SyntaxFault} → ActionFails i f → simple_statement scope i ≡ Err f
   unfolding set_number clear_context clear_operation write_value
   action_tells (bad.number_assign p h) =
-      at_number scope l p ∙ then_fails _ (then_fails _ (ap (expect k.Assign) (left_is p) ∙ expect_tells h))
+      at_number scope p ∙ then_fails _ (then_fails _ (ap (expect k.Assign) (left_is p) ∙ expect_tells h))
   action_tells (bad.number_expression {b = b} {n = n} p m v w h) =
-      at_number scope l p ∙ then_fails _ (then_again _ (ap (expect k.Assign) (left_is p) ∙ expect_again m)
+      at_number scope p ∙ then_fails _ (then_again _ (ap (expect k.Assign) (left_is p) ∙ expect_again m)
       (by_expression n b (kind b) (no_words (kind b) v w) ∙ then_fails _ (expression_tells h)))
   action_tells (bad.number_value {n = n} p m w h) =
-      at_number scope l p ∙ then_fails _ (then_again _ (ap (expect k.Assign) (left_is p) ∙ expect_again m)
+      at_number scope p ∙ then_fails _ (then_again _ (ap (expect k.Assign) (left_is p) ∙ expect_again m)
       (value_at n w ∙ then_fails _ (ap context_variable (rest_is w) ∙ context_tells h)))
   action_tells (bad.number_file {n = n} p m w h) =
-      at_number scope l p ∙ then_fails _ (then_again _ (ap (expect k.Assign) (left_is p) ∙ expect_again m)
+      at_number scope p ∙ then_fails _ (then_again _ (ap (expect k.Assign) (left_is p) ∙ expect_again m)
       (value_at n w ∙ then_fails _ (ap operation_variable (rest_is w) ∙ operation_tells h)))
   action_tells (bad.value_context n h) =
-      word_at scope l n refl ∙ then_fails _ (then_fails _ (ap context_variable (rest_is n) ∙ context_tells h))
+      word_at scope n refl ∙ then_fails _ (then_fails _ (ap context_variable (rest_is n) ∙ context_tells h))
   action_tells (bad.value_assign n p h) =
-      word_at scope l n refl ∙ then_fails _ (then_again _ (ap context_variable (rest_is n) ∙ context_again p)
+      word_at scope n refl ∙ then_fails _ (then_again _ (ap context_variable (rest_is n) ∙ context_again p)
       (then_fails _ (expect_tells h)))
   action_tells (bad.value_atom n p m h) =
-      word_at scope l n refl ∙ then_fails _ (then_again _ (ap context_variable (rest_is n) ∙ context_again p)
+      word_at scope n refl ∙ then_fails _ (then_again _ (ap context_variable (rest_is n) ∙ context_again p)
       (then_again _ (expect_again m) (then_fails _ (atom_tells h))))
   action_tells (bad.context_assign p h) =
-      at_context scope l p ∙ then_fails _ (then_fails _ (then_fails _ (ap (expect k.Assign) (left_is p) ∙ expect_tells h)))
+      at_context scope p ∙ then_fails _ (then_fails _ (then_fails _ (ap (expect k.Assign) (left_is p) ∙ expect_tells h)))
   action_tells (bad.context_null p m h) =
-      at_context scope l p ∙ then_fails _ (then_fails _ (then_again _ (ap (expect k.Assign) (left_is p) ∙ expect_again m) (expect_tells h)))
+      at_context scope p ∙ then_fails _ (then_fails _ (then_again _ (ap (expect k.Assign) (left_is p) ∙ expect_again m) (expect_tells h)))
   action_tells (bad.operation_assign p h) =
-      at_removed scope l p ∙ then_fails _ (then_fails _ (then_fails _ (ap (expect k.Assign) (left_is p) ∙ expect_tells h)))
+      at_removed scope p ∙ then_fails _ (then_fails _ (then_fails _ (ap (expect k.Assign) (left_is p) ∙ expect_tells h)))
   action_tells (bad.operation_null p m h) =
-      at_removed scope l p ∙ then_fails _ (then_fails _ (then_again _ (ap (expect k.Assign) (left_is p) ∙ expect_again m) (expect_tells h)))
+      at_removed scope p ∙ then_fails _ (then_fails _ (then_again _ (ap (expect k.Assign) (left_is p) ∙ expect_again m) (expect_tells h)))
 
 failed_simply : {i : Input} {f : SyntaxFault} → ActionFails i f → not_simple (kind i) ≡ false
 failed_simply (bad.number_assign p h) = number_simply p
@@ -168,11 +168,11 @@ mutual
   statement_tells : {scope : Scope} {d r : ℕ} {i : Input} {f : SyntaxFault} → StatementFails scope d r i f →
       statement scope (block scope d) r i ≡ Err f
   statement_tells {scope = scope} {d = d} {r = r} {i = i} (statement_fails.act h) =
-      at_simple scope (block scope d) r i (no_blocks i (failed_simply h)) ∙ action_tells scope (line i) h
+      at_simple scope (block scope d) r i (no_blocks i (failed_simply h)) ∙ action_tells scope h
   statement_tells {scope = scope} {d = d} {r = r} {i = i} (statement_fails.call e h) =
       at_call scope (block scope d) r i e ∙ then_fails _ (plain_tells h)
   statement_tells {scope = scope} {d = d} {r = r} {i = i} (statement_fails.return n h) =
-      at_simple scope (block scope d) r i (ap has_blocks (kind_is n)) ∙ word_at scope (line i) n refl
+      at_simple scope (block scope d) r i (ap has_blocks (kind_is n)) ∙ word_at scope n refl
       ∙ then_fails _ (ap optional_status (rest_is n) ∙ optional_status_tells h)
   statement_tells {scope = scope} {d = d} {r = r} (statement_fails.choice_test n h) =
       statement_at scope (block scope d) r n ∙ then_fails _ (ap (condition scope) (rest_is n) ∙ condition_tells h)

@@ -1,12 +1,13 @@
 -- How statements without blocks are read.
-use Rattle.std.specs.Prelude.{ℕ}
+use Rattle.std.specs.Prelude.{Ok}
 use Rattle.flt_syntax.specs.Call.{plain_call}
-use Rattle.flt_syntax.specs.Cursor.{Parser, ◌>>=◌, ◌>>◌, pure, ◌<$>◌, kind, peek, take_token, given, expect}
+use Rattle.flt_syntax.specs.Cursor.{Input, Parser, ◌>>=◌, ◌>>◌, pure, ◌<$>◌, kind, span, peek, take_token, given, expect}
 use Rattle.flt_syntax.specs.Operand.{atom, leading_atom, context_variable, operation_variable, context_variable_of, number_variable_of, removed_variable_of}
 use Rattle.flt_syntax.specs.Scope.{Scope}
 use Rattle.flt_syntax.specs.Status.{optional_status}
 use Rattle.flt_tree.specs.declared.filter.Action.{Action}
 use Rattle.flt_tree.specs.declared.filter.Action.TheVariants.{SetNumber, ReadValue, ReadFile, WriteValue, ClearContext, ClearOperation}
+use Rattle.flt_tree.specs.declared.filter.Span.{Span}
 use Rattle.flt_tree.specs.declared.filter.Statement.{Statement}
 use Rattle.flt_tree.specs.declared.filter.Statement.TheVariants as made
 use Rattle.flt_syntax.specs.declared.token.Kind.{Kind}
@@ -58,20 +59,24 @@ write_value = do
   a ← atom
   pure (WriteValue c a)
 
+-- a statement made of what is read, with where it stands: it begins with the tokens that were left before
+abbrev pub spanned : {A : Type 0} → (Span → A → Statement) → Input → Parser A → Parser Statement
+spanned make from p = p >>= (λ x. λ o. Ok (make (span from o) x, o))
+
 -- "value" C "=" atom | "return" [ status ] | plain, by the first word
-abbrev pub word_statement_by : Scope → ℕ → Kind → Parser Statement
-word_statement_by scope line k.Value = made.Act line <$> write_value
-word_statement_by scope line k.Return = take_token >> made.Return line <$> optional_status
-word_statement_by scope line _ = made.Call line <$> plain_call scope
+abbrev pub word_statement_by : Scope → Input → Kind → Parser Statement
+word_statement_by scope from k.Value = spanned made.Act from write_value
+word_statement_by scope from k.Return = take_token >> spanned made.Return from optional_status
+word_statement_by scope from _ = spanned made.Call from (plain_call scope)
 
--- a statement without blocks that begins with a word of its own, on a line
-unfoldable pub word_statement : Scope → ℕ → Parser Statement
-word_statement scope line = peek >>= word_statement_by scope line
+-- a statement without blocks that begins with a word of its own
+unfoldable pub word_statement : Scope → Parser Statement
+word_statement scope = λ i. word_statement_by scope i (kind i) i
 
--- a statement without blocks, on a line
-unfoldable pub simple_statement : Scope → ℕ → Parser Statement
-simple_statement scope line = λ i.
-    given (number_variable_of (kind i)) (λ n. made.Act line <$> set_number n)
-    (given (context_variable_of (kind i)) (λ c. made.Act line <$> clear_context c)
-    (given (removed_variable_of (kind i)) (λ o. made.Act line <$> clear_operation o)
-    (word_statement scope line))) i
+-- a statement without blocks
+unfoldable pub simple_statement : Scope → Parser Statement
+simple_statement scope = λ i.
+    given (number_variable_of (kind i)) (λ n. spanned made.Act i (set_number n))
+    (given (context_variable_of (kind i)) (λ c. spanned made.Act i (clear_context c))
+    (given (removed_variable_of (kind i)) (λ o. spanned made.Act i (clear_operation o))
+    (word_statement scope))) i

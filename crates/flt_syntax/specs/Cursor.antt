@@ -1,7 +1,8 @@
 -- How the tokens of a text are read, from left to right, up to the first fault that is met.
-use Rattle.std.specs.Prelude.{◌≡◌, ℕ, Bool, true, false, not, ◌&&◌, if◌then◌else◌, List, [], ◌∷◌, ◌++◌, length, min, slice_range, nat_le, Option, Some, None, Result, Ok, Err}
+use Rattle.std.specs.Prelude.{◌≡◌, ◌-◌, ℕ, Bool, true, false, not, ◌&&◌, if◌then◌else◌, List, [], ◌∷◌, ◌++◌, length, take, min, slice_range, nat_le, Option, Some, None, Result, Ok, Err}
 use Rattle.flt_rules.specs.Parsing as parsing
 pub use Rattle.flt_rules.specs.Parsing.{and_then, ◌>>=◌, ◌>>◌, pure}
+use Rattle.flt_tree.specs.Filter.{no_span}
 use Rattle.flt_tree.specs.Names.{Text}
 use Rattle.flt_syntax.specs.Lex.{word, same_kind}
 use Rattle.flt_syntax.specs.declared.fault.FaultKind.{FaultKind}
@@ -10,6 +11,7 @@ use Rattle.flt_syntax.specs.declared.fault.ParseError.{ParseError}
 use Rattle.flt_syntax.specs.declared.fault.ParseError.TheVariants.{OutOfMemory, Syntax}
 use Rattle.flt_syntax.specs.declared.fault.SyntaxFault.{SyntaxFault}
 use Rattle.flt_tree.specs.declared.filter.Position.{Position}
+use Rattle.flt_tree.specs.declared.filter.Span.{Span}
 use Rattle.flt_syntax.specs.declared.token.Kind.{Kind}
 use Rattle.flt_syntax.specs.declared.token.Kind.TheVariants as k
 use Rattle.flt_syntax.specs.declared.token.Token.{Token}
@@ -37,6 +39,24 @@ position i = (front i).position
 abbrev pub next : Input → Input
 next [] = []
 next (t ∷ i) = i
+
+-- ---- where tokens stand
+
+-- the last of a token and those behind it
+abbrev pub last : Token → Input → Token
+last t [] = t
+last t (u ∷ i) = last u i
+
+-- where tokens stand: the line of the first, and the bytes from it up to the end of the last
+abbrev pub span_of : Input → Span
+span_of [] = no_span
+span_of (t ∷ i) = record { line = t.position.line; start = t.start; end = (last t i).end }
+
+-- where those stand that were read: the first list was left before, the other one is left now
+unfoldable pub span : Input → Input → Span
+span i o = span_of (take (length i - length o) i)
+
+-- ---- kinds of token
 
 -- the symbols
 abbrev pub is_symbol : Kind → Bool
@@ -126,6 +146,10 @@ peek = λ i. Ok (kind i, i)
 -- the place of the next token, which stays
 abbrev pub place : Parser Position
 place = λ i. Ok (position i, i)
+
+-- the tokens that are left, which stay
+abbrev pub here : Parser Input
+here = λ i. Ok (i, i)
 
 -- the next token, whatever its kind
 abbrev pub take_token : Parser Token

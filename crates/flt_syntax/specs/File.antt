@@ -1,7 +1,7 @@
 -- How a whole text is read.
 use Rattle.std.specs.Prelude.{◌≡◌, ℕ, zero, suc, ◌-◌, if◌then◌else◌, nat_lt, List, [], ◌∷◌, ◌++◌, length, is_some, Option, Some, None, Result, Ok, Err}
 use Rattle.flt_rules.specs.declared.call.LockKind.{LockKind}
-use Rattle.flt_syntax.specs.Cursor.{Outcome, Parser, ◌>>=◌, ◌>>◌, pure, kind, place, refusal, refuse, fault, known_or, sees, eat, expect, number_within}
+use Rattle.flt_syntax.specs.Cursor.{Outcome, Parser, ◌>>=◌, ◌>>◌, pure, kind, position, span, place, here, refusal, refuse, fault, known_or, sees, eat, expect, number_within}
 use Rattle.flt_syntax.specs.Head.{head}
 use Rattle.flt_tree.specs.Declarations.{has_lock}
 use Rattle.flt_tree.specs.Limits.{max_text, max_altitude, max_locks, max_depth, max_repeats}
@@ -69,13 +69,21 @@ measured at c = λ i. if is_small c then Ok (c, i) else Err (fault E06 at)
 -- head block, behind the callbacks that were found
 unfoldable pub callback : Scope → List Callback → Parser Callback
 callback scope found = do
-  at ← place
+  from ← here
   h ← head scope.text found
+  to ← here
   expect k.OpenBrace
   body ← statements scope (block scope (max_depth - 1)) max_repeats
-  end ← place
+  brace ← here
   expect k.CloseBrace
-  measured at (record { head = h; position = at; body = body; end_line = end.line })
+  end ← here
+  measured (position from) (record {
+    head = h;
+    position = position from;
+    span = span from to;
+    body = body;
+    end = span brace end;
+  })
 
 -- callback { callback } behind the callbacks that were found; the number bounds the turns
 unfoldable pub callbacks_from : Scope → ℕ → List Callback → Parser (List Callback)

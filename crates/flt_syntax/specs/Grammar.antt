@@ -4,7 +4,7 @@ use Rattle.flt_rules.specs.declared.call.LockKind.{LockKind}
 use Rattle.flt_rules.specs.declared.place.Operation.{Operation}
 use Rattle.flt_syntax.specs.ActionGrammar.{ActionAt, ConditionAt}
 use Rattle.flt_syntax.specs.CallGrammar.{PlainAt, OptionalStatusAt}
-use Rattle.flt_syntax.specs.Cursor.{Input, kind, position}
+use Rattle.flt_syntax.specs.Cursor.{Input, kind, position, span}
 use Rattle.flt_tree.specs.Names.{Text}
 use Rattle.flt_syntax.specs.Scope.{Scope}
 use Rattle.flt_tree.specs.Limits.{max_depth, max_repeats, max_turns}
@@ -28,24 +28,24 @@ use Rattle.flt_syntax.specs.declared.token.Kind.TheVariants as k
 abbrev pub line : Input → ℕ
 line i = (position i).line
 
--- `StatementAt scope d r i s o`: the tokens of i up to o spell the statement s, on the line of the first of them. In it
--- blocks nest at most d deep, and repeats at most r.
+-- `StatementAt scope d r i s o`: the tokens of i up to o spell the statement s, which stands there: an `if` on the line of its word,
+-- with the tokens of what it asks, a `repeat` with its word and its number. In it blocks nest at most d deep, and repeats at most r.
 mutual
   pub data StatementAt (scope : Scope) : ℕ → ℕ → Input → Statement → Input → Type 0 where
-    act : {d r : ℕ} {i o : Input} {a : Action} → ActionAt i a o → StatementAt scope d r i (Act (line i) a) o
+    act : {d r : ℕ} {i o : Input} {a : Action} → ActionAt i a o → StatementAt scope d r i (Act (span i o) a) o
     -- plain
-    call : {d r : ℕ} {i o : Input} {c : PlainCall} → PlainAt scope i c o → StatementAt scope d r i (Call (line i) c) o
+    call : {d r : ℕ} {i o : Input} {c : PlainCall} → PlainAt scope i c o → StatementAt scope d r i (Call (span i o) c) o
     -- "return" [ status ]
     return : {d r : ℕ} {i a o : Input} {s : Option Status} → Next k.Return i a → OptionalStatusAt a s o →
-        StatementAt scope d r i (Return (line i) s) o
+        StatementAt scope d r i (Return (span i o) s) o
     -- "if" cond block [ "else" block ]
     choice : {d r : ℕ} {i a b l o : Input} {c : Condition} {granted refused : List Statement} →
         Next k.If i a → ConditionAt scope a c b → BlockAt scope d r b granted l → ElseAt scope d r l refused o →
-        StatementAt scope d r i (If (line i) c granted refused) o
+        StatementAt scope d r i (If (record (span a b) { line = line i }) c granted refused) o
     -- "repeat" NUMBER block, of at most 1000 turns
     repeat : {d r n : ℕ} {i a b o : Input} {body : List Statement} →
         Next k.Repeat i a → NumberAt a n b → n ≤ max_turns → BlockAt scope d r b body o →
-        StatementAt scope d (suc r) i (Repeat (line i) n body) o
+        StatementAt scope d (suc r) i (Repeat (span i b) n body) o
 
   -- [ "else" block ], of which an empty one is like none
   pub data ElseAt (scope : Scope) : ℕ → ℕ → Input → List Statement → Input → Type 0 where
@@ -78,11 +78,11 @@ pub data HeadAt (text : Text) : Input → Head → Input → Type 0 where
   -- "generic" NAME
   generic : {i a o : Input} {name : Text} → Next k.Generic i a → NameAt text a name o → HeadAt text i (Generic name) o
 
--- head block: the callback keeps where the head stands, and the line of the closing brace
+-- head block: the callback keeps where the head and the closing brace stand
 pub data CallbackAt (scope : Scope) : Input → Callback → Input → Type 0 where
   callback : {i a b l o : Input} {h : Head} {body : List Statement} →
       HeadAt scope.text i h a → Next k.OpenBrace a b → StatementsAt scope (max_depth - 1) max_repeats b body l → Next k.CloseBrace l o →
-      CallbackAt scope i (record { head = h; position = position i; body = body; end_line = line l }) o
+      CallbackAt scope i (record { head = h; position = position i; span = span i a; body = body; end = span l o }) o
 
 -- callback { callback }
 pub data CallbacksAt (scope : Scope) : Input → List Callback → Input → Type 0 where

@@ -2,7 +2,7 @@
 use Rattle.std.specs.Prelude.{ℕ, zero, suc, ◌-◌, if◌then◌else◌, ◌==◌, List, [], ◌∷◌, ◌++◌, length, Ok, Err}
 use Rattle.flt_syntax.specs.Action.{simple_statement}
 use Rattle.flt_syntax.specs.Condition.{condition}
-use Rattle.flt_syntax.specs.Cursor.{Parser, ◌>>=◌, ◌>>◌, pure, place, refuse, fail, peek, take_token, sees, eat, expect, number_within, too_deep}
+use Rattle.flt_syntax.specs.Cursor.{Parser, ◌>>=◌, ◌>>◌, pure, place, here, span, refuse, fail, peek, take_token, sees, eat, expect, number_within, too_deep}
 use Rattle.flt_syntax.specs.Scope.{Scope}
 use Rattle.flt_syntax.specs.declared.fault.FaultKind.TheVariants.{E06}
 use Rattle.flt_tree.specs.declared.filter.Statement.{Statement}
@@ -24,27 +24,28 @@ module _ (scope : Scope) (inner : ℕ → Parser (List Statement)) where
   choice repeats = do
     at ← place
     take_token
+    from ← here
     c ← condition scope
+    to ← here
     granted ← inner repeats
     refused ← otherwise repeats
-    pure (If at.line c granted refused)
+    pure (If (record (span from to) { line = at.line }) c granted refused)
 
   -- "repeat" NUMBER block; one that stands in too many is a limit passed, at its word
   unfoldable pub repetition : ℕ → Parser Statement
   repetition repeats = if repeats == 0 then fail E06 else (do
-    at ← place
+    from ← here
     take_token
     turns ← number_within 0 max_turns
+    to ← here
     body ← inner (repeats - 1)
-    pure (Repeat at.line turns body))
+    pure (Repeat (span from to) turns body))
 
   -- stmt, by its first word
   abbrev pub statement_by : ℕ → Kind → Parser Statement
   statement_by repeats k.If = choice repeats
   statement_by repeats k.Repeat = repetition repeats
-  statement_by repeats _ = do
-    at ← place
-    simple_statement scope at.line
+  statement_by repeats _ = simple_statement scope
 
   -- stmt
   unfoldable pub statement : ℕ → Parser Statement

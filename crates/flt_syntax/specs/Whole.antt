@@ -47,12 +47,12 @@ missing_by cs from _ = None
 
 -- the same of a statement, whose blocks come after its test
 abbrev pub missing_step : List Callback → Head → Statement-F (Option Position) → Option Position
-missing_step cs from (Statement-F.Act line action) = None
-missing_step cs from (Statement-F.Call line call) = None
-missing_step cs from (Statement-F.Return line status) = None
-missing_step cs from (Statement-F.If line condition granted refused) =
+missing_step cs from (Statement-F.Act span action) = None
+missing_step cs from (Statement-F.Call span call) = None
+missing_step cs from (Statement-F.Return span status) = None
+missing_step cs from (Statement-F.If span condition granted refused) =
     first_of (missing_by cs from condition) (first_of (first_some granted) (first_some refused))
-missing_step cs from (Statement-F.Repeat line turns body) = first_some body
+missing_step cs from (Statement-F.Repeat span turns body) = first_some body
 
 -- where a statement first names a routine that is missing
 abbrev pub missing_of : List Callback → Head → Statement → Option Position

@@ -7,7 +7,7 @@ ghost use Rattle.std.specs.Prelude.{◌<◌};
 ghost use Rattle.std.specs.Vec.{vec_len, vec_capacity};
 
 use crate::call::plain_call;
-use crate::cursor::Tokens;
+use crate::cursor::{Tokens, span};
 use crate::fault::ParseError;
 use crate::operand::{
     atom, context_variable, context_variable_of, leading_atom, number_variable_of,
@@ -86,53 +86,63 @@ fn write_value(tokens: &mut Tokens<'_>) -> Result<Action, ParseError>
     Ok(Action::WriteValue(context, atom(tokens)?))
 }
 
-/// A statement without blocks that begins with a word of its own, on a line. There is room for it.
+/// A statement without blocks that begins with a word of its own. There is room for it.
 #[tactic(auto, unfolding(crate::specs::Action::word_statement))]
 fn word_statement(
     scope: &Scope<'_>,
     tokens: &mut Tokens<'_>,
-    line: usize,
     stack: &mut Vec<Statement>,
 ) -> Result<(), ParseError>
     requires { vec_len stack.old < vec_capacity stack.old }
-    ensures { ReadsOnto (onto stack.old.items (spec.word_statement (scope_of scope.now) line) tokens.old.rest.now) result
+    ensures { ReadsOnto (onto stack.old.items (spec.word_statement (scope_of scope.now)) tokens.old.rest.now) result
         stack.new.items tokens.new.rest.now }
 {
+    let from = tokens.rest;
     match tokens.peek() {
-        Kind::Value => stack.push_reserved(Statement::Act(line, write_value(tokens)?)),
+        Kind::Value => {
+            let action = write_value(tokens)?;
+            stack.push_reserved(Statement::Act(span(from, tokens.rest), action));
+        }
         Kind::Return => {
             tokens.take();
-            stack.push_reserved(Statement::Return(line, optional_status(tokens)?));
+            let status = optional_status(tokens)?;
+            stack.push_reserved(Statement::Return(span(from, tokens.rest), status));
         }
-        _ => stack.push_reserved(Statement::Call(line, plain_call(scope, tokens)?)),
+        _ => {
+            let call = plain_call(scope, tokens)?;
+            stack.push_reserved(Statement::Call(span(from, tokens.rest), call));
+        }
     }
     Ok(())
 }
 
-/// A statement without blocks, on a line. It goes onto the stack from where it is made, since a statement is large.
+/// A statement without blocks. It goes onto the stack from where it is made, since a statement is large.
 #[tactic(auto, unfolding(crate::specs::Action::simple_statement))]
 pub fn simple_statement(
     scope: &Scope<'_>,
     tokens: &mut Tokens<'_>,
-    line: usize,
     stack: &mut Vec<Statement>,
 ) -> Result<(), ParseError>
-    ensures { ReadsOnto (onto stack.old.items (spec.simple_statement (scope_of scope.now) line) tokens.old.rest.now) result
+    ensures { ReadsOnto (onto stack.old.items (spec.simple_statement (scope_of scope.now)) tokens.old.rest.now) result
         stack.new.items tokens.new.rest.now }
 {
     stack.reserve(1)?;
+    let from = tokens.rest;
     let kind = tokens.peek();
     if let Some(n) = number_variable_of(kind) {
-        stack.push_reserved(Statement::Act(line, set_number(tokens, n)?));
+        let action = set_number(tokens, n)?;
+        stack.push_reserved(Statement::Act(span(from, tokens.rest), action));
         return Ok(());
     }
     if let Some(c) = context_variable_of(kind) {
-        stack.push_reserved(Statement::Act(line, clear_context(tokens, c)?));
+        let action = clear_context(tokens, c)?;
+        stack.push_reserved(Statement::Act(span(from, tokens.rest), action));
         return Ok(());
     }
     if let Some(o) = removed_variable_of(kind) {
-        stack.push_reserved(Statement::Act(line, clear_operation(tokens, o)?));
+        let action = clear_operation(tokens, o)?;
+        stack.push_reserved(Statement::Act(span(from, tokens.rest), action));
         return Ok(());
     }
-    word_statement(scope, tokens, line, stack)
+    word_statement(scope, tokens, stack)
 }

@@ -7,7 +7,7 @@ ghost use Rattle.std.specs.Prelude.{◌≡◌, length};
 use crate::fault::{FaultKind, ParseError, SyntaxFault};
 use crate::lex::same_kind;
 use crate::token::{Kind, Token, Word};
-use flt_tree::Position;
+use flt_tree::{Position, Span};
 
 /// The tokens that are left.
 #[derive(Drop)]
@@ -210,6 +210,38 @@ pub fn is_word(kind: Kind) -> bool
     ensures { result ≡ spec.is_word kind }
 {
     !is_symbol(kind) && !is_other(kind)
+}
+
+/// The last of a token and those behind it.
+#[inline(always)]
+#[tactic(auto, using(crate::proofs::Spans::last_at))]
+fn last<'a>(first: &'a Token, rest: &'a [Token]) -> &'a Token
+    ensures { result.now ≡ spec.last first.now rest.now }
+{
+    match rest {
+        [] => first,
+        [.., last] => last,
+    }
+}
+
+/// Where the tokens stand that were read: `from` were left before, and `to` are left now.
+#[inline(always)]
+#[tactic(auto, unfolding(crate::specs::Cursor::span))]
+pub fn span(from: &[Token], to: &[Token]) -> Span
+    ensures { result ≡ spec.span from.now to.now }
+{
+    match &from[..from.len().saturating_sub(to.len())] {
+        [] => Span {
+            line: 0,
+            start: 0,
+            end: 0,
+        },
+        [first, rest @ ..] => Span {
+            line: first.position.line,
+            start: first.start,
+            end: last(first, rest).end,
+        },
+    }
 }
 
 /// The bytes of a token of the text.

@@ -12,7 +12,7 @@ ghost use Rattle.flt_syntax.specs.TextFails.{IsWhereItFails};
 ghost use Rattle.std.specs.List.{list_all};
 ghost use Rattle.std.specs.Prelude.{◌≡◌, ◌≤◌, [], ◌∷◌, ◌++◌, length, IsTrue, IfOk, IfErr, MatchResult, Ok};
 
-use crate::cursor::{Tokens, bytes_of, fault};
+use crate::cursor::{Tokens, bytes_of, fault, span as span_of};
 use crate::fault::{FaultKind, ParseError};
 use crate::head::head;
 use crate::lex;
@@ -142,17 +142,20 @@ fn callback<'a>(
     ensures names { IfOk result (λ c. routines.new ≡ routines.old ++ names_of c.head) }
 {
     let position = tokens.position();
+    let from = tokens.rest;
     let limit = tokens.fault(FaultKind::E06);
     let head = head(alloc, scope.text, tokens, found, routines)?;
+    let span = span_of(from, tokens.rest);
     tokens.expect(Kind::OpenBrace)?;
     let body = statements(alloc, scope, tokens, MAX_DEPTH - 1, MAX_REPEATS, stack)?;
-    let end_line = tokens.position().line;
+    let brace = tokens.rest;
     tokens.expect(Kind::CloseBrace)?;
     let callback = Callback {
         head,
         position,
+        span,
         body,
-        end_line,
+        end: span_of(brace, tokens.rest),
     };
     if is_small(&callback) {
         Ok(callback)

@@ -9,11 +9,11 @@ ghost use Rattle.std.specs.Vec.{vec_len};
 
 use crate::action::simple_statement;
 use crate::condition::condition;
-use crate::cursor::Tokens;
+use crate::cursor::{Tokens, span};
 use crate::fault::{FaultKind, ParseError};
 use crate::scope::Scope;
 use crate::token::Kind;
-use flt_tree::Statement;
+use flt_tree::{Span, Statement};
 use sqlite_items::Items;
 use std::alloc::{AllocError, Global};
 
@@ -65,11 +65,16 @@ fn choice(
 {
     let line = tokens.position().line;
     tokens.take();
+    let from = tokens.rest;
     let condition = condition(alloc, scope, tokens)?;
+    let span = Span {
+        line,
+        ..span(from, tokens.rest)
+    };
     let granted = block(alloc, scope, tokens, depth, repeats, stack)?;
     let refused = otherwise(alloc, scope, tokens, depth, repeats, stack)?;
     stack.reserve(1)?;
-    stack.push_reserved(Statement::If(line, condition, granted, refused));
+    stack.push_reserved(Statement::If(span, condition, granted, refused));
     Ok(())
 }
 
@@ -90,12 +95,13 @@ fn repetition(
     if repeats == 0 {
         return Err(tokens.fault(FaultKind::E06));
     }
-    let line = tokens.position().line;
+    let from = tokens.rest;
     tokens.take();
     let turns = tokens.number_within(0, MAX_TURNS)?;
+    let span = span(from, tokens.rest);
     let body = block(alloc, scope, tokens, depth, repeats - 1, stack)?;
     stack.reserve(1)?;
-    stack.push_reserved(Statement::Repeat(line, turns, body));
+    stack.push_reserved(Statement::Repeat(span, turns, body));
     Ok(())
 }
 
@@ -115,10 +121,7 @@ fn statement(
     match tokens.peek() {
         Kind::If => choice(alloc, scope, tokens, depth, repeats, stack),
         Kind::Repeat => repetition(alloc, scope, tokens, depth, repeats, stack),
-        _ => {
-            let line = tokens.position().line;
-            simple_statement(scope, tokens, line, stack)
-        }
+        _ => simple_statement(scope, tokens, stack),
     }
 }
 

@@ -96,11 +96,11 @@ fn callback_for(filter: &Filter, place: Place) -> usize {
 
 fn line_of(statement: &Statement) -> usize {
     match statement {
-        Statement::Act(line, _)
-        | Statement::Call(line, _)
-        | Statement::Return(line, _)
-        | Statement::If(line, _, _, _)
-        | Statement::Repeat(line, _, _) => *line,
+        Statement::Act(span, _)
+        | Statement::Call(span, _)
+        | Statement::Return(span, _)
+        | Statement::If(span, _, _, _)
+        | Statement::Repeat(span, _, _) => span.line,
     }
 }
 
@@ -303,7 +303,7 @@ impl<'b, 'a> Teller<'b, 'a> {
     /// The line of the closing brace of a callback.
     fn end_line(&self, run: Run) -> usize {
         match self.callback(run.started) {
-            Some(callback) => callback.end_line,
+            Some(callback) => callback.end.line,
             None => 0,
         }
     }

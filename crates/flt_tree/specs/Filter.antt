@@ -1,4 +1,4 @@
--- What statuses and heads of callbacks say. Source: FLT_PREOP_CALLBACK_STATUS and FLT_POSTOP_CALLBACK_STATUS in the driver kit;
+-- Places, and what statuses and heads of callbacks say. Source: FLT_PREOP_CALLBACK_STATUS and FLT_POSTOP_CALLBACK_STATUS in the driver kit;
 -- places are this project's own.
 use Rattle.std.specs.Prelude.{ℕ, Bool, true, false, List, Option, Some, None}
 use Rattle.std.specs.Str.{bytes_eq}
@@ -9,9 +9,16 @@ use Rattle.flt_rules.specs.declared.status.StatusWord.{StatusWord}
 use Rattle.flt_rules.specs.declared.status.StatusWord.TheVariants as word
 use Rattle.flt_tree.specs.declared.filter.Head.{Head}
 use Rattle.flt_tree.specs.declared.filter.Head.TheVariants as head
+use Rattle.flt_tree.specs.declared.filter.Span.{Span}
 use Rattle.flt_tree.specs.declared.filter.Status.{Status}
 use Rattle.flt_tree.specs.declared.filter.Status.TheVariants as status
 use Rattle.flt_tree.specs.declared.variable.ContextVariable.{ContextVariable}
+
+-- ---- places
+
+-- nowhere
+abbrev pub no_span : Span
+no_span = record { line = 0; start = 0; end = 0 }
 
 -- ---- statuses
 

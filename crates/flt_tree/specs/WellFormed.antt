@@ -22,6 +22,7 @@ use Rattle.flt_tree.specs.declared.filter.Head.TheVariants.{DeferredPre, Deferre
 use Rattle.flt_tree.specs.declared.filter.Lock.{Lock}
 use Rattle.flt_tree.specs.declared.filter.PlainCall.{PlainCall}
 use Rattle.flt_tree.specs.declared.filter.PlainCall.TheVariants as plain
+use Rattle.flt_tree.specs.declared.filter.Span.{Span}
 use Rattle.flt_tree.specs.declared.filter.Statement.{Statement}
 use Rattle.flt_tree.specs.declared.filter.Statement.TheVariants.{Act, Call, Return, If, Repeat}
 use Rattle.flt_tree.specs.declared.filter.Status.{Status}
@@ -79,13 +80,13 @@ IsPlain locks _ = Unit {0}
 -- Statements in which blocks nest at most d deep, and repeats at most r.
 mutual
   pub data IsStatement (locks : List Lock) (queue : Bool) : ℕ → ℕ → Statement → Type 0 where
-    act : {d r at : ℕ} {a : Action} → IsAction a → IsStatement locks queue d r (Act at a)
-    call : {d r at : ℕ} {c : PlainCall} → IsPlain locks c → IsStatement locks queue d r (Call at c)
-    return : {d r at : ℕ} {s : Option Status} → IsStatement locks queue d r (Return at s)
-    choice : {d r at : ℕ} {c : Condition} {granted refused : List Statement} →
+    act : {d r : ℕ} {at : Span} {a : Action} → IsAction a → IsStatement locks queue d r (Act at a)
+    call : {d r : ℕ} {at : Span} {c : PlainCall} → IsPlain locks c → IsStatement locks queue d r (Call at c)
+    return : {d r : ℕ} {at : Span} {s : Option Status} → IsStatement locks queue d r (Return at s)
+    choice : {d r : ℕ} {at : Span} {c : Condition} {granted refused : List Statement} →
         IsCondition queue c → IsBlock locks queue d r granted → IsElse locks queue d r refused →
         IsStatement locks queue d r (If at c granted refused)
-    repeat : {d r at n : ℕ} {body : List Statement} → n ≤ max_turns → IsBlock locks queue d r body →
+    repeat : {d r : ℕ} {at : Span} {n : ℕ} {body : List Statement} → n ≤ max_turns → IsBlock locks queue d r body →
         IsStatement locks queue d (suc r) (Repeat at n body)
 
   -- no statements, or a block of some

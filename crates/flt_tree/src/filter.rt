@@ -18,6 +18,16 @@ pub struct Position {
     pub column: usize,
 }
 
+/// Where something stands in a text: the line of its first token, from 1, and its bytes from `start`, which counts from 0, up to
+/// `end`. The line is that of the whole statement, while the bytes leave its blocks out: of an `if` they are what it asks, of a
+/// `repeat` its word and its number.
+#[derive(Clone, Copy)]
+pub struct Span {
+    pub line: usize,
+    pub start: usize,
+    pub end: usize,
+}
+
 /// A callback status as it is written, with the completion context or the final status that it names.
 #[derive(Clone, Copy)]
 pub enum Status {
@@ -120,17 +130,17 @@ pub enum Action {
     ClearOperation(RemovedVariable),
 }
 
-/// A statement with the line of its first token, from 1.
+/// A statement, with where it stands.
 #[derive(Drop)]
 pub enum Statement {
-    Act(usize, Action),
-    Call(usize, PlainCall),
+    Act(Span, Action),
+    Call(Span, PlainCall),
     /// `return`, with a status or without.
-    Return(usize, Option<Status>),
+    Return(Span, Option<Status>),
     /// The condition, what is done where it holds, and what is done otherwise. No `else` is an empty one.
-    If(usize, Condition, Items<Statement>, Items<Statement>),
+    If(Span, Condition, Items<Statement>, Items<Statement>),
     /// The number of turns, and what is done in each.
-    Repeat(usize, u64, Items<Statement>),
+    Repeat(Span, u64, Items<Statement>),
 }
 
 /// What a callback is registered for. A routine has the name that work items use.
@@ -150,9 +160,11 @@ pub struct Callback {
     pub head: Head,
     /// Where its first head word stands.
     pub position: Position,
+    /// Where its head stands.
+    pub span: Span,
     pub body: Items<Statement>,
-    /// The line of the closing brace, from 1.
-    pub end_line: usize,
+    /// Where its closing brace stands.
+    pub end: Span,
 }
 
 /// A declared lock.

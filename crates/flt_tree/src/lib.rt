@@ -9,7 +9,7 @@ mod variable;
 
 pub use filter::{
     Action, Callback, Condition, FallibleCall, Filter, Head, Lock, PlainCall, Position, Routine,
-    Statement, Status, Test, named_context,
+    Span, Statement, Status, Test, named_context,
 };
 pub use measure::is_small;
 pub use tree::Tree;

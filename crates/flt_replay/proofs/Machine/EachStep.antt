@@ -63,11 +63,11 @@ module _ (p : List Filter) (t : List Event) (w : World) (a : ℕ) (P : Step → 
 
   of_statement : (rest : List Statement) (grant : Bool) (layer : Statement-F Statement) (s : Step) →
       statement_step p t w a rest grant layer ≡ Some s → P s
-  of_statement rest grant (Statement-F.Act line x) s e = of_act rest x s e
-  of_statement rest grant (Statement-F.Call line c) s e = of_some (plain_step p t w a rest c) s (each.of_plain_call rest c) e
-  of_statement rest grant (Statement-F.Return line st) s e = of_some (returns p t w a st) s (each.of_return st) e
-  of_statement rest grant (Statement-F.If line asked granted refused) s e = of_if grant (granted ++ rest) (refused ++ rest) asked s e
-  of_statement rest grant (Statement-F.Repeat line turns block) s e = absurd (cc)
+  of_statement rest grant (Statement-F.Act span x) s e = of_act rest x s e
+  of_statement rest grant (Statement-F.Call span c) s e = of_some (plain_step p t w a rest c) s (each.of_plain_call rest c) e
+  of_statement rest grant (Statement-F.Return span st) s e = of_some (returns p t w a st) s (each.of_return st) e
+  of_statement rest grant (Statement-F.If span asked granted refused) s e = of_if grant (granted ++ rest) (refused ++ rest) asked s e
+  of_statement rest grant (Statement-F.Repeat span turns block) s e = absurd (cc)
 
   unless_none : (b : Bool) (o : Option Step) (s : Step) → (o ≡ Some s → P s) → (if b then o else None) ≡ Some s → P s
   unless_none true o s h e = h e

@@ -22,6 +22,7 @@ use Rattle.flt_tree.specs.declared.filter.Head.TheVariants as head
 use Rattle.flt_tree.specs.declared.filter.PlainCall.{PlainCall}
 use Rattle.flt_tree.specs.declared.filter.PlainCall.TheVariants as plain_call
 use Rattle.flt_tree.specs.declared.filter.Routine.{Routine}
+use Rattle.flt_tree.specs.declared.filter.Span.{Span}
 use Rattle.flt_tree.specs.declared.filter.Statement.{Statement, out-Statement}
 use Rattle.flt_tree.specs.declared.filter.Statement.TheOpen.{Statement-F}
 use Rattle.flt_tree.specs.declared.filter.Test.{Test}
@@ -87,9 +88,9 @@ module _ {p : List Filter} {m : Moment} {a : ℕ} (s : Shadow) (st : Statement) 
   -- ---- statements that are no calls
 
   -- a read or write is good
-  act_good : (line : ℕ) (x : Action) → out-Statement st ≡ Statement-F.Act line x →
+  act_good : (span : Span) (x : Action) → out-Statement st ≡ Statement-F.Act span x →
       AfterStep (act_step p m.trace m.world a rest x) (Good p m)
-  act_good line x e = by x (let i = act_here (spot at) line x e in at_act at x i.0 i.1 rest (ap (λ y. remaining_of y rest true) e))
+  act_good span x e = by x (let i = act_here (spot at) span x e in at_act at x i.0 i.1 rest (ap (λ y. remaining_of y rest true) e))
     where
       by : (x : Action) → AtAct at x rest → AfterStep (act_step p m.trace m.world a rest x) (Good p m)
       by (action.ReadValue n c) k = read_value_good at n c rest k
@@ -100,16 +101,16 @@ module _ {p : List Filter} {m : Moment} {a : ℕ} (s : Shadow) (st : Statement) 
       by (action.ClearOperation o) k = tt
 
   -- the test of whether an operation is an IRP is good; the other tests are local steps
-  irp_good : (line : ℕ) (t : Test) (granted refused : List Statement) →
-      out-Statement st ≡ Statement-F.If line (condition.Test t) granted refused →
+  irp_good : (span : Span) (t : Test) (granted refused : List Statement) →
+      out-Statement st ≡ Statement-F.If span (condition.Test t) granted refused →
       AfterStep (test_step p m.trace m.world a (granted ++ rest) (refused ++ rest) t) (Good p m)
-  irp_good line (test.ContextIsSome c) granted refused e = tt
-  irp_good line (test.OperationIsSome o) granted refused e = tt
-  irp_good line (test.Equal n x) granted refused e = tt
-  irp_good line (test.Less n x) granted refused e = tt
-  irp_good line test.IsDraining granted refused e = tt
-  irp_good line test.IsIrp granted refused e =
-      let i = if_here (spot at) line (condition.Test test.IsIrp) granted refused e in
+  irp_good span (test.ContextIsSome c) granted refused e = tt
+  irp_good span (test.OperationIsSome o) granted refused e = tt
+  irp_good span (test.Equal n x) granted refused e = tt
+  irp_good span (test.Less n x) granted refused e = tt
+  irp_good span test.IsDraining granted refused e = tt
+  irp_good span test.IsIrp granted refused e =
+      let i = if_here (spot at) span (condition.Test test.IsIrp) granted refused e in
       test_irp_good at (granted ++ rest) (refused ++ rest) (at_test at test.IsIrp i.0 i.1.0 i.1.1 (granted ++ rest) (refused ++ rest) side)
     where
       side : (b : Bool) → remaining_of (out-Statement st) rest b ≡ Some (if b then (granted ++ rest) else (refused ++ rest))
@@ -118,9 +119,9 @@ module _ {p : List Filter} {m : Moment} {a : ℕ} (s : Shadow) (st : Statement) 
 
   -- ---- calls that can't fail
 
-  plain_good : (line : ℕ) (c : PlainCall) → out-Statement st ≡ Statement-F.Call line c → Good p m (plain_step p m.trace m.world a rest c)
-  plain_good line c e =
-      let i = call_here (spot at) line c e in
+  plain_good : (span : Span) (c : PlainCall) → out-Statement st ≡ Statement-F.Call span c → Good p m (plain_step p m.trace m.world a rest c)
+  plain_good span c e =
+      let i = call_here (spot at) span c e in
       by c (at_call at (graph.plain c) i.0 i.0 i.1 rest rest (ap (λ y. remaining_of y rest true) e) (ap (λ y. remaining_of y rest false) e))
     where
       by : (c : PlainCall) → AtCall at (graph.plain c) rest rest → Good p m (plain_step p m.trace m.world a rest c)
@@ -186,31 +187,31 @@ module _ {p : List Filter} {m : Moment} {a : ℕ} (s : Shadow) (st : Statement) 
       let routine = routine_of (callbacks_at p (own_filter at)) r in
       generic_good at callbacks r routine c grant granted refused k (rw callbacks_is (named (spot at).filter place.Generic r served))
 
-  fallible_good : (line : ℕ) (c : FallibleCall) (granted refused : List Statement) (grant : Bool) →
-      out-Statement st ≡ Statement-F.If line (condition.Succeeds c) granted refused →
+  fallible_good : (span : Span) (c : FallibleCall) (granted refused : List Statement) (grant : Bool) →
+      out-Statement st ≡ Statement-F.If span (condition.Succeeds c) granted refused →
       Good p m (fallible_step p m.trace m.world a grant (granted ++ rest) (refused ++ rest) c)
-  fallible_good line c granted refused grant e =
-      let i = if_here (spot at) line (condition.Succeeds c) granted refused e in
+  fallible_good span c granted refused grant e =
+      let i = if_here (spot at) span (condition.Succeeds c) granted refused e in
       let k = at_call at (graph.fallible callbacks c) i.0 i.1.0 i.1.1 (granted ++ rest) (refused ++ rest)
       (ap (λ y. remaining_of y rest true) e) (ap (λ y. remaining_of y rest false) e) in
       call_good c i.0 i.1.0 grant (granted ++ rest) (refused ++ rest) i.1.1 k
 
   -- ---- each statement
 
-  if_good : (line : ℕ) (asked : Condition) (granted refused : List Statement) (grant : Bool) →
-      out-Statement st ≡ Statement-F.If line asked granted refused →
+  if_good : (span : Span) (asked : Condition) (granted refused : List Statement) (grant : Bool) →
+      out-Statement st ≡ Statement-F.If span asked granted refused →
       AfterStep (if_step p m.trace m.world a grant (granted ++ rest) (refused ++ rest) asked) (Good p m)
-  if_good line (condition.Test t) granted refused grant e = irp_good line t granted refused e
-  if_good line (condition.Succeeds c) granted refused grant e = fallible_good line c granted refused grant e
+  if_good span (condition.Test t) granted refused grant e = irp_good span t granted refused e
+  if_good span (condition.Succeeds c) granted refused grant e = fallible_good span c granted refused grant e
 
   statement_good : (layer : Statement-F Statement) (grant : Bool) → out-Statement st ≡ layer →
       AfterStep (statement_step p m.trace m.world a rest grant layer) (Good p m)
-  statement_good (Statement-F.Act line x) grant e = act_good line x e
-  statement_good (Statement-F.Call line c) grant e = plain_good line c e
-  statement_good (Statement-F.Return line status) grant e =
-      returns_good at status (at_return at status (return_here (spot at) line status e))
-  statement_good (Statement-F.If line asked granted refused) grant e = if_good line asked granted refused grant e
-  statement_good (Statement-F.Repeat line turns block) grant e = tt
+  statement_good (Statement-F.Act span x) grant e = act_good span x e
+  statement_good (Statement-F.Call span c) grant e = plain_good span c e
+  statement_good (Statement-F.Return span status) grant e =
+      returns_good at status (at_return at status (return_here (spot at) span status e))
+  statement_good (Statement-F.If span asked granted refused) grant e = if_good span asked granted refused grant e
+  statement_good (Statement-F.Repeat span turns block) grant e = tt
 
   -- a statement is good where it may go, and is no step elsewhere
   first_good : (layer : Statement-F Statement) (grant : Bool) → out-Statement st ≡ layer → (b : Bool) →

@@ -12,6 +12,7 @@ use Rattle.flt_tree.specs.declared.filter.Action.TheVariants as action
 use Rattle.flt_tree.specs.declared.filter.Condition.{Condition}
 use Rattle.flt_tree.specs.declared.filter.Condition.TheVariants as condition
 use Rattle.flt_tree.specs.declared.filter.Filter.{Filter}
+use Rattle.flt_tree.specs.declared.filter.Span.{Span}
 use Rattle.flt_tree.specs.declared.filter.Statement.{Statement, out-Statement}
 use Rattle.flt_tree.specs.declared.filter.Statement.TheOpen.{Statement-F}
 use Rattle.flt_tree.specs.declared.filter.Statement.TheVariants as tree
@@ -140,48 +141,48 @@ module _ {p : List Filter} {m : Moment} {a : ℕ} (s : Shadow) (st : Statement) 
   test_finds test.IsIrp b e = absurd (cc)
 
   -- a test, where what it asks is known
-  test_good : (line : ℕ) (t : Test) (granted refused : List Statement) →
-      out-Statement st ≡ Statement-F.If line (condition.Test t) granted refused →
+  test_good : (span : Span) (t : Test) (granted refused : List Statement) →
+      out-Statement st ≡ Statement-F.If span (condition.Test t) granted refused →
       (o : Option Bool) → holds_test draining (plain old) t ≡ o →
       AfterStep (option_map (moved_on p m.trace m.world a)
       (option_map (λ b. goes_on_to ((if b then granted else refused) ++ rest) (plain old)) o)) (Good p m)
-  test_good line t granted refused e None h = tt
-  test_good line t granted refused e (Some b) h =
-      let i = if_here (spot at) line (condition.Test t) granted refused e in
+  test_good span t granted refused e None h = tt
+  test_good span t granted refused e (Some b) h =
+      let i = if_here (spot at) span (condition.Test t) granted refused e in
       onward (instruction.Test t i.0 i.1.0) i.1.1 b true (test_finds t b h) ((if b then granted else refused) ++ rest)
       (ap (λ x. remaining_of x rest b) e) refl
 
   -- a choice: by a test it is a local step, by a call it isn't
-  if_good : (line : ℕ) (asked : Condition) (granted refused : List Statement) →
-      out-Statement st ≡ Statement-F.If line asked granted refused →
+  if_good : (span : Span) (asked : Condition) (granted refused : List Statement) →
+      out-Statement st ≡ Statement-F.If span asked granted refused →
       AfterStep (option_map (moved_on p m.trace m.world a)
       (option_map (λ b. goes_on_to ((if b then granted else refused) ++ rest) (plain old))
       (holds_condition draining (plain old) asked))) (Good p m)
-  if_good line (condition.Test t) granted refused e = test_good line t granted refused e (holds_test draining (plain old) t) refl
-  if_good line (condition.Succeeds c) granted refused e = tt
+  if_good span (condition.Test t) granted refused e = test_good span t granted refused e (holds_test draining (plain old) t) refl
+  if_good span (condition.Succeeds c) granted refused e = tt
 
   -- ---- repetitions
 
   -- a repetition with the turns that are left
-  turns_good : (line turns : ℕ) (block : List Statement) → out-Statement st ≡ Statement-F.Repeat line turns block →
-      Good p m (moved_on p m.trace m.world a (goes_on_to (turns_left line turns block rest) (plain old)))
-  turns_good line zero block e =
-      let i = repeat_here (spot at) line 0 block e in
+  turns_good : (span : Span) (turns : ℕ) (block : List Statement) → out-Statement st ≡ Statement-F.Repeat span turns block →
+      Good p m (moved_on p m.trace m.world a (goes_on_to (turns_left span turns block rest) (plain old)))
+  turns_good span zero block e =
+      let i = repeat_here (spot at) span 0 block e in
       onward (instruction.Repeat i.0 i.1.0 i.1.1.0) i.1.1.1 false true refl rest (ap (λ x. remaining_of x rest false) e) refl
-  turns_good line (suc turns) block e =
-      let i = repeat_here (spot at) line (suc turns) block e in
-      onward (instruction.Repeat i.0 i.1.0 i.1.1.0) i.1.1.1 true true refl (block ++ tree.Repeat line turns block ∷ rest)
+  turns_good span (suc turns) block e =
+      let i = repeat_here (spot at) span (suc turns) block e in
+      onward (instruction.Repeat i.0 i.1.0 i.1.1.0) i.1.1.1 true true refl (block ++ tree.Repeat span turns block ∷ rest)
       (ap (λ x. remaining_of x rest true) e)
       refl
 
   -- ---- actions
 
   -- a context variable that holds nothing is cleared
-  clear_context : (line : ℕ) (c : ContextVariable) → out-Statement st ≡ Statement-F.Act line (action.ClearContext c) →
+  clear_context : (span : Span) (c : ContextVariable) → out-Statement st ≡ Statement-F.Act span (action.ClearContext c) →
       Good p m (moved_on p m.trace m.world a (goes_on_to rest (with_context_in (plain old) c None)))
-  clear_context line c e =
+  clear_context span c e =
       let q = spot at in
-      let i = act_here q line (action.ClearContext c) e in
+      let i = act_here q span (action.ClearContext c) e in
       let f : Fine (breaks (setting_here q) q.state (instruction.Act (action.ClearContext c) i.0)) =
       fine q (instruction.Act (action.ClearContext c) i.0) i.1 in
       let new = put_context (with_rest s rest) c Unset in
@@ -199,11 +200,11 @@ module _ {p : List Filter} {m : Moment} {a : ℕ} (s : Shadow) (st : Statement) 
       (λ v. refl)
 
   -- a variable of a removed operation that holds nothing is cleared
-  clear_operation : (line : ℕ) (o : RemovedVariable) → out-Statement st ≡ Statement-F.Act line (action.ClearOperation o) →
+  clear_operation : (span : Span) (o : RemovedVariable) → out-Statement st ≡ Statement-F.Act span (action.ClearOperation o) →
       Good p m (moved_on p m.trace m.world a (goes_on_to rest (with_operation_in (plain old) (Removed o) None)))
-  clear_operation line o e =
+  clear_operation span o e =
       let q = spot at in
-      let i = act_here q line (action.ClearOperation o) e in
+      let i = act_here q span (action.ClearOperation o) e in
       let f : Fine (breaks (setting_here q) q.state (instruction.Act (action.ClearOperation o) i.0)) =
       fine q (instruction.Act (action.ClearOperation o) i.0) i.1 in
       let new = put_operation (with_rest s rest) (Removed o) Unset in
@@ -224,10 +225,10 @@ module _ {p : List Filter} {m : Moment} {a : ℕ} (s : Shadow) (st : Statement) 
       (not_held q.state.operations s.operations (operation_place (Removed o)) v q.means.operations f.r03) refl)
 
   -- a number is set
-  set_number : (line : ℕ) (n : NumberVariable) (x : Expression) → out-Statement st ≡ Statement-F.Act line (action.SetNumber n x) →
+  set_number : (span : Span) (n : NumberVariable) (x : Expression) → out-Statement st ≡ Statement-F.Act span (action.SetNumber n x) →
       Good p m (moved_on p m.trace m.world a (goes_on_to rest (with_number (plain old) n (expression_value (plain old) x))))
-  set_number line n x e =
-      let i = act_here (spot at) line (action.SetNumber n x) e in
+  set_number span n x e =
+      let i = act_here (spot at) span (action.SetNumber n x) e in
       let placed = goes_on (spot at) (instruction.Act (action.SetNumber n x) i.0) i.1 true true refl rest
       (ap (λ x. remaining_of x rest true) e) in
       quiet old (record (with_rest s rest) { numbers = set s.numbers (number_place n) (expression_value (plain old) x) })
@@ -236,23 +237,23 @@ module _ {p : List Filter} {m : Moment} {a : ℕ} (s : Shadow) (st : Statement) 
       (λ x. refl) (λ v. refl)
 
   -- an action that is a local step
-  action_good : (line : ℕ) (x : Action) → out-Statement st ≡ Statement-F.Act line x →
+  action_good : (span : Span) (x : Action) → out-Statement st ≡ Statement-F.Act span x →
       AfterStep (option_map (moved_on p m.trace m.world a) (option_map (goes_on_to rest) (after_action (plain old) x))) (Good p m)
-  action_good line (action.SetNumber n x) e = set_number line n x e
-  action_good line (action.ClearContext c) e = clear_context line c e
-  action_good line (action.ClearOperation o) e = clear_operation line o e
-  action_good line (action.ReadValue n c) e = tt
-  action_good line (action.ReadFile n d) e = tt
-  action_good line (action.WriteValue c x) e = tt
+  action_good span (action.SetNumber n x) e = set_number span n x e
+  action_good span (action.ClearContext c) e = clear_context span c e
+  action_good span (action.ClearOperation o) e = clear_operation span o e
+  action_good span (action.ReadValue n c) e = tt
+  action_good span (action.ReadFile n d) e = tt
+  action_good span (action.WriteValue c x) e = tt
 
   -- the first statement, by its layer
   statement_good : (layer : Statement-F Statement) → out-Statement st ≡ layer →
       AfterStep (option_map (moved_on p m.trace m.world a) (after_statement draining (plain old) rest layer)) (Good p m)
-  statement_good (Statement-F.Act line x) e = action_good line x e
-  statement_good (Statement-F.Call line c) e = tt
-  statement_good (Statement-F.Return line status) e = tt
-  statement_good (Statement-F.If line asked granted refused) e = if_good line asked granted refused e
-  statement_good (Statement-F.Repeat line turns block) e = turns_good line turns block e
+  statement_good (Statement-F.Act span x) e = action_good span x e
+  statement_good (Statement-F.Call span c) e = tt
+  statement_good (Statement-F.Return span status) e = tt
+  statement_good (Statement-F.If span asked granted refused) e = if_good span asked granted refused e
+  statement_good (Statement-F.Repeat span turns block) e = turns_good span turns block e
 
 -- ---- a local step of an activation of a moment
 

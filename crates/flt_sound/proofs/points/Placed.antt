@@ -17,6 +17,7 @@ use Rattle.flt_tree.specs.declared.filter.Callback.{Callback}
 use Rattle.flt_tree.specs.declared.filter.Condition.{Condition}
 use Rattle.flt_tree.specs.declared.filter.Filter.{Filter}
 use Rattle.flt_tree.specs.declared.filter.PlainCall.{PlainCall}
+use Rattle.flt_tree.specs.declared.filter.Span.{Span}
 use Rattle.flt_tree.specs.declared.filter.Statement.{Statement, out-Statement}
 use Rattle.flt_tree.specs.declared.filter.Statement.TheOpen.{Statement-F}
 use Rattle.flt_tree.specs.declared.filter.Status.{Status}
@@ -347,30 +348,30 @@ module _ {p : List Filter} {f : ℕ} {place : Place} {s : Statement} {rest : Lis
   same_there h known e = subst (λ x. here q ≡ instruction_of q.filter.callbacks x q.point h.after) e h.is
 
   -- an action's point is that action
-  pub act_here : (line : ℕ) (a : Action) → out-Statement s ≡ Statement-F.Act line a → (after : ℕ) × (here q ≡ instruction.Act a after)
-  act_here line a e = let h = first_here (Statement-F.Act line a) e in (h.after, same_there h (Statement-F.Act line a) h.left)
+  pub act_here : (span : Span) (a : Action) → out-Statement s ≡ Statement-F.Act span a → (after : ℕ) × (here q ≡ instruction.Act a after)
+  act_here span a e = let h = first_here (Statement-F.Act span a) e in (h.after, same_there h (Statement-F.Act span a) h.left)
 
   -- a plain call's point is that call, which goes on to one point
-  pub call_here : (line : ℕ) (c : PlainCall) → out-Statement s ≡ Statement-F.Call line c → (after : ℕ)
+  pub call_here : (span : Span) (c : PlainCall) → out-Statement s ≡ Statement-F.Call span c → (after : ℕ)
       × (here q ≡ instruction.Call (plain c) after after)
-  call_here line c e = let h = first_here (Statement-F.Call line c) e in (h.after, same_there h (Statement-F.Call line c) h.left)
+  call_here span c e = let h = first_here (Statement-F.Call span c) e in (h.after, same_there h (Statement-F.Call span c) h.left)
 
   -- a return's point is that return
-  pub return_here : (line : ℕ) (st : Option Status) → out-Statement s ≡ Statement-F.Return line st → here q ≡ instruction.Return st
-  return_here line st e = let h = first_here (Statement-F.Return line st) e in same_there h (Statement-F.Return line st) h.left
+  pub return_here : (span : Span) (st : Option Status) → out-Statement s ≡ Statement-F.Return span st → here q ≡ instruction.Return st
+  return_here span st e = let h = first_here (Statement-F.Return span st) e in same_there h (Statement-F.Return span st) h.left
 
   -- a choice's point is its test, or its call that can fail
-  pub if_here : (line : ℕ) (asked : Condition) (granted refused : List Statement) →
-      out-Statement s ≡ Statement-F.If line asked granted refused →
+  pub if_here : (span : Span) (asked : Condition) (granted refused : List Statement) →
+      out-Statement s ≡ Statement-F.If span asked granted refused →
       (a : ℕ) × ((b : ℕ) × (here q ≡ choice q.filter.callbacks asked a b))
-  if_here line asked granted refused e =
-      let h = first_here (Statement-F.If line asked granted refused) e in
-      (_, (_, same_there h (Statement-F.If line asked granted refused) h.left))
+  if_here span asked granted refused e =
+      let h = first_here (Statement-F.If span asked granted refused) e in
+      (_, (_, same_there h (Statement-F.If span asked granted refused) h.left))
 
   -- a repetition's point is a repetition, of some number of turns
-  pub repeat_here : (line left : ℕ) (block : List Statement) → out-Statement s ≡ Statement-F.Repeat line left block →
+  pub repeat_here : (span : Span) (left : ℕ) (block : List Statement) → out-Statement s ≡ Statement-F.Repeat span left block →
       (turns : ℕ) × ((a : ℕ) × ((b : ℕ) × (here q ≡ instruction.Repeat turns a b)))
-  repeat_here line left block e =
-      let h = first_here (Statement-F.Repeat line left block) e in
+  repeat_here span left block e =
+      let h = first_here (Statement-F.Repeat span left block) e in
       let turns = h.left.0 in
-      (turns, (_, (_, same_there h (Statement-F.Repeat line turns block) h.left.1.1)))
+      (turns, (_, (_, same_there h (Statement-F.Repeat span turns block) h.left.1.1)))

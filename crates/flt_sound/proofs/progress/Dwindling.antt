@@ -498,11 +498,11 @@ module _ (w : World) (a f : ℕ) (fit : (actor_at w a).filter ≡ f → is_attac
 
       statement_small : (rest : List Statement) (layer : Statement-F Statement) →
           AfterStep (statement_step p t w a rest (modest layer) layer) Small
-      statement_small rest (Statement-F.Act line x) = act_small rest x
-      statement_small rest (Statement-F.Call line c) = plain_small rest c
-      statement_small rest (Statement-F.Return line st) = returns_small st
-      statement_small rest (Statement-F.If line asked granted refused) = branch_small asked (granted ++ rest) (refused ++ rest)
-      statement_small rest (Statement-F.Repeat line turns block) = tt
+      statement_small rest (Statement-F.Act span x) = act_small rest x
+      statement_small rest (Statement-F.Call span c) = plain_small rest c
+      statement_small rest (Statement-F.Return span st) = returns_small st
+      statement_small rest (Statement-F.If span asked granted refused) = branch_small asked (granted ++ rest) (refused ++ rest)
+      statement_small rest (Statement-F.Repeat span turns block) = tt
 
       -- a step that others see, where nothing is granted that may be refused
       pub list_small : (list : List Statement) → AfterStep (list_step p t w a list (modest_list list)) Small

@@ -21,6 +21,7 @@ use Rattle.flt_tree.specs.declared.filter.FallibleCall.TheVariants as fallible
 use Rattle.flt_tree.specs.declared.filter.Filter.{Filter}
 use Rattle.flt_tree.specs.declared.filter.PlainCall.{PlainCall}
 use Rattle.flt_tree.specs.declared.filter.PlainCall.TheVariants as plain_call
+use Rattle.flt_tree.specs.declared.filter.Span.{Span}
 use Rattle.flt_tree.specs.declared.filter.Statement.{Statement, out-Statement}
 use Rattle.flt_tree.specs.declared.filter.Statement.TheOpen.{Statement-F}
 use Rattle.flt_tree.specs.declared.filter.Test.TheVariants as test
@@ -50,7 +51,7 @@ use Rattle.flt_sound.proofs.rest.Holding.{has_place, Holds}
 
 -- the choice of the system that adds nothing: what it may refuse it refuses
 abbrev pub modest : Statement-F Statement → Bool
-modest (Statement-F.If line asked granted refused) = not (leaves_choice asked)
+modest (Statement-F.If span asked granted refused) = not (leaves_choice asked)
 modest _ = true
 
 -- the same of what remains of an activation
@@ -77,9 +78,9 @@ module _ (p : List Filter) (m : Moment) (a : ℕ) where
     pub statement : Statement
     pub rest : List Statement
     pub is : (activation_at m.world a).rest ≡ statement ∷ rest
-    pub line : ℕ
+    pub span : Span
     pub call : PlainCall
-    pub layer : out-Statement statement ≡ Statement-F.Call line call
+    pub layer : out-Statement statement ≡ Statement-F.Call span call
     pub lock : LockNumber
     pub takes : taken_by_call (plain call).call (plain call).lock ≡ Some lock
     pub access : Access
@@ -106,25 +107,25 @@ module _ (p : List Filter) (m : Moment) (a : ℕ) where
     abbrev Goes : Statement-F Statement → Type 0
     Goes layer = (GoesBy true layer × GoesBy (modest layer) layer) ⊎ Waits
 
-    act_goes : (line : ℕ) (x : Action) → Goes (Statement-F.Act line x)
-    act_goes line (action.SetNumber n x) = inl (refl, refl)
-    act_goes line (action.ClearContext c) = inl (refl, refl)
-    act_goes line (action.ClearOperation o) = inl (refl, refl)
-    act_goes line (action.ReadValue n c) = inl (refl, refl)
-    act_goes line (action.ReadFile n d) = inl (refl, refl)
-    act_goes line (action.WriteValue c x) = inl (refl, refl)
+    act_goes : (span : Span) (x : Action) → Goes (Statement-F.Act span x)
+    act_goes span (action.SetNumber n x) = inl (refl, refl)
+    act_goes span (action.ClearContext c) = inl (refl, refl)
+    act_goes span (action.ClearOperation o) = inl (refl, refl)
+    act_goes span (action.ReadValue n c) = inl (refl, refl)
+    act_goes span (action.ReadFile n d) = inl (refl, refl)
+    act_goes span (action.WriteValue c x) = inl (refl, refl)
 
     -- a lock is free, or isn't
-    lock_goes : (line : ℕ) (c : PlainCall) → out-Statement st ≡ Statement-F.Call line c → (l : LockNumber) (access : Access) →
+    lock_goes : (span : Span) (c : PlainCall) → out-Statement st ≡ Statement-F.Call span c → (l : LockNumber) (access : Access) →
         taken_by_call (plain c).call (plain c).lock ≡ Some l → (b : Bool) → may_take m.world a l access ≡ b → (s : Step) →
         ((some_step None (if true && b then Some s else None) ≡ true) × (some_step None (if true && b then Some s else None) ≡ true))
         ⊎ Waits
-    lock_goes line c e l access takes true free s = inl (refl, refl)
-    lock_goes line c e l access takes false free s = inr (record {
+    lock_goes span c e l access takes true free s = inl (refl, refl)
+    lock_goes span c e l access takes false free s = inr (record {
       statement = st;
       rest = rest;
       is = is;
-      line = line;
+      span = span;
       call = c;
       layer = e;
       lock = l;
@@ -133,40 +134,40 @@ module _ (p : List Filter) (m : Moment) (a : ℕ) where
       blocked = free;
     })
 
-    call_goes : (line : ℕ) (c : PlainCall) → out-Statement st ≡ Statement-F.Call line c → Goes (Statement-F.Call line c)
-    call_goes line (plain_call.DeleteContext c) e = inl (refl, refl)
-    call_goes line (plain_call.ReferenceContext c d) e = inl (refl, refl)
-    call_goes line (plain_call.ReleaseContext c) e = inl (refl, refl)
-    call_goes line (plain_call.AcquireLock kind l) e =
-        lock_goes line (plain_call.AcquireLock kind l) e l Exclusive refl (may_take m.world a l Exclusive) refl _
-    call_goes line (plain_call.AcquirePushLockShared l) e =
-        lock_goes line (plain_call.AcquirePushLockShared l) e l Shared refl (may_take m.world a l Shared) refl _
-    call_goes line (plain_call.ReleaseLock kind l) e = inl (refl, refl)
-    call_goes line (plain_call.CompletePendedPreOperation d status) e = inl (refl, refl)
-    call_goes line plain_call.CompletePendedPostOperation e = inl (refl, refl)
+    call_goes : (span : Span) (c : PlainCall) → out-Statement st ≡ Statement-F.Call span c → Goes (Statement-F.Call span c)
+    call_goes span (plain_call.DeleteContext c) e = inl (refl, refl)
+    call_goes span (plain_call.ReferenceContext c d) e = inl (refl, refl)
+    call_goes span (plain_call.ReleaseContext c) e = inl (refl, refl)
+    call_goes span (plain_call.AcquireLock kind l) e =
+        lock_goes span (plain_call.AcquireLock kind l) e l Exclusive refl (may_take m.world a l Exclusive) refl _
+    call_goes span (plain_call.AcquirePushLockShared l) e =
+        lock_goes span (plain_call.AcquirePushLockShared l) e l Shared refl (may_take m.world a l Shared) refl _
+    call_goes span (plain_call.ReleaseLock kind l) e = inl (refl, refl)
+    call_goes span (plain_call.CompletePendedPreOperation d status) e = inl (refl, refl)
+    call_goes span plain_call.CompletePendedPostOperation e = inl (refl, refl)
 
-    if_goes : (line : ℕ) (asked : Condition) (granted refused : List Statement) → Goes (Statement-F.If line asked granted refused)
-    if_goes line (condition.Test (test.ContextIsSome c)) granted refused = inl (refl, refl)
-    if_goes line (condition.Test (test.OperationIsSome o)) granted refused = inl (refl, refl)
-    if_goes line (condition.Test (test.Equal n x)) granted refused = inl (refl, refl)
-    if_goes line (condition.Test (test.Less n x)) granted refused = inl (refl, refl)
-    if_goes line (condition.Test test.IsDraining) granted refused = inl (refl, refl)
-    if_goes line (condition.Test test.IsIrp) granted refused = inl (refl, refl)
-    if_goes line (condition.Succeeds (fallible.AllocateContext d)) granted refused = inl (refl, refl)
-    if_goes line (condition.Succeeds (fallible.GetContext on d)) granted refused = inl (refl, refl)
-    if_goes line (condition.Succeeds (fallible.SetContext on existing c old)) granted refused = inl (refl, refl)
-    if_goes line (condition.Succeeds (fallible.DeleteContextOf on old)) granted refused = inl (refl, refl)
-    if_goes line (condition.Succeeds (fallible.InsertIo c)) granted refused = inl (refl, refl)
-    if_goes line (condition.Succeeds (fallible.RemoveNextIo o d)) granted refused = inl (refl, refl)
-    if_goes line (condition.Succeeds (fallible.QueueDeferredIoWorkItem r c)) granted refused = inl (refl, refl)
-    if_goes line (condition.Succeeds (fallible.QueueGenericWorkItem r c)) granted refused = inl (refl, refl)
+    if_goes : (span : Span) (asked : Condition) (granted refused : List Statement) → Goes (Statement-F.If span asked granted refused)
+    if_goes span (condition.Test (test.ContextIsSome c)) granted refused = inl (refl, refl)
+    if_goes span (condition.Test (test.OperationIsSome o)) granted refused = inl (refl, refl)
+    if_goes span (condition.Test (test.Equal n x)) granted refused = inl (refl, refl)
+    if_goes span (condition.Test (test.Less n x)) granted refused = inl (refl, refl)
+    if_goes span (condition.Test test.IsDraining) granted refused = inl (refl, refl)
+    if_goes span (condition.Test test.IsIrp) granted refused = inl (refl, refl)
+    if_goes span (condition.Succeeds (fallible.AllocateContext d)) granted refused = inl (refl, refl)
+    if_goes span (condition.Succeeds (fallible.GetContext on d)) granted refused = inl (refl, refl)
+    if_goes span (condition.Succeeds (fallible.SetContext on existing c old)) granted refused = inl (refl, refl)
+    if_goes span (condition.Succeeds (fallible.DeleteContextOf on old)) granted refused = inl (refl, refl)
+    if_goes span (condition.Succeeds (fallible.InsertIo c)) granted refused = inl (refl, refl)
+    if_goes span (condition.Succeeds (fallible.RemoveNextIo o d)) granted refused = inl (refl, refl)
+    if_goes span (condition.Succeeds (fallible.QueueDeferredIoWorkItem r c)) granted refused = inl (refl, refl)
+    if_goes span (condition.Succeeds (fallible.QueueGenericWorkItem r c)) granted refused = inl (refl, refl)
 
     layer_goes : (layer : Statement-F Statement) → out-Statement st ≡ layer → Goes layer
-    layer_goes (Statement-F.Act line x) e = act_goes line x
-    layer_goes (Statement-F.Call line c) e = call_goes line c e
-    layer_goes (Statement-F.Return line status) e = inl (refl, refl)
-    layer_goes (Statement-F.If line asked granted refused) e = if_goes line asked granted refused
-    layer_goes (Statement-F.Repeat line turns block) e = inl (refl, refl)
+    layer_goes (Statement-F.Act span x) e = act_goes span x
+    layer_goes (Statement-F.Call span c) e = call_goes span c e
+    layer_goes (Statement-F.Return span status) e = inl (refl, refl)
+    layer_goes (Statement-F.If span asked granted refused) e = if_goes span asked granted refused
+    layer_goes (Statement-F.Repeat span turns block) e = inl (refl, refl)
 
   list_goes : (list : List Statement) → act.rest ≡ list →
       ((some_step (local_step draining act list) (list_step p m.trace m.world a list true) ≡ true)
@@ -285,7 +286,7 @@ module _ (p : List Filter) (m : Moment) (r : Rests p m) where
         let low : IsLowered q.filter own.accepted.graph =
         subst (λ x. IsLowered x own.accepted.graph) is_filter own.accepted.lowered in
         let meant = q.covered own.accepted.graph own.accepted.cert low own.accepted.covers in
-        let called = call_here q w.line w.call w.layer in
+        let called = call_here q w.span w.call w.layer in
         let takes : taken_by (instruction_at own.accepted.graph q.number q.point) ≡ Some w.lock =
         ap taken_by (same_here q own.accepted.graph low ∙ called.1) ∙ w.takes in
         let acquired : Acquisition =

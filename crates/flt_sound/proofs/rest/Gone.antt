@@ -57,13 +57,13 @@ chosen_locks act (Some b) granted refused rest new e =
 
 layer_locks : (draining : Bool) (act : Activation) (rest : List Statement) (layer : Statement-F Statement) (new : Activation) →
     after_statement draining act rest layer ≡ Some new → new.locks ≡ act.locks
-layer_locks draining act rest (Statement-F.Act line x) new e = action_locks act x rest new e
-layer_locks draining act rest (Statement-F.Call line c) new e = absurd (cc)
-layer_locks draining act rest (Statement-F.Return line st) new e = absurd (cc)
-layer_locks draining act rest (Statement-F.If line asked granted refused) new e =
+layer_locks draining act rest (Statement-F.Act span x) new e = action_locks act x rest new e
+layer_locks draining act rest (Statement-F.Call span c) new e = absurd (cc)
+layer_locks draining act rest (Statement-F.Return span st) new e = absurd (cc)
+layer_locks draining act rest (Statement-F.If span asked granted refused) new e =
     chosen_locks act (holds_condition draining act asked) granted refused rest new e
-layer_locks draining act rest (Statement-F.Repeat line turns block) new e =
-    let same : goes_on_to (turns_left line turns block rest) act ≡ new = cc in ap (λ (b : Activation). b.locks) (sym same)
+layer_locks draining act rest (Statement-F.Repeat span turns block) new e =
+    let same : goes_on_to (turns_left span turns block rest) act ≡ new = cc in ap (λ (b : Activation). b.locks) (sym same)
 
 -- a local step leaves the locks of its activation
 pub local_locks : (draining : Bool) (act : Activation) (list : List Statement) (new : Activation) →

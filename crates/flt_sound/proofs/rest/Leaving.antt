@@ -12,6 +12,7 @@ use Rattle.flt_tree.specs.declared.filter.Condition.TheVariants as condition
 use Rattle.flt_tree.specs.declared.filter.Filter.{Filter}
 use Rattle.flt_tree.specs.declared.filter.PlainCall.{PlainCall}
 use Rattle.flt_tree.specs.declared.filter.PlainCall.TheVariants as plain_call
+use Rattle.flt_tree.specs.declared.filter.Span.{Span}
 use Rattle.flt_tree.specs.declared.filter.Statement.{Statement, out-Statement}
 use Rattle.flt_tree.specs.declared.filter.Statement.TheOpen.{Statement-F}
 use Rattle.flt_tree.specs.declared.filter.Test.{Test}
@@ -52,9 +53,9 @@ module _ {p : List Filter} {m : Moment} {a : ℕ} (s : Shadow) (st : Statement) 
       let one : v ≡ u = cc in
       ne (sym (owned_visit at d v owns).filter_is ∙ (ap (λ v. (visit_at m.world.store v).filter) one ∙ h))
 
-  plain_apart : (line : ℕ) (c : PlainCall) → out-Statement st ≡ Statement-F.Call line c → Leaves (plain_step p m.trace m.world a rest c)
-  plain_apart line c e =
-      let i = call_here (spot at) line c e in
+  plain_apart : (span : Span) (c : PlainCall) → out-Statement st ≡ Statement-F.Call span c → Leaves (plain_step p m.trace m.world a rest c)
+  plain_apart span c e =
+      let i = call_here (spot at) span c e in
       by c (at_call at (graph.plain c) i.0 i.0 i.1 rest rest (ap (λ y. remaining_of y rest true) e) (ap (λ y. remaining_of y rest false) e))
     where
       by : (c : PlainCall) → AtCall at (graph.plain c) rest rest → Leaves (plain_step p m.trace m.world a rest c)
@@ -102,11 +103,11 @@ module _ {p : List Filter} {m : Moment} {a : ℕ} (s : Shadow) (st : Statement) 
 
   statement_apart : (layer : Statement-F Statement) (grant : Bool) → out-Statement st ≡ layer →
       AfterStep (statement_step p m.trace m.world a rest grant layer) Leaves
-  statement_apart (Statement-F.Act line x) grant e = act_apart x
-  statement_apart (Statement-F.Call line c) grant e = plain_apart line c e
-  statement_apart (Statement-F.Return line status) grant e = returns_apart m.world a f ne there p m.trace status data_own
-  statement_apart (Statement-F.If line asked granted refused) grant e = if_apart asked grant (granted ++ rest) (refused ++ rest)
-  statement_apart (Statement-F.Repeat line turns block) grant e = tt
+  statement_apart (Statement-F.Act span x) grant e = act_apart x
+  statement_apart (Statement-F.Call span c) grant e = plain_apart span c e
+  statement_apart (Statement-F.Return span status) grant e = returns_apart m.world a f ne there p m.trace status data_own
+  statement_apart (Statement-F.If span asked granted refused) grant e = if_apart asked grant (granted ++ rest) (refused ++ rest)
+  statement_apart (Statement-F.Repeat span turns block) grant e = tt
 
   first_apart : (layer : Statement-F Statement) (grant : Bool) → out-Statement st ≡ layer → (b : Bool) →
       AfterStep (if b then statement_step p m.trace m.world a rest grant layer else None) Leaves

@@ -21,7 +21,7 @@ returns-in-Some-Repeat-clause-first c =
     first_of _ _ _
     (taken_out c.loop-self.self.block.now c.loop-self.self.outer.now _ (contents c.loop-self.kept).after (contents c.resume.new.self).after
     c.in_default.len_below c.in_default-outer.len_below c.loop-self.invariant.rest
-    (Repeat c.in-Some-Repeat.line c.in-Some-Repeat.turns c.in-Some-Repeat.body)
+    (Repeat c.in-Some-Repeat.span c.in-Some-Repeat.turns c.in-Some-Repeat.body)
     (cc (c.in-Some-Repeat.ensures.0, c.in-Some-Repeat.field-0-is)))
 
 pub returns-in-None-clause-first : goal.returns-in-None-clause-first

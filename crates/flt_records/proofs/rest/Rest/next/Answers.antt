@@ -20,7 +20,7 @@ pub returns-in-Some-Repeat-clause-rest : goal.returns-in-Some-Repeat-clause-rest
 returns-in-Some-Repeat-clause-rest c =
     turn_out c.loop-self.self.block.now c.loop-self.self.outer.now _ (contents c.loop-self.kept).after (contents c.resume.new.self).after
     c.in_default.len_below c.in_default-outer.len_below c.loop-self.invariant.rest
-    (Repeat c.in-Some-Repeat.line c.in-Some-Repeat.turns c.in-Some-Repeat.body)
+    (Repeat c.in-Some-Repeat.span c.in-Some-Repeat.turns c.in-Some-Repeat.body)
     (cc (c.in-Some-Repeat.ensures.0, c.in-Some-Repeat.field-0-is))
 
 pub returns-in-None-clause-rest : goal.returns-in-None-clause-rest
