@@ -36,7 +36,9 @@ fn thin_points(
     ensures { IfOk result (λ slots. slots ≡ spec.thin_points graph.now callback 0 points.now) }
 {
     let kept = kept_points(graph, callback);
-    let mut slots = Items::new(alloc);
+    let mut room = Vec::new(alloc);
+    room.reserve(points.len())?;
+    let mut slots = Items::from_vec(room);
     for number in 0..points.len() {
         slots.push(slot_of(kept[number], &points[number]))?;
     }
