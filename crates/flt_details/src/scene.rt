@@ -1,48 +1,57 @@
 //! A text that parses, with all that is looked up in it.
 
-use crate::pieces::between;
-use crate::sites::{Site, Sites};
+ghost use Rattle.std.specs.Prelude.{◌≡◌};
+ghost use Rattle.flt_graph.specs.Graph.{line_at, span_at};
+ghost use Rattle.flt_details.specs.Stages.{place_of};
+ghost use Rattle.flt_places.specs.Places.{bytes_of, site_of};
+
 use flt_graph::{Graph, Instruction};
+use flt_places::{Lines, Site};
 use flt_syntax::Tree;
+use flt_tree::Position;
 
 /// A text that parses, with all that is looked up in it.
 #[derive(Clone, Copy)]
 pub struct Scene<'a> {
-    pub text: &'a [u8],
-    pub sites: &'a Sites,
+    pub lines: &'a Lines<'a>,
     pub tree: &'a Tree,
     pub graph: &'a Graph,
 }
 
 impl<'a> Scene<'a> {
-    /// Where a point stands.
-    pub fn site(&self, callback: usize, point: usize) -> Option<Site> {
-        self.sites.site(callback, point)
+    /// Where a point stands: what an `if` asks stands for it. One that isn't there stands at the text's begin.
+    pub fn site(&self, callback: usize, point: usize) -> Site
+        ensures { result ≡ site_of self.now.lines.now (span_at self.now.graph.now callback point) }
+    {
+        self.lines.site(self.graph.span(callback, point))
     }
 
-    /// Where the statement of a point begins, from 1.
-    pub(crate) fn column(&self, callback: usize, point: usize) -> usize {
-        match self.sites.site(callback, point) {
-            Some(site) => site.column,
-            None => 1,
-        }
+    /// Where a point begins.
+    pub(crate) fn place(&self, callback: usize, point: usize) -> Position
+        ensures { result ≡ place_of self.now.lines.now self.now.graph.now callback point }
+    {
+        self.lines.place(self.graph.span(callback, point).start)
     }
 
     /// What stands in the text at a point; nothing where the point isn't in it.
-    pub(crate) fn at_point(&self, callback: usize, point: usize) -> &'a [u8] {
-        match self.sites.site(callback, point) {
-            Some(site) => between(self.text, site.start, site.end),
-            None => &[],
-        }
+    pub(crate) fn at_point(&self, callback: usize, point: usize) -> &'a [u8]
+        ensures { result.now ≡ bytes_of self.now.lines.now (span_at self.now.graph.now callback point) }
+    {
+        self.lines.bytes(self.graph.span(callback, point))
     }
 
     /// The head of a callback.
     pub(crate) fn head(&self, callback: usize) -> &'a [u8] {
-        self.sites.head(self.text, callback)
+        match self.tree.filter.callbacks.get(callback) {
+            Some(callback) => self.lines.bytes(callback.span),
+            None => &[],
+        }
     }
 
-    /// The line of a point.
-    pub fn line(&self, callback: usize, point: usize) -> usize {
+    /// The line of a point's statement, from 1, as `check` says it.
+    pub fn line(&self, callback: usize, point: usize) -> usize
+        ensures { result ≡ line_at self.now.graph.now callback point }
+    {
         self.graph.line(callback, point)
     }
 

@@ -1,29 +1,31 @@
 //! What other forms of reports say of a finding: its words and its places.
 
-ghost use Rattle.std.specs.Prelude.{◌≡◌, IfOk, map};
+ghost use Rattle.std.specs.Prelude.{◌≡◌, IfOk, IfSome};
+ghost use Rattle.flt_details.specs.Stages as spec;
 
 use crate::advice::{tell_advice, tell_note, tell_title};
 use crate::branches::{step_outcome, tell_branch};
 use crate::case::Case;
 use crate::page::Page;
 use crate::scene::Scene;
-use crate::sites::Sites;
 use crate::subjects::state_word;
 use crate::tracing::{Shown, trace};
 use flt_explain::Finding;
 use flt_graph::Graph;
 use flt_origins::Cause;
+use flt_places::Lines;
 use flt_syntax::Tree;
+use flt_tree::Position;
 use flt_ways::{Answer, Step, Way};
 use sqlite_items::Items;
 use std::alloc::{AllocError, Global};
 
-/// How a point comes out on a way. Points count from 0, lines and columns from 1.
+/// How a point comes out on a way. Points count from 0.
 #[derive(Drop)]
 pub struct Stage {
     pub point: usize,
-    pub line: usize,
-    pub column: usize,
+    /// Where its statement begins; of an `if` what it asks.
+    pub place: Position,
     /// The call succeeds, the test holds, a turn is left. It is true where nothing is asked.
     pub granted: bool,
     /// What is asked there, and how it comes out; nothing where nothing is asked.
@@ -76,8 +78,8 @@ pub struct Route {
 #[derive(Drop)]
 pub struct Detail {
     pub finding: Finding,
-    /// Where its point's statement begins, from 1.
-    pub column: usize,
+    /// Where its point's statement begins; of an `if` what it asks.
+    pub place: Position,
     pub words: Words,
     pub route: Route,
 }
@@ -103,11 +105,12 @@ fn stage_of(
     scene: &Scene<'_>,
     callback: usize,
     step: Step,
-) -> Result<Stage, AllocError> {
+) -> Result<Stage, AllocError>
+    ensures { IfOk result (spec.IsPlaced scene.now.lines.now scene.now.graph.now callback) }
+{
     Ok(Stage {
         point: step.point,
-        line: scene.line(callback, step.point),
-        column: scene.column(callback, step.point),
+        place: scene.place(callback, step.point),
         granted: step.granted,
         words: branch_of(alloc, scene, callback, step)?,
     })
@@ -118,7 +121,9 @@ fn stages(
     scene: &Scene<'_>,
     callback: usize,
     steps: &[Step],
-) -> Result<Items<Stage>, AllocError> {
+) -> Result<Items<Stage>, AllocError>
+    ensures { IfOk result (spec.ArePlaced scene.now.lines.now scene.now.graph.now callback) }
+{
     let mut all = Items::new(alloc);
     for step in steps {
         all.push(stage_of(alloc, scene, callback, *step)?)?;
@@ -141,7 +146,9 @@ fn stages_on(
     scene: &Scene<'_>,
     callback: usize,
     way: Option<&Way>,
-) -> Result<Items<Stage>, AllocError> {
+) -> Result<Items<Stage>, AllocError>
+    ensures { IfOk result (spec.ArePlaced scene.now.lines.now scene.now.graph.now callback) }
+{
     match way {
         Some(way) => stages(alloc, scene, callback, way.steps.as_slice()),
         None => Ok(Items::new(alloc)),
@@ -154,7 +161,9 @@ fn other_stages(
     scene: &Scene<'_>,
     callback: usize,
     way: Option<&Way>,
-) -> Result<Option<Items<Stage>>, AllocError> {
+) -> Result<Option<Items<Stage>>, AllocError>
+    ensures { IfOk result (λ other. IfSome other (spec.ArePlaced scene.now.lines.now scene.now.graph.now callback)) }
+{
     match way {
         Some(way) => Ok(Some(stages(alloc, scene, callback, way.steps.as_slice())?)),
         None => Ok(None),
@@ -167,7 +176,9 @@ fn origin_of(
     scene: &Scene<'_>,
     callback: usize,
     shown: &Shown,
-) -> Result<Option<Stage>, AllocError> {
+) -> Result<Option<Stage>, AllocError>
+    ensures { IfOk result (λ origin. IfSome origin (spec.IsPlaced scene.now.lines.now scene.now.graph.now callback)) }
+{
     let Some(origin) = shown.origin.as_ref() else {
         return Ok(None);
     };
@@ -260,7 +271,9 @@ impl Route {
         scene: &Scene<'_>,
         callback: usize,
         shown: &Shown,
-    ) -> Result<(), AllocError> {
+    ) -> Result<(), AllocError>
+        ensures { IfOk result (λ _. spec.IsRoute scene.now.lines.now scene.now.graph.now callback self.new) }
+    {
         let (way, other) = shown.ways();
         self.stages = stages_on(alloc, scene, callback, way)?;
         self.other = other_stages(alloc, scene, callback, other)?;
@@ -275,7 +288,9 @@ fn route_by(
     scene: &Scene<'_>,
     finding: &Finding,
     shown: &Shown,
-) -> Result<Route, AllocError> {
+) -> Result<Route, AllocError>
+    ensures { IfOk result (spec.IsRoute scene.now.lines.now scene.now.graph.now finding.now.callback) }
+{
     let mut route = bare_route(alloc, finding, shown);
     route.tell(alloc, scene, finding.callback, shown)?;
     Ok(route)
@@ -288,20 +303,20 @@ fn detail_by(
     finding: &Finding,
     shown: &Shown,
 ) -> Result<Detail, AllocError>
-    ensures { IfOk result (λ d. d.finding ≡ finding.now) }
+    ensures { IfOk result (spec.IsDetail scene.now.lines.now scene.now.graph.now finding.now) }
 {
     let words = words_of(alloc, scene, finding, Some(shown))?;
     let route = route_by(alloc, scene, finding, shown)?;
     Ok(Detail {
         finding: *finding,
-        column: scene.column(finding.callback, finding.point),
+        place: scene.place(finding.callback, finding.point),
         words,
         route,
     })
 }
 
 fn detail_of(alloc: Global, scene: &Scene<'_>, finding: &Finding) -> Result<Detail, AllocError>
-    ensures { IfOk result (λ d. d.finding ≡ finding.now) }
+    ensures { IfOk result (spec.IsDetail scene.now.lines.now scene.now.graph.now finding.now) }
 {
     let shown = trace(alloc, scene.graph, finding)?;
     let detail = detail_by(alloc, scene, finding, &shown);
@@ -321,12 +336,11 @@ pub fn details(
     graph: &Graph,
     found: &[Finding],
 ) -> Result<Items<Detail>, AllocError>
-    ensures { IfOk result (λ ds. map (λ d. d.finding) ds ≡ found.now) }
+    ensures { IfOk result (spec.AreDetails text.now graph.now found.now) }
 {
-    let sites = Sites::of(alloc, text)?;
+    let lines = Lines::of(alloc, text)?;
     let scene = Scene {
-        text,
-        sites: &sites,
+        lines: &lines,
         tree,
         graph,
     };

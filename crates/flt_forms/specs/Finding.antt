@@ -12,9 +12,10 @@ use Rattle.flt_forms.specs.Members.{line_of, string_member, text_member, number_
 use Rattle.flt_forms.specs.Steps.{kind_name, step_member, steps, steps_member}
 
 -- where a finding is
-abbrev pub place : Finding → List Token
-place f =
-    number_member (codes "callback") f.callback ++ number_member (codes "point") f.point ++ number_member (codes "line") f.line
+abbrev pub place : Detail → List Token
+place d =
+    number_member (codes "callback") d.finding.callback ++ (number_member (codes "point") d.finding.point
+    ++ (number_member (codes "line") d.place.line ++ number_member (codes "column") d.place.column))
 
 -- the rule that is broken
 abbrev pub rule : Finding → List Token
@@ -44,8 +45,8 @@ route r = state r.state ++ (step_member (codes "origin") r.origin ++ way r)
 -- a finding of a file
 abbrev pub finding : List ℕ → Detail → List Token
 finding name d =
-    begin_object ∷ string_member (codes "file") name ++ (place d.finding ++ (number_member (codes "column") d.column
-    ++ (rule d.finding ++ (words d.words ++ (route d.route ++ end_object ∷ [])))))
+    begin_object ∷ string_member (codes "file") name ++ (place d ++ (rule d.finding ++ (words d.words
+    ++ (route d.route ++ end_object ∷ []))))
 
 -- a line for each finding, in order
 abbrev pub finding_line : List ℕ → Detail → List ℕ

@@ -1,25 +1,26 @@
 -- What is found of texts, as SARIF 2.1.0 (OASIS).
-use Rattle.std.specs.Prelude.{◌≡◌, ℕ, List, [], ◌∷◌, ◌++◌, Option, Some, None, codes, flat_map, map, max}
+use Rattle.std.specs.Prelude.{◌≡◌, ℕ, List, [], ◌∷◌, ◌++◌, Option, Some, None, codes, flat_map, max}
 use Rattle.flt_explain.specs.declared.finding.Finding.{Finding}
 use Rattle.flt_hints.specs.Trouble.{IsDescribed}
 use Rattle.flt_hints.specs.declared.troubles.Trouble.{Trouble}
 use Rattle.flt_details.specs.Closing.{fault_name, rule_name}
 use Rattle.flt_details.specs.Reports.{IsJudged, status_of}
+use Rattle.flt_details.specs.Stages.{AreDetails}
 use Rattle.flt_details.specs.declared.judged.Judged.{Judged}
 use Rattle.flt_details.specs.declared.judged.Judged.TheVariants.{Unread, Known}
 use Rattle.flt_details.specs.declared.sources.Source.{Source}
 use Rattle.flt_details.specs.declared.study.Detail.{Detail}
-use Rattle.flt_details.specs.declared.study.Route.{Route}
 use Rattle.flt_details.specs.declared.study.Stage.{Stage}
 use Rattle.flt_details.specs.declared.study.WayKind.{WayKind}
 use Rattle.flt_details.specs.declared.study.WayKind.TheVariants.{Clean, Behind, Unreached, Unknown}
+use Rattle.flt_graph.specs.declared.graph.Graph.{Graph}
 use Rattle.flt_rules.specs.Rule.{text}
 use Rattle.flt_rules.specs.declared.rule.Rule.{Rule}
 use Rattle.flt_rules.specs.declared.rule.Rule.TheVariants.{R01, R02, R03, R04, R05, R06, R07, R08, R09, R10, R11, R12, R13, R14, R15}
 use Rattle.flt_syntax.specs.declared.fault.FaultKind.{FaultKind}
 use Rattle.flt_syntax.specs.declared.fault.SyntaxFault.{SyntaxFault}
 use Rattle.flt_syntax.specs.declared.fault.FaultKind.TheVariants.{E01, E02, E03, E04, E05, E06, E07, E08}
-use Rattle.json.specs.Print.{print}
+use Rattle.flt_tree.specs.Names.{Text}
 use Rattle.json.specs.Token.{Token, begin_object, end_object, key}
 use Rattle.flt_forms.specs.Members.{array_member, filled_member, line_of, number_member, object_member, string_member, text_member}
 use Rattle.flt_forms.specs.Uri.{uri_of}
@@ -50,7 +51,7 @@ location uri line column words = item (physical uri line column ++ message words
 
 -- the places of a finding: one
 abbrev pub locations : List ℕ → Detail → List Token
-locations uri d = array_member (codes "locations") (location uri d.finding.line d.column d.words.title.items)
+locations uri d = array_member (codes "locations") (location uri d.place.line d.place.column d.words.title.items)
 
 -- ---- ways
 
@@ -61,14 +62,14 @@ flow_location uri line column words = item (key (codes "location") ∷ location 
 -- a step at which nothing is asked isn't shown
 abbrev pub flow_step_by : List ℕ → Stage → List ℕ → List Token
 flow_step_by uri s [] = []
-flow_step_by uri s (b ∷ words) = flow_location uri s.line s.column (b ∷ words)
+flow_step_by uri s (b ∷ words) = flow_location uri s.place.line s.place.column (b ∷ words)
 
 abbrev pub flow_step : List ℕ → Stage → List Token
 flow_step uri s = flow_step_by uri s s.words.items
 
 -- the end of a way
 abbrev pub finding_place : List ℕ → Detail → List Token
-finding_place uri d = flow_location uri d.finding.line d.column d.words.title.items
+finding_place uri d = flow_location uri d.place.line d.place.column d.words.title.items
 
 -- the places of a way to a finding, with the finding last
 abbrev pub thread_places : List ℕ → Detail → List Stage → List Token
@@ -104,7 +105,7 @@ level = string_member (codes "level") (codes "error")
 
 -- where what is found comes from
 abbrev pub origin : List ℕ → Stage → List Token
-origin uri s = location uri s.line s.column (codes "this makes it so")
+origin uri s = location uri s.place.line s.place.column (codes "this makes it so")
 
 abbrev pub related : List ℕ → Option Stage → List Token
 related uri None = []
@@ -153,15 +154,15 @@ pub record IsFaultResult (name source : List ℕ) (tokens : List Token) : Type 0
   pub result : tokens ≡ fault_result (uri_of name) trouble.spot.fault words help
 
 -- one result for each of these findings, in their order
-pub record AreFindingResults (name : List ℕ) (found : List Finding) (tokens : List Token) : Type 0 where
+pub record AreFindingResults (name : List ℕ) (text : Text) (graph : Graph) (found : List Finding) (tokens : List Token) : Type 0 where
   pub details : List Detail
-  pub each : map (λ (d : Detail). d.finding) details ≡ found
+  pub each : AreDetails text graph found details
   pub results : tokens ≡ flat_map (result (uri_of name)) details
 
 -- the results of a text: one where it doesn't parse, else one for each finding
-abbrev pub HasResults : Source → Judged → List Token → Type 0
+unfoldable pub HasResults : Source → Judged → List Token → Type 0
 HasResults s (Unread f) tokens = IsFaultResult s.name.now s.text.now tokens
-HasResults s (Known tree graph found) tokens = AreFindingResults s.name.now found tokens
+HasResults s (Known tree graph found) tokens = AreFindingResults s.name.now s.text.now graph found tokens
 
 -- the same, with the text's status
 pub record IsPart (s : Source) (tokens : List Token) (status : ℕ) : Type 0 where

@@ -14,8 +14,8 @@ side granted = if granted then codes "yes" else codes "no"
 -- a step: its point, where that stands, and how it comes out
 abbrev pub step : Stage → List Token
 step s =
-    begin_object ∷ number_member (codes "point") s.point ++ (number_member (codes "line") s.line
-    ++ (number_member (codes "column") s.column ++ (string_member (codes "side") (side s.granted)
+    begin_object ∷ number_member (codes "point") s.point ++ (number_member (codes "line") s.place.line
+    ++ (number_member (codes "column") s.place.column ++ (string_member (codes "side") (side s.granted)
     ++ (filled_member (codes "words") s.words.items ++ end_object ∷ []))))
 
 -- several, in order

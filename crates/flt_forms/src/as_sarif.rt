@@ -190,7 +190,7 @@ fn put_known(
     graph: &Graph,
     found: &[Finding],
 ) -> Result<(), AllocError>
-    ensures { IfOk result (λ _. (ts : List Token) × spec.AreFindingResults source.entry.name.now found.now ts
+    ensures { IfOk result (λ _. (ts : List Token) × spec.AreFindingResults source.entry.name.now source.entry.text.now graph.now found.now ts
         × Added writer.old writer.new ts) }
 {
     let details = details(alloc, source.text, tree, graph, found)?;
@@ -198,6 +198,7 @@ fn put_known(
     put_results(alloc, writer, &uri, details.as_slice())
 }
 
+#[tactic(auto, unfolding(crate::specs::Sarif::HasResults))]
 fn put_judged(
     alloc: Global,
     writer: &mut Writer,

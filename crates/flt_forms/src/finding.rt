@@ -16,12 +16,13 @@ use flt_rules::{Rule, text};
 use json::Writer;
 use std::alloc::{AllocError, Global};
 
-fn put_place(writer: &mut Writer, finding: &Finding) -> Result<(), AllocError>
-    ensures { Adds result writer.old writer.new (spec.place finding.now) }
+fn put_place(writer: &mut Writer, detail: &Detail) -> Result<(), AllocError>
+    ensures { Adds result writer.old writer.new (spec.place detail.now) }
 {
-    put_number(writer, "callback", finding.callback)?;
-    put_number(writer, "point", finding.point)?;
-    put_number(writer, "line", finding.line)
+    put_number(writer, "callback", detail.finding.callback)?;
+    put_number(writer, "point", detail.finding.point)?;
+    put_number(writer, "line", detail.place.line)?;
+    put_number(writer, "column", detail.place.column)
 }
 
 /// A rule's number.
@@ -95,8 +96,7 @@ fn put_finding(
 {
     open_object(writer)?;
     put_string(writer, "file", name)?;
-    put_place(writer, &detail.finding)?;
-    put_number(writer, "column", detail.column)?;
+    put_place(writer, detail)?;
     put_rule(alloc, writer, &detail.finding)?;
     put_words(alloc, writer, &detail.words)?;
     put_route(alloc, writer, &detail.route)?;

@@ -129,7 +129,16 @@ fn put_flow_step(
 {
     match stage.words.as_slice() {
         [] => Ok(()),
-        [_, ..] => { put_flow_location(alloc, writer, uri, stage.line, stage.column, &stage.words) }
+        [_, ..] => {
+            put_flow_location(
+                alloc,
+                writer,
+                uri,
+                stage.place.line,
+                stage.place.column,
+                &stage.words,
+            )
+        }
     }
 }
 
@@ -159,8 +168,8 @@ fn put_finding_place(
         alloc,
         writer,
         uri,
-        detail.finding.line,
-        detail.column,
+        detail.place.line,
+        detail.place.column,
         &detail.words.title,
     )
 }
@@ -331,7 +340,14 @@ fn put_origin(
     ensures { Adds result writer.old writer.new (spec.origin uri.now.items stage.now) }
 {
     let words = Vec::from_slice(alloc, b"this makes it so")?;
-    put_location(alloc, writer, uri, stage.line, stage.column, &words)
+    put_location(
+        alloc,
+        writer,
+        uri,
+        stage.place.line,
+        stage.place.column,
+        &words,
+    )
 }
 
 fn put_related_origin(
@@ -397,8 +413,8 @@ fn put_finding_locations(
         alloc,
         writer,
         uri,
-        detail.finding.line,
-        detail.column,
+        detail.place.line,
+        detail.place.column,
         &detail.words.title,
     )
 }

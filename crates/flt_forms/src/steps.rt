@@ -43,8 +43,8 @@ fn put_step(alloc: Global, writer: &mut Writer, stage: &Stage) -> Result<(), All
 {
     open_object(writer)?;
     put_number(writer, "point", stage.point)?;
-    put_number(writer, "line", stage.line)?;
-    put_number(writer, "column", stage.column)?;
+    put_number(writer, "line", stage.place.line)?;
+    put_number(writer, "column", stage.place.column)?;
     put_side(writer, stage.granted)?;
     put_filled(alloc, writer, "words", &stage.words)?;
     close_object(writer)

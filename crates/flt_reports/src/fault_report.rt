@@ -2,29 +2,30 @@
 
 use crate::heading::tell_heading;
 use crate::marks::Drawing;
-use flt_details::{Page, Site, Source, fault_name, line_at};
+use flt_details::{Page, Source, fault_name};
 use flt_hints::{Told, Trouble, describe, tell};
+use flt_places::{Lines, Site};
+use flt_tree::Position;
 use std::alloc::{AllocError, Global};
 
 /// Draws the line with marks under what stands there, and behind them which word is probably meant.
 fn draw_spot(
     page: &mut Page,
     coloured: bool,
-    text: &[u8],
+    lines: &Lines<'_>,
     trouble: &Trouble<'_>,
     told: &Told,
 ) -> Result<(), AllocError> {
     let fault = trouble.spot.fault;
     let mut drawing = Drawing::new(coloured, fault.line);
     let site = Site {
-        callback: 0,
-        point: 0,
-        line: fault.line,
-        column: fault.column,
-        start: 0,
-        end: trouble.spot.bytes.len(),
+        place: Position {
+            line: fault.line,
+            column: fault.column,
+        },
+        length: trouble.spot.bytes.len(),
     };
-    drawing.draw(page, line_at(text, fault.line), &site, b'^')?;
+    drawing.draw(page, lines.line(fault.line), &site, b'^')?;
     if told.meant.is_empty() {
         page.bytes(b"\n")
     } else {
@@ -34,6 +35,7 @@ fn draw_spot(
 
 /// Writes what is wrong, where that is, what stands there, and how to mend it. The line isn't drawn where the text is too large.
 fn report_trouble(
+    alloc: Global,
     page: &mut Page,
     coloured: bool,
     source: Source<'_>,
@@ -45,7 +47,8 @@ fn report_trouble(
     tell_heading(page, coloured, code, told.title.as_slice(), source.name)?;
     page.numbers(&[":", ":", "\n"], &[fault.line, fault.column])?;
     if trouble.spot.token.is_some() {
-        draw_spot(page, coloured, source.text, trouble, told)?;
+        let lines = Lines::of(alloc, source.text)?;
+        draw_spot(page, coloured, &lines, trouble, told)?;
     }
     page.bytes(told.notes.as_slice())
 }
@@ -62,5 +65,5 @@ pub(crate) fn report_fault(
         return Ok(());
     };
     let told = tell(alloc, &trouble)?;
-    report_trouble(page, coloured, source, &trouble, &told)
+    report_trouble(alloc, page, coloured, source, &trouble, &told)
 }

@@ -2,7 +2,9 @@
 
 use crate::heading::tell_heading;
 use crate::marks::Drawing;
-use flt_details::{Page, Site};
+use flt_details::Page;
+use flt_places::Site;
+use flt_tree::Position;
 use std::alloc::{AllocError, Global};
 
 /// A line in which something is wrong. Lines and columns count from 1.
@@ -39,12 +41,11 @@ fn draw(page: &mut Page, coloured: bool, marked: &MarkedLine<'_>) -> Result<(), 
         return Ok(());
     }
     let site = Site {
-        callback: 0,
-        point: 0,
-        line: marked.line,
-        column: marked.column,
-        start: 0,
-        end: marked.marked,
+        place: Position {
+            line: marked.line,
+            column: marked.column,
+        },
+        length: marked.marked,
     };
     Drawing::new(coloured, marked.line).draw(page, marked.shown, &site, b'^')?;
     tell_meant(page, marked.meant)

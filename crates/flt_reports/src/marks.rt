@@ -1,6 +1,7 @@
 //! Lines of a text with marks under them.
 
-use flt_details::{Page, Site};
+use flt_details::Page;
+use flt_places::Site;
 use std::alloc::AllocError;
 
 /// What stands round the numbers of lines and round marks.
@@ -37,10 +38,20 @@ pub(crate) struct Drawing {
     last: usize,
 }
 
+/// A line without the carriage return that may end it.
+fn without_return(line: &[u8]) -> &[u8] {
+    match line {
+        [rest @ .., b'\r'] => rest,
+        _ => line,
+    }
+}
+
 /// How many signs mark a site: what of it stands on its first line.
 fn marks(line: &[u8], site: &Site) -> usize {
-    let rest = line.len().saturating_sub(site.column.saturating_sub(1));
-    rest.min(site.end.saturating_sub(site.start)).max(1)
+    let rest = line
+        .len()
+        .saturating_sub(site.place.column.saturating_sub(1));
+    rest.min(site.length).max(1)
 }
 
 /// How many digits a number has.
@@ -89,7 +100,7 @@ impl Drawing {
         sign: u8,
     ) -> Result<(), AllocError> {
         page.run(b' ', self.margin, self.frame.bar)?;
-        page.run(b' ', site.column.saturating_sub(1), self.frame.mark)?;
+        page.run(b' ', site.place.column.saturating_sub(1), self.frame.mark)?;
         page.run(sign, marks(line, site), self.frame.behind_mark)
     }
 
@@ -102,9 +113,10 @@ impl Drawing {
         site: &Site,
         sign: u8,
     ) -> Result<(), AllocError> {
-        if site.line != self.last {
-            self.draw_line(page, line, site.line)?;
-            self.last = site.line;
+        let line = without_return(line);
+        if site.place.line != self.last {
+            self.draw_line(page, line, site.place.line)?;
+            self.last = site.place.line;
         }
         self.draw_marks(page, line, site, sign)
     }

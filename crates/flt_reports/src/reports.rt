@@ -2,10 +2,11 @@
 
 use crate::fault_report::report_fault;
 use crate::finding_report::report_finding;
-use flt_details::{Page, Scene, Sites, Source, Traces, words_of};
+use flt_details::{Page, Scene, Source, Traces, words_of};
 use flt_explain::Finding;
 use flt_graph::Graph;
 use flt_origins::Group;
+use flt_places::Lines;
 use flt_syntax::Tree;
 use sqlite_items::Items;
 use std::alloc::{AllocError, Global};
@@ -87,10 +88,9 @@ pub fn report_findings(
     graph: &Graph,
     found: &[Finding],
 ) -> Result<Items<Report>, AllocError> {
-    let sites = Sites::of(alloc, source.text)?;
+    let lines = Lines::of(alloc, source.text)?;
     let scene = Scene {
-        text: source.text,
-        sites: &sites,
+        lines: &lines,
         tree,
         graph,
     };

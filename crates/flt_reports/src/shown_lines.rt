@@ -1,12 +1,11 @@
 //! The lines of a text that show a finding, with marks: its point, where what is found comes from, and where ways meet.
 
 use crate::marks::Drawing;
-use flt_details::{
-    Page, Scene, Shown, Site, Words, fact_word, line_at, state_at_end, step_call_outcome,
-};
+use flt_details::{Page, Scene, Shown, Words, fact_word, state_at_end, step_call_outcome};
 use flt_explain::{Finding, Subject};
 use flt_graph::{Call, Instruction};
 use flt_origins::{Cause, Fact, Origin, VariableStatus};
+use flt_places::Site;
 use flt_rules::Rule;
 use flt_ways::{Step, Way};
 use std::alloc::{AllocError, Global};
@@ -27,7 +26,7 @@ struct Mark {
     site: Site,
 }
 
-/// Adds a mark at a point, if that is in the text.
+/// Adds a mark at a point.
 fn add_mark(
     marks: &mut Vec<Mark>,
     scene: &Scene<'_>,
@@ -35,9 +34,8 @@ fn add_mark(
     point: usize,
     sign: Sign,
 ) -> Result<(), AllocError> {
-    if let Some(site) = scene.site(callback, point) {
-        marks.push(Mark { sign, site })?;
-    }
+    let site = scene.site(callback, point);
+    marks.push(Mark { sign, site })?;
     Ok(())
 }
 
@@ -83,7 +81,7 @@ fn add_marks(
     add_origin(marks, scene, finding.callback, shown.origin.as_ref())?;
     add_mark(marks, scene, finding.callback, finding.point, Sign::Point)?;
     add_meeting(marks, scene, finding.callback, shown)?;
-    marks.sort_by_key(|mark| mark.site.line)
+    marks.sort_by_key(|mark| mark.site.place.line)
 }
 
 /// What a call does to what it gives away or releases.
@@ -246,7 +244,7 @@ fn draw_marks(
     marks: &[Mark],
 ) -> Result<(), AllocError> {
     for mark in marks {
-        let line = line_at(scene.text, mark.site.line);
+        let line = scene.lines.line(mark.site.place.line);
         drawing.draw(page, line, &mark.site, stroke(mark.sign))?;
         tell_mark(page, scene, finding, words, shown, mark.sign)?;
     }
@@ -256,7 +254,7 @@ fn draw_marks(
 /// The greatest line on which a mark stands; that of the finding where there is none.
 fn greatest_line(finding: &Finding, marks: &[Mark]) -> usize {
     match marks {
-        [.., last] => last.site.line,
+        [.., last] => last.site.place.line,
         [] => finding.line,
     }
 }

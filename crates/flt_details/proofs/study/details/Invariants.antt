@@ -1,5 +1,7 @@
-use Rattle.std.proofs.Common.{◌≡◌, map, take}
+use Rattle.std.proofs.Common.{take}
+use Rattle.std.specs.List.{AllZip}
+use Rattle.flt_details.specs.Stages.{IsDetail}
 use Rattle.flt_details.proofs.study.details.Given as goal
 
 abbrev pub invariant-loop-finding : goal.invariant-loop-finding
-invariant-loop-finding l = map (λ d. d.finding) l.all ≡ take l.finding-index l.found
+invariant-loop-finding l = AllZip (IsDetail l.text l.graph) (take l.finding-index l.found) l.all

@@ -1,0 +1,40 @@
+-- Where what is said of findings stands. This project's own program.
+use Rattle.std.specs.Prelude.{◌≡◌, ℕ, List, IfSome, All}
+use Rattle.std.specs.List.{AllZip}
+use Rattle.flt_explain.specs.declared.finding.Finding.{Finding}
+use Rattle.flt_graph.specs.Graph.{span_at}
+use Rattle.flt_graph.specs.declared.graph.Graph.{Graph}
+use Rattle.flt_places.specs.Places.{place_in}
+use Rattle.flt_tree.specs.Names.{Text}
+use Rattle.flt_tree.specs.declared.filter.Position.{Position}
+use Rattle.flt_details.specs.declared.study.Detail.{Detail}
+use Rattle.flt_details.specs.declared.study.Route.{Route}
+use Rattle.flt_details.specs.declared.study.Stage.{Stage}
+
+-- where a point of a callback stands
+abbrev pub place_of : Text → Graph → ℕ → ℕ → Position
+place_of text g callback point = place_in text (span_at g callback point).start
+
+-- a stage stands at its point of a callback
+abbrev pub IsPlaced : Text → Graph → ℕ → Stage → Type 0
+IsPlaced text g callback s = s.place ≡ place_of text g callback s.point
+
+-- each of them does
+abbrev pub ArePlaced : Text → Graph → ℕ → List Stage → Type 0
+ArePlaced text g callback = All (IsPlaced text g callback)
+
+-- the stages of a callback's ways, and the origin, stand at their points
+pub record IsRoute (text : Text) (g : Graph) (callback : ℕ) (r : Route) : Type 0 where
+  pub stages : ArePlaced text g callback r.stages
+  pub other : IfSome r.other (ArePlaced text g callback)
+  pub origin : IfSome r.origin (IsPlaced text g callback)
+
+-- what is said of a finding, with each place in it
+pub record IsDetail (text : Text) (g : Graph) (found : Finding) (d : Detail) : Type 0 where
+  pub finding : d.finding ≡ found
+  pub place : d.place ≡ place_of text g found.callback found.point
+  pub route : IsRoute text g found.callback d.route
+
+-- what is said of each of some findings, in their order
+abbrev pub AreDetails : Text → Graph → List Finding → List Detail → Type 0
+AreDetails text g = AllZip (IsDetail text g)

@@ -1,0 +1,108 @@
+-- The place of a byte and the lines of a text, by where lines begin.
+use Rattle.std.proofs.Common.{◌≡◌, refl, sym, ◌∙◌, ap, subst, arith, ℕ, zero, suc, ◌+◌, ◌-◌, ◌≤◌, nat_lt, Bool, true, false, [], ◌∷◌, length, take, drop, get_or, slice_get}
+use Rattle.std.specs.Prelude.{◌==◌, if◌then◌else◌, min}
+use Rattle.std.proofs.lemmas.Grind.{common_steps}
+use Rattle.std.proofs.lemmas.List.{take_min}
+use Rattle.std.proofs.lemmas.Option.{unwrap_or-slice_get}
+use Rattle.std.specs.Option.{unwrap_or}
+use Rattle.std.proofs.Math.Nat.{min-le_right}
+use Rattle.std.proofs.Math.Seq.{drop-nil}
+use Rattle.flt_tree.specs.Names.{Text}
+use Rattle.flt_places.specs.Places.{behind, place_in, rest_behind, starts_from, counted}
+
+-- ---- places
+
+-- a byte that isn't behind the text's front stands in the line there
+before : (line start at o : ℕ) (z : Text) → at ≤ o → counted line start (starts_from o z) at ≡ record { line = line; column = at - start + 1 }
+before line start at o [] h = refl
+before line start at o (b ∷ z) h = go (b == 10) refl (before line start at (o + 1) z (omega (arith, h)))
+  where
+    go : (x : Bool) → (b == 10) ≡ x → counted line start (starts_from (o + 1) z) at ≡ record { line = line; column = at - start + 1 } →
+        counted line start (starts_from o (b ∷ z)) at ≡ record { line = line; column = at - start + 1 }
+    go true e others = let less : nat_lt at (o + 1) ≡ true = grind (arith, common_steps) in rw (e, less) refl
+    go false e others = rw e others
+
+along : (line start o k : ℕ) (z : Text) → start ≤ o → k ≤ length z →
+    counted line start (starts_from o z) (o + k) ≡ behind (record { line = line; column = o - start + 1 }) (take k z)
+along line start o zero z h few = let here : o + 0 ≡ o = omega arith in rw here (before line start o o z (omega arith))
+along line start o (suc k) [] h few = elim few [ ]
+along line start o (suc k) (b ∷ z) h few =
+    go (b == 10) refl (λ l s less. along l s (o + 1) k z less (omega (arith, few)))
+  where
+    go : (x : Bool) → (b == 10) ≡ x →
+        ((l s : ℕ) → s ≤ o + 1 → counted l s (starts_from (o + 1) z) (o + 1 + k) ≡ behind (record { line = l; column = o + 1 - s + 1 }) (take k z)) →
+        counted line start (starts_from o (b ∷ z)) (o + suc k) ≡
+        behind (if b == 10 then record { line = line + 1; column = 1 } else record { line = line; column = o - start + 1 + 1 }) (take k z)
+    go true e others = let more : nat_lt (o + suc k) (o + 1) ≡ false = grind (arith, common_steps) in
+        let one : o + 1 - (o + 1) + 1 ≡ 1 = omega arith in
+        let same : o + suc k ≡ o + 1 + k = omega arith in
+        rw (e, more, same) (others (line + 1) (o + 1) (omega arith) ∙ ap (λ c. behind (record { line = line + 1; column = c }) (take k z)) one)
+    go false e others =
+        let further : o + 1 - start + 1 ≡ o - start + 1 + 1 = omega (arith, h) in
+        let same : o + suc k ≡ o + 1 + k = omega arith in
+        rw (e, same) (others line start (omega (arith, h)) ∙ ap (λ c. behind (record { line = line; column = c }) (take k z)) further)
+
+pub by_lines : (text : Text) (at : ℕ) → counted 1 0 (starts_from 0 text) (min at (length text)) ≡ place_in text at
+by_lines text at =
+    let here : 0 + min at (length text) ≡ min at (length text) = omega arith in
+    ap (counted 1 0 (starts_from 0 text)) (sym here) ∙ along 1 0 0 (min at (length text)) text (omega arith) (min-le_right at (length text))
+    ∙ ap (behind (record { line = 1; column = 1 })) (take_min at text)
+
+-- ---- lines
+
+-- where the line behind so many others and the next line feed begins; the end where there is none
+abbrev start_after : ℕ → ℕ → Text → ℕ
+start_after n o z = get_or (starts_from o z) n (o + length z)
+
+-- that is where what stands behind the line feeds begins
+record Begins (n o : ℕ) (z : Text) : Type 0 where
+  pub after : o ≤ start_after n o z
+  pub within : start_after n o z ≤ o + length z
+  pub rest : rest_behind (suc n) z ≡ drop (start_after n o z - o) z
+
+begins : (n o : ℕ) (z : Text) → Begins n o z
+begins n o [] = record { after = omega arith; within = omega arith; rest = sym (drop-nil (o + 0 - o)) }
+begins n o (b ∷ z) = go (b == 10) refl n (λ n. begins n (o + 1) z)
+  where
+    further : (s : ℕ) → o + 1 ≤ s → drop (s - (o + 1)) z ≡ drop (s - o) (b ∷ z)
+    further s h = let one : s - o ≡ suc (s - (o + 1)) = omega (arith, h) in rw one refl
+
+    go : (x : Bool) → (b == 10) ≡ x → (n : ℕ) → ((n : ℕ) → Begins n (o + 1) z) → Begins n o (b ∷ z)
+    go true e zero others = record {
+      after = rw e (omega arith);
+      within = rw e (omega arith);
+      rest = let one : o + 1 - o ≡ 1 = omega arith in rw (e, one) refl;
+    }
+    go true e (suc n) others =
+        let next = others n in
+        let same : o + suc (length z) ≡ o + 1 + length z = omega arith in
+        record {
+          after = rw (e, same) (let h = next.after in omega (arith, h));
+          within = rw (e, same) next.within;
+          rest = rw (e, same) (next.rest ∙ further (start_after n (o + 1) z) next.after);
+        }
+    go false e n others =
+        let next = others n in
+        let same : o + suc (length z) ≡ o + 1 + length z = omega arith in
+        record {
+          after = rw (e, same) (let h = next.after in omega (arith, h));
+          within = rw (e, same) next.within;
+          rest = rw (e, same) (next.rest ∙ further (start_after n (o + 1) z) next.after);
+        }
+
+from_start : (n : ℕ) (z : Text) → (get_or (starts_from 0 z) n (length z) ≤ length z) ×
+    (rest_behind (suc n) z ≡ drop (get_or (starts_from 0 z) n (length z)) z)
+from_start n z =
+    let b = begins n 0 z in
+    let same : 0 + length z ≡ length z = omega arith in
+    let whole : start_after n 0 z - 0 ≡ start_after n 0 z = omega arith in (
+      subst (λ l. get_or (starts_from 0 z) n l ≤ l) same b.within,
+      subst (λ l. rest_behind (suc n) z ≡ drop (get_or (starts_from 0 z) n l) z) same (b.rest ∙ ap (λ k. drop k z) whole),
+    )
+
+-- the start of a line behind the first, as it is looked up
+pub begin_of_line : (line : ℕ) (z : Text) → 2 ≤ line → (unwrap_or (slice_get (starts_from 0 z) (line - 2)) (length z) ≤ length z) ×
+    (rest_behind (line - 1) z ≡ drop (unwrap_or (slice_get (starts_from 0 z) (line - 2)) (length z)) z)
+begin_of_line line z h =
+    let one : line - 1 ≡ suc (line - 2) = omega (arith, h) in
+    rw (one, unwrap_or-slice_get (starts_from 0 z) (line - 2) (length z)) (from_start (line - 2) z)

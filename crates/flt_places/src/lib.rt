@@ -1,0 +1,6 @@
+//! Where things stand in a text: the lines and columns of its bytes, and its lines.
+#![tactic(auto)]
+
+mod places;
+
+pub use places::{Lines, Site};

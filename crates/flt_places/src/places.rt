@@ -1,0 +1,148 @@
+//! Where things stand in a text.
+
+ghost use Rattle.std.specs.Prelude.{◌≡◌, ◌<◌, ◌≤◌, ◌^◌, ◌-◌, drop, length, IfOk};
+ghost use Rattle.flt_places.specs.Places as spec;
+
+use flt_tree::{Position, Span};
+use sqlite_items::Items;
+use std::alloc::{AllocError, Global};
+use std::marker::Model;
+
+/// Where something stands: its first byte, and how many bytes it has.
+#[derive(Clone, Copy)]
+pub struct Site {
+    pub place: Position,
+    pub length: usize,
+}
+
+/// A text, and where its lines begin.
+#[derive(Drop)]
+pub struct Lines<'a> {
+    text: &'a [u8],
+    /// The byte with which each line begins but the first, from 0.
+    starts: Items<usize>,
+}
+
+impl<'a> Model for Lines<'a> {
+    ghost use Rattle.std.specs.Prelude.{◌≡◌};
+    ghost use Rattle.flt_places.specs.Places.{starts_from};
+    ghost use Rattle.flt_tree.specs.Names.{Text};
+
+    ghost Value = { Text };
+
+    ghost view = { λ l. l.text.now };
+
+    ghost invariant = { λ l. l.starts ≡ starts_from 0 l.text.now };
+}
+
+/// Where the lines of a text begin but the first.
+fn starts_of(alloc: Global, text: &[u8]) -> Result<Items<usize>, AllocError>
+    ensures { IfOk result (λ starts. starts ≡ spec.starts_from 0 text.now) }
+{
+    let mut starts = Items::new(alloc);
+    let mut at: usize = 0;
+    for byte in text {
+        at += 1;
+        if *byte == b'\n' {
+            starts.push(at)?;
+        }
+    }
+    Ok(starts)
+}
+
+/// Where a byte stands, where lines begin at these bytes, and the first at 0.
+fn counted(starts: &[usize], at: usize) -> Position
+    requires { at < 2 ^ 63 }
+    ensures { result ≡ spec.counted 1 0 starts.now at }
+{
+    let mut line: usize = 1;
+    let mut start: usize = 0;
+    for next in starts {
+        if at < *next {
+            break;
+        }
+        line += 1;
+        start = *next;
+    }
+    Position {
+        line,
+        column: at - start + 1,
+    }
+}
+
+/// What stands before the first line feed.
+fn first_line(text: &[u8]) -> &[u8]
+    ensures { result.now ≡ spec.first_line text.now }
+{
+    let mut length: usize = 0;
+    for byte in text {
+        if *byte == b'\n' {
+            break;
+        }
+        length += 1;
+    }
+    &text[..length]
+}
+
+impl<'a> Lines<'a> {
+    /// The lines of a text.
+    ///
+    /// # Errors
+    ///
+    /// Where a growth was refused.
+    pub fn of(alloc: Global, text: &'a [u8]) -> Result<Lines<'a>, AllocError>
+        ensures { IfOk result (λ lines. lines ≡ text.now) }
+    {
+        let starts = starts_of(alloc, text)?;
+        Ok(Lines { text, starts })
+    }
+
+    /// Where a byte stands, which counts from 0; the end of the text for one that isn't there.
+    #[tactic(auto, using(crate::proofs::Starts::by_lines))]
+    pub fn place(&self, at: usize) -> Position
+        ensures { result ≡ spec.place_in self.now at }
+    {
+        counted(self.starts.as_slice(), at.min(self.text.len()))
+    }
+
+    /// Where a span stands.
+    pub fn site(&self, span: Span) -> Site
+        ensures { result ≡ spec.site_of self.now span }
+    {
+        Site {
+            place: self.place(span.start),
+            length: span.end.saturating_sub(span.start),
+        }
+    }
+
+    /// The bytes of a span; none where they aren't there.
+    pub fn bytes(&self, span: Span) -> &'a [u8]
+        ensures { result.now ≡ spec.bytes_of self.now span }
+    {
+        if span.start <= span.end && span.end <= self.text.len() {
+            &self.text[span.start..span.end]
+        } else {
+            &[]
+        }
+    }
+
+    /// The byte with which a line begins, from 0; the end of the text where the line isn't there.
+    #[tactic(auto, using(crate::proofs::Starts::begin_of_line))]
+    fn start(&self, line: usize) -> usize
+        ensures within { result ≤ length self.now }
+        ensures rest { spec.rest_behind (line - 1) self.now ≡ drop result self.now }
+    {
+        if line < 2 {
+            return 0;
+        }
+        let start = self.starts.get(line - 2).copied();
+        start.unwrap_or(self.text.len())
+    }
+
+    /// A line, from 1, without its line feed; nothing where it isn't there.
+    pub fn line(&self, number: usize) -> &'a [u8]
+        ensures { result.now ≡ spec.line_of self.now number }
+    {
+        first_line(&self.text[self.start(number)..])
+    }
+}
