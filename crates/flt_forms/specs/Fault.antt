@@ -1,9 +1,8 @@
 -- What is said of a text that doesn't parse, as JSON. This project's own format.
-use Rattle.std.specs.Prelude.{◌≡◌, ℕ, List, [], ◌∷◌, ◌++◌, Option, Some, None, codes, map}
+use Rattle.std.specs.Prelude.{◌≡◌, ℕ, List, [], ◌∷◌, ◌++◌, Some, codes, map}
 use Rattle.flt_hints.specs.Trouble.{IsDescribed}
 use Rattle.flt_hints.specs.declared.choices.Choices.{Choices}
 use Rattle.flt_hints.specs.declared.choices.Expected.{Expected}
-use Rattle.flt_hints.specs.declared.spot.Spot.{Spot}
 use Rattle.flt_hints.specs.declared.troubles.Trouble.{Trouble}
 use Rattle.flt_details.specs.Closing.{fault_name}
 use Rattle.flt_syntax.specs.declared.fault.SyntaxFault.{SyntaxFault}

@@ -1,5 +1,5 @@
 -- Findings, as JSON. This project's own format.
-use Rattle.std.specs.Prelude.{◌≡◌, ℕ, List, [], ◌∷◌, ◌++◌, Option, Some, None, codes}
+use Rattle.std.specs.Prelude.{ℕ, List, [], ◌∷◌, ◌++◌, Option, Some, None, codes}
 use Rattle.std.specs.Borrow.{Bor}
 use Rattle.flt_rules.specs.Rule.{text}
 use Rattle.json.specs.Token.{Token, begin_object, end_object, key}
@@ -8,7 +8,7 @@ use Rattle.flt_details.specs.declared.study.Detail.{Detail}
 use Rattle.flt_details.specs.declared.study.Route.{Route}
 use Rattle.flt_details.specs.declared.study.Words.{Words}
 use Rattle.flt_explain.specs.declared.finding.Finding.{Finding}
-use Rattle.flt_forms.specs.Members.{line_of, string_member, text_member, number_member, null_member}
+use Rattle.flt_forms.specs.Members.{filled_member, line_of, string_member, text_member, number_member, null_member}
 use Rattle.flt_forms.specs.Steps.{kind_name, step_member, steps, steps_member}
 
 -- where a finding is
@@ -26,6 +26,7 @@ abbrev pub words : Words → List Token
 words w =
     text_member (codes "head") w.head.items ++ text_member (codes "message") w.title.items
     ++ text_member (codes "subject") w.subject.items ++ text_member (codes "help") w.help.items
+    ++ filled_member (codes "note") w.note.items
 
 -- what it is about comes to this at the end of the way
 abbrev pub state : Option (Bor (List ℕ)) → List Token

@@ -120,7 +120,8 @@ fingerprints d =
 abbrev pub properties : Detail → List Token
 properties d =
     object_member (codes "properties") (number_member (codes "callback") d.finding.callback
-    ++ (number_member (codes "point") d.finding.point ++ text_member (codes "help") d.words.help.items))
+    ++ (number_member (codes "point") d.finding.point ++ (text_member (codes "help") d.words.help.items
+    ++ filled_member (codes "note") d.words.note.items)))
 
 -- a finding
 abbrev pub result_members : List ℕ → Detail → List Token

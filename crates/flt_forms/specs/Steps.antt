@@ -1,6 +1,6 @@
 -- Steps of ways, as JSON.
 use Rattle.std.specs.Prelude.{ℕ, List, [], ◌∷◌, ◌++◌, Bool, codes, flat_map, if◌then◌else◌}
-use Rattle.json.specs.Token.{Token, begin_object, end_object, begin_array, end_array, key, null}
+use Rattle.json.specs.Token.{Token, begin_object, end_object, begin_array, end_array, key}
 use Rattle.std.specs.Prelude.{Option, Some, None}
 use Rattle.flt_forms.specs.Members.{filled_member, string_member, number_member, null_member}
 use Rattle.flt_details.specs.declared.study.Stage.{Stage}

@@ -7,7 +7,7 @@ ghost use Rattle.flt_rules.specs.Rule.{text as rule_text};
 ghost use Rattle.flt_details.specs.Closing.{rule_name};
 
 use crate::members::{
-    close_object, open_object, put_key, put_null, put_number, put_string, put_text,
+    close_object, open_object, put_filled, put_key, put_null, put_number, put_string, put_text,
 };
 use crate::steps::{put_kind, put_step_member, put_steps, put_steps_member};
 use flt_details::{Detail, Route, RuleName, Words};
@@ -54,7 +54,8 @@ fn put_words(alloc: Global, writer: &mut Writer, words: &Words) -> Result<(), Al
     put_text(alloc, writer, "head", &words.head)?;
     put_text(alloc, writer, "message", &words.title)?;
     put_text(alloc, writer, "subject", &words.subject)?;
-    put_text(alloc, writer, "help", &words.help)
+    put_text(alloc, writer, "help", &words.help)?;
+    put_filled(alloc, writer, "note", &words.note)
 }
 
 fn put_state(writer: &mut Writer, state: Option<&'static str>) -> Result<(), AllocError>

@@ -398,6 +398,7 @@ fn put_properties(alloc: Global, writer: &mut Writer, detail: &Detail) -> Result
     put_number(writer, "callback", detail.finding.callback)?;
     put_number(writer, "point", detail.finding.point)?;
     put_text(alloc, writer, "help", &detail.words.help)?;
+    put_filled(alloc, writer, "note", &detail.words.note)?;
     close_object(writer)
 }
 
