@@ -6,6 +6,7 @@ pub mod Finishes
 pub mod FinishesFiles
 pub mod FirstShown
 pub mod OnePlace
+pub mod Placed
 pub mod Prefixes
 pub mod Spans
 pub mod Stuck

@@ -1,6 +1,7 @@
 //! The two halves of the law of the viable prefix, with its exceptions, and the law of the first place.
 
 ghost use Rattle.flt_prefix.specs.Prefix.{NothingGoesOn, NothingGoesOnInTexts, CallbacksBegin, FileBegins, FileBeginsInTexts, ViablePrefix, NoLockCall, NoBlock};
+ghost use Rattle.flt_prefix.specs.Placed.{TokensArePlaced};
 ghost use Rattle.flt_prefix.specs.Shown.{FirstInTheText};
 
 use flt_syntax::fails_exactly_where_nothing_is_spelled;
@@ -44,4 +45,11 @@ pub fn nothing_begins_at_the_exceptions()
 #[tactic(auto, using(crate::proofs::FirstShown::first_in_the_text))]
 pub fn the_fault_is_the_first_in_the_text()
     ensures { FirstInTheText }
+{}
+
+/// Each token but the end of a text stands at the line and the column that are counted in the text up to its first byte. It does
+/// nothing: its clause is the law.
+#[tactic(auto, using(crate::proofs::Placed::tokens_are_placed))]
+pub fn tokens_stand_where_they_are_counted()
+    ensures { TokensArePlaced }
 {}

@@ -1,5 +1,5 @@
 //! Laws of where a text fails. With the tokens up to the one at fault nothing is spelled; without it, something is. Of what only the
-//! whole text shows, the first in the text is reported.
+//! whole text shows, the first in the text is reported. And where tokens stand.
 #![tactic(auto)]
 
 mod laws;
@@ -7,4 +7,5 @@ mod laws;
 pub use laws::{
     an_e03_ends_a_viable_prefix, nothing_begins_at_the_exceptions, nothing_goes_on_from_the_token,
     something_begins_before_e03, the_fault_is_the_first_in_the_text,
+    tokens_stand_where_they_are_counted,
 };
