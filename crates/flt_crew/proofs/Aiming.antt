@@ -1,5 +1,5 @@
 -- A script detaches filters of its stack alone.
-use Rattle.std.proofs.Common.{◌≡◌, ℕ, Bool, true, false, ◌==◌, ◌&&◌, ◌||◌, if◌then◌else◌, nat_lt, List, [], ◌∷◌, ◌++◌, All, refl, subst, sym, ◌∙◌, ap}
+use Rattle.std.proofs.Common.{◌≡◌, ℕ, Bool, true, false, ◌==◌, ◌&&◌, ◌||◌, if◌then◌else◌, nat_lt, List, [], ◌∷◌, ◌++◌, Some, All, refl, subst, sym, ◌∙◌, ap}
 use Rattle.std.specs.Bool.{IsTrue}
 use Rattle.std.specs.List.{list_any}
 use Rattle.std.proofs.lemmas.Bool.{and_parts}
@@ -40,27 +40,27 @@ put_has f (g ∷ filters) altitude e = by (nat_lt g.altitude f.altitude) (put_ha
         put (swap (f.altitude == altitude) (g.altitude == altitude) (has_altitude filters altitude) e)
 
 -- an altitude that is loaded is one of the filters by altitude
-loaded_has : (filters : List Filter) (altitude : ℕ) → is_loaded filters altitude ≡ true → has_altitude (by_altitude filters) altitude ≡ true
+loaded_has : (filters : List Filter) (altitude : ℕ) → is_loaded (Some filters) altitude ≡ true → has_altitude (by_altitude filters) altitude ≡ true
 loaded_has [] altitude e = e
 loaded_has (f ∷ filters) altitude e =
     put_has f (by_altitude filters) altitude
-    (further (f.altitude == altitude) (is_loaded filters altitude) (has_altitude (by_altitude filters) altitude) (loaded_has filters altitude) e)
+    (further (f.altitude == altitude) (is_loaded (Some filters) altitude) (has_altitude (by_altitude filters) altitude) (loaded_has filters altitude) e)
 
 -- a command that may follow others is aimed at a filter of the stack
-aimed : (filters : List Filter) (before : Commands) (command : Command) → may_follow filters before command ≡ true →
+aimed : (filters : List Filter) (before : Commands) (command : Command) → may_follow (Some filters) before command ≡ true →
     IsAimed (by_altitude filters) command
 aimed filters before (Arrive operation mode file) e = tt
 aimed filters before (Cancel serial) e = tt
 aimed filters before (Detach altitude) e =
-    loaded_has filters altitude (and_parts (is_loaded filters altitude) _ (and_parts (is_command (Detach altitude)) _ e).1).0
+    loaded_has filters altitude (and_parts (is_loaded (Some filters) altitude) _ (and_parts (is_command (Detach altitude)) _ e).1).0
 aimed filters before (Refuse choice) e = tt
 
 -- so is each of a script
-each_aimed : (filters : List Filter) (before commands : Commands) → are_commands filters before commands ≡ true →
+each_aimed : (filters : List Filter) (before commands : Commands) → are_commands (Some filters) before commands ≡ true →
     All (IsAimed (by_altitude filters)) commands
 each_aimed filters before [] e = All-nil (IsAimed (by_altitude filters))
 each_aimed filters before (command ∷ more) e =
-    let both = and_parts (may_follow filters before command) _ e in
+    let both = and_parts (may_follow (Some filters) before command) _ e in
     All-cons (IsAimed (by_altitude filters)) command more (aimed filters before command both.0)
     (each_aimed filters (before ++ command ∷ []) more both.1)
 

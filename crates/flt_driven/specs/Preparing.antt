@@ -1,5 +1,5 @@
 -- What a script and some texts come to before anything is run. This project's own program.
-use Rattle.std.specs.Prelude.{◌≡◌, ◌⊎◌, ◌<◌, List, length, Result, Ok, Err, IsTrue}
+use Rattle.std.specs.Prelude.{◌≡◌, ◌⊎◌, ◌<◌, List, length, Result, Ok, Err, Some, IsTrue}
 use Rattle.flt_driven.specs.Texts.{AreSpelled, IsSyntaxFault, HaveCertificates, IsFirstRefused}
 use Rattle.flt_driven.specs.declared.fault.RunFault.{RunFault}
 use Rattle.flt_driven.specs.declared.fault.RunFault.TheVariants as fault
@@ -13,14 +13,14 @@ use Rattle.flt_tree.specs.declared.filter.Filter.{Filter}
 
 -- the bytes spell these commands, which are a script for these filters
 pub record IsScript (filters : List Filter) (script : Text) (commands : Commands) : Type 0 where
-  pub asked : IsTrue (is_script filters commands)
+  pub asked : IsTrue (is_script (Some filters) commands)
   pub written : script ≡ spelling commands
 
 -- memory ran out, or the first malformed line is told
 abbrev pub ScriptFails : {A : Type 0} → List Filter → Text → Result A RunFault → Type 0
 ScriptFails filters script (Ok _) = Unit {0}
 ScriptFails filters script (Err fault.OutOfMemory) = Unit {0}
-ScriptFails filters script (Err (fault.Script line)) = IsFirstFault filters script line
+ScriptFails filters script (Err (fault.Script line)) = IsFirstFault (Some filters) script line
 ScriptFails filters script (Err _) = ⊥
 
 -- ---- what is loaded
@@ -57,7 +57,7 @@ abbrev pub Fails : Text → List Text → RunFault → Type 0
 Fails script texts fault.Count = (length texts ≡ 0) ⊎ (max_files < length texts)
 Fails script texts (fault.Syntax number f) = IsCount (length texts) × IsSyntaxFault texts number f
 Fails script texts (fault.Script line) = IsCount (length texts)
-    × ((filters : List Filter) × AreSpelled texts filters × IsFirstFault filters script line)
+    × ((filters : List Filter) × AreSpelled texts filters × IsFirstFault (Some filters) script line)
 Fails script texts (fault.Refused number f) = IsCount (length texts)
     × ((filters : List Filter) × AreSpelled texts filters × ((commands : Commands) × IsScript filters script commands)
     × IsFirstRefused filters number f)

@@ -35,7 +35,7 @@ fn read_script(alloc: Global, trees: &[Tree], script: &[u8]) -> Result<Script, R
     ensures ok { IfOk result (spec.IsScript (filters_of trees.now) script.now) }
     ensures err { spec.ScriptFails (filters_of trees.now) script.now result }
 {
-    match read(alloc, trees, script) {
+    match read(alloc, Some(trees), script) {
         Ok(script) => Ok(script),
         Err(ScriptFault::Line(line)) => Err(RunFault::Script { line }),
         Err(ScriptFault::OutOfMemory) => Err(RunFault::OutOfMemory),

@@ -5,56 +5,55 @@ use Rattle.std.specs.List.{list_all, list_any}
 use Rattle.std.proofs.lemmas.Bool.{and_parts, and_from, eqb-true}
 use Rattle.std.proofs.lemmas.Grind.{flat_map-append}
 use Rattle.std.proofs.lemmas.List.{nil_from_length}
-use Rattle.flt_tree.specs.declared.filter.Filter.{Filter}
 use Rattle.flt_tree.specs.declared.tree.Tree.{Tree}
 use Rattle.flt_model.specs.Program.{filters_of}
 use Rattle.flt_model.specs.Streams.{Text}
-use Rattle.flt_script.specs.ScriptText.{Commands, is_command, is_loaded, may_follow, are_commands, is_script, command_line, spelling, IsFirstFault}
+use Rattle.flt_script.specs.ScriptText.{Commands, Stack, is_command, is_loaded, may_follow, are_commands, is_script, command_line, spelling, IsFirstFault}
 use Rattle.flt_script.specs.declared.command.Command.{Command}
 use Rattle.flt_script.proofs.CommandLaws.{line_some}
 
--- ---- filters of a stack
+-- ---- the filters of a stack
 
 -- the altitudes of trees are those of their filters
 pub loaded_of : (trees : List Tree) (altitude : ℕ) →
-    list_any (λ (t : Tree). t.filter.altitude == altitude) trees ≡ is_loaded (filters_of trees) altitude
+    list_any (λ (t : Tree). t.filter.altitude == altitude) trees ≡ is_loaded (Some (filters_of trees)) altitude
 loaded_of [] altitude = refl
 loaded_of (tree ∷ trees) altitude = ap (λ z. (tree.filter.altitude == altitude) || z) (loaded_of trees altitude)
 
 -- ---- commands in order
 
 -- commands and one more that may follow them
-one_more : (filters : List Filter) (before more : Commands) (command : Command) → are_commands filters before more ≡ true →
-    may_follow filters (before ++ more) command ≡ true →
-    are_commands filters before (more ++ command ∷ []) ≡ true
-one_more filters before [] command h last =
-    and_from (may_follow filters before command) true (ap (λ z. may_follow filters z command) (sym (append-nil before)) ∙ last) refl
-one_more filters before (first ∷ more) command h last =
-    let parts = and_parts (may_follow filters before first) (are_commands filters (before ++ first ∷ []) more) h in
-    and_from (may_follow filters before first) _ parts.0
-    (one_more filters (before ++ first ∷ []) more command parts.1
-    (ap (λ z. may_follow filters z command) (append_assoc before (first ∷ []) more) ∙ last))
+one_more : (stack : Stack) (before more : Commands) (command : Command) → are_commands stack before more ≡ true →
+    may_follow stack (before ++ more) command ≡ true →
+    are_commands stack before (more ++ command ∷ []) ≡ true
+one_more stack before [] command h last =
+    and_from (may_follow stack before command) true (ap (λ z. may_follow stack z command) (sym (append-nil before)) ∙ last) refl
+one_more stack before (first ∷ more) command h last =
+    let parts = and_parts (may_follow stack before first) (are_commands stack (before ++ first ∷ []) more) h in
+    and_from (may_follow stack before first) _ parts.0
+    (one_more stack (before ++ first ∷ []) more command parts.1
+    (ap (λ z. may_follow stack z command) (append_assoc before (first ∷ []) more) ∙ last))
 
 -- the one that stands behind some of the commands may follow them
-that_follows : (filters : List Filter) (before more : Commands) (command : Command) (others : Commands) →
-    are_commands filters before (more ++ command ∷ others) ≡ true →
-    may_follow filters (before ++ more) command ≡ true
-that_follows filters before [] command others h =
-    ap (λ z. may_follow filters z command) (append-nil before)
-    ∙ (and_parts (may_follow filters before command) (are_commands filters (before ++ command ∷ []) others) h).0
-that_follows filters before (first ∷ more) command others h =
-    let parts = and_parts (may_follow filters before first) (are_commands filters (before ++ first ∷ []) (more ++ command ∷ others)) h in
-    ap (λ z. may_follow filters z command) (sym (append_assoc before (first ∷ []) more))
-    ∙ that_follows filters (before ++ first ∷ []) more command others parts.1
+that_follows : (stack : Stack) (before more : Commands) (command : Command) (others : Commands) →
+    are_commands stack before (more ++ command ∷ others) ≡ true →
+    may_follow stack (before ++ more) command ≡ true
+that_follows stack before [] command others h =
+    ap (λ z. may_follow stack z command) (append-nil before)
+    ∙ (and_parts (may_follow stack before command) (are_commands stack (before ++ command ∷ []) others) h).0
+that_follows stack before (first ∷ more) command others h =
+    let parts = and_parts (may_follow stack before first) (are_commands stack (before ++ first ∷ []) (more ++ command ∷ others)) h in
+    ap (λ z. may_follow stack z command) (sym (append_assoc before (first ∷ []) more))
+    ∙ that_follows stack (before ++ first ∷ []) more command others parts.1
 
 -- each is a command by itself
-pub all_commands : (filters : List Filter) (before more : Commands) → are_commands filters before more ≡ true →
+pub all_commands : (stack : Stack) (before more : Commands) → are_commands stack before more ≡ true →
     list_all is_command more ≡ true
-all_commands filters before [] h = refl
-all_commands filters before (first ∷ more) h =
-    let parts = and_parts (may_follow filters before first) (are_commands filters (before ++ first ∷ []) more) h in
+all_commands stack before [] h = refl
+all_commands stack before (first ∷ more) h =
+    let parts = and_parts (may_follow stack before first) (are_commands stack (before ++ first ∷ []) more) h in
     and_from (is_command first) (list_all is_command more) (and_parts (is_command first) _ parts.0).0
-    (all_commands filters (before ++ first ∷ []) more parts.1)
+    (all_commands stack (before ++ first ∷ []) more parts.1)
 
 -- ---- a place in a text
 
@@ -65,20 +64,20 @@ record Ahead (found : Commands) (left : Text) (commands : Commands) : Type 0 whe
   rest : left ≡ spelling more
 
 -- these commands were found, and this is left of the text
-pub record Reached (filters : List Filter) (text : Text) (found : Commands) (left : Text) : Type 0 where
+pub record Reached (stack : Stack) (text : Text) (found : Commands) (left : Text) : Type 0 where
   spelled : text ≡ spelling found ++ left
-  script : is_script filters found ≡ true
-  ahead : (commands : Commands) → is_script filters commands ≡ true → text ≡ spelling commands → Ahead found left commands
+  script : is_script stack found ≡ true
+  ahead : (commands : Commands) → is_script stack commands ≡ true → text ≡ spelling commands → Ahead found left commands
   count : length found + length left ≤ length text
 
 -- what one reading of a line has to find
-abbrev pub Finds : List Filter → Commands → Text → Option Command → Text → Type 0
-Finds filters found left result new =
-    (command : Command) → may_follow filters found command ≡ true → (behind : Text) → left ≡ command_line command ++ behind →
+abbrev pub Finds : Stack → Commands → Text → Option Command → Text → Type 0
+Finds stack found left result new =
+    (command : Command) → may_follow stack found command ≡ true → (behind : Text) → left ≡ command_line command ++ behind →
     (result ≡ Some command) × (new ≡ behind)
 
-pub at_start : (filters : List Filter) (text : Text) → Reached filters text [] text
-at_start filters text = record {
+pub at_start : (stack : Stack) (text : Text) → Reached stack text [] text
+at_start stack text = record {
   spelled = refl;
   script = refl;
   ahead = λ commands good e. record { more = commands; parts = refl; rest = e };
@@ -96,16 +95,16 @@ line_shorter command left new e = go (command_line command) refl
         let parts = length-append (b ∷ line) new in
         omega arith
 
-pub one_line : (filters : List Filter) (text : Text) (found : Commands) (left : Text) (command : Command) (new : Text) →
-    Reached filters text found left →
-    left ≡ command_line command ++ new → may_follow filters found command ≡ true → Finds filters found left (Some command) new →
-    Reached filters text (found ++ command ∷ []) new
-one_line filters text found left command new at line follows finds = record {
+pub one_line : (stack : Stack) (text : Text) (found : Commands) (left : Text) (command : Command) (new : Text) →
+    Reached stack text found left →
+    left ≡ command_line command ++ new → may_follow stack found command ≡ true → Finds stack found left (Some command) new →
+    Reached stack text (found ++ command ∷ []) new
+one_line stack text found left command new at line follows finds = record {
   spelled =
       at.spelled ∙ ap (λ z. spelling found ++ z) line ∙ sym (append_assoc (spelling found) (command_line command) new)
       ∙ ap (λ z. (spelling found ++ z) ++ new) (sym (append-nil (command_line command)))
       ∙ ap (λ z. z ++ new) (sym (flat_map-append command_line found (command ∷ [])));
-  script = one_more filters [] found command at.script follows;
+  script = one_more stack [] found command at.script follows;
   ahead = λ commands good e. further commands good (at.ahead commands good e);
   count = shorter;
 }
@@ -117,14 +116,14 @@ one_line filters text found left command new at line follows finds = record {
         let one = length-append found (command ∷ []) in
         omega arith
 
-    further : (commands : Commands) → is_script filters commands ≡ true → Ahead found left commands →
+    further : (commands : Commands) → is_script stack commands ≡ true → Ahead found left commands →
         Ahead (found ++ command ∷ []) new commands
     further commands good ahead = by ahead.more ahead.parts ahead.rest
       where
         by : (more : Commands) → commands ≡ found ++ more → left ≡ spelling more → Ahead (found ++ command ∷ []) new commands
         by [] parts rest = absurd (line_some command new (sym line ∙ rest))
         by (first ∷ more) parts rest =
-            let may = that_follows filters [] found first more (ap (λ z. is_script filters z) (sym parts) ∙ good) in
+            let may = that_follows stack [] found first more (ap (λ z. is_script stack z) (sym parts) ∙ good) in
             let read = finds first may (spelling more) rest in
             let found_is : Some command ≡ Some first = read.0 in
             let same : command ≡ first = cc in
@@ -145,9 +144,9 @@ pub none_left : (left : Text) → (length left == 0) ≡ true → left ≡ []
 none_left left h = nil_from_length left (eqb-true (length left) 0 h)
 
 -- at the end of the text, the commands found are those that it spells
-pub only_script : (filters : List Filter) (text : Text) (found : Commands) → Reached filters text found [] →
-    (commands : Commands) → is_script filters commands ≡ true → text ≡ spelling commands → found ≡ commands
-only_script filters text found at commands good e = by ahead.more ahead.parts ahead.rest
+pub only_script : (stack : Stack) (text : Text) (found : Commands) → Reached stack text found [] →
+    (commands : Commands) → is_script stack commands ≡ true → text ≡ spelling commands → found ≡ commands
+only_script stack text found at commands good e = by ahead.more ahead.parts ahead.rest
   where
     ahead : Ahead found [] commands
     ahead = at.ahead commands good e
@@ -156,18 +155,18 @@ only_script filters text found at commands good e = by ahead.more ahead.parts ah
     by [] parts rest = sym (append-nil found) ∙ sym parts
     by (first ∷ more) parts rest = absurd (line_some first (spelling more) (sym rest))
 
-pub whole_script : (filters : List Filter) (text : Text) (found : Commands) → Reached filters text found [] → text ≡ spelling found
-whole_script filters text found at = at.spelled ∙ append-nil (spelling found)
+pub whole_script : (stack : Stack) (text : Text) (found : Commands) → Reached stack text found [] → text ≡ spelling found
+whole_script stack text found at = at.spelled ∙ append-nil (spelling found)
 
-pub is_reached_script : (filters : List Filter) (text : Text) (found : Commands) (left : Text) → Reached filters text found left →
-    is_script filters found ≡ true
-is_reached_script filters text found left at = at.script
+pub is_reached_script : (stack : Stack) (text : Text) (found : Commands) (left : Text) → Reached stack text found left →
+    is_script stack found ≡ true
+is_reached_script stack text found left at = at.script
 
 -- where no command is found, the first fault stands
-pub first_fault : (filters : List Filter) (text : Text) (found : Commands) (left new : Text) → Reached filters text found left →
-    left ≢ [] → Finds filters found left None new →
-    IsFirstFault filters text (length found + 1)
-first_fault filters text found left new at some finds = record {
+pub first_fault : (stack : Stack) (text : Text) (found : Commands) (left new : Text) → Reached stack text found left →
+    left ≢ [] → Finds stack found left None new →
+    IsFirstFault stack text (length found + 1)
+first_fault stack text found left new at some finds = record {
   before = found;
   script = at.script;
   number = omega arith;
@@ -175,16 +174,16 @@ first_fault filters text found left new at some finds = record {
   begun = at.spelled;
   some = some;
   stopped = λ command good others e.
-      let read = finds command (that_follows filters [] found command [] good) others e in
+      let read = finds command (that_follows stack [] found command [] good) others e in
       let none : None ≡ Some command = read.0 in
       cc;
 }
 
 -- and the text is no script
-pub no_script : (filters : List Filter) (text : Text) (found : Commands) (left new : Text) → Reached filters text found left →
-    left ≢ [] → Finds filters found left None new →
-    (commands : Commands) → is_script filters commands ≡ true → text ≡ spelling commands → ⊥
-no_script filters text found left new at some finds commands good e = by ahead.more ahead.parts ahead.rest
+pub no_script : (stack : Stack) (text : Text) (found : Commands) (left new : Text) → Reached stack text found left →
+    left ≢ [] → Finds stack found left None new →
+    (commands : Commands) → is_script stack commands ≡ true → text ≡ spelling commands → ⊥
+no_script stack text found left new at some finds commands good e = by ahead.more ahead.parts ahead.rest
   where
     ahead : Ahead found left commands
     ahead = at.ahead commands good e
@@ -192,7 +191,7 @@ no_script filters text found left new at some finds commands good e = by ahead.m
     by : (more : Commands) → commands ≡ found ++ more → left ≡ spelling more → ⊥
     by [] parts rest = some rest
     by (first ∷ more) parts rest =
-        let may = that_follows filters [] found first more (ap (λ z. is_script filters z) (sym parts) ∙ good) in
+        let may = that_follows stack [] found first more (ap (λ z. is_script stack z) (sym parts) ∙ good) in
         let read = finds first may (spelling more) rest in
         let none : None ≡ Some first = read.0 in
         cc

@@ -26,9 +26,14 @@ is_command (Cancel serial) = nat_lt serial 65536
 is_command (Detach altitude) = nat_lt altitude (2 ^ 32)
 is_command (Refuse choice) = nat_lt choice (2 ^ 32)
 
--- a filter of this altitude is in the stack
-abbrev pub is_loaded : List Filter → ℕ → Bool
-is_loaded filters altitude = list_any (λ (f : Filter). f.altitude == altitude) filters
+-- the filters of a stack, where it is known
+abbrev pub Stack : Type 0
+Stack = Option (List Filter)
+
+-- a filter of this altitude is in the stack; of one that isn't known it may be
+abbrev pub is_loaded : Stack → ℕ → Bool
+is_loaded None altitude = true
+is_loaded (Some filters) altitude = list_any (λ (f : Filter). f.altitude == altitude) filters
 
 -- a command detaches the filter of this altitude
 abbrev pub detaches : ℕ → Command → Bool
@@ -36,22 +41,22 @@ detaches altitude (Detach other) = other == altitude
 detaches altitude _ = false
 
 -- behind others a command detaches no filter but one of the stack, and that for the first time
-abbrev pub detaches_legally : List Filter → Commands → Command → Bool
-detaches_legally filters before (Detach altitude) = is_loaded filters altitude && not (list_any (detaches altitude) before)
-detaches_legally filters before _ = true
+abbrev pub detaches_legally : Stack → Commands → Command → Bool
+detaches_legally stack before (Detach altitude) = is_loaded stack altitude && not (list_any (detaches altitude) before)
+detaches_legally stack before _ = true
 
 -- a command may stand behind others
-abbrev pub may_follow : List Filter → Commands → Command → Bool
-may_follow filters before command = is_command command && detaches_legally filters before command
+abbrev pub may_follow : Stack → Commands → Command → Bool
+may_follow stack before command = is_command command && detaches_legally stack before command
 
 -- behind some commands each one more may stand behind all those before it
-abbrev pub are_commands : List Filter → Commands → Commands → Bool
-are_commands filters before [] = true
-are_commands filters before (command ∷ more) = may_follow filters before command && are_commands filters (before ++ command ∷ []) more
+abbrev pub are_commands : Stack → Commands → Commands → Bool
+are_commands stack before [] = true
+are_commands stack before (command ∷ more) = may_follow stack before command && are_commands stack (before ++ command ∷ []) more
 
--- a script for a stack of these filters
-abbrev pub is_script : List Filter → Commands → Bool
-is_script filters = are_commands filters []
+-- a script for this stack; where it isn't known, for one that has all filters that are detached
+abbrev pub is_script : Stack → Commands → Bool
+is_script stack = are_commands stack []
 
 -- ---- their text
 
@@ -77,17 +82,17 @@ command_of _ = None
 
 -- the first malformed line, counted from 1: the lines before it are those of a script, something stands behind
 -- them, and no script goes on with it
-pub record IsFirstFault (filters : List Filter) (text : Text) (line : ℕ) : Type 0 where
+pub record IsFirstFault (stack : Stack) (text : Text) (line : ℕ) : Type 0 where
   pub before : Commands
-  pub script : IsTrue (is_script filters before)
+  pub script : IsTrue (is_script stack before)
   pub number : line ≡ suc (length before)
   pub left : Text
   pub begun : text ≡ spelling before ++ left
   pub some : left ≢ []
-  pub stopped : (command : Command) → IsTrue (is_script filters (before ++ command ∷ [])) → (others : Text) →
+  pub stopped : (command : Command) → IsTrue (is_script stack (before ++ command ∷ [])) → (others : Text) →
       left ≢ command_line command ++ others
 
 -- a fault of the text names its first line that isn't as asked
-abbrev pub IsFaultOf : List Filter → Text → ScriptFault → Type 0
-IsFaultOf filters text (Line line) = IsFirstFault filters text line
-IsFaultOf filters text OutOfMemory = Unit {0}
+abbrev pub IsFaultOf : Stack → Text → ScriptFault → Type 0
+IsFaultOf stack text (Line line) = IsFirstFault stack text line
+IsFaultOf stack text OutOfMemory = Unit {0}

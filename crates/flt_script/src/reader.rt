@@ -1,6 +1,6 @@
 //! Scripts from their text.
 
-ghost use Rattle.std.specs.Prelude.{◌≡◌, ◌++◌, Some, IfOk, IfSome, IsTrue, MatchResult};
+ghost use Rattle.std.specs.Prelude.{◌≡◌, ◌++◌, Some, IfOk, IfSome, IsTrue, MatchResult, option_map};
 ghost use Rattle.flt_model.specs.Program.{filters_of};
 ghost use Rattle.flt_model.specs.Streams.{Text};
 ghost use Rattle.flt_script.specs.ScriptText as spec;
@@ -53,35 +53,35 @@ fn command_at(text: &mut &[u8]) -> Option<Command>
 }
 
 /// The command whose line comes next, if it may stand behind those before it.
-fn next_command(trees: &[Tree], before: &[Command], text: &mut &[u8]) -> Option<Command>
+fn next_command(stack: Option<&[Tree]>, before: &[Command], text: &mut &[u8]) -> Option<Command>
     ensures spelled { IfSome result (λ command. text.old.now ≡ spec.command_line command ++ text.new.now) }
-    ensures follows { IfSome result (λ command. IsTrue (spec.may_follow (filters_of trees.now) before.now command)) }
-    ensures read { (command : Command) → IsTrue (spec.may_follow (filters_of trees.now) before.now command) → (behind : Text) →
+    ensures follows { IfSome result (λ command. IsTrue (spec.may_follow (option_map (λ trees. filters_of trees.now) stack.entry) before.now command)) }
+    ensures read { (command : Command) → IsTrue (spec.may_follow (option_map (λ trees. filters_of trees.now) stack.entry) before.now command) → (behind : Text) →
         text.old.now ≡ spec.command_line command ++ behind → (result ≡ Some command) × (text.new.now ≡ behind) }
 {
     let command = command_at(text)?;
-    if may_follow(trees, before, command) {
+    if may_follow(stack, before, command) {
         Some(command)
     } else {
         None
     }
 }
 
-/// The script that the text spells, all of it, for a stack of these filters.
-pub fn read(alloc: Global, trees: &[Tree], text: &[u8]) -> Result<Script, ScriptFault>
+/// The script that the text spells, all of it, for a stack of these filters, where it is known.
+pub fn read(alloc: Global, stack: Option<&[Tree]>, text: &[u8]) -> Result<Script, ScriptFault>
     // What is read is spelled so.
     ensures spelled { IfOk result (λ script. text.now ≡ spec.spelling script) }
-    ensures script { IfOk result (λ script. IsTrue (spec.is_script (filters_of trees.now) script)) }
+    ensures script { IfOk result (λ script. IsTrue (spec.is_script (option_map (λ trees. filters_of trees.now) stack.entry) script)) }
     // What is spelled so is read, unless memory runs out.
-    ensures read { (commands : spec.Commands) → IsTrue (spec.is_script (filters_of trees.now) commands) →
+    ensures read { (commands : spec.Commands) → IsTrue (spec.is_script (option_map (λ trees. filters_of trees.now) stack.entry) commands) →
         text.now ≡ spec.spelling commands → MatchResult result (λ script. script ≡ commands) (λ e. e ≡ ScriptFault.OutOfMemory) }
     // A fault names the first malformed line.
-    ensures fault { MatchResult result (λ _. Unit {0}) (λ e. spec.IsFaultOf (filters_of trees.now) text.now e) }
+    ensures fault { MatchResult result (λ _. Unit {0}) (λ e. spec.IsFaultOf (option_map (λ trees. filters_of trees.now) stack.entry) text.now e) }
 {
     let mut found = Items::new(alloc);
     let mut left = text;
     while !left.is_empty() {
-        match next_command(trees, found.as_slice(), &mut left) {
+        match next_command(stack, found.as_slice(), &mut left) {
             Some(command) => found.push(command)?,
             None => return Err(ScriptFault::Line(found.len() + 1)),
         }

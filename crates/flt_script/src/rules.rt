@@ -1,6 +1,6 @@
 //! Which commands may stand in a script, and where.
 
-ghost use Rattle.std.specs.Prelude.{◌≡◌, ◌==◌};
+ghost use Rattle.std.specs.Prelude.{◌≡◌, ◌==◌, option_map};
 ghost use Rattle.std.specs.List.{list_any};
 ghost use Rattle.flt_model.specs.Program.{filters_of};
 ghost use Rattle.flt_script.specs.ScriptText as spec;
@@ -36,10 +36,13 @@ fn has_altitude(trees: &[Tree], altitude: u64) -> bool
     trees.iter().any(|tree| tree.filter.altitude == altitude)
 }
 
-fn is_loaded(trees: &[Tree], altitude: u32) -> bool
-    ensures { result ≡ spec.is_loaded (filters_of trees.now) altitude }
+fn is_loaded(stack: Option<&[Tree]>, altitude: u32) -> bool
+    ensures { result ≡ spec.is_loaded (option_map (λ trees. filters_of trees.now) stack.entry) altitude }
 {
-    has_altitude(trees, altitude as u64)
+    match stack {
+        Some(trees) => has_altitude(trees, altitude as u64),
+        None => true,
+    }
 }
 
 fn detaches(command: &Command, altitude: u32) -> bool
@@ -58,20 +61,20 @@ fn is_detached(commands: &[Command], altitude: u32) -> bool
 }
 
 /// Whether the command, behind others, detaches no filter but one of the stack, and that for the first time.
-fn detaches_legally(trees: &[Tree], before: &[Command], command: Command) -> bool
-    ensures { result ≡ spec.detaches_legally (filters_of trees.now) before.now command }
+fn detaches_legally(stack: Option<&[Tree]>, before: &[Command], command: Command) -> bool
+    ensures { result ≡ spec.detaches_legally (option_map (λ trees. filters_of trees.now) stack.entry) before.now command }
 {
     match command {
         Command::Detach { altitude } => {
-            is_loaded(trees, altitude) && !is_detached(before, altitude)
+            is_loaded(stack, altitude) && !is_detached(before, altitude)
         }
         _ => true,
     }
 }
 
-/// Whether the command may stand behind others, on a stack of these filters.
-pub(crate) fn may_follow(trees: &[Tree], before: &[Command], command: Command) -> bool
-    ensures { result ≡ spec.may_follow (filters_of trees.now) before.now command }
+/// Whether the command may stand behind others, on a stack of these filters, where it is known.
+pub(crate) fn may_follow(stack: Option<&[Tree]>, before: &[Command], command: Command) -> bool
+    ensures { result ≡ spec.may_follow (option_map (λ trees. filters_of trees.now) stack.entry) before.now command }
 {
-    is_command(command) && detaches_legally(trees, before, command)
+    is_command(command) && detaches_legally(stack, before, command)
 }
