@@ -15,7 +15,7 @@ use Rattle.flt_crew.specs.declared.running.Ran.{Ran}
 use Rattle.flt_explain.specs.declared.finding.Finding.{Finding}
 use Rattle.flt_forms.specs.Lines.{AreLines}
 use Rattle.flt_forms.specs.Sarif.{AreResults}
-use Rattle.flt_notes.specs.Reported.{AreReports, HasNotice, HasNoticeStatus, HasReport, HasStatus, IsText}
+use Rattle.flt_notes.specs.Reported.{AreReportsOf, HasNotice, HasNoticeStatus, HasReport, HasStatus, IsText}
 use Rattle.flt_details.specs.Reports.{IsJudged, IsKnown, findings_status, status_of as status_of_judged, texts_of}
 use Rattle.flt_details.specs.declared.sources.Explained.{Explained as Told}
 use Rattle.flt_details.specs.declared.sources.Source.{Source}
@@ -164,14 +164,15 @@ module _ (law : Law) (runs : LawOfRuns) (nowhere : SpelledFailsNowhere) where
   text_well text (Unread f) is good = absurd (omega (arith, good))
   text_well text (Known tree graph found) is good = unfound text tree graph found is good
 
-  report_well : (text : Text) (printed : List ℕ) (status : ℕ) → HasReport text printed status ⊎ HasNotice text printed status →
-      status ≡ 0 → BreaksNothing text
-  report_well text printed status (inl (j, is, same, ends)) good = text_well text j is (sym same ∙ good)
-  report_well text printed status (inr (n, is, same, ends)) good = unspelled text is.fault is.unread
+  report_well : (filters : List Filter) (text : Text) (printed : List ℕ) (status : ℕ) →
+      HasReport text printed status ⊎ HasNotice filters text printed status → status ≡ 0 → BreaksNothing text
+  report_well filters text printed status (inl (j, is, same, ends)) good = text_well text j is (sym same ∙ good)
+  report_well filters text printed status (inr (n, is, same, ends)) good = unspelled text is.other.fault is.other.unread
 
-  status_well : (text : Text) (status : ℕ) → HasStatus text status ⊎ HasNoticeStatus text status → status ≡ 0 → BreaksNothing text
-  status_well text status (inl (j, is, same)) good = text_well text j is (sym same ∙ good)
-  status_well text status (inr (n, is, same)) good = unspelled text is.fault is.unread
+  status_well : (filters : List Filter) (text : Text) (status : ℕ) → HasStatus text status ⊎ HasNoticeStatus filters text status →
+      status ≡ 0 → BreaksNothing text
+  status_well filters text status (inl (j, is, same)) good = text_well text j is (sym same ∙ good)
+  status_well filters text status (inr (n, is, same)) good = unspelled text is.other.fault is.other.unread
 
   -- the greatest of two statuses is 0 only where both are
   both_zero : (m n : ℕ) → max m n ≡ 0 → (m ≡ 0) × (n ≡ 0)
@@ -180,12 +181,13 @@ module _ (law : Law) (runs : LawOfRuns) (nowhere : SpelledFailsNowhere) where
   both_zero (suc m) zero good = absurd (omega (arith, good))
   both_zero (suc m) (suc n) good = absurd (omega (arith, good))
 
-  reported : (texts : List Text) (printed : List ℕ) (status : ℕ) → AreReports texts printed status → status ≡ 0 → EachBreaksNothing texts
-  reported [] printed status said good = tt
-  reported (t ∷ []) printed status is good = (report_well t printed status is.is good, tt)
-  reported (t ∷ u ∷ ts) printed status (first, others, is, rest, greatest) good =
+  reported : (filters : List Filter) (texts : List Text) (printed : List ℕ) (status : ℕ) → AreReportsOf filters texts printed status →
+      status ≡ 0 → EachBreaksNothing texts
+  reported filters [] printed status said good = tt
+  reported filters (t ∷ []) printed status is good = (report_well filters t printed status is.is good, tt)
+  reported filters (t ∷ u ∷ ts) printed status (first, others, is, rest, greatest) good =
       let zeros = both_zero first others (sym greatest ∙ good) in
-      (status_well t first is.is zeros.0, reported (u ∷ ts) printed others rest zeros.1)
+      (status_well filters t first is.is zeros.0, reported filters (u ∷ ts) printed others rest zeros.1)
 
   in_lines : (sources : List Source) (before printed : List ℕ) (status : ℕ) → AreLines sources before printed status → status ≡ 0 →
       EachBreaksNothing (texts_of sources)
@@ -202,7 +204,7 @@ module _ (law : Law) (runs : LawOfRuns) (nowhere : SpelledFailsNowhere) where
       (found_well s.text.now own.judged own.is (sym own.own ∙ zeros.0), in_results ss others_tokens others rest zeros.1)
 
   told_well : (form : Form) (sources : List Source) (e : Told) → IsTold form sources e → e.status ≡ 0 → EachBreaksNothing (texts_of sources)
-  told_well Human sources e told good = reported (texts_of sources) e.output.items e.status told good
+  told_well Human sources e told good = reported told.filters (texts_of sources) e.output.items e.status told.are good
   told_well Lines sources e told good = in_lines sources [] e.output.items e.status told good
   told_well Sarif sources e told good = in_results sources told.0 e.status told.1 good
 

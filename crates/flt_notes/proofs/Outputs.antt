@@ -4,19 +4,20 @@ use Rattle.std.proofs.Math.Path.{subst}
 use Rattle.std.proofs.lemmas.List.Elements.{All-nil, All-push, All-weaker}
 use Rattle.flt_model.specs.Program.{filters_of}
 use Rattle.flt_notes.specs.Readings.{AreParsed, IsOther, IsUnread}
-use Rattle.flt_notes.specs.Reported.{HasNotice, HasNoticeStatus, HasReport, HasStatus, IsReport, IsStatus}
+use Rattle.flt_notes.specs.Reported.{HasNotice, HasNoticeStatus, HasReport, HasStatus, IsReport, IsStatus, stack_of}
 use Rattle.std.specs.declared.alloc.AllocError.{AllocError}
 use Rattle.flt_syntax.specs.declared.fault.SyntaxFault.{SyntaxFault}
 use Rattle.flt_tree.specs.Names.{Text}
 use Rattle.flt_tree.specs.declared.tree.Tree.{Tree}
 use Rattle.flt_graph.specs.declared.graph.Graph.{Graph}
 use Rattle.flt_explain.specs.declared.finding.Finding.{Finding}
-use Rattle.flt_reasons.specs.declared.notice.Notice.{Notice}
+use Rattle.flt_reasons.specs.declared.notice.Kind.{Kind}
+use Rattle.flt_tree.specs.declared.filter.Filter.{Filter}
 use Rattle.flt_details.specs.Reports.{IsKnown}
 use Rattle.flt_details.specs.declared.judged.Judged.TheVariants.{Unread, Known as Found}
 use Rattle.flt_notes.specs.Lines.{BeginsWith, said}
 use Rattle.flt_notes.specs.Noted.{IsNoted}
-use Rattle.flt_notes.specs.Printing.{ClosesFault, ClosesFindings, ClosesNotice, IsKnownIn, IsNoteOf, IsOutput}
+use Rattle.flt_notes.specs.Printing.{ClosesFault, ClosesFindings, ClosesOther, IsKnownIn, IsNoteOf, IsOutput}
 use Rattle.flt_notes.specs.Told.{AreNoted, IsNotedOf, StandIn}
 use Rattle.flt_notes.specs.declared.noted.Noted.{Noted}
 use Rattle.flt_notes.specs.declared.printing.Known.{Known}
@@ -62,30 +63,32 @@ output_noted trees old new n lines is note (rest, begins) added pushed = record 
 }
 
 -- how a text's reports end
-pub reports_fault : (text : Text) (f : SyntaxFault) (printed : List ℕ) (r : Result ℕ AllocError) → IsUnread text f →
-    IfOk r (ClosesFault f printed) → IfOk r (IsReport text printed)
-reports_fault text f printed (Ok status) is (two, ends) = record { is = inl (Unread f, is, two, ends) }
-reports_fault text f printed (Err e) is closes = tt
+pub reports_fault : (filters : List Filter) (text : Text) (f : SyntaxFault) (printed : List ℕ) (r : Result ℕ AllocError) → IsUnread text f →
+    IfOk r (ClosesFault f printed) → IfOk r (IsReport filters text printed)
+reports_fault filters text f printed (Ok status) is (two, ends) = record { is = inl (Unread f, is, two, ends) }
+reports_fault filters text f printed (Err e) is closes = tt
 
-pub reports_findings : (text : Text) (tree : Tree) (graph : Graph) (found : List Finding) (printed : List ℕ) (r : Result ℕ AllocError) →
-    IsKnown text tree graph found → IfOk r (ClosesFindings found printed) → IfOk r (IsReport text printed)
-reports_findings text tree graph found printed (Ok status) known (same, ends) = record { is = inl (Found tree graph found, known, same, ends) }
-reports_findings text tree graph found printed (Err e) known closes = tt
+pub reports_findings : (filters : List Filter) (text : Text) (tree : Tree) (graph : Graph) (found : List Finding) (printed : List ℕ) (r : Result ℕ AllocError) →
+    IsKnown text tree graph found → IfOk r (ClosesFindings found printed) → IfOk r (IsReport filters text printed)
+reports_findings filters text tree graph found printed (Ok status) known (same, ends) = record { is = inl (Found tree graph found, known, same, ends) }
+reports_findings filters text tree graph found printed (Err e) known closes = tt
 
--- how what is said of a certificate or a journal ends
-pub reports_notice : (text : Text) (n : Notice) (printed : List ℕ) (r : Result ℕ AllocError) → IsOther text n →
-    IfOk r (ClosesNotice n printed) → IfOk r (IsReport text printed)
-reports_notice text n printed (Ok status) is (same, ends) = record { is = inr (n, is, same, ends) }
-reports_notice text n printed (Err e) is closes = tt
+-- how what is said of a certificate, a journal or a script ends
+pub reports_notice : (filters : List Filter) (text : Text) (kind : Kind) (printed : List ℕ) (r : Result ℕ AllocError) → IsOther text kind →
+    IfOk r (ClosesOther (stack_of filters) kind text printed) → IfOk r (IsReport filters text printed)
+reports_notice filters text kind printed (Ok status) other (n, is, closes) =
+    record { is = inr (n, record { kind = kind; other = other; is = is }, closes.0, closes.1) }
+reports_notice filters text kind printed (Err e) other closes = tt
 
-status_of_either : (text : Text) (printed : List ℕ) (status : ℕ) → HasReport text printed status ⊎ HasNotice text printed status →
-    HasStatus text status ⊎ HasNoticeStatus text status
-status_of_either text printed status (inl (j, is, same, ends)) = inl (j, is, same)
-status_of_either text printed status (inr (n, is, same, ends)) = inr (n, is, same)
+status_of_either : (filters : List Filter) (text : Text) (printed : List ℕ) (status : ℕ) →
+    HasReport text printed status ⊎ HasNotice filters text printed status → HasStatus text status ⊎ HasNoticeStatus filters text status
+status_of_either filters text printed status (inl (j, is, same, ends)) = inl (j, is, same)
+status_of_either filters text printed status (inr (n, is, same, ends)) = inr (n, is, same)
 
 -- whatever is printed behind a report, its status stays
-pub status_of_report : (text : Text) (printed : List ℕ) (status : ℕ) → IsReport text printed status → IsStatus text status
-status_of_report text printed status report = record { is = status_of_either text printed status report.is }
+pub status_of_report : (filters : List Filter) (text : Text) (printed : List ℕ) (status : ℕ) → IsReport filters text printed status →
+    IsStatus filters text status
+status_of_report filters text printed status report = record { is = status_of_either filters text printed status report.is }
 
 -- nothing is noted before anything is printed
 pub output_none : (trees : List Tree) (o : Output) → o.noted ≡ [] → IsOutput trees o

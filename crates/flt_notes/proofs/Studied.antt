@@ -64,7 +64,7 @@ filters-push (t ∷ trees) tree = ap (λ fs. t.filter ∷ fs) (filters-push tree
 module _ (trees : List Tree) (tree : Tree) where
   reading_of_more : (text : Text) (r : Reading) → IsReading trees text r → IsReading (trees ++ tree ∷ []) text r
   reading_of_more text (Unread f) is = is
-  reading_of_more text (Other notice) is = is
+  reading_of_more text (Other kind) is = is
   reading_of_more text (Known place graph found) is =
       record { tree = is.tree; own = get_of_more trees tree is.tree place is.own; known = is.known }
 

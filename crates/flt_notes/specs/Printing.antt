@@ -6,7 +6,10 @@ use Rattle.flt_graph.specs.Lowering.{IsLowered}
 use Rattle.flt_explain.specs.Findings.{AreFindings}
 use Rattle.flt_explain.specs.declared.finding.Finding.{Finding}
 use Rattle.flt_reasons.specs.Notice as notices
+use Rattle.flt_reasons.specs.declared.notice.Kind.{Kind}
 use Rattle.flt_reasons.specs.declared.notice.Notice.{Notice}
+use Rattle.flt_script.specs.ScriptText.{Stack}
+use Rattle.flt_tree.specs.Names.{Text}
 use Rattle.flt_details.specs.Closing.{findings_closing, syntax_line}
 use Rattle.flt_details.specs.Reports.{EndsWith, findings_status}
 use Rattle.flt_schedules.specs.Schedules.{IsScheduled}
@@ -43,9 +46,13 @@ pub record IsNoteOf (trees : List Tree) (k : Known) (number : ℕ) (finding : Fi
 abbrev pub ClosesFindings : List Finding → List ℕ → ℕ → Type 0
 ClosesFindings found printed status = (status ≡ findings_status found) × EndsWith printed (findings_closing found)
 
--- the same of a certificate or a journal
+-- the same of what is said of a certificate, a journal or a script
 abbrev pub ClosesNotice : Notice → List ℕ → ℕ → Type 0
 ClosesNotice n printed status = (status ≡ notices.status_of n) × EndsWith printed (notices.closing n)
+
+-- the same of a text that is taken for one of these, of this stack
+abbrev pub ClosesOther : Stack → Kind → Text → List ℕ → ℕ → Type 0
+ClosesOther stack kind text printed status = (n : Notice) × notices.IsNotice stack kind text n × ClosesNotice n printed status
 
 -- the same of a text that doesn't parse
 abbrev pub ClosesFault : SyntaxFault → List ℕ → ℕ → Type 0

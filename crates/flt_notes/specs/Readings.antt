@@ -9,9 +9,8 @@ use Rattle.flt_tree.specs.declared.tree.Tree.{Tree}
 use Rattle.flt_graph.specs.declared.graph.Graph.{Graph}
 use Rattle.flt_explain.specs.declared.finding.Finding.{Finding}
 use Rattle.flt_model.specs.Program.{filters_of}
-use Rattle.flt_reasons.specs.Notice.{IsNotice, kind_of}
+use Rattle.flt_reasons.specs.Notice.{kind_of}
 use Rattle.flt_reasons.specs.declared.notice.Kind.{Kind}
-use Rattle.flt_reasons.specs.declared.notice.Notice.{Notice}
 use Rattle.flt_details.specs.Reports.{IsKnown}
 use Rattle.flt_notes.specs.declared.readings.Reading.{Reading}
 use Rattle.flt_notes.specs.declared.readings.Reading.TheVariants.{Unread, Other, Known}
@@ -30,13 +29,11 @@ pub record IsKnownBy (trees : List Tree) (text : Text) (place : ℕ) (graph : Gr
   pub own : slice_get trees place ≡ Some tree
   pub known : IsKnown text tree graph found
 
--- a text doesn't parse and is taken for a certificate or a journal, and this is said of it
-pub record IsOther (text : Text) (notice : Notice) : Type 0 where
+-- a text doesn't parse and is taken for a certificate, a journal or a script
+pub record IsOther (text : Text) (kind : Kind) : Type 0 where
   pub fault : SyntaxFault
   pub unread : Fails text fault
-  pub kind : Kind
   pub taken : kind_of text ≡ Some kind
-  pub is : IsNotice kind text notice
 
 -- a text doesn't parse, and isn't taken for anything else
 pub record IsUnread (text : Text) (f : SyntaxFault) : Type 0 where
@@ -46,7 +43,7 @@ pub record IsUnread (text : Text) (f : SyntaxFault) : Type 0 where
 -- what a text is
 abbrev pub IsReading : List Tree → Text → Reading → Type 0
 IsReading trees text (Unread f) = IsUnread text f
-IsReading trees text (Other notice) = IsOther text notice
+IsReading trees text (Other kind) = IsOther text kind
 IsReading trees text (Known place graph found) = IsKnownBy trees text place graph found
 
 abbrev pub IsStudied : List Tree → Studied → Type 0

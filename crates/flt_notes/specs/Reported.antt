@@ -1,13 +1,16 @@
--- What is reported of files: of texts, and of certificates and journals. This project's own program.
-use Rattle.std.specs.Prelude.{◌≡◌, ◌⊎◌, ℕ, List, [], ◌∷◌, max}
+-- What is reported of files: of texts, and of certificates, journals and scripts. This project's own program.
+use Rattle.std.specs.Prelude.{◌≡◌, ◌⊎◌, ℕ, List, [], ◌∷◌, Some, None, max}
+use Rattle.flt_script.specs.ScriptText.{Stack}
 use Rattle.flt_tree.specs.Names.{Text}
+use Rattle.flt_tree.specs.declared.filter.Filter.{Filter}
 use Rattle.flt_reasons.specs.Notice as notices
+use Rattle.flt_reasons.specs.declared.notice.Kind.{Kind}
 use Rattle.flt_reasons.specs.declared.notice.Notice.{Notice}
 use Rattle.flt_details.specs.Closing as texts
 use Rattle.flt_details.specs.Reports.{EndsWith, IsJudged, status_of}
 use Rattle.flt_details.specs.declared.judged.Judged.{Judged}
 use Rattle.flt_details.specs.declared.judged.Judged.TheVariants.{Unread, Known}
-use Rattle.flt_notes.specs.Readings.{IsOther, IsUnread}
+use Rattle.flt_notes.specs.Readings.{AreParsed, IsOther, IsUnread}
 
 -- what a text is that isn't taken for anything else: it has this first fault, or it is known
 abbrev pub IsText : Text → Judged → Type 0
@@ -18,30 +21,47 @@ IsText text (Known tree graph found) = IsJudged text (Known tree graph found)
 abbrev pub HasStatus : Text → ℕ → Type 0
 HasStatus text status = (j : Judged) × IsText text j × (status ≡ status_of j)
 
--- the status of a certificate or a journal: 0 where it is well-formed, else 2
-abbrev pub HasNoticeStatus : Text → ℕ → Type 0
-HasNoticeStatus text status = (n : Notice) × IsOther text n × (status ≡ notices.status_of n)
+-- the stack of these filters, where there are any
+abbrev pub stack_of : List Filter → Stack
+stack_of [] = None
+stack_of (f ∷ fs) = Some (f ∷ fs)
+
+-- a text is taken for a certificate, a journal or a script, and this is said of it, where these are the filters of the texts that parse
+pub record IsNoticeOf (filters : List Filter) (text : Text) (notice : Notice) : Type 0 where
+  pub kind : Kind
+  pub other : IsOther text kind
+  pub is : notices.IsNotice (stack_of filters) kind text notice
+
+-- the status of a certificate, a journal or a script: 0 where it is well-formed, else 2
+abbrev pub HasNoticeStatus : List Filter → Text → ℕ → Type 0
+HasNoticeStatus filters text status = (n : Notice) × IsNoticeOf filters text n × (status ≡ notices.status_of n)
 
 -- the status of a file
-pub record IsStatus (text : Text) (status : ℕ) : Type 0 where
-  pub is : HasStatus text status ⊎ HasNoticeStatus text status
+pub record IsStatus (filters : List Filter) (text : Text) (status : ℕ) : Type 0 where
+  pub is : HasStatus text status ⊎ HasNoticeStatus filters text status
 
 -- a text has this status, and its last line ends what is printed
 abbrev pub HasReport : Text → List ℕ → ℕ → Type 0
 HasReport text printed status = (j : Judged) × IsText text j × (status ≡ status_of j) × EndsWith printed (texts.closing j)
 
--- the same of a certificate or a journal
-abbrev pub HasNotice : Text → List ℕ → ℕ → Type 0
-HasNotice text printed status =
-    (n : Notice) × IsOther text n × (status ≡ notices.status_of n) × EndsWith printed (notices.closing n)
+-- the same of a certificate, a journal or a script
+abbrev pub HasNotice : List Filter → Text → List ℕ → ℕ → Type 0
+HasNotice filters text printed status =
+    (n : Notice) × IsNoticeOf filters text n × (status ≡ notices.status_of n) × EndsWith printed (notices.closing n)
 
 -- the same of a file
-pub record IsReport (text : Text) (printed : List ℕ) (status : ℕ) : Type 0 where
-  pub is : HasReport text printed status ⊎ HasNotice text printed status
+pub record IsReport (filters : List Filter) (text : Text) (printed : List ℕ) (status : ℕ) : Type 0 where
+  pub is : HasReport text printed status ⊎ HasNotice filters text printed status
 
 -- the status of several files is the greatest of theirs, and the last one's line ends what is printed
-abbrev pub AreReports : List Text → List ℕ → ℕ → Type 0
-AreReports [] printed status = status ≡ 0
-AreReports (t ∷ []) printed status = IsReport t printed status
-AreReports (t ∷ u ∷ ts) printed status =
-    (first : ℕ) × (others : ℕ) × IsStatus t first × AreReports (u ∷ ts) printed others × (status ≡ max first others)
+abbrev pub AreReportsOf : List Filter → List Text → List ℕ → ℕ → Type 0
+AreReportsOf filters [] printed status = status ≡ 0
+AreReportsOf filters (t ∷ []) printed status = IsReport filters t printed status
+AreReportsOf filters (t ∷ u ∷ ts) printed status =
+    (first : ℕ) × (others : ℕ) × IsStatus filters t first × AreReportsOf filters (u ∷ ts) printed others × (status ≡ max first others)
+
+-- the same, where the filters are those of the texts that parse
+pub record AreReports (texts : List Text) (printed : List ℕ) (status : ℕ) : Type 0 where
+  pub filters : List Filter
+  pub parsed : AreParsed texts filters
+  pub are : AreReportsOf filters texts printed status

@@ -23,8 +23,9 @@ pub struct Told {
 /// and a journal that breaks what its rule prevents, if one is found. A journal is looked for in rounds of growing bounds, each up to so
 /// many states: where several texts parse and the finding's filter meets another one on an operation, on all that parse, else, or where
 /// none is found, on the filter alone. The last line of each text is what `analyse` says of it, or `nothing found`. A text that doesn't
-/// parse and begins as a certificate or a journal is taken for one: what is said of it is why a line of it is malformed, and its last
-/// line is what `check` or `replay` say of it, or `nothing found`. With `coloured`, marks of a terminal colour it.
+/// parse and begins as a certificate, a journal or a script is taken for one: what is said of it is why a line of it is malformed, and its last
+/// line is what `check`, `replay` or `run` say of it, or `nothing found`. A script is taken for one for the filters of the texts that
+/// parse, or, where none does, for whichever filters it detaches. With `coloured`, marks of a terminal colour it.
 ///
 /// # Errors
 ///

@@ -1,8 +1,8 @@
 //! Reports for people, with what comes of their findings in runs: behind a report's help stands a journal that breaks what its rule
 //! prevents, row by row, or why there is none.
 //!
-//! `readings` has what each text is found to be, beside the trees of all that parse; `notices` what is said of a certificate or a
-//! journal. `noted` says what comes of a finding, `lines` has
+//! `readings` has what each text is found to be, beside the trees of all that parse; `notices` what is said of a certificate, a
+//! journal or a script. `noted` says what comes of a finding, `lines` has
 //! the words for it, and `printing` puts reports and notes together. It exports `explain`, and `first_journal`.
 #![tactic(auto)]
 

@@ -1,11 +1,35 @@
-//! What is said of a certificate or a journal, for people.
+//! What is said of a certificate, a journal or a script, for people.
 
 use flt_reasons::{Kind, Notice, Reason};
 use flt_reports::{MarkedLine, report_line};
 use std::alloc::{AllocError, Global};
 
+/// That nothing is known of the filters that a script detaches.
+const ANY_ALTITUDE: &str =
+    "   = note: no text that parses is named beside it, so any altitude may be detached\n";
+
+/// What is said of a script that is well-formed; with `is_alone`, where the filters of its stack aren't known.
+fn script_lines(
+    alloc: Global,
+    is_alone: bool,
+    name: &str,
+    count: usize,
+) -> Result<String, AllocError> {
+    let commands = if count == 1 { "command" } else { "commands" };
+    let note = if is_alone { ANY_ALTITUDE } else { "" };
+    format!(in alloc;
+        "{name}: a well-formed script of {count} {commands}\n{note}   = help: `fltstack run {name} FILE..` drives filters by it\n"
+    )
+}
+
 /// What is said of one that is well-formed.
-fn whole_lines(alloc: Global, name: &str, kind: Kind, count: usize) -> Result<Vec<u8>, AllocError> {
+fn whole_lines(
+    alloc: Global,
+    is_alone: bool,
+    name: &str,
+    kind: Kind,
+    count: usize,
+) -> Result<Vec<u8>, AllocError> {
     let lines = match kind {
         Kind::Certificate => {
             let callbacks = if count == 1 { "callback" } else { "callbacks" };
@@ -19,6 +43,7 @@ fn whole_lines(alloc: Global, name: &str, kind: Kind, count: usize) -> Result<Ve
                 "{name}: a well-formed journal of {count} {entries}\n   = help: `fltstack replay {name} FILE..` says what it breaks on filters\n"
             )?
         }
+        Kind::Script => script_lines(alloc, is_alone, name, count)?,
     };
     Ok(lines.into_bytes())
 }
@@ -43,15 +68,17 @@ fn malformed_lines(
     report_line(alloc, coloured, &marked)
 }
 
-/// What is said of a certificate or a journal; whole lines. With `coloured`, marks of a terminal colour them.
+/// What is said of a certificate, a journal or a script; whole lines. With `is_alone` the filters of a script's stack aren't known. With
+/// `coloured`, marks of a terminal colour them.
 pub(crate) fn notice_lines(
     alloc: Global,
     coloured: bool,
+    is_alone: bool,
     name: &str,
     notice: &Notice<'_>,
 ) -> Result<Vec<u8>, AllocError> {
     match notice {
-        Notice::Whole(kind, count) => whole_lines(alloc, name, *kind, *count),
+        Notice::Whole(kind, count) => whole_lines(alloc, is_alone, name, *kind, *count),
         Notice::Malformed(_, reason) => malformed_lines(alloc, coloured, name, reason),
     }
 }

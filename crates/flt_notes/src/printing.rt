@@ -1,9 +1,10 @@
 //! Reports and notes, put together.
 
-ghost use Rattle.std.specs.Prelude.{◌≡◌, ◌++◌, IfOk, OnOk, max, slice_get};
+ghost use Rattle.std.specs.Prelude.{◌≡◌, ◌++◌, IfOk, OnOk, max, option_map, slice_get};
+ghost use Rattle.flt_model.specs.Program.{filters_of};
 ghost use Rattle.flt_notes.specs.Printing as spec;
 ghost use Rattle.flt_notes.specs.Readings.{AreStudied, IsStudied, texts_read};
-ghost use Rattle.flt_notes.specs.Reported.{AreReports, IsReport, IsStatus};
+ghost use Rattle.flt_notes.specs.Reported.{AreReportsOf, IsReport, IsStatus, stack_of};
 
 use crate::lines::{Bounds, note_lines};
 use crate::noted::Noted;
@@ -12,7 +13,7 @@ use crate::readings::{Reading, Studied};
 use flt_details::{Source, fault_line, findings_line};
 use flt_explain::Finding;
 use flt_graph::Graph;
-use flt_reasons::Notice;
+use flt_reasons::{Kind, Notice, describe};
 use flt_reports::{Report, report_findings, report_nothing, report_unread};
 use flt_schedules::{Suspect, schedule_among};
 use flt_syntax::SyntaxFault;
@@ -205,8 +206,18 @@ impl Stage<'_> {
         Ok(2)
     }
 
-    /// Writes what is said of a certificate or a journal.
-    fn put_other(
+    /// The filters of a stack, where there are any.
+    fn stack(&self) -> Option<&[Tree]>
+        ensures { option_map (λ trees. filters_of trees.now) result ≡ stack_of (filters_of self.now.trees.now) }
+    {
+        match self.trees {
+            [] => None,
+            trees => Some(trees),
+        }
+    }
+
+    /// Writes what is said of a certificate, a journal or a script.
+    fn put_notice(
         &self,
         output: &mut Output,
         source: Source<'_>,
@@ -216,9 +227,27 @@ impl Stage<'_> {
         ensures output { OnOk result (spec.IsOutput self.now.trees.now output.new) }
         ensures report { IfOk result (spec.ClosesNotice notice.now output.new.bytes.items) }
     {
-        output.lines(notice_lines(self.alloc, self.coloured, source.name, notice)?.as_slice())?;
+        let is_alone = self.trees.is_empty();
+        let said = notice_lines(self.alloc, self.coloured, is_alone, source.name, notice)?;
+        output.lines(said.as_slice())?;
         output.lines(notice.closing(self.alloc)?.as_bytes())?;
         Ok(notice.status())
+    }
+
+    /// Writes what is said of what is taken for a certificate, a journal or a script.
+    fn put_other(
+        &self,
+        output: &mut Output,
+        source: Source<'_>,
+        kind: Kind,
+    ) -> Result<u8, AllocError>
+        requires old { spec.IsOutput self.now.trees.now output.old }
+        ensures output { OnOk result (spec.IsOutput self.now.trees.now output.new) }
+        ensures report { IfOk result
+            (spec.ClosesOther (stack_of (filters_of self.now.trees.now)) kind source.entry.text.now output.new.bytes.items) }
+    {
+        let notice = describe(self.alloc, kind, self.stack(), 0, source.text)?;
+        self.put_notice(output, source, &notice)
     }
 
     /// Writes what is found of a text, and gives its status.
@@ -226,11 +255,11 @@ impl Stage<'_> {
         requires text { IsStudied self.now.trees.now studied.now }
         requires old { spec.IsOutput self.now.trees.now output.old }
         ensures output { OnOk result (spec.IsOutput self.now.trees.now output.new) }
-        ensures report { IfOk result (IsReport studied.now.source.text.now output.new.bytes.items) }
+        ensures report { IfOk result (IsReport (filters_of self.now.trees.now) studied.now.source.text.now output.new.bytes.items) }
     {
         match &studied.reading {
             Reading::Unread(fault) => self.put_unread(output, studied.source, *fault),
-            Reading::Other(notice) => self.put_other(output, studied.source, notice),
+            Reading::Other(kind) => self.put_other(output, studied.source, *kind),
             Reading::Known(place, graph, found) => {
                 let known = Known {
                     place: *place,
@@ -247,7 +276,7 @@ impl Stage<'_> {
         requires text { IsStudied self.now.trees.now studied.now }
         requires old { spec.IsOutput self.now.trees.now output.old }
         ensures output { OnOk result (spec.IsOutput self.now.trees.now output.new) }
-        ensures status { IfOk result (IsStatus studied.now.source.text.now) }
+        ensures status { IfOk result (IsStatus (filters_of self.now.trees.now) studied.now.source.text.now) }
     {
         let status = self.put_text(output, studied)?;
         output.lines(b"\n")?;
@@ -264,7 +293,7 @@ impl Stage<'_> {
         requires texts { AreStudied self.now.trees.now each.now }
         requires old { spec.IsOutput self.now.trees.now output.old }
         ensures output { OnOk result (spec.IsOutput self.now.trees.now output.new) }
-        ensures reports { IfOk result (AreReports (texts_read each.now) output.new.bytes.items) }
+        ensures reports { IfOk result (AreReportsOf (filters_of self.now.trees.now) (texts_read each.now) output.new.bytes.items) }
     {
         match each {
             [] => Ok(0),

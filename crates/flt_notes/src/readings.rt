@@ -1,4 +1,5 @@
-//! What texts are found to be, beside the trees of those that parse.
+//! What texts are found to be, beside the trees of those that parse. A text that is taken for something else is read later: a script is one
+//! for all these trees.
 
 ghost use Rattle.std.specs.Prelude.{◌≡◌, ◌++◌, ◌∷◌, [], IfOk, OnOk};
 ghost use Rattle.flt_details.specs.Reports.{IsJudged, IsKnown, texts_of};
@@ -8,17 +9,17 @@ ghost use Rattle.flt_notes.specs.Readings as spec;
 use flt_details::{Judged, Source, judge};
 use flt_explain::Finding;
 use flt_graph::Graph;
-use flt_reasons::{Notice, describe, kind_of};
+use flt_reasons::{Kind, kind_of};
 use flt_syntax::{SyntaxFault, Tree};
 use sqlite_items::Items;
 use std::alloc::{AllocError, Global};
 
 /// What a text is found to be, but for its tree.
 #[derive(Drop)]
-pub(crate) enum Reading<'a> {
+pub(crate) enum Reading {
     Unread(SyntaxFault),
-    /// It is taken for a certificate or a journal.
-    Other(Notice<'a>),
+    /// It is taken for a certificate, a journal or a script.
+    Other(Kind),
     /// The number of its tree, from 0, its points and its findings.
     Known(usize, Graph, Items<Finding>),
 }
@@ -27,7 +28,7 @@ pub(crate) enum Reading<'a> {
 #[derive(Drop)]
 pub(crate) struct Studied<'a> {
     pub(crate) source: Source<'a>,
-    pub(crate) reading: Reading<'a>,
+    pub(crate) reading: Reading,
 }
 
 /// Some texts, and the trees of those that parse.
@@ -38,15 +39,15 @@ pub(crate) struct Readings<'a> {
 }
 
 impl<'a> Readings<'a> {
-    /// One more text, which doesn't parse and is taken for a certificate or a journal.
-    fn add_other(&mut self, source: Source<'a>, notice: Notice<'a>) -> Result<(), AllocError>
-        requires other { spec.IsOther source.text.now notice }
+    /// One more text, which doesn't parse and is taken for a certificate, a journal or a script.
+    fn add_other(&mut self, source: Source<'a>, kind: Kind) -> Result<(), AllocError>
+        requires other { spec.IsOther source.text.now kind }
         requires old { spec.AreReadings self.old }
         ensures new { OnOk result (spec.AreReadings self.new) }
         ensures text { OnOk result (spec.texts_read self.new.each.items
             ≡ spec.texts_read self.old.each.items ++ source.entry.text.now ∷ []) }
     {
-        let reading = Reading::Other(notice);
+        let reading = Reading::Other(kind);
         self.each.push(Studied { source, reading })?;
         Ok(())
     }
@@ -85,12 +86,7 @@ impl<'a> Readings<'a> {
     }
 
     /// One more text, which doesn't parse.
-    fn add_unparsed(
-        &mut self,
-        alloc: Global,
-        source: Source<'a>,
-        fault: SyntaxFault,
-    ) -> Result<(), AllocError>
+    fn add_unparsed(&mut self, source: Source<'a>, fault: SyntaxFault) -> Result<(), AllocError>
         requires fault { Fails source.text.now fault }
         requires old { spec.AreReadings self.old }
         ensures new { OnOk result (spec.AreReadings self.new) }
@@ -98,16 +94,13 @@ impl<'a> Readings<'a> {
             ≡ spec.texts_read self.old.each.items ++ source.entry.text.now ∷ []) }
     {
         match kind_of(source.text) {
-            Some(kind) => {
-                let notice = describe(alloc, kind, 0, source.text)?;
-                self.add_other(source, notice)
-            }
+            Some(kind) => self.add_other(source, kind),
             None => self.add_unread(source, fault),
         }
     }
 
     /// One more text.
-    fn add(&mut self, alloc: Global, source: Source<'a>, judged: Judged) -> Result<(), AllocError>
+    fn add(&mut self, source: Source<'a>, judged: Judged) -> Result<(), AllocError>
         requires judged { IsJudged source.text.now judged }
         requires old { spec.AreReadings self.old }
         ensures new { OnOk result (spec.AreReadings self.new) }
@@ -115,7 +108,7 @@ impl<'a> Readings<'a> {
             ≡ spec.texts_read self.old.each.items ++ source.entry.text.now ∷ []) }
     {
         match judged {
-            Judged::Unread(fault) => self.add_unparsed(alloc, source, fault),
+            Judged::Unread(fault) => self.add_unparsed(source, fault),
             Judged::Known(tree, graph, found) => self.add_known(source, tree, graph, found),
         }
     }
@@ -135,7 +128,7 @@ pub(crate) fn read_all<'a>(
     };
     for source in sources {
         let judged = judge(alloc, source.text)?;
-        readings.add(alloc, *source, judged)?;
+        readings.add(*source, judged)?;
     }
     Ok(readings)
 }

@@ -2,7 +2,7 @@
 
 use crate::cursor::{Cursor, is_decimal, last_number};
 use crate::lines::{Line, Lines};
-use crate::trouble::{Subject, Trouble, asked, exact, line_end, wanted_by};
+use crate::trouble::{Subject, Trouble, asked, bytes_of, exact, found, line_end};
 use crate::wanted::Wanted;
 
 const CONTEXTS: [&str; 8] = ["c1", "c2", "c3", "c4", "c5", "c6", "c7", "arg"];
@@ -202,15 +202,7 @@ fn read(cursor: &mut Cursor<'_>, subject: Subject) -> Result<(), Wanted> {
         Subject::Point(_, own) => point(cursor, own),
         Subject::Among(callback, least, greatest) => among(cursor, callback, least, greatest),
         Subject::Last => exact(cursor, "end", Wanted::End),
-        Subject::Behind | Subject::Entry(_) => Err(Wanted::Nothing),
-    }
-}
-
-/// The bytes of a line, none where it is missing.
-fn bytes_of<'a>(line: Option<Line<'a>>) -> &'a [u8] {
-    match line {
-        Some(line) => line.bytes,
-        None => &[],
+        Subject::Behind | Subject::Entry(_) | Subject::Command(_) => Err(Wanted::Nothing),
     }
 }
 
@@ -220,12 +212,7 @@ fn trouble_in<'a>(line: Option<Line<'a>>, subject: Subject) -> Trouble<'a> {
         left: bytes_of(line),
     };
     let read = read(&mut cursor, subject);
-    Trouble {
-        subject,
-        line,
-        left: cursor.left,
-        wanted: wanted_by(read),
-    }
+    found(subject, line, cursor, read)
 }
 
 /// What is wrong in the first malformed line of a certificate, by its number, from 1.

@@ -1,8 +1,10 @@
 //! What is wrong in a line of a journal.
 
-use crate::cursor::{Cursor, is_decimal, last_number};
+use crate::cursor::Cursor;
 use crate::lines::{Line, Lines};
-use crate::trouble::{Subject, Trouble, asked, exact, line_end, wanted_by};
+use crate::trouble::{
+    Subject, Trouble, asked, bytes_of, exact, found, line_end, number_below, word,
+};
 use crate::wanted::Wanted;
 
 /// How many entries there are at most.
@@ -41,20 +43,8 @@ fn fields_of(word: &[u8]) -> Option<&'static [Field]> {
     }
 }
 
-/// One of the words that are wanted.
-fn word(cursor: &mut Cursor<'_>, wanted: Wanted) -> Result<(), Wanted> {
-    let own = cursor.word();
-    asked(wanted.words().iter().any(|word| *word == own), wanted)?;
-    cursor.pass_word();
-    Ok(())
-}
-
 fn number(cursor: &mut Cursor<'_>) -> Result<(), Wanted> {
-    let own = cursor.word();
-    let is_small = last_number(own) <= u64::from(u32::MAX);
-    asked(is_decimal(own) && is_small, Wanted::AnyNumber)?;
-    cursor.pass_word();
-    Ok(())
+    number_below(cursor, 1 << 32, Wanted::AnyNumber)
 }
 
 /// A stream with its file, or the instance.
@@ -107,18 +97,10 @@ fn read(cursor: &mut Cursor<'_>, subject: Subject) -> Result<(), Wanted> {
 /// What is wrong in a line, by which line it is.
 fn trouble_in<'a>(line: Option<Line<'a>>, subject: Subject) -> Trouble<'a> {
     let mut cursor = Cursor {
-        left: match line {
-            Some(line) => line.bytes,
-            None => &[],
-        },
+        left: bytes_of(line),
     };
     let read = read(&mut cursor, subject);
-    Trouble {
-        subject,
-        line,
-        left: cursor.left,
-        wanted: wanted_by(read),
-    }
+    found(subject, line, cursor, read)
 }
 
 /// Which line it is behind another one, by its number, from 1.

@@ -1,4 +1,5 @@
-//! Why an input isn't read: what is wrong in the first malformed line of a certificate or of a journal. Which line that is comes from the readers of certificates and journals; the words about it come from a small reader beside
+//! Why an input isn't read: what is wrong in the first malformed line of a certificate, of a journal or of a script. Which line that is comes
+//! from the readers of these three; the words about it come from small readers beside
 //! them. It exports `kind_of`, `describe`, and `Unread`: why nothing is given for a name.
 #![tactic(auto)]
 
@@ -9,6 +10,7 @@ mod lines;
 mod nearest;
 mod notice;
 mod reading;
+mod scripts;
 mod telling;
 mod trouble;
 mod wanted;

@@ -1,11 +1,29 @@
 //! The lines of an input.
 
-/// A line, without its line feed.
+/// A line, without what ends it.
 #[derive(Clone, Copy)]
 pub(crate) struct Line<'a> {
     pub(crate) bytes: &'a [u8],
     /// A line feed ends it.
     pub(crate) is_ended: bool,
+    /// A carriage return stands before that.
+    pub(crate) has_return: bool,
+}
+
+/// The line that a line feed ends behind these bytes.
+fn ended(bytes: &[u8]) -> Line<'_> {
+    match bytes.strip_suffix(b"\r") {
+        Some(front) => Line {
+            bytes: front,
+            is_ended: true,
+            has_return: true,
+        },
+        None => Line {
+            bytes,
+            is_ended: true,
+            has_return: false,
+        },
+    }
 }
 
 /// What is left of an input.
@@ -29,16 +47,14 @@ impl<'a> Lines<'a> {
         match others {
             [_, behind @ ..] => {
                 self.left = behind;
-                Some(Line {
-                    bytes,
-                    is_ended: true,
-                })
+                Some(ended(bytes))
             }
             [] => {
                 self.left = others;
                 Some(Line {
                     bytes,
                     is_ended: false,
+                    has_return: false,
                 })
             }
         }

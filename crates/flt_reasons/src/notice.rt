@@ -10,6 +10,7 @@ use std::alloc::{AllocError, Global};
 pub enum Kind {
     Certificate,
     Journal,
+    Script,
 }
 
 /// Why nothing is read for a name.
@@ -30,7 +31,7 @@ pub enum Unread {
 /// What is wrong in a line. Lines and columns count from 1.
 #[derive(Drop)]
 pub struct Reason<'a> {
-    /// The first malformed line of the certificate or journal. A missing line counts.
+    /// The first malformed line of the certificate, journal or script. A missing line counts.
     pub line: usize,
     /// The same line of the file that it stands in.
     pub file_line: usize,
@@ -55,7 +56,7 @@ pub struct Reason<'a> {
 /// What is said of an input that isn't the text of a filter.
 #[derive(Drop)]
 pub enum Notice<'a> {
-    /// It is well-formed: how many callbacks or entries it has.
+    /// It is well-formed: how many callbacks, entries or commands it has.
     Whole(Kind, usize),
     Malformed(Kind, Reason<'a>),
 }
@@ -71,7 +72,7 @@ impl Notice<'_> {
         }
     }
 
-    /// The last line of what is said: its first malformed line, as `check` and `replay` say it, or that nothing is found.
+    /// The last line of what is said: its first malformed line, as `check`, `replay` and `run` say it, or that nothing is found.
     ///
     /// # Errors
     ///
@@ -98,6 +99,7 @@ impl Kind {
         match self {
             Kind::Certificate => "certificate",
             Kind::Journal => "journal",
+            Kind::Script => "script",
         }
     }
 }

@@ -1,14 +1,18 @@
-//! What is said of a certificate or of a journal.
+//! What is said of a certificate, of a journal or of a script.
 
-ghost use Rattle.std.specs.Prelude.{◌≡◌, IfOk, MatchResult};
+ghost use Rattle.std.specs.Prelude.{◌≡◌, IfOk, MatchResult, option_map};
 ghost use Rattle.flt_cert.specs.Spelling.{IsFaultOf};
+ghost use Rattle.flt_model.specs.Program.{filters_of};
 ghost use Rattle.flt_reasons.specs.Notice as spec;
+ghost use Rattle.flt_script.specs.ScriptText.{Stack};
 
 use crate::notice::{Kind, Notice};
 use crate::telling::reason;
-use crate::{certificates, journals};
+use crate::{certificates, journals, scripts};
 use flt_cert::CertFault;
 use flt_model::{JournalFault, ReadFault, Source};
+use flt_script::ScriptFault;
+use flt_tree::Tree;
 use std::alloc::{AllocError, Global};
 
 /// Bytes that are all there. No read fails.
@@ -45,7 +49,35 @@ impl Source for Bytes<'_> {
     }
 }
 
-/// What an input is taken for, where it isn't the text of a filter: it begins with the word that begins a certificate or a journal.
+/// Whether an input begins with this word.
+fn begins_with(input: &[u8], word: &[u8]) -> bool
+    ensures { result ≡ spec.begins_with input.now word.now }
+{
+    input.starts_with(word) && ends_word(&input[word.len()..])
+}
+
+/// Whether what follows a word doesn't go on with it.
+fn ends_word(behind: &[u8]) -> bool
+    ensures { result ≡ spec.ends_word behind.now }
+{
+    match behind {
+        [] => true,
+        [next, ..] => *next <= b' ',
+    }
+}
+
+/// Whether an input begins with the word of a command.
+fn begins_script(input: &[u8]) -> bool
+    ensures { result ≡ spec.begins_script input.now }
+{
+    begins_with(input, b"arrive")
+        || begins_with(input, b"cancel")
+        || begins_with(input, b"detach")
+        || begins_with(input, b"refuse")
+}
+
+/// What an input is taken for, where it isn't the text of a filter: it begins with the word that begins a certificate or a journal, or with that
+/// of a script's command.
 pub fn kind_of(input: &[u8]) -> Option<Kind>
     ensures { result ≡ spec.kind_of input.now }
 {
@@ -54,6 +86,9 @@ pub fn kind_of(input: &[u8]) -> Option<Kind>
     }
     if input.starts_with(b"fltjournal") {
         return Some(Kind::Journal);
+    }
+    if begins_script(input) {
+        return Some(Kind::Script);
     }
     None
 }
@@ -73,7 +108,7 @@ fn of_certificate<'a>(
     before: usize,
     input: &'a [u8],
 ) -> Result<Notice<'a>, AllocError>
-    ensures { IfOk result (spec.IsNotice Kind.Certificate input.now) }
+    ensures { (stack : Stack) → IfOk result (spec.IsNotice stack Kind.Certificate input.now) }
 {
     match callbacks_in(alloc, input) {
         Ok(callbacks) => Ok(Notice::Whole(Kind::Certificate, callbacks)),
@@ -87,7 +122,7 @@ fn of_certificate<'a>(
 }
 
 fn of_journal<'a>(alloc: Global, before: usize, input: &'a [u8]) -> Result<Notice<'a>, AllocError>
-    ensures { IfOk result (spec.IsNotice Kind.Journal input.now) }
+    ensures { (stack : Stack) → IfOk result (spec.IsNotice stack Kind.Journal input.now) }
 {
     match flt_model::read(alloc, &mut Bytes { left: input }) {
         Ok(journal) => Ok(Notice::Whole(Kind::Journal, journal.len())),
@@ -100,8 +135,28 @@ fn of_journal<'a>(alloc: Global, before: usize, input: &'a [u8]) -> Result<Notic
     }
 }
 
-/// What is said of an input that is taken for a certificate or for a journal: how many callbacks or entries it has, or what is wrong in
-/// its first malformed line. It may stand in a file behind some lines of something else.
+fn of_script<'a>(
+    alloc: Global,
+    stack: Option<&[Tree]>,
+    before: usize,
+    input: &'a [u8],
+) -> Result<Notice<'a>, AllocError>
+    ensures { IfOk result (spec.IsNotice (option_map (λ trees. filters_of trees.now) stack.entry) Kind.Script input.now) }
+{
+    match flt_script::read(alloc, stack, input) {
+        Ok(script) => Ok(Notice::Whole(Kind::Script, script.commands().len())),
+        Err(ScriptFault::Line(line)) => {
+            let trouble = scripts::trouble(stack, input, line);
+            let reason = reason(alloc, Kind::Script, before, line, &trouble)?;
+            Ok(Notice::Malformed(Kind::Script, reason))
+        }
+        Err(ScriptFault::OutOfMemory) => Err(AllocError),
+    }
+}
+
+/// What is said of an input that is taken for a certificate, for a journal or for a script of a stack, where that is known: how many
+/// callbacks, entries or commands it has, or what is wrong in its first malformed line. It may stand in a file behind some lines of
+/// something else.
 ///
 /// # Errors
 ///
@@ -109,13 +164,15 @@ fn of_journal<'a>(alloc: Global, before: usize, input: &'a [u8]) -> Result<Notic
 pub fn describe<'a>(
     alloc: Global,
     kind: Kind,
+    stack: Option<&[Tree]>,
     before: usize,
     input: &'a [u8],
 ) -> Result<Notice<'a>, AllocError>
-    ensures { IfOk result (spec.IsNotice kind input.now) }
+    ensures { IfOk result (spec.IsNotice (option_map (λ trees. filters_of trees.now) stack.entry) kind input.now) }
 {
     match kind {
         Kind::Certificate => of_certificate(alloc, before, input),
         Kind::Journal => of_journal(alloc, before, input),
+        Kind::Script => of_script(alloc, stack, before, input),
     }
 }

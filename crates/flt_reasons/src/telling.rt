@@ -4,26 +4,22 @@ ghost use Rattle.std.specs.Prelude.{◌≡◌, IfOk};
 
 use crate::nearest::nearest_word;
 use crate::notice::{Kind, Reason};
-use crate::trouble::{Subject, Trouble};
+use crate::trouble::{Subject, Trouble, bytes_of};
 use crate::wanted::Wanted;
 use std::alloc::{AllocError, Global};
 
 /// How many bytes of a line are shown at most: more than any line of a certificate or a journal has.
 const MAX_SHOWN: usize = 100;
 
-/// How to mend lines that end as those of other systems do.
+/// How to mend a carriage return within a line.
 const RETURNS: &str = "lines end in a line feed alone: save the file without carriage returns";
+
+/// What is wrong with a line that ends as those of other systems do.
+const ENDS_IN_RETURN: &str =
+    "this line ends with a carriage return (CR LF); these files end lines with LF alone";
 
 fn shortened(bytes: &[u8]) -> &[u8] {
     &bytes[..bytes.len().min(MAX_SHOWN)]
-}
-
-/// The line.
-fn bytes_of<'a>(trouble: &Trouble<'a>) -> &'a [u8] {
-    match trouble.line {
-        Some(line) => line.bytes,
-        None => &[],
-    }
 }
 
 /// A line feed ends the line.
@@ -71,7 +67,7 @@ fn tell_found(
     found: &[u8],
 ) -> Result<(), AllocError> {
     match found {
-        [] if is_ended(trouble) && bytes_of(trouble).is_empty() => text(out, "an empty line"),
+        [] if is_ended(trouble) && bytes_of(trouble.line).is_empty() => text(out, "an empty line"),
         [] if is_ended(trouble) => text(out, "the end of the line"),
         [] => {
             text(out, "the end of the ")?;
@@ -84,7 +80,7 @@ fn tell_found(
     }
 }
 
-/// What was expected, and what is found.
+/// What was expected, and what is found; or how the line ends.
 fn note(
     alloc: Global,
     kind: Kind,
@@ -92,6 +88,9 @@ fn note(
     found: &[u8],
 ) -> Result<Vec<u8>, AllocError> {
     let wanted = trouble.wanted;
+    if matches!(wanted, Wanted::NoReturn) {
+        return Vec::from_slice(alloc, ENDS_IN_RETURN.as_bytes());
+    }
     let expected = format!(in alloc; "expected {wanted}, found ")?;
     let mut out = expected.into_bytes();
     tell_found(&mut out, kind, trouble, found)?;
@@ -117,6 +116,7 @@ fn title(alloc: Global, kind: Kind, trouble: &Trouble<'_>) -> Result<Vec<u8>, Al
             format!(in alloc; "the line behind callback {callback} point {point} is malformed")?
         }
         (_, Subject::Entry(entry)) => format!(in alloc; "the line of entry {entry} is malformed")?,
+        (_, Subject::Command(line)) => format!(in alloc; "line {line} of the {name} is malformed")?,
         (_, Subject::Last) => format!(in alloc; "the {name} is too long")?,
         (_, Subject::Behind) => format!(in alloc; "something follows the end of the {name}")?,
     };
@@ -156,7 +156,7 @@ pub(crate) fn reason<'a>(
 ) -> Result<Reason<'a>, AllocError>
     ensures { IfOk result (λ r. r.line ≡ line) }
 {
-    let whole = bytes_of(trouble);
+    let whole = bytes_of(trouble.line);
     let behind = whole.len().saturating_sub(trouble.left.len());
     let found = found(trouble);
     let title = title(alloc, kind, trouble)?;

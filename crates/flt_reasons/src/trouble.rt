@@ -1,6 +1,6 @@
 //! The place in a line that is malformed.
 
-use crate::cursor::Cursor;
+use crate::cursor::{Cursor, is_decimal, last_number};
 use crate::lines::Line;
 use crate::wanted::Wanted;
 
@@ -17,6 +17,8 @@ pub(crate) enum Subject {
     Among(usize, usize, usize),
     /// That of an entry, by its number.
     Entry(usize),
+    /// That of a command, by the number of the line, from 1.
+    Command(usize),
     Last,
     /// One behind the last.
     Behind,
@@ -43,11 +45,63 @@ pub(crate) fn line_end(cursor: &Cursor<'_>) -> Result<(), Wanted> {
     asked(cursor.left.is_empty(), Wanted::LineEnd)
 }
 
-/// What is wanted in a line, by what the reading of it came to. Where all of it is there, its line feed isn't.
-pub(crate) fn wanted_by(read: Result<(), Wanted>) -> Wanted {
+/// One of the words that are wanted.
+pub(crate) fn word(cursor: &mut Cursor<'_>, wanted: Wanted) -> Result<(), Wanted> {
+    let own = cursor.word();
+    asked(wanted.words().iter().any(|word| *word == own), wanted)?;
+    cursor.pass_word();
+    Ok(())
+}
+
+/// A number below a bound.
+pub(crate) fn number_below(
+    cursor: &mut Cursor<'_>,
+    bound: u64,
+    wanted: Wanted,
+) -> Result<(), Wanted> {
+    let own = cursor.word();
+    asked(is_decimal(own) && last_number(own) < bound, wanted)?;
+    cursor.pass_word();
+    Ok(())
+}
+
+/// The bytes of a line, none where it is missing.
+pub(crate) fn bytes_of<'a>(line: Option<Line<'a>>) -> &'a [u8] {
+    match line {
+        Some(line) => line.bytes,
+        None => &[],
+    }
+}
+
+/// A carriage return stands before the line feed.
+fn has_return(line: Option<Line<'_>>) -> bool {
+    match line {
+        Some(line) => line.has_return,
+        None => false,
+    }
+}
+
+/// What is wanted in a line, by what the reading of it came to. Where all of it is there, it ends in something else than a line feed alone.
+fn wanted_by(line: Option<Line<'_>>, read: Result<(), Wanted>) -> Wanted {
     match read {
+        Ok(()) if has_return(line) => Wanted::NoReturn,
         Ok(()) => Wanted::LineFeed,
         Err(wanted) => wanted,
+    }
+}
+
+/// What is wrong in a line of which this is left, by what the reading of it came to.
+pub(crate) fn found<'a>(
+    subject: Subject,
+    line: Option<Line<'a>>,
+    cursor: Cursor<'a>,
+    read: Result<(), Wanted>,
+) -> Trouble<'a> {
+    Trouble {
+        subject,
+        line,
+        left: cursor.left,
+        wanted: wanted_by(line, read),
     }
 }
 

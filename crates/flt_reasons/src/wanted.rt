@@ -5,12 +5,14 @@ use std::fmt;
 /// What is wanted in a place of a line.
 #[derive(Clone, Copy)]
 pub(crate) enum Wanted {
-    // Of both.
+    // Of all.
     /// The first line.
     FirstLine(&'static str),
     Blank,
     LineEnd,
     LineFeed,
+    /// A line feed without a carriage return before it.
+    NoReturn,
     /// The end of the input.
     Nothing,
     /// The last line.
@@ -44,6 +46,16 @@ pub(crate) enum Wanted {
     Key,
     Answer,
     AnyNumber,
+    // Of scripts.
+    Command,
+    /// The mode of what comes in no other.
+    Packet,
+    File,
+    Serial,
+    /// The altitude of a filter of the stack.
+    LoadedAltitude,
+    /// One that isn't detached yet.
+    OtherAltitude,
 }
 
 const ENTRIES: [&[u8]; 14] = [
@@ -66,6 +78,10 @@ const ENTRIES: [&[u8]; 14] = [
 const OPERATIONS: [&[u8]; 4] = [b"create", b"read", b"write", b"cleanup"];
 
 const MODES: [&[u8]; 2] = [b"irp", b"fast"];
+
+const PACKET: [&[u8]; 1] = [b"irp"];
+
+const COMMANDS: [&[u8]; 4] = [b"arrive", b"cancel", b"detach", b"refuse"];
 
 const KEYS: [&[u8]; 2] = [b"stream", b"instance"];
 
@@ -102,6 +118,8 @@ impl Wanted {
             Wanted::Mode => &MODES,
             Wanted::Key => &KEYS,
             Wanted::Answer => &ANSWERS,
+            Wanted::Packet => &PACKET,
+            Wanted::Command => &COMMANDS,
             _ => &[],
         }
     }
@@ -114,6 +132,7 @@ impl Wanted {
             Wanted::Blank => "one blank stands between fields",
             Wanted::LineEnd => "nothing follows the last field of a line, not even a blank",
             Wanted::LineFeed => "each line ends in a line feed, the last one too",
+            Wanted::NoReturn => "`sed -i 's/\\r$//' FILE` leaves LF alone at the end of each line",
             Wanted::Nothing => "nothing follows the line `end`, not even an empty line",
             Wanted::End =>
                 "a certificate has 16 callbacks, and a journal 1,000,000 entries at most",
@@ -141,6 +160,15 @@ impl Wanted {
                 "what is unlinked: `unlink ALTITUDE stream FILE` or `unlink ALTITUDE instance`",
             Wanted::Answer => "what the system answered: `go ACTIVATION STEPS yes` or `no`",
             Wanted::AnyNumber => "a number is decimal, without leading zeros, and below 2^32",
+            Wanted::Command =>
+                "each line of a script is `arrive OPERATION MODE FILE`, `cancel SERIAL`, `detach ALTITUDE` or `refuse NUMBER`; no line is empty, none is a comment, and there is no `end`",
+            Wanted::Packet => "`create` and `cleanup` come as I/O request packets alone: `irp`",
+            Wanted::File => "files are numbered from 0, in decimal, without leading zeros",
+            Wanted::Serial =>
+                "operations are numbered from 0 in the order of their arrival, in decimal, without leading zeros",
+            Wanted::LoadedAltitude =>
+                "a script detaches filters of its stack alone: here those of the texts that parse",
+            Wanted::OtherAltitude => "a script detaches each filter once at most",
         }
     }
 }
@@ -152,7 +180,7 @@ impl fmt::Display for Wanted {
             Wanted::Format => write!(f, "`fltcert 1` or `fltcert 2`"),
             Wanted::Blank => write!(f, "a blank"),
             Wanted::LineEnd => write!(f, "the end of the line"),
-            Wanted::LineFeed => write!(f, "a line feed"),
+            Wanted::LineFeed | Wanted::NoReturn => write!(f, "a line feed"),
             Wanted::Nothing => write!(f, "nothing behind `end`"),
             Wanted::End => write!(f, "`end`"),
             Wanted::Callback(0) => write!(f, "`callback 0`"),
@@ -175,6 +203,12 @@ impl fmt::Display for Wanted {
             Wanted::Key => write!(f, "`stream` or `instance`"),
             Wanted::Answer => write!(f, "`yes` or `no`"),
             Wanted::AnyNumber => write!(f, "a number"),
+            Wanted::Command => write!(f, "`arrive`, `cancel`, `detach` or `refuse`"),
+            Wanted::Packet => write!(f, "`irp`"),
+            Wanted::File => write!(f, "a number below 1,024"),
+            Wanted::Serial => write!(f, "a number below 65,536"),
+            Wanted::LoadedAltitude => write!(f, "the altitude of one of the filters"),
+            Wanted::OtherAltitude => write!(f, "the altitude of another filter"),
         }
     }
 }

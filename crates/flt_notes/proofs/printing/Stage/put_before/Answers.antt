@@ -5,4 +5,4 @@ pub returns-clause-output : goal.returns-clause-output
 returns-clause-output c = output_more _ _ _ _ c.in_ok-status.ensures.output c.in_ok-lines.ensures.0 c.in_ok-lines.ensures.1
 
 pub returns-clause-status : goal.returns-clause-status
-returns-clause-status c = status_of_report _ _ _ c.in_ok-status.ensures.report
+returns-clause-status c = status_of_report _ _ _ _ c.in_ok-status.ensures.report

@@ -11,15 +11,15 @@ put_known-requires-clause-known c =
 pub returns-in-Unread-clause-report : goal.returns-in-Unread-clause-report
 returns-in-Unread-clause-report c =
     let is : IsUnread c.args.studied.now.source.text.now c.in-Unread.fault = rw c.in-Unread.is at c.requires.text in
-    reports_fault _ _ _ _ is c.put_unread.ensures.report
+    reports_fault _ _ _ _ _ is c.put_unread.ensures.report
 
 pub returns-in-Other-clause-report : goal.returns-in-Other-clause-report
 returns-in-Other-clause-report c =
-    let is : IsOther c.args.studied.now.source.text.now c.in-Other.notice = rw c.in-Other.is at c.requires.text in
-    reports_notice _ _ _ _ is c.put_other.ensures.report
+    let is : IsOther c.args.studied.now.source.text.now c.in-Other.kind = rw c.in-Other.is at c.requires.text in
+    reports_notice _ _ _ _ _ is c.put_other.ensures.report
 
 pub returns-in-Known-clause-report : goal.returns-in-Known-clause-report
 returns-in-Known-clause-report c =
     let is : IsKnownBy c.args.self.now.trees.now c.args.studied.now.source.text.now c.in-Known.place c.in-Known.graph c.in-Known.found =
     rw c.in-Known.is at c.requires.text in
-    reports_findings _ is.tree _ _ _ _ is.known (rw c.as_slice.ensures at c.put_known.ensures.report)
+    reports_findings _ _ is.tree _ _ _ _ is.known (rw c.as_slice.ensures at c.put_known.ensures.report)

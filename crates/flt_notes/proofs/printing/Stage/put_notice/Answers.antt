@@ -1,6 +1,6 @@
 use Rattle.flt_notes.proofs.Outputs.{output_more}
 use Rattle.flt_notes.specs.Printing.{IsOutput}
-use Rattle.flt_notes.proofs.printing.Stage.put_other.Goals as goal
+use Rattle.flt_notes.proofs.printing.Stage.put_notice.Goals as goal
 
 pub returns-clause-output : goal.returns-clause-output
 returns-clause-output c =

@@ -1,0 +1,113 @@
+//! What is wrong in a line of a script.
+
+use crate::cursor::{Cursor, last_number};
+use crate::lines::Lines;
+use crate::trouble::{Subject, Trouble, asked, bytes_of, found, line_end, number_below, word};
+use crate::wanted::Wanted;
+use flt_tree::Tree;
+
+/// How many files there are.
+const FILES: u64 = 1024;
+
+/// How many operations a stack takes.
+const OPERATIONS: u64 = 65_536;
+
+/// What decides which filters a line may detach.
+#[derive(Clone, Copy)]
+struct Before<'a> {
+    /// The filters of the stack, where they are known.
+    stack: Option<&'a [Tree]>,
+    /// The whole script.
+    input: &'a [u8],
+    /// The number of the line, from 1.
+    line: usize,
+}
+
+impl Before<'_> {
+    /// A filter of the stack has this altitude.
+    fn is_loaded(self, altitude: u64) -> bool {
+        match self.stack {
+            Some(trees) => trees.iter().any(|tree| tree.filter.altitude == altitude),
+            None => true,
+        }
+    }
+
+    /// A line before detaches the filter of this altitude.
+    fn is_detached(self, altitude: u64) -> bool {
+        let mut lines = Lines { left: self.input };
+        for _number in 1..self.line {
+            let bytes = bytes_of(lines.next());
+            if bytes.starts_with(b"detach ") && last_number(bytes) == altitude {
+                return true;
+            }
+        }
+        false
+    }
+}
+
+/// What arrives: an operation, its mode and its file.
+fn arrival(cursor: &mut Cursor<'_>) -> Result<(), Wanted> {
+    let is_packet = matches!(cursor.word(), b"create" | b"cleanup");
+    word(cursor, Wanted::Operation)?;
+    asked(cursor.byte(b' '), Wanted::Blank)?;
+    word(
+        cursor,
+        if is_packet {
+            Wanted::Packet
+        } else {
+            Wanted::Mode
+        },
+    )?;
+    asked(cursor.byte(b' '), Wanted::Blank)?;
+    number_below(cursor, FILES, Wanted::File)
+}
+
+/// The altitude of a filter that may be detached.
+fn altitude(cursor: &mut Cursor<'_>, before: Before<'_>) -> Result<(), Wanted> {
+    let own = *cursor;
+    number_below(cursor, 1 << 32, Wanted::AnyNumber)?;
+    let altitude = last_number(own.word());
+    let wanted = if !before.is_loaded(altitude) {
+        Wanted::LoadedAltitude
+    } else if before.is_detached(altitude) {
+        Wanted::OtherAltitude
+    } else {
+        return Ok(());
+    };
+    *cursor = own;
+    Err(wanted)
+}
+
+/// What stands behind a command's word.
+fn operands(cursor: &mut Cursor<'_>, command: &[u8], before: Before<'_>) -> Result<(), Wanted> {
+    asked(cursor.byte(b' '), Wanted::Blank)?;
+    match command {
+        b"arrive" => arrival(cursor),
+        b"cancel" => number_below(cursor, OPERATIONS, Wanted::Serial),
+        b"detach" => altitude(cursor, before),
+        _ => number_below(cursor, 1 << 32, Wanted::AnyNumber),
+    }
+}
+
+/// Reads a line, up to what is wrong in it.
+fn read(cursor: &mut Cursor<'_>, before: Before<'_>) -> Result<(), Wanted> {
+    let command = cursor.word();
+    word(cursor, Wanted::Command)?;
+    operands(cursor, command, before)?;
+    line_end(cursor)
+}
+
+/// What is wrong in the first malformed line of a script, by its number, from 1, for a stack of these filters, where it is known.
+pub(crate) fn trouble<'a>(stack: Option<&[Tree]>, input: &'a [u8], line: usize) -> Trouble<'a> {
+    let before = Before { stack, input, line };
+    let mut lines = Lines { left: input };
+    for _number in 1..line {
+        let _passed = lines.next();
+    }
+    let own = lines.next();
+    let mut cursor = Cursor {
+        left: bytes_of(own),
+    };
+    let read = read(&mut cursor, before);
+    found(Subject::Command(line), own, cursor, read)
+}
