@@ -2,6 +2,7 @@
 
 use crate::columns::Columns;
 use crate::outcome::{Sign, sign_of};
+use crate::refusal::{Refusal, of_move, of_step};
 use crate::telling::{Happening, Started, Telling, Who};
 use flt_model::{Journal, JournalEntry, Move};
 use flt_records::Upcoming;
@@ -36,6 +37,8 @@ pub(crate) struct Teller<'b, 'a> {
     columns: Columns,
     /// By activation.
     runs: Vec<Run>,
+    /// Why the last entry isn't enabled, if it isn't.
+    pub(crate) refusal: Option<Refusal>,
 }
 
 /// The filters of some trees, from the highest altitude to the lowest.
@@ -140,6 +143,7 @@ impl<'b, 'a> Teller<'b, 'a> {
             world: World::opening(alloc, stack.len())?,
             columns: Columns::new(arrivals(journal)),
             runs: Vec::new(alloc),
+            refusal: None,
         })
     }
 
@@ -163,6 +167,12 @@ impl<'b, 'a> Teller<'b, 'a> {
             ends: false,
         };
         self.told(nobody, None, happening)
+    }
+
+    /// What is told of an entry that isn't enabled.
+    fn refused(&mut self, entry: JournalEntry, refusal: Refusal) -> Told {
+        self.refusal = Some(refusal);
+        self.aside(Happening::IsRefused(entry))
     }
 
     // ---- moves
@@ -262,7 +272,8 @@ impl<'b, 'a> Teller<'b, 'a> {
         let routine = self.routine_of(step);
         let before = self.world.activations.len();
         if !self.make(step)? {
-            return Ok(self.aside(Happening::IsRefused(JournalEntry::Move(step))));
+            let refusal = of_move(&self.world, self.stack, step);
+            return Ok(self.refused(JournalEntry::Move(step), refusal));
         }
         if self.world.activations.len() > before {
             return self.tell_start(before, routine);
@@ -272,24 +283,21 @@ impl<'b, 'a> Teller<'b, 'a> {
 
     // ---- steps
 
-    /// Makes steps that nobody else sees, unless one of them isn't such a step.
-    fn go_unseen(&mut self, activation: usize, steps: u32) -> Result<bool, AllocError> {
-        for _ in 0..steps {
+    /// Makes steps that nobody else sees, up to one that isn't such a step: how many.
+    fn go_unseen(&mut self, activation: usize, steps: u32) -> Result<u32, AllocError> {
+        for made in 0..steps {
             if !flt_steps::step_unseen(&mut self.world, activation)? {
-                return Ok(false);
+                return Ok(made);
             }
         }
-        Ok(true)
+        Ok(steps)
     }
 
-    /// The next statement of an activation; none at the end of its body.
-    fn next_statement(&mut self, activation: usize) -> Result<Option<&'a Statement>, AllocError> {
-        let Some(activation) = self.world.activations.get_mut(activation) else {
-            return Ok(None);
-        };
-        match activation.first()? {
-            Some(Upcoming::Statement(statement)) => Ok(Some(statement)),
-            _ => Ok(None),
+    /// What comes next in an activation; nothing at the end of its body.
+    fn upcoming(&mut self, activation: usize) -> Result<Option<Upcoming<'a>>, AllocError> {
+        match self.world.activations.get_mut(activation) {
+            Some(activation) => activation.first(),
+            None => Ok(None),
         }
     }
 
@@ -345,27 +353,48 @@ impl<'b, 'a> Teller<'b, 'a> {
         grant: bool,
         run: Run,
     ) -> Result<Option<Happening>, AllocError> {
-        match self.next_statement(activation)? {
-            Some(statement) => {
+        match self.upcoming(activation)? {
+            Some(Upcoming::Statement(statement)) => {
                 let sign = sign_of(&self.world, activation, grant, statement);
                 self.run_line(activation, grant, line_of(statement), sign)
             }
-            None => self.run_line(activation, grant, self.end_line(run), None),
+            _ => self.run_line(activation, grant, self.end_line(run), None),
         }
     }
 
-    /// Goes on by so many steps, of which the last is seen; none where one of them isn't enabled.
+    /// Makes the step that others see; or why it isn't enabled.
+    fn go_seen(
+        &mut self,
+        activation: usize,
+        grant: bool,
+        run: Run,
+    ) -> Result<Result<Happening, Refusal>, AllocError> {
+        if let Some(happening) = self.run_seen(activation, grant, run)? {
+            return Ok(Ok(happening));
+        }
+        let next = self.upcoming(activation)?;
+        Ok(Err(of_step(next, grant)))
+    }
+
+    /// Goes on by so many steps, of which the last is seen; or why one of them isn't enabled.
     fn go(
         &mut self,
         activation: usize,
         steps: u32,
         grant: bool,
         run: Run,
-    ) -> Result<Option<Happening>, AllocError> {
-        if steps == 0 || !self.go_unseen(activation, steps - 1)? {
-            return Ok(None);
+    ) -> Result<Result<Happening, Refusal>, AllocError> {
+        if self.world.has_ended(activation) {
+            return Ok(Err(Refusal::HasEnded));
         }
-        self.run_seen(activation, grant, run)
+        if steps == 0 {
+            return Ok(Err(Refusal::NoStep));
+        }
+        let made = self.go_unseen(activation, steps - 1)?;
+        if made < steps - 1 {
+            return Ok(Err(Refusal::IsSeen(made.saturating_add(1))));
+        }
+        self.go_seen(activation, grant, run)
     }
 
     /// An activation has gone on.
@@ -396,11 +425,11 @@ impl<'b, 'a> Teller<'b, 'a> {
         grant: bool,
     ) -> Result<Told, AllocError> {
         let Some(run) = self.runs.get(activation).copied() else {
-            return Ok(self.aside(Happening::IsRefused(entry)));
+            return Ok(self.refused(entry, Refusal::NoActivation));
         };
         match self.go(activation, steps, grant, run)? {
-            Some(happening) => Ok(self.tell_run(activation, run, happening)),
-            None => Ok(self.aside(Happening::IsRefused(entry))),
+            Ok(happening) => Ok(self.tell_run(activation, run, happening)),
+            Err(refusal) => Ok(self.refused(entry, refusal)),
         }
     }
 

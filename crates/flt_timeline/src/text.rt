@@ -2,6 +2,7 @@
 
 use crate::columns::COLUMNS;
 use crate::folds::{Fold, folds_of};
+use crate::refusal::Refusal;
 use crate::rows::Row;
 use crate::telling::{Column, Happening, Telling, Who};
 use crate::timeline::Timeline;
@@ -76,6 +77,18 @@ fn widest(rows: &[Row]) -> usize {
         None => 1,
     };
     digits.saturating_mul(2).saturating_add(1)
+}
+
+/// That an entry isn't enabled, and why.
+fn put_refusal(out: &mut String, refusal: Option<Refusal>) -> Result<(), AllocError> {
+    let Some(refusal) = refusal else {
+        return out.push_str("  <- isn't enabled");
+    };
+    out.push_str("  <- isn't enabled: ")?;
+    match refusal {
+        Refusal::IsSeen(step) => put(out, &[refusal.words()], &[step as usize]),
+        _ => out.push_str(refusal.words()),
+    }
 }
 
 impl<'a> Timeline<'a> {
@@ -228,7 +241,7 @@ impl<'a> Timeline<'a> {
                 put(out, &["  <- breaks ", violation_word(violation)], &[])
             }
             _ if matches!(self.happening(last), Happening::IsRefused(_)) => {
-                out.push_str("  <- isn't enabled")
+                put_refusal(out, self.refusal)
             }
             _ => Ok(()),
         }

@@ -3,6 +3,7 @@
 ghost use Rattle.std.specs.Prelude.{◌≡◌, ◌+◌, length, IfOk, OnOk};
 
 use crate::folds::{Fold, folds_of};
+use crate::refusal::Refusal;
 use crate::rows::{Row, rows_of};
 use crate::running::{Teller, filters_of};
 use crate::telling::{Happening, Telling, Who};
@@ -19,6 +20,8 @@ pub struct Timeline<'a> {
     /// From the highest altitude to the lowest.
     pub(crate) filters: Vec<&'a Filter>,
     pub(crate) verdict: Verdict,
+    /// Why the entry that ends the run isn't enabled, if it isn't.
+    pub(crate) refusal: Option<Refusal>,
     /// What is told of entries, each once.
     pub(crate) tellings: Tellings,
     /// What each entry came to, by the number of what is told of it.
@@ -32,6 +35,7 @@ pub struct Timeline<'a> {
 /// What is told of a journal.
 #[derive(Drop)]
 struct Course {
+    refusal: Option<Refusal>,
     tellings: Tellings,
     told: Items<usize>,
     whos: Items<Who>,
@@ -72,6 +76,7 @@ fn course_of(
     ensures whos { IfOk result (λ c. length c.whos ≡ length journal.now) }
 {
     let mut course = Course {
+        refusal: None,
         tellings: Tellings::new(alloc),
         told: Items::new(alloc),
         whos: Items::new(alloc),
@@ -92,6 +97,7 @@ fn course_of(
         };
         course.add(here.telling, who)?;
     }
+    course.refusal = teller.refusal;
     Ok(course)
 }
 
@@ -137,6 +143,7 @@ impl<'a> Timeline<'a> {
         Ok(Timeline {
             filters,
             verdict,
+            refusal: course.refusal,
             tellings: course.tellings,
             told: course.told,
             whos: course.whos,

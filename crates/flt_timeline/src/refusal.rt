@@ -1,0 +1,247 @@
+//! Why an entry isn't enabled: which condition of its move or step fails, in the world in which it comes.
+
+use flt_model::{Move, fits_mode};
+use flt_records::{Position, Upcoming};
+use flt_rules::{Mode, Operation};
+use flt_tree::{Action, Condition, Statement, Test};
+use flt_world::{Stack, World};
+
+/// Why an entry isn't enabled.
+#[derive(Clone, Copy)]
+pub(crate) enum Refusal {
+    // Of operations.
+    /// The mode doesn't fit.
+    IsPacket,
+    NoFile,
+    NoOperation,
+    IsVisited,
+    GoesUp,
+    GoesDown,
+    IsBelow,
+    IsAbove,
+    HasPre,
+    HasNoPre,
+    NoFrame,
+    IsDone,
+    IsCancelled,
+    // Of filters.
+    NoFilter,
+    IsNotAttached,
+    IsNotDetaching,
+    NeedNotEnd,
+    NoEntry,
+    NoFrameOf,
+    NoLink,
+    IsNotDrained,
+    NoItem,
+    ItemIsTaken,
+    // Of activations.
+    NoActivation,
+    HasEnded,
+    NoStep,
+    /// The number of the step that others see first, from 1.
+    IsSeen(u32),
+    IsUnseen,
+    NoChoice,
+    IsLocked,
+}
+
+impl Refusal {
+    /// Why, in words; of a step that is seen, what stands before its number.
+    pub(crate) fn words(self) -> &'static str {
+        match self {
+            Refusal::IsPacket => "`create` and `cleanup` are `irp`",
+            Refusal::NoFile => "files are numbered below 1,024",
+            Refusal::NoOperation => "no such operation has arrived",
+            Refusal::IsVisited => "a filter has the operation: it is in a visit",
+            Refusal::GoesUp => "the operation is on its way up",
+            Refusal::GoesDown => "the operation is on its way down",
+            Refusal::IsBelow => "the operation is below the last filter: `lower` is next",
+            Refusal::IsAbove => "the operation isn't below the last filter yet",
+            Refusal::HasPre => "the filter there has a pre callback of it: `pre` is next",
+            Refusal::HasNoPre =>
+                "the filter there has no pre callback of it, or isn't attached: `skip` is next",
+            Refusal::NoFrame => "no post callback of the operation is left",
+            Refusal::IsDone => "the operation is done",
+            Refusal::IsCancelled => "the operation is cancelled already",
+            Refusal::NoFilter => "no filter has this altitude",
+            Refusal::IsNotAttached => "the filter's teardown has begun already",
+            Refusal::IsNotDetaching => "the filter isn't being detached",
+            Refusal::NeedNotEnd =>
+                "the operation isn't cancelled, and the filter isn't being detached",
+            Refusal::NoEntry => "the filter's queue has no entry of the operation",
+            Refusal::NoFrameOf => "the operation has no post callback of the filter left",
+            Refusal::NoLink => "the filter has no context linked there",
+            Refusal::IsNotDrained =>
+                "the filter has a frame, an entry of its queue, a work item, a linked context or a running callback left",
+            Refusal::NoItem => "there is no such work item",
+            Refusal::ItemIsTaken => "the work item is taken already",
+            Refusal::NoActivation => "no such activation has started",
+            Refusal::HasEnded => "the activation has ended",
+            Refusal::NoStep => "an entry has one step at least",
+            Refusal::IsSeen(_) =>
+                "the entry ends with the first step that others see, which is step ",
+            Refusal::IsUnseen => "nobody else sees the last of these steps",
+            Refusal::NoChoice => "the step leaves no choice: write `yes`",
+            Refusal::IsLocked => "another activation holds the lock",
+        }
+    }
+}
+
+// ---- operations
+
+fn of_arrival(kind: Operation, mode: Mode) -> Refusal {
+    if fits_mode(kind, mode) {
+        Refusal::NoFile
+    } else {
+        Refusal::IsPacket
+    }
+}
+
+/// An operation doesn't go down: it isn't there, is elsewhere, or is at a filter, which is a reason of its own.
+fn of_way_down(world: &World<'_>, stack: &Stack<'_>, serial: u32, at_filter: Refusal) -> Refusal {
+    let operation = serial as usize;
+    if operation >= world.routes.len() {
+        return Refusal::NoOperation;
+    }
+    match world.position(operation) {
+        Position::Down(filter) if filter < stack.len() => at_filter,
+        Position::Down(_) => Refusal::IsBelow,
+        Position::Visiting => Refusal::IsVisited,
+        Position::Up => Refusal::GoesUp,
+    }
+}
+
+fn of_post(world: &World<'_>, serial: u32) -> Refusal {
+    let operation = serial as usize;
+    if operation >= world.routes.len() {
+        return Refusal::NoOperation;
+    }
+    match world.position(operation) {
+        Position::Down(_) => Refusal::GoesDown,
+        Position::Visiting => Refusal::IsVisited,
+        Position::Up => Refusal::NoFrame,
+    }
+}
+
+fn of_cancel(world: &World<'_>, serial: u32) -> Refusal {
+    let operation = serial as usize;
+    if operation >= world.routes.len() {
+        Refusal::NoOperation
+    } else if world.is_cancelled(operation) {
+        Refusal::IsCancelled
+    } else {
+        Refusal::IsDone
+    }
+}
+
+// ---- filters
+
+fn of_canceled(world: &World<'_>, filter: usize, serial: u32) -> Refusal {
+    let operation = serial as usize;
+    if operation >= world.routes.len() {
+        Refusal::NoOperation
+    } else if world.is_cancelled(operation) || world.is_detaching(filter) {
+        Refusal::NoEntry
+    } else {
+        Refusal::NeedNotEnd
+    }
+}
+
+fn of_drain(world: &World<'_>, filter: usize, serial: u32) -> Refusal {
+    if !world.is_detaching(filter) {
+        Refusal::IsNotDetaching
+    } else if serial as usize >= world.routes.len() {
+        Refusal::NoOperation
+    } else {
+        Refusal::NoFrameOf
+    }
+}
+
+/// A teardown doesn't go on: it hasn't begun or is over, or there is a reason of its own.
+fn of_teardown(world: &World<'_>, filter: usize, begun: Refusal) -> Refusal {
+    if world.is_detaching(filter) {
+        begun
+    } else {
+        Refusal::IsNotDetaching
+    }
+}
+
+fn of_work(world: &World<'_>, item: u32) -> Refusal {
+    if (item as usize) < world.items().len() {
+        Refusal::ItemIsTaken
+    } else {
+        Refusal::NoItem
+    }
+}
+
+/// A move of the filter of an altitude.
+fn of_filter(world: &World<'_>, stack: &Stack<'_>, altitude: u32, step: Move) -> Refusal {
+    let filter = stack.number_of(altitude);
+    if filter >= stack.len() {
+        return Refusal::NoFilter;
+    }
+    match step {
+        Move::Canceled { serial, .. } => of_canceled(world, filter, serial),
+        Move::Drain { serial, .. } => of_drain(world, filter, serial),
+        Move::Unlink { .. } => of_teardown(world, filter, Refusal::NoLink),
+        Move::Detached { .. } => of_teardown(world, filter, Refusal::IsNotDrained),
+        _ => Refusal::IsNotAttached,
+    }
+}
+
+/// Why a move isn't enabled in this world.
+pub(crate) fn of_move(world: &World<'_>, stack: &Stack<'_>, step: Move) -> Refusal {
+    match step {
+        Move::Arrive {
+            operation,
+            mode,
+            ..
+        } => of_arrival(operation, mode),
+        Move::Pre { serial } => of_way_down(world, stack, serial, Refusal::HasNoPre),
+        Move::Skip { serial } => of_way_down(world, stack, serial, Refusal::HasPre),
+        Move::Lower { serial } => of_way_down(world, stack, serial, Refusal::IsAbove),
+        Move::Post { serial } => of_post(world, serial),
+        Move::Cancel { serial } => of_cancel(world, serial),
+        Move::Work { item } => of_work(world, item),
+        Move::Canceled { altitude, .. }
+        | Move::Detach { altitude }
+        | Move::Drain { altitude, .. }
+        | Move::Unlink { altitude, .. }
+        | Move::Detached { altitude } => of_filter(world, stack, altitude, step),
+    }
+}
+
+// ---- steps
+
+/// Whether others see the step of a statement.
+fn is_seen(statement: &Statement) -> bool {
+    match statement {
+        Statement::Act(_, action) => matches!(
+            action,
+            Action::ReadValue(_, _) | Action::ReadFile(_, _) | Action::WriteValue(_, _)
+        ),
+        Statement::Call(_, _) | Statement::Return(_, _) => true,
+        Statement::If(_, condition, _, _) => matches!(
+            condition,
+            Condition::Succeeds(_) | Condition::Test(Test::IsIrp)
+        ),
+        Statement::Repeat(_, _, _) => false,
+    }
+}
+
+/// Why the last step of an entry isn't enabled with this choice, by what comes next in the activation: nothing at the end of its body.
+pub(crate) fn of_step(next: Option<Upcoming<'_>>, grant: bool) -> Refusal {
+    let is_seen = match next {
+        Some(Upcoming::Statement(statement)) => is_seen(statement),
+        Some(Upcoming::Repeat(_, _, _)) => false,
+        None => true,
+    };
+    if !is_seen {
+        Refusal::IsUnseen
+    } else if grant {
+        Refusal::IsLocked
+    } else {
+        Refusal::NoChoice
+    }
+}
