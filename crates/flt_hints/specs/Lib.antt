@@ -1,3 +1,4 @@
+pub mod Absences
 pub mod Spot
 pub mod Trial
 pub mod Choices

@@ -1,13 +1,15 @@
 -- What is said of a text that doesn't parse. This project's own program.
-use Rattle.std.specs.Prelude.{◌≡◌, [], Option, Some, None, IfSome}
+use Rattle.std.specs.Prelude.{◌≡◌, true, [], Option, Some, None, IfSome}
 use Rattle.flt_syntax.specs.Spelling.{Spells}
 use Rattle.flt_syntax.specs.declared.fault.FaultKind.{FaultKind}
 use Rattle.flt_syntax.specs.declared.token.Token.{Token}
 use Rattle.flt_tree.specs.Names.{Text}
 use Rattle.flt_tree.specs.declared.filter.Filter.{Filter}
+use Rattle.flt_hints.specs.Absences.{is_left_out}
 use Rattle.flt_hints.specs.Choices.{AreChoices}
 use Rattle.flt_hints.specs.Spot.{IsSpot}
 use Rattle.flt_hints.specs.Trial.{MayStand, gap_at}
+use Rattle.flt_hints.specs.declared.spot.Spot.{Spot}
 use Rattle.flt_hints.specs.declared.troubles.Trouble.{Trouble}
 
 -- nothing may stand where there is no token
@@ -21,7 +23,17 @@ pub record AreFor (kind : FaultKind) (text : Text) (token : Token) (t : Trouble)
   pub choices : AreChoices (gap_at kind text token) t.choices
   pub meant : IfSome t.meant (λ w. MayStand (gap_at kind text token) w.now)
 
--- the same where there may be a token
+-- no word is meant by one that names what the language leaves out
+pub record IsNotMistaken (s : Spot) (t : Trouble) : Type 0 where
+  pub none : is_left_out s.fault.kind s.bytes.now ≡ true → t.meant ≡ None
+
+-- all that is said in the place of a token of a text that is refused there
+pub record IsPlaced (text : Text) (s : Spot) (token : Token) (t : Trouble) : Type 0 where
+  pub spot : t.spot ≡ s
+  pub choices : AreFor s.fault.kind text token t
+  pub left_out : IsNotMistaken s t
+
+-- what may stand there, where there may be a token
 abbrev pub AreOf : Text → Trouble → Option Token → Type 0
 AreOf text t None = AreNone t
 AreOf text t (Some token) = AreFor t.spot.fault.kind text token t
@@ -30,6 +42,7 @@ AreOf text t (Some token) = AreFor t.spot.fault.kind text token t
 pub record IsTrouble (text : Text) (t : Trouble) : Type 0 where
   pub spot : IsSpot text t.spot
   pub choices : AreOf text t t.spot.token
+  pub left_out : IsNotMistaken t.spot t
 
 -- a text is refused, or it spells a filter
 abbrev pub IsDescribed : Text → Option Trouble → Type 0

@@ -1,7 +1,7 @@
 //! What is probably wrong, and how to mend it.
 
 /// What is probably wrong where a text doesn't parse.
-#[derive(Clone, Copy, PartialEq, Eq)]
+#[derive(Clone, Copy)]
 pub enum Hint {
     // Of the text as a whole.
     TooLarge,
@@ -16,6 +16,8 @@ pub enum Hint {
     Not,
     Greater,
     Quote,
+    AltitudeFraction,
+    Fraction,
     Member,
     Operator,
     // Of runs that are no word or number.
@@ -26,6 +28,8 @@ pub enum Hint {
     TooLongWord,
     // Of words that the language has, or the driver kit, or C.
     Prefix,
+    /// A word names what the language leaves out; `Absence` says what.
+    LeftOut,
     FinalStatus,
     Comparison,
     Assignment,
@@ -33,6 +37,9 @@ pub enum Hint {
     NotEqual,
     SecondOperator,
     Copy,
+    NamelessContext,
+    NamelessOld,
+    TakenOperand,
     CanFail,
     NeverFails,
     Success,
@@ -41,6 +48,8 @@ pub enum Hint {
     Loop,
     Jump,
     MissingBrace,
+    LateLock,
+    LateQueue,
     // Of names.
     NeedsQueue,
     NeedsSpinLock,
@@ -78,6 +87,9 @@ impl Hint {
             Hint::Not => "there is no `not`: use the `else` of the `if`",
             Hint::Greater => "there is no `>`: use `<` and the `else` of the `if`",
             Hint::Quote => "the language has no strings",
+            Hint::AltitudeFraction =>
+                "an altitude is a whole number here, and only the order of altitudes counts: number the filters anew",
+            Hint::Fraction => "numbers are whole",
             Hint::Member => "the language has no members: `value c0` is what a context keeps",
             Hint::Operator => "numbers are added and subtracted only, by `+` and `-`",
             Hint::Hexadecimal => "numbers are written in decimal digits",
@@ -86,6 +98,7 @@ impl Hint {
             Hint::LettersInNumber => "a word begins with a letter or `_`",
             Hint::TooLongWord => "a word has at most 64 bytes",
             Hint::Prefix => "the driver kit's prefix is left out",
+            Hint::LeftOut => "the language leaves this out",
             Hint::FinalStatus => "a final status stands behind `COMPLETE`",
             Hint::Comparison => "numbers are compared by `==`",
             Hint::Assignment => "a variable is set by `=`",
@@ -96,6 +109,12 @@ impl Hint {
             Hint::SecondOperator => "a statement has one `+` or `-` at most",
             Hint::Copy =>
                 "a variable can't be copied: `FltReferenceContext c0 as c1` gives c1 a reference of its own",
+            Hint::NamelessContext =>
+                "a context stands behind the word `context`, as in `return WITH_CALLBACK context c0`",
+            Hint::NamelessOld =>
+                "what the call gives back stands behind the word `old`, as in `old c1`",
+            Hint::TakenOperand =>
+                "the variable before this was read as the operand of the call before it, which lacks its own",
             Hint::CanFail => "this call can fail: write `if`, the call, and a block `{ }`",
             Hint::NeverFails => "this call always succeeds: write it without `if`",
             Hint::Success =>
@@ -105,6 +124,8 @@ impl Hint {
             Hint::Loop => "the only loop is `repeat NUMBER { }`",
             Hint::Jump => "there are no jumps: use `if` and `else`, or `return`",
             Hint::MissingBrace => "a `}` is missing before this",
+            Hint::LateLock => "locks are declared before `queue` and before the callbacks",
+            Hint::LateQueue => "`queue` stands once, after the locks and before the callbacks",
             Hint::NeedsQueue =>
                 "this call needs the filter's queue: write `queue` before the callbacks",
             Hint::NeedsSpinLock =>

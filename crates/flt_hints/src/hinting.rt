@@ -1,35 +1,49 @@
 //! Finds out what is probably wrong, by what is found and what stands round it.
 
+use crate::absences::{Absence, absence_of};
 use crate::choices::Choices;
 use crate::hint::Hint;
 use crate::kinds::{
-    begins_callback, is_context_variable, is_fallible, is_plain, takes_fast_mutex, takes_push_lock,
-    takes_spin_lock,
+    begins_callback, is_context_variable, is_fallible, is_final_status, is_plain, is_variable,
+    takes_fast_mutex, takes_push_lock, takes_spin_lock,
 };
-use crate::names::has_name;
 use flt_syntax::{FaultKind, Kind, Token};
 
 /// What is found, and what stands round it.
 #[derive(Clone, Copy)]
 pub(crate) struct Scene<'a> {
-    /// The kind of the token before, that of the end where there is none.
-    pub(crate) before: Kind,
+    pub(crate) before: KindsBefore,
     pub(crate) found: Kind,
     pub(crate) bytes: &'a [u8],
+    /// Whether a word of the language is probably meant.
+    pub(crate) is_meant: bool,
     /// The text behind it.
     pub(crate) behind: &'a [u8],
-    /// The names that the text declares.
-    pub(crate) names: &'a [&'a [u8]],
+    /// Whether the text declares a lock or a routine of this name.
+    pub(crate) is_declared: bool,
 }
 
-/// The kind of the token before another.
-pub(crate) fn kind_before(tokens: &[Token], token: Token) -> Kind {
-    let mut before = Kind::End;
+/// The kinds of the two tokens before another, that of the end where there is none.
+#[derive(Clone, Copy)]
+pub(crate) struct KindsBefore {
+    pub(crate) last: Kind,
+    pub(crate) earlier: Kind,
+}
+
+/// The kinds of the two tokens before another.
+pub(crate) fn kinds_before(tokens: &[Token], token: Token) -> KindsBefore {
+    let mut before = KindsBefore {
+        last: Kind::End,
+        earlier: Kind::End,
+    };
     for other in tokens {
         if other.start >= token.start {
             return before;
         }
-        before = other.word.kind;
+        before = KindsBefore {
+            last: other.word.kind,
+            earlier: before.last,
+        };
     }
     before
 }
@@ -45,8 +59,17 @@ fn is_byte_order_mark(scene: Scene<'_>) -> bool {
     matches!(scene.bytes, [0xef]) && matches!(scene.behind, [0xbb, 0xbf, ..])
 }
 
+/// Of a point.
+fn point_hint(scene: Scene<'_>, choices: &Choices<'_>) -> Hint {
+    match scene.before.last {
+        Kind::Number if choices.takes(Kind::Lock) => Hint::AltitudeFraction,
+        Kind::Number => Hint::Fraction,
+        _ => Hint::Member,
+    }
+}
+
 /// Of a byte with which no token begins.
-fn stray_hint(scene: Scene<'_>) -> Option<Hint> {
+fn stray_hint(scene: Scene<'_>, choices: &Choices<'_>) -> Option<Hint> {
     let [byte, ..] = scene.bytes else {
         return None;
     };
@@ -62,7 +85,7 @@ fn stray_hint(scene: Scene<'_>) -> Option<Hint> {
         b'!' => Some(Hint::Not),
         b'>' => Some(Hint::Greater),
         b'"' | b'\'' => Some(Hint::Quote),
-        b'.' => Some(Hint::Member),
+        b'.' => Some(point_hint(scene, choices)),
         _ if is_byte_order_mark(scene) => Some(Hint::ByteOrderMark),
         byte if byte >= 128 => Some(Hint::NotAscii),
         _ => None,
@@ -80,18 +103,38 @@ fn malformed_hint(run: &[u8]) -> Hint {
     }
 }
 
-/// Of a word that the language hasn't.
-fn name_hint(bytes: &[u8], choices: &Choices<'_>) -> Option<Hint> {
+/// What the language leaves out, if a word that stands in a place names it.
+pub(crate) fn absence_in(bytes: &[u8], choices: &Choices<'_>) -> Option<Absence> {
     match bytes {
+        [b'I', b'R', b'P', b'_', b'M', b'J', b'_', ..] => Some(Absence::Operation),
+        [b'S', b'T', b'A', b'T', b'U', b'S', b'_', ..] if choices.takes(Kind::StatusSuccess) => {
+            Some(Absence::FinalStatus)
+        }
+        _ => absence_of(bytes),
+    }
+}
+
+/// Of a word that names what the language leaves out.
+fn absence_hint(scene: Scene<'_>, choices: &Choices<'_>) -> Option<Hint> {
+    if !scene.is_meant && absence_in(scene.bytes, choices).is_some() {
+        Some(Hint::LeftOut)
+    } else {
+        None
+    }
+}
+
+/// Of a word that the language hasn't.
+fn name_hint(scene: Scene<'_>, choices: &Choices<'_>) -> Option<Hint> {
+    match scene.bytes {
         b"while" | b"for" | b"do" => Some(Hint::Loop),
-        b"goto" | b"break" | b"continue" => Some(Hint::Jump),
+        b"goto" | b"break" | b"continue" | b"switch" => Some(Hint::Jump),
         b"NT_SUCCESS" => Some(Hint::Success),
         b"and" | b"or" => Some(Hint::AndOr),
         b"not" => Some(Hint::Not),
         [b'S', b'T', b'A', b'T', b'U', b'S', b'_', ..] if choices.takes(Kind::NoCallback) => {
             Some(Hint::FinalStatus)
         }
-        _ => None,
+        _ => absence_hint(scene, choices),
     }
 }
 
@@ -107,32 +150,56 @@ fn operator_hint(found: Kind, choices: &Choices<'_>) -> Option<Hint> {
     }
 }
 
+/// Whether a variable behind a status that takes a context was read as the beginning of a statement.
+fn has_nameless_context(scene: Scene<'_>, choices: &Choices<'_>) -> bool {
+    matches!(scene.before.earlier, Kind::WithCallback | Kind::Synchronize)
+        && is_context_variable(scene.before.last)
+        && choices.takes(Kind::Assign)
+}
+
+/// Whether a variable that was meant to begin a statement was read as the operand of the call before it.
+fn has_taken_operand(scene: Scene<'_>, choices: &Choices<'_>) -> bool {
+    let earlier = scene.before.earlier;
+    (is_plain(earlier) || matches!(earlier, Kind::As))
+        && is_variable(scene.before.last)
+        && choices.takes(Kind::Return)
+}
+
+/// Of a word that has its place elsewhere in the text, or behind another word.
+fn place_hint(scene: Scene<'_>, choices: &Choices<'_>) -> Option<Hint> {
+    let is_late = choices.takes(Kind::Pre) || choices.takes(Kind::Return);
+    match scene.found {
+        Kind::Lock if is_late => Some(Hint::LateLock),
+        Kind::Queue if is_late => Some(Hint::LateQueue),
+        kind if !is_context_variable(kind) => None,
+        _ if choices.takes(Kind::Context) => Some(Hint::NamelessContext),
+        _ if choices.takes(Kind::Old) => Some(Hint::NamelessOld),
+        _ => None,
+    }
+}
+
 /// Of a call, or a word between statements.
 fn statement_hint(scene: Scene<'_>, choices: &Choices<'_>) -> Option<Hint> {
     match scene.found {
         kind if is_fallible(kind) && choices.takes(Kind::Return) => Some(Hint::CanFail),
         kind if is_plain(kind) && choices.takes(Kind::Draining) => Some(Hint::NeverFails),
-        Kind::If if matches!(scene.before, Kind::Else) => Some(Hint::ElseIf),
+        Kind::If if matches!(scene.before.last, Kind::Else) => Some(Hint::ElseIf),
         Kind::Else => Some(Hint::LoneElse),
         Kind::End if choices.takes(Kind::CloseBrace) => Some(Hint::MissingBrace),
         kind if begins_callback(kind) && choices.takes(Kind::CloseBrace) => {
             Some(Hint::MissingBrace)
         }
         kind if is_context_variable(kind) && choices.takes(Kind::Null) => Some(Hint::Copy),
-        Kind::StatusSuccess
-        | Kind::StatusAccessDenied
-        | Kind::StatusCancelled
-        | Kind::StatusInsufficientResources
-        | Kind::StatusInvalidParameter
-        | Kind::StatusPending
-            if choices.takes(Kind::NoCallback) => { Some(Hint::FinalStatus) }
-        _ => None,
+        kind if is_final_status(kind) && choices.takes(Kind::NoCallback) => {
+            Some(Hint::FinalStatus)
+        }
+        _ => place_hint(scene, choices),
     }
 }
 
 /// Of what stands in place of a lock's name, where the filter declares no lock that the call takes: nothing may stand there.
 fn lock_hint(scene: Scene<'_>, choices: &Choices<'_>) -> Option<Hint> {
-    match scene.before {
+    match scene.before.last {
         _ if !choices.are_none() => None,
         kind if takes_spin_lock(kind) => Some(Hint::NeedsSpinLock),
         kind if takes_fast_mutex(kind) => Some(Hint::NeedsFastMutex),
@@ -146,7 +213,9 @@ fn token_hint(scene: Scene<'_>, choices: &Choices<'_>) -> Option<Hint> {
     let lock = lock_hint(scene, choices);
     match scene.found {
         _ if lock.is_some() => lock,
-        Kind::Name => name_hint(scene.bytes, choices),
+        _ if has_nameless_context(scene, choices) => Some(Hint::NamelessContext),
+        Kind::Assign if has_taken_operand(scene, choices) => Some(Hint::TakenOperand),
+        Kind::Name => name_hint(scene, choices),
         Kind::Equal | Kind::Assign | Kind::NotEqual | Kind::Plus | Kind::Minus => {
             operator_hint(scene.found, choices)
         }
@@ -158,14 +227,14 @@ fn token_hint(scene: Scene<'_>, choices: &Choices<'_>) -> Option<Hint> {
 fn unknown_hint(scene: Scene<'_>, choices: &Choices<'_>) -> Option<Hint> {
     match scene.found {
         Kind::InsertIo | Kind::RemoveNextIo => Some(Hint::NeedsQueue),
-        _ if has_name(scene.names, scene.bytes) => Some(Hint::OtherKind),
+        _ if scene.is_declared => Some(Hint::OtherKind),
         _ => lock_hint(scene, choices),
     }
 }
 
 /// Of a limit that is passed.
 fn limit_hint(scene: Scene<'_>) -> Hint {
-    match (scene.before, scene.found) {
+    match (scene.before.last, scene.found) {
         (Kind::Altitude, Kind::Number) => Hint::Altitude,
         (Kind::Repeat, Kind::Number) => Hint::Turns,
         (Kind::Spin | Kind::Fast | Kind::Push, _) => Hint::Locks,
@@ -178,11 +247,11 @@ fn limit_hint(scene: Scene<'_>) -> Hint {
 /// What is probably wrong.
 pub(crate) fn hint(kind: FaultKind, scene: Scene<'_>, choices: &Choices<'_>) -> Option<Hint> {
     match kind {
-        FaultKind::E01 => stray_hint(scene),
+        FaultKind::E01 => stray_hint(scene, choices),
         FaultKind::E02 => Some(malformed_hint(scene.bytes)),
         FaultKind::E03 => token_hint(scene, choices),
         FaultKind::E04 => unknown_hint(scene, choices),
-        FaultKind::E05 if begins_callback(scene.found) && !begins_callback(scene.before) => {
+        FaultKind::E05 if begins_callback(scene.found) && !begins_callback(scene.before.last) => {
             Some(Hint::CallbackTwice)
         }
         FaultKind::E05 => Some(Hint::NameTwice),

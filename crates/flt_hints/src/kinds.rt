@@ -37,6 +37,36 @@ pub(crate) fn is_plain(kind: Kind) -> bool {
     )
 }
 
+pub(crate) fn is_call(kind: Kind) -> bool {
+    is_fallible(kind) || is_plain(kind)
+}
+
+/// Whether it is a word that stands among the operands of calls and isn't a variable's or a status.
+pub(crate) fn is_operand_word(kind: Kind) -> bool {
+    matches!(
+        kind,
+        Kind::Name
+            | Kind::Data
+            | Kind::As
+            | Kind::Old
+            | Kind::Context
+            | Kind::KeepIfExists
+            | Kind::ReplaceIfExists
+    )
+}
+
+pub(crate) fn is_final_status(kind: Kind) -> bool {
+    matches!(
+        kind,
+        Kind::StatusSuccess
+            | Kind::StatusAccessDenied
+            | Kind::StatusCancelled
+            | Kind::StatusInsufficientResources
+            | Kind::StatusInvalidParameter
+            | Kind::StatusPending
+    )
+}
+
 pub(crate) fn takes_spin_lock(kind: Kind) -> bool {
     matches!(kind, Kind::AcquireSpinLock | Kind::ReleaseSpinLock)
 }

@@ -2,12 +2,14 @@
 //! meant, and how to mend it. What may stand there is tried by the parser, so that no table can differ from it.
 #![tactic(auto)]
 
+mod absences;
 mod choices;
 mod hint;
 mod hinting;
 mod kinds;
 mod names;
 mod nearest;
+mod open_call;
 mod phrases;
 mod spot;
 mod telling;
@@ -16,6 +18,7 @@ mod troubles;
 
 pub use choices::{Choices, Expected};
 pub use hint::Hint;
+pub use open_call::OpenCall;
 pub use spot::Spot;
 pub use telling::{Told, tell};
 pub use troubles::{Trouble, describe};

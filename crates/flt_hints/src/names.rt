@@ -21,7 +21,7 @@ fn declares(kind: Kind) -> bool {
 }
 
 /// Whether a name is among others.
-pub(crate) fn has_name(names: &[&[u8]], name: &[u8]) -> bool {
+fn has_name(names: &[&[u8]], name: &[u8]) -> bool {
     for other in names {
         if *other == name {
             return true;
@@ -47,4 +47,16 @@ pub(crate) fn declared_names<'a>(
         before = token.word.kind;
     }
     Ok(found)
+}
+
+/// Whether a text declares a lock or a routine of a name.
+pub(crate) fn declares_name(text: &[u8], tokens: &[Token], name: &[u8]) -> bool {
+    let mut before = Kind::End;
+    for token in tokens {
+        if declares(before) && bytes_of(text, *token) == name {
+            return true;
+        }
+        before = token.word.kind;
+    }
+    false
 }

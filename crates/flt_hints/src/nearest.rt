@@ -20,9 +20,14 @@ fn lowered(alloc: Global, word: &[u8]) -> Result<String, AllocError> {
     Ok(text)
 }
 
-/// How many letters may differ: a third of them, and always one.
+/// How many letters of a word count: those behind what all final statuses begin with.
+fn letters(word: &[u8]) -> usize {
+    word.strip_prefix(b"STATUS_").unwrap_or(word).len()
+}
+
+/// How many letters may differ: a third of those that count, and always one.
 fn reach(a: &[u8], b: &[u8]) -> usize {
-    (a.len().max(b.len()) / 3).max(1)
+    (letters(a).max(letters(b)) / 3).max(1)
 }
 
 /// The nearer of what is nearest and another word.

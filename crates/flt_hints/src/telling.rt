@@ -1,6 +1,8 @@
 //! What is said of a text that doesn't parse, in words for people.
 
 use crate::hint::Hint;
+use crate::hinting::absence_in;
+use crate::open_call::OpenCall;
 use crate::phrases::{Phrase, phrases};
 use crate::troubles::Trouble;
 use flt_syntax::FaultKind;
@@ -84,6 +86,27 @@ fn expected(
     found(out, trouble)
 }
 
+/// What a call lacks: the name of a lock, or else what may stand there.
+fn operand(out: &mut Vec<u8>, call: OpenCall, phrases: &[Phrase<'_>]) -> Result<(), AllocError> {
+    match call.lock() {
+        Some(lock) => text(out, lock.name),
+        None => listed(out, phrases),
+    }
+}
+
+/// What a call lacks, and what is found in its place.
+fn operand_expected(
+    out: &mut Vec<u8>,
+    trouble: &Trouble<'_>,
+    call: OpenCall,
+    phrases: &[Phrase<'_>],
+) -> Result<(), AllocError> {
+    text(out, "expected ")?;
+    operand(out, call, phrases)?;
+    text(out, ", found ")?;
+    found(out, trouble)
+}
+
 /// What is found, behind some words and before others.
 fn around(
     out: &mut Vec<u8>,
@@ -113,6 +136,9 @@ fn unknown(
 fn title(alloc: Global, out: &mut Vec<u8>, trouble: &Trouble<'_>) -> Result<(), AllocError> {
     let phrases = phrases(alloc, &trouble.choices)?;
     let phrases = phrases.as_slice();
+    if let Some(call) = trouble.open_call {
+        return operand_expected(out, trouble, call, phrases);
+    }
     match (trouble.spot.fault.kind, trouble.hint) {
         (_, Some(Hint::TooLarge)) => text(out, "the text is too large"),
         (_, Some(Hint::ByteOrderMark)) => text(out, "the text begins with a byte order mark"),
@@ -152,16 +178,72 @@ fn names(out: &mut Vec<u8>, names: &[&[u8]]) -> Result<(), AllocError> {
     text(out, "\n")
 }
 
+/// A number in decimal digits.
+fn number(out: &mut Vec<u8>, value: usize) -> Result<(), AllocError> {
+    if value >= 10 {
+        number(out, value / 10)?;
+    }
+    out.push(b'0' + (value % 10) as u8)?;
+    Ok(())
+}
+
+/// That a call isn't complete: its word, its line, and what it lacks.
+fn lacking(out: &mut Vec<u8>, call: OpenCall, phrases: &[Phrase<'_>]) -> Result<(), AllocError> {
+    text(out, "the call before this isn't complete: ")?;
+    quoted(out, call.word())?;
+    text(out, " in line ")?;
+    number(out, call.line)?;
+    text(out, " lacks ")?;
+    operand(out, call, phrases)
+}
+
+/// How a lock is declared, where a call takes one and the filter declares none.
+fn declaration(call: OpenCall, trouble: &Trouble<'_>) -> &'static str {
+    match call.lock() {
+        Some(lock) if trouble.choices.are_none() => lock.declaration,
+        _ => "",
+    }
+}
+
+/// How to complete a call.
+fn call_help(
+    alloc: Global,
+    out: &mut Vec<u8>,
+    trouble: &Trouble<'_>,
+    call: OpenCall,
+) -> Result<(), AllocError> {
+    let phrases = phrases(alloc, &trouble.choices)?;
+    lacking(out, call, phrases.as_slice())?;
+    text(out, declaration(call, trouble))
+}
+
+/// The sentence of a hint.
+fn sentence(trouble: &Trouble<'_>, hint: Hint) -> &'static str {
+    match (hint, absence_in(trouble.spot.bytes, &trouble.choices)) {
+        (Hint::LeftOut, Some(absence)) => absence.sentence(),
+        _ => hint.sentence(),
+    }
+}
+
+/// How to mend what is wrong.
+fn help(alloc: Global, out: &mut Vec<u8>, trouble: &Trouble<'_>) -> Result<(), AllocError> {
+    match (trouble.open_call, trouble.hint) {
+        (Some(call), _) => call_help(alloc, out, trouble, call),
+        (None, Some(hint)) => text(out, sentence(trouble, hint)),
+        (None, None) => Ok(()),
+    }
+}
+
 /// Which declared names may stand there, and how to mend what is wrong.
-fn notes(out: &mut Vec<u8>, trouble: &Trouble<'_>) -> Result<(), AllocError> {
+fn notes(alloc: Global, out: &mut Vec<u8>, trouble: &Trouble<'_>) -> Result<(), AllocError> {
     if !trouble.choices.takes_name {
         names(out, trouble.choices.names.as_slice())?;
     }
-    let Some(hint) = trouble.hint else {
+    if trouble.open_call.is_none() && trouble.hint.is_none() {
         return Ok(());
-    };
+    }
     text(out, "   = help: ")?;
-    text(out, hint.sentence())?;
+    help(alloc, out, trouble)?;
     text(out, "\n")
 }
 
@@ -178,6 +260,6 @@ pub fn tell(alloc: Global, trouble: &Trouble<'_>) -> Result<Told, AllocError> {
     };
     title(alloc, &mut told.title, trouble)?;
     meant(&mut told.meant, trouble)?;
-    notes(&mut told.notes, trouble)?;
+    notes(alloc, &mut told.notes, trouble)?;
     Ok(told)
 }

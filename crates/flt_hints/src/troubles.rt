@@ -1,16 +1,20 @@
 //! What is said of a text that doesn't parse.
 
-ghost use Rattle.std.specs.Prelude.{◌≡◌, IfOk, IfSome};
+ghost use Rattle.std.specs.Prelude.{◌≡◌, false, true, None, IfOk, IfSome};
+ghost use Rattle.flt_hints.specs.Absences as absences;
+ghost use Rattle.flt_hints.specs.Choices.{AreChoices};
 ghost use Rattle.flt_hints.specs.Trial as trial;
 ghost use Rattle.flt_hints.specs.Trial.{gap_of};
 ghost use Rattle.flt_hints.specs.Trouble as spec;
 ghost use Rattle.flt_syntax.specs.TextFails.{Fails};
 
+use crate::absences::absence_of;
 use crate::choices::{Choices, choices_in};
 use crate::hint::Hint;
-use crate::hinting::{Scene, hint, kind_before};
-use crate::names::declared_names;
+use crate::hinting::{Scene, hint, kinds_before};
+use crate::names::{declared_names, declares_name};
 use crate::nearest::nearest_word;
+use crate::open_call::{OpenCall, open_call};
 use crate::spot::{Spot, spot_at, tokens_of};
 use crate::trial::{Gap, gap_at, if_it_may};
 use flt_syntax::{FaultKind, Kind, ParseError, SyntaxFault, Token, parse};
@@ -23,6 +27,9 @@ pub struct Trouble<'a> {
     pub choices: Choices<'a>,
     /// The word that is probably meant: the only one of those that may stand there that is near to what is found.
     pub meant: Option<&'a [u8]>,
+    /// The call before it that lacks an operand, if one does.
+    pub open_call: Option<OpenCall>,
+    /// What is probably wrong besides, and how to mend it.
     pub hint: Option<Hint>,
 }
 
@@ -45,7 +52,20 @@ fn without_prefix(word: &[u8]) -> Option<&[u8]> {
     None
 }
 
-/// The word that is probably meant by a word of another language, and whether a prefix is what is too much.
+/// Whether a word of the language is probably meant by what is found: a word that the language neither has nor leaves out, since
+/// another word in place of one that is left out would say something else.
+#[tactic(auto, unfolding(crate::specs::Absences::is_left_out))]
+fn may_be_misspelt(kind: FaultKind, found: Kind, word: &[u8]) -> bool
+    ensures { absences.is_left_out kind word.now ≡ true → result ≡ false }
+{
+    match (kind, found) {
+        (FaultKind::E03, Kind::Name) => absence_of(word).is_none(),
+        (FaultKind::E04, Kind::Name) => true,
+        _ => false,
+    }
+}
+
+/// The word that is probably meant by what is found.
 fn meant<'a>(
     alloc: Global,
     gap: Gap<'_>,
@@ -53,23 +73,21 @@ fn meant<'a>(
     token: Token,
     choices: &Choices<'a>,
 ) -> Result<Option<&'a [u8]>, AllocError>
-    ensures { IfOk result (λ o. IfSome o (λ w. trial.MayStand (gap_of gap.entry) w.now)) }
+    ensures stands { IfOk result (λ o. IfSome o (λ w. trial.MayStand (gap_of gap.entry) w.now)) }
+    ensures left_out { IfOk result (λ o. absences.is_left_out spot.now.fault.kind spot.now.bytes.now ≡ true → o ≡ None) }
 {
-    match (spot.fault.kind, token.word.kind) {
-        (FaultKind::E03 | FaultKind::E04, Kind::Name) => {
-            let written = without_prefix(spot.bytes).unwrap_or(spot.bytes);
-            let word = nearest_word(alloc, written, choices)?;
-            if_it_may(alloc, gap, word)
-        }
-        _ => Ok(None),
+    if !may_be_misspelt(spot.fault.kind, token.word.kind, spot.bytes) {
+        return Ok(None);
     }
+    let written = without_prefix(spot.bytes).unwrap_or(spot.bytes);
+    let word = nearest_word(alloc, written, choices)?;
+    if_it_may(alloc, gap, word)
 }
 
 /// What is probably wrong in the place of a token.
 fn hint_at(
     text: &[u8],
     tokens: &[Token],
-    names: &[&[u8]],
     spot: &Spot<'_>,
     token: Token,
     choices: &Choices<'_>,
@@ -79,11 +97,12 @@ fn hint_at(
         return Some(Hint::Prefix);
     }
     let scene = Scene {
-        before: kind_before(tokens, token),
+        before: kinds_before(tokens, token),
         found: token.word.kind,
         bytes: spot.bytes,
+        is_meant: meant.is_some(),
         behind: &text[token.end.min(text.len())..],
-        names,
+        is_declared: declares_name(text, tokens, spot.bytes),
     };
     hint(spot.fault.kind, scene, choices)
 }
@@ -97,8 +116,23 @@ fn without_token<'a>(alloc: Global, spot: Spot<'a>) -> Trouble<'a>
         spot,
         choices: Choices::none(alloc),
         meant: None,
+        open_call: None,
         hint: Some(Hint::TooLarge),
     }
+}
+
+/// What may stand in the place of a token.
+fn choices_at<'a>(
+    alloc: Global,
+    text: &'a [u8],
+    tokens: &[Token],
+    kind: FaultKind,
+    token: Token,
+) -> Result<Choices<'a>, AllocError>
+    ensures { IfOk result (λ c. AreChoices (trial.gap_at kind text.now token) c) }
+{
+    let names = declared_names(alloc, text, tokens)?;
+    choices_in(alloc, gap_at(kind, text, token), names.as_slice())
 }
 
 /// What is said in the place of a token.
@@ -109,26 +143,18 @@ fn with_token<'a>(
     spot: Spot<'a>,
     token: Token,
 ) -> Result<Trouble<'a>, AllocError>
-    ensures spot { IfOk result (λ t. t.spot ≡ spot.entry) }
-    ensures choices { IfOk result (spec.AreFor spot.entry.fault.kind text.now token) }
+    ensures { IfOk result (spec.IsPlaced text.now spot.entry token) }
 {
-    let names = declared_names(alloc, text, tokens)?;
+    let choices = choices_at(alloc, text, tokens, spot.fault.kind, token)?;
     let gap = gap_at(spot.fault.kind, text, token);
-    let choices = choices_in(alloc, gap, names.as_slice())?;
     let meant = meant(alloc, gap, &spot, token, &choices)?;
-    let hint = hint_at(
-        text,
-        tokens,
-        names.as_slice(),
-        &spot,
-        token,
-        &choices,
-        meant,
-    );
+    let open_call = open_call(spot.fault.kind, tokens, token, &choices);
+    let hint = hint_at(text, tokens, &spot, token, &choices, meant);
     Ok(Trouble {
         spot,
         choices,
         meant,
+        open_call,
         hint,
     })
 }

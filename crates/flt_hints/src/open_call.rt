@@ -1,0 +1,142 @@
+//! A call that isn't complete where the text goes on in another line.
+
+use crate::choices::Choices;
+use crate::kinds::{
+    is_call, is_context_variable, is_operand_word, is_operation_variable, is_status,
+    takes_fast_mutex, takes_push_lock, takes_spin_lock,
+};
+use flt_syntax::{FaultKind, Kind, Token, keywords};
+
+/// A call that lacks an operand: its word, and the line where that stands.
+#[derive(Clone, Copy)]
+pub struct OpenCall {
+    pub kind: Kind,
+    pub line: usize,
+}
+
+/// Whether a word may be a part of a call, behind the call's own word.
+fn is_part(kind: Kind) -> bool {
+    is_context_variable(kind)
+        || is_operation_variable(kind)
+        || is_status(kind)
+        || is_operand_word(kind)
+}
+
+/// The call that a token leaves open, given the one that was open before it.
+fn open_behind(open: Option<OpenCall>, token: Token) -> Option<OpenCall> {
+    let kind = token.word.kind;
+    if is_call(kind) {
+        Some(OpenCall {
+            kind,
+            line: token.position.line,
+        })
+    } else if is_part(kind) {
+        open
+    } else {
+        None
+    }
+}
+
+/// The last call before a token, if nothing but its operands stands between, and all of them in lines above.
+fn call_above(tokens: &[Token], token: Token) -> Option<OpenCall> {
+    let mut open = None;
+    let mut line = 0;
+    for other in tokens {
+        if other.start >= token.start {
+            break;
+        }
+        open = open_behind(open, *other);
+        line = other.position.line;
+    }
+    if line < token.position.line {
+        open
+    } else {
+        None
+    }
+}
+
+/// Whether an operand of a call is what may stand there: neither what follows a call nor what follows a variable that begins a statement.
+fn take_operand(choices: &Choices<'_>) -> bool {
+    choices.takes_name
+        || !(choices.takes(Kind::Return)
+            || choices.takes(Kind::OpenBrace)
+            || choices.takes(Kind::Assign))
+}
+
+/// Whether what is found is a word or a symbol of the language.
+fn is_of_the_language(kind: Kind) -> bool {
+    !matches!(
+        kind,
+        Kind::Name | Kind::Number | Kind::Stray | Kind::Malformed | Kind::End
+    )
+}
+
+/// The call that lacks an operand where a token begins something else in a line of its own.
+pub(crate) fn open_call(
+    fault: FaultKind,
+    tokens: &[Token],
+    token: Token,
+    choices: &Choices<'_>,
+) -> Option<OpenCall> {
+    match fault {
+        FaultKind::E03 | FaultKind::E04
+            if is_of_the_language(token.word.kind) && take_operand(choices) => {
+            call_above(tokens, token)
+        }
+        _ => None,
+    }
+}
+
+/// The word of a kind.
+fn word_of(kind: Kind) -> &'static [u8] {
+    for entry in keywords() {
+        if entry.1 == kind {
+            return entry.0;
+        }
+    }
+    &[]
+}
+
+/// The words of a lock that a call takes.
+#[derive(Clone, Copy)]
+pub(crate) struct LockWords {
+    /// What the call lacks.
+    pub(crate) name: &'static str,
+    /// How it is declared, where the filter declares none.
+    pub(crate) declaration: &'static str,
+}
+
+const SPIN_LOCK: LockWords = LockWords {
+    name: "the name of a spin lock",
+    declaration: "; declare one after the altitude, `lock spin NAME`",
+};
+
+const FAST_MUTEX: LockWords = LockWords {
+    name: "the name of a fast mutex",
+    declaration: "; declare one after the altitude, `lock fast NAME`",
+};
+
+const PUSH_LOCK: LockWords = LockWords {
+    name: "the name of a push lock",
+    declaration: "; declare one after the altitude, `lock push NAME`",
+};
+
+impl OpenCall {
+    /// The call's word.
+    pub(crate) fn word(self) -> &'static [u8] {
+        word_of(self.kind)
+    }
+
+    /// The lock that the call takes, if it takes one.
+    pub(crate) fn lock(self) -> Option<LockWords> {
+        if takes_spin_lock(self.kind) {
+            Some(SPIN_LOCK)
+        } else if takes_fast_mutex(self.kind) {
+            Some(FAST_MUTEX)
+        } else if takes_push_lock(self.kind) {
+            Some(PUSH_LOCK)
+        } else {
+            None
+        }
+    }
+}
