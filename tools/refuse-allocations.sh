@@ -145,7 +145,8 @@ runs=(
     "explain --states 1 completion_context_broken.flt"
     "explain --form lines readers_and_a_writer_broken.flt"
     "explain --form sarif stream_context_broken.flt"
-    "explain pending_reads.script"
+    "explain leaked_context.timeline"
+    "explain pending_reads_detached.script pending_reads.flt"
     "explain R02"
 )
 
