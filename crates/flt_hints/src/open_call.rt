@@ -7,7 +7,7 @@ use crate::kinds::{
 };
 use flt_syntax::{FaultKind, Kind, Token, keywords};
 
-/// A call that lacks an operand: its word, and the line where that stands.
+/// A call that lacks an operand: its word, and the line where that stands, from 1.
 #[derive(Clone, Copy)]
 pub struct OpenCall {
     pub kind: Kind,

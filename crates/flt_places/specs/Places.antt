@@ -38,7 +38,7 @@ abbrev pub first_line : Text → Text
 first_line [] = []
 first_line (b ∷ z) = if b == 10 then [] else b ∷ first_line z
 
--- a line of a text; nothing where it isn't there
+-- a line of a text, from 1; nothing where it isn't there
 abbrev pub line_of : Text → ℕ → Text
 line_of text number = first_line (rest_behind (number - 1) text)
 

@@ -139,7 +139,7 @@ impl<'a> Lines<'a> {
         start.unwrap_or(self.text.len())
     }
 
-    /// A line, from 1, without its line feed; nothing where it isn't there.
+    /// A line, from 1 (0 is taken for 1), without its line feed; nothing where it isn't there.
     pub fn line(&self, number: usize) -> &'a [u8]
         ensures { result.now ≡ spec.line_of self.now number }
     {

@@ -2,8 +2,8 @@
 //! what repeats is told once.
 //!
 //! `running` runs a journal in the monitor's world and says of each entry what it came to (`telling`; `tellings` has each once), with
-//! the columns of `columns`, the outcomes of `outcome` and, where it isn't enabled, the reason of `refusal`. `rows` cuts entries into rows, and `folds` finds what repeats. `words` and
-//! `text` write it all.
+//! the columns of `columns`, the outcomes of `outcome` and, where it isn't enabled, the reason of `refusal`. `rows` cuts entries into
+//! rows, and `folds` finds what repeats. `words` and `text` write it all.
 #![tactic(auto)]
 
 mod columns;
