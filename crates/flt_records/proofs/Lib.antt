@@ -9,4 +9,5 @@ pub mod Queues
 pub mod Remaining
 pub mod Slots
 pub mod SparseCounting
+pub mod Turning
 pub mod VisitLinks

@@ -1,5 +1,6 @@
 -- What a local step does to the variables doesn't depend on the statements that remain.
-use Rattle.std.proofs.Common.{◌≡◌, Bool, List, option_map, refl}
+use Rattle.std.proofs.Common.{◌≡◌, ◌<◌, ◌-◌, ◌+◌, ℕ, suc, Bool, List, Option, Some, None, option_map, refl, sym, ap, ◌∙◌, arith}
+use Rattle.std.specs.Prelude.{option_and_then}
 use Rattle.flt_tree.specs.declared.filter.Action.{Action}
 use Rattle.flt_tree.specs.declared.filter.Action.TheVariants as action
 use Rattle.flt_tree.specs.declared.filter.Condition.{Condition}
@@ -12,9 +13,10 @@ use Rattle.flt_tree.specs.declared.variable.Atom.{Atom}
 use Rattle.flt_tree.specs.declared.variable.Atom.TheVariants as atom
 use Rattle.flt_tree.specs.declared.variable.Expression.{Expression}
 use Rattle.flt_tree.specs.declared.variable.Expression.TheVariants as expression
-use Rattle.flt_model.specs.LocalSteps.{after_action, holds_test, holds_condition, after_statement, goes_on_to}
+use Rattle.flt_model.specs.LocalSteps.{after_action, holds_test, holds_condition, after_statement, goes_on_to, local_step}
 use Rattle.flt_model.specs.Variables.{atom_value, expression_value}
 use Rattle.flt_model.specs.World.{Activation}
+use Rattle.flt_records.specs.Local.{local_steps}
 
 module _ (draining : Bool) (act : Activation) (others rest : List Statement) where
   abbrev elsewhere : Activation
@@ -55,3 +57,19 @@ module _ (draining : Bool) (act : Activation) (others rest : List Statement) whe
   statement_same (Statement-F.Return span status) = refl
   statement_same (Statement-F.If span asked granted refused) = rw (condition_same asked) refl
   statement_same (Statement-F.Repeat span turns block) = refl
+
+-- ---- one step more of some
+
+module _ (draining : Bool) (steps made : ℕ) (old : Activation) (whole : Option Activation) (h : made < steps)
+    (so_far : local_steps draining (steps - made) old ≡ whole) where
+  less : steps - made ≡ suc (steps - (made + 1))
+  less = omega (arith, h)
+
+  unrolled : option_and_then (local_steps draining (steps - (made + 1))) (local_step draining old old.rest) ≡ whole
+  unrolled = sym (ap (λ n. local_steps draining n old) less) ∙ so_far
+
+  pub one_more : (new : Activation) → local_step draining old old.rest ≡ Some new → local_steps draining (steps - (made + 1)) new ≡ whole
+  one_more new is = sym (ap (option_and_then (local_steps draining (steps - (made + 1)))) is) ∙ unrolled
+
+  pub none_more : local_step draining old old.rest ≡ None → whole ≡ None
+  none_more is = sym unrolled ∙ ap (option_and_then (local_steps draining (steps - (made + 1)))) is

@@ -2,6 +2,7 @@ pub mod Coded
 pub mod Counts
 pub mod Kept
 pub mod Links
+pub mod Local
 pub mod Parts
 pub mod Places
 pub mod Rest

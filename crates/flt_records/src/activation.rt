@@ -1,9 +1,9 @@
 //! An activation: one run of a callback, with its variables and the locks that it holds.
 
-ghost use Rattle.std.specs.Prelude.{◌≡◌, ◌++◌, ◌∷◌, true, [], replicate, IfOk, OnOk, MatchOption};
+ghost use Rattle.std.specs.Prelude.{◌≡◌, ◌++◌, ◌∷◌, true, false, [], replicate, IfOk, OnOk, MatchOption};
 ghost use Rattle.flt_model.specs.LocalSteps.{turns_left};
 ghost use Rattle.flt_model.specs.Variables as spec;
-ghost use Rattle.flt_records.specs.Rest.{statement_of, others};
+ghost use Rattle.flt_records.specs.Rest.{statement_of, others, IsTurn};
 ghost use Rattle.flt_records.specs.Writes.{written};
 
 use crate::kept::Kept;
@@ -77,6 +77,7 @@ impl<'a> Activation<'a> {
     }
 
     /// The value of a number variable.
+    #[inline(always)]
     pub fn number(&self, variable: NumberVariable) -> u64
         ensures { result ≡ spec.number_in self.now variable }
     {
@@ -98,6 +99,7 @@ impl<'a> Activation<'a> {
     }
 
     /// Sets a number variable.
+    #[inline(always)]
     pub fn set_number(&mut self, variable: NumberVariable, value: u64) -> Result<(), AllocError>
         ensures { OnOk result (self.new ≡ spec.with_number self.old variable value) }
     {
@@ -141,6 +143,7 @@ impl<'a> Activation<'a> {
     }
 
     /// The value of a number or of a variable.
+    #[inline(always)]
     pub fn atom(&self, atom: Atom) -> u64
         ensures { result ≡ spec.atom_value self.now atom }
     {
@@ -151,6 +154,7 @@ impl<'a> Activation<'a> {
     }
 
     /// The value of a number, a sum or a difference; these wrap.
+    #[inline(always)]
     pub fn expression(&self, expression: Expression) -> u64
         ensures { result ≡ spec.expression_value self.now expression }
     {
@@ -198,6 +202,25 @@ impl<'a> Activation<'a> {
         self.rest.next(&mut self.kept)
     }
 
+    /// Takes out the first statement of the block at hand; none where nothing is left of it.
+    #[inline(always)]
+    pub(crate) fn next_in_block(&mut self) -> Option<&'a Statement>
+        ensures rest { MatchOption result (self.new ≡ self.old) (λ s. self.old.rest ≡ s.now ∷ self.new.rest) }
+        ensures others { self.new ≡ record self.old { rest = self.new.rest } }
+    {
+        self.rest.next_in_block()
+    }
+
+    /// Begins another turn of a `repeat` whose body is through. False, and nothing is changed, where that doesn't come next.
+    #[inline(always)]
+    pub(crate) fn turn_again(&mut self) -> bool
+        ensures turned { result ≡ true → IsTurn self.old.rest self.new.rest }
+        ensures same { result ≡ false → self.new ≡ self.old }
+        ensures others { self.new ≡ record self.old { rest = self.new.rest } }
+    {
+        self.rest.turn_again(&mut self.kept)
+    }
+
     /// The first statement that remains, which stays. A `repeat` that was begun is taken out and put back.
     pub fn first(&mut self) -> Result<Option<Upcoming<'a>>, AllocError>
         ensures same { OnOk result (self.new ≡ self.old) }
@@ -207,6 +230,7 @@ impl<'a> Activation<'a> {
     }
 
     /// Goes into a block, after which it goes on here.
+    #[inline(always)]
     pub(crate) fn enter(&mut self, block: &'a [Statement]) -> Result<(), AllocError>
         ensures { OnOk result (self.new ≡ record self.old { rest = block.now ++ self.old.rest }) }
     {

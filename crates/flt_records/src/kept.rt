@@ -2,11 +2,12 @@
 //! memory of their own, once.
 
 ghost use Rattle.std.specs.Prelude.{◌≡◌, ◌<◌, ◌++◌, ◌∷◌, [], true, false, None, length, get_or, set, remove, replicate, IfOk, OnOk, MatchOption};
-ghost use Rattle.flt_records.specs.Kept.{contents, contents_of, few_contexts, few_operations, IsAll};
+ghost use Rattle.flt_records.specs.Kept.{contents, contents_of, few_contexts, few_operations, IsAll, TurnsLast};
 
 use crate::rest::Part;
 use crate::slot::Slot;
 use flt_rules::HeldLock;
+use flt_tree::Statement;
 use sqlite_items::Items;
 use std::alloc::{AllocError, Global};
 
@@ -146,6 +147,31 @@ fn make(form: &mut Form<'_>, alloc: Global) -> Result<(), AllocError>
     Ok(())
 }
 
+/// Sees to it that there is memory for all.
+#[inline(always)]
+fn see_to_all(form: &mut Form<'_>, alloc: Global) -> Result<(), AllocError>
+    ensures same { OnOk result (contents_of form.new ≡ contents_of form.old) }
+    ensures made { OnOk result (IsAll form.new) }
+{
+    if let Form::Few(_, _) = &*form {
+        return make(form, alloc);
+    }
+    Ok(())
+}
+
+/// Takes a turn of the last part, where it is a `repeat` with a turn left, and answers its body.
+#[inline(always)]
+#[tactic(auto, unfolding(crate::specs::Kept::TurnsLast))]
+fn turn_last<'a>(parts: &mut Vec<Part<'a>>) -> Option<&'a [Statement]>
+    ensures { MatchOption result (parts.new.items ≡ parts.old.items) (λ body. TurnsLast parts.old.items body.now parts.new.items) }
+{
+    let last = parts.len().checked_sub(1)?;
+    match parts.get_mut(last) {
+        Some(part) => part.turn(),
+        None => None,
+    }
+}
+
 impl<'a> Kept<'a> {
     /// All is 0 or NULL but the given operation and the given context. It fails where a number is 2^32 - 1 or greater.
     pub(crate) fn starting(
@@ -212,11 +238,25 @@ impl<'a> Kept<'a> {
         }
     }
 
+    /// Takes a turn of the `repeat` that is gone on with next, and answers its body. None, and nothing is changed, where no `repeat` is
+    /// next, or none of its turns is left.
+    #[inline(always)]
+    pub(crate) fn turn_again(&mut self) -> Option<&'a [Statement]>
+        ensures turned { MatchOption result (contents self.new ≡ contents self.old)
+            (λ body. TurnsLast (contents self.old).after body.now (contents self.new).after) }
+        ensures others { contents self.new ≡ record (contents self.old) { after = (contents self.new).after } }
+    {
+        let Form::All(_, all) = &mut self.form else {
+            return None;
+        };
+        turn_last(&mut all.after)
+    }
+
     /// A part will be gone on with before the others.
     pub(crate) fn suspend(&mut self, part: Part<'a>) -> Result<(), AllocError>
         ensures { OnOk result (contents self.new ≡ record (contents self.old) { after = (contents self.old).after ++ part.entry ∷ [] }) }
     {
-        make(&mut self.form, self.alloc)?;
+        see_to_all(&mut self.form, self.alloc)?;
         if let Form::All(_, all) = &mut self.form {
             all.after.push(part)?;
         }
@@ -236,11 +276,12 @@ impl<'a> Kept<'a> {
     }
 
     /// Sets the number at a place.
+    #[inline(always)]
     pub(crate) fn set_number(&mut self, place: usize, value: u64) -> Result<(), AllocError>
         requires { place < 8 }
         ensures { OnOk result (contents self.new ≡ record (contents self.old) { numbers = set (contents self.old).numbers place value }) }
     {
-        make(&mut self.form, self.alloc)?;
+        see_to_all(&mut self.form, self.alloc)?;
         if let Form::All(_, all) = &mut self.form {
             all.numbers[place] = value;
         }
@@ -291,7 +332,7 @@ impl<'a> Kept<'a> {
                 return Ok(());
             }
         }
-        make(&mut self.form, self.alloc)?;
+        see_to_all(&mut self.form, self.alloc)?;
         if let Form::All(_, all) = &mut self.form {
             let contexts = &mut all.contexts;
             contexts[place].set(context)?;
@@ -313,7 +354,7 @@ impl<'a> Kept<'a> {
                 return Ok(());
             }
         }
-        make(&mut self.form, self.alloc)?;
+        see_to_all(&mut self.form, self.alloc)?;
         if let Form::All(_, all) = &mut self.form {
             let operations = &mut all.operations;
             operations[place].set(visit)?;
@@ -336,7 +377,7 @@ impl<'a> Kept<'a> {
     pub(crate) fn push_lock(&mut self, held: HeldLock) -> Result<(), AllocError>
         ensures { OnOk result (contents self.new ≡ record (contents self.old) { locks = (contents self.old).locks ++ held ∷ [] }) }
     {
-        make(&mut self.form, self.alloc)?;
+        see_to_all(&mut self.form, self.alloc)?;
         if let Form::All(_, all) = &mut self.form {
             all.locks.push(held)?;
         }

@@ -2,6 +2,7 @@
 
 ghost use Rattle.std.specs.Prelude.{◌≡◌, Some, None, if◌then◌else◌, IfOk, OnOk};
 ghost use Rattle.flt_model.specs.LocalSteps as spec;
+ghost use Rattle.flt_records.specs.Local.{local_steps};
 ghost use Rattle.flt_records.specs.Rest.{statement_of};
 ghost use Rattle.flt_tree.specs.declared.filter.Statement.{out-Statement};
 
@@ -12,6 +13,7 @@ use std::alloc::AllocError;
 
 impl<'a> Activation<'a> {
     /// Computes a number, or sets a variable to NULL. False where others see the action.
+    #[inline(always)]
     fn act(&mut self, action: Action) -> Result<bool, AllocError>
         ensures after { IfOk result (λ local. spec.after_action self.old action ≡ (if local then Some self.new else None)) }
         ensures rest { OnOk result (self.new.rest ≡ self.old.rest) }
@@ -37,6 +39,7 @@ impl<'a> Activation<'a> {
     }
 
     /// What a test says of the activation's own variables and flag; none where it asks of the operation.
+    #[inline(always)]
     fn test(&self, draining: bool, test: Test) -> Option<bool>
         ensures { result ≡ spec.holds_test draining self.now test }
     {
@@ -55,6 +58,7 @@ impl<'a> Activation<'a> {
         }
     }
 
+    #[inline(always)]
     fn condition(&self, draining: bool, condition: &Condition) -> Option<bool>
         ensures { result ≡ spec.holds_condition draining self.now condition.now }
     {
@@ -65,6 +69,7 @@ impl<'a> Activation<'a> {
     }
 
     /// The step of a statement of the text, which was the first one. False where others see it.
+    #[inline(always)]
     fn statement(&mut self, draining: bool, statement: &'a Statement) -> Result<bool, AllocError>
         ensures { IfOk result (λ local. spec.after_statement draining self.old self.old.rest (out-Statement statement.now) ≡
             (if local then Some self.new else None)) }
@@ -92,9 +97,9 @@ impl<'a> Activation<'a> {
         }
     }
 
-    /// One step that nobody else sees. False where the next one is seen; the first statement is then gone.
+    /// The step where the block at hand is through, and no `repeat` goes on with it: it stands in the block round it.
     #[tactic(auto, using(crate::proofs::LocalLaws::statement_same))]
-    pub fn step_locally(&mut self, draining: bool) -> Result<bool, AllocError>
+    fn step_behind(&mut self, draining: bool) -> Result<bool, AllocError>
         ensures { IfOk result (λ local. spec.local_step draining self.old self.old.rest ≡ (if local then Some self.new else None)) }
     {
         match self.next() {
@@ -105,5 +110,48 @@ impl<'a> Activation<'a> {
             }
             None => Ok(false),
         }
+    }
+
+    /// The step where the block at hand is through: mostly another turn of a `repeat`.
+    #[inline(always)]
+    #[tactic(auto, using(crate::proofs::Turning::turned_step))]
+    fn step_on(&mut self, draining: bool) -> Result<bool, AllocError>
+        ensures { IfOk result (λ local. spec.local_step draining self.old self.old.rest ≡ (if local then Some self.new else None)) }
+    {
+        if self.turn_again() {
+            return Ok(true);
+        }
+        self.step_behind(draining)
+    }
+
+    /// One step, in place where the block at hand goes on or another turn begins.
+    #[inline(always)]
+    #[tactic(auto, using(crate::proofs::LocalLaws::statement_same))]
+    fn step(&mut self, draining: bool) -> Result<bool, AllocError>
+        ensures { IfOk result (λ local. spec.local_step draining self.old self.old.rest ≡ (if local then Some self.new else None)) }
+    {
+        match self.next_in_block() {
+            Some(statement) => self.statement(draining, statement),
+            None => self.step_on(draining),
+        }
+    }
+
+    /// One step that nobody else sees. False where the next one is seen; the first statement is then gone.
+    pub fn step_locally(&mut self, draining: bool) -> Result<bool, AllocError>
+        ensures { IfOk result (λ local. spec.local_step draining self.old self.old.rest ≡ (if local then Some self.new else None)) }
+    {
+        self.step(draining)
+    }
+
+    /// So many steps that nobody else sees. False where one of them is seen, or others see the end of the body.
+    pub fn step_locally_often(&mut self, draining: bool, steps: u32) -> Result<bool, AllocError>
+        ensures { IfOk result (λ local. local_steps draining steps self.old ≡ (if local then Some self.new else None)) }
+    {
+        for _ in 0..steps {
+            if !self.step(draining)? {
+                return Ok(false);
+            }
+        }
+        Ok(true)
     }
 }

@@ -1,9 +1,10 @@
 //! What remains of a callback while it runs: places in its blocks, so that no statement is copied.
 
-ghost use Rattle.std.specs.Prelude.{◌≡◌, [], ◌∷◌, ◌++◌, MatchOption, OnOk, IfOk};
+ghost use Rattle.std.specs.Prelude.{◌≡◌, true, false, List, [], ◌∷◌, ◌++◌, MatchOption, OnOk, IfOk};
 ghost use Rattle.flt_model.specs.LocalSteps.{turns_left};
 ghost use Rattle.flt_records.specs.Kept.{contents};
-ghost use Rattle.flt_records.specs.Rest.{statement_of, before, remains, others};
+ghost use Rattle.flt_records.specs.Rest.{statement_of, before, remains, others, has_turn, turned, body_of, IsTurn};
+ghost use Rattle.flt_records.specs.declared.rest.Part.{Part};
 
 use crate::kept::Kept;
 use flt_tree::{Span, Statement};
@@ -16,6 +17,26 @@ pub enum Part<'a> {
     Block(&'a [Statement]),
     /// A `repeat`: where it stands, the turns that are left, and its body.
     Repeat(&'a Span, u64, &'a [Statement]),
+}
+
+impl<'a> Part<'a> {
+    /// Takes a turn of a `repeat`, if one is left, and answers its body.
+    #[inline(always)]
+    pub(crate) fn turn(&mut self) -> Option<&'a [Statement]>
+        ensures { MatchOption result ((has_turn self.old ≡ false) × (self.new ≡ self.old))
+            (λ body. (has_turn self.old ≡ true) × ((body.now ≡ body_of self.old) × (self.new ≡ turned self.old))) }
+    {
+        match self {
+            Part::Block(_) => None,
+            Part::Repeat(_, turns, body) => {
+                if *turns == 0 {
+                    return None;
+                }
+                *turns -= 1;
+                Some(*body)
+            }
+        }
+    }
 }
 
 /// A statement of the text, or a `repeat` that has gone through some of its turns.
@@ -69,6 +90,39 @@ impl<'a> Rest<'a> {
         }
     }
 
+    /// Takes out the first statement of the block at hand; none where nothing is left of it.
+    #[inline(always)]
+    pub(crate) fn next_in_block(&mut self) -> Option<&'a Statement>
+        ensures { MatchOption result (self.new ≡ self.old)
+            (λ s. (parts : List Part) → remains self.old parts ≡ s.now ∷ remains self.new parts) }
+    {
+        let [first, behind @ ..] = self.block else {
+            return None;
+        };
+        self.block = behind;
+        Some(first)
+    }
+
+    /// Begins another turn of a `repeat` whose body is through. False, and nothing is changed, where that doesn't come next.
+    #[inline(always)]
+    pub(crate) fn turn_again(&mut self, kept: &mut Kept<'a>) -> bool
+        ensures turned { result ≡ true → IsTurn (remains self.old (contents kept.old).after) (remains self.new (contents kept.new).after) }
+        ensures same { result ≡ false → (self.new ≡ self.old) × (contents kept.new ≡ contents kept.old) }
+        ensures others { contents kept.new ≡ record (contents kept.old) { after = (contents kept.new).after } }
+    {
+        if let [_, ..] = self.block {
+            return false;
+        }
+        if let [_, ..] = self.outer {
+            return false;
+        }
+        let Some(body) = kept.turn_again() else {
+            return false;
+        };
+        self.block = body;
+        true
+    }
+
     /// The first statement, which stays. A `repeat` that was begun is taken out and put back.
     pub(crate) fn first(&mut self, kept: &mut Kept<'a>) -> Result<Option<Upcoming<'a>>, AllocError>
         ensures same { OnOk result (remains self.new (contents kept.new).after ≡ remains self.old (contents kept.old).after) }
@@ -108,6 +162,7 @@ impl<'a> Rest<'a> {
     }
 
     /// Goes into a block, after which it goes on here.
+    #[inline(always)]
     pub(crate) fn enter(
         &mut self,
         kept: &mut Kept<'a>,

@@ -141,12 +141,7 @@ impl<'a> Monitor<'a> {
     {
         local_steps_are_quiet();
         locks_stay_exclusive();
-        for _ in 0..steps {
-            if !flt_steps::step_unseen(&mut self.world, a)? {
-                return Ok(false);
-            }
-        }
-        Ok(true)
+        flt_steps::steps_unseen(&mut self.world, a, steps)
     }
 
     /// What comes of so many steps of an activation, of which exactly the last is seen.

@@ -1,3 +1,4 @@
 pub mod Boards
 pub mod Queueing
+pub mod Unseen
 pub mod Ways

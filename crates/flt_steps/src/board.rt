@@ -1,13 +1,14 @@
 //! The steps of an activation: those that others see, by its first statement or at the end of its body, and those that nobody
 //! else sees.
 
-ghost use Rattle.std.specs.Prelude.{◌≡◌, List, [], ◌∷◌, ◌++◌, OnOk, IfOk, MatchOption};
+ghost use Rattle.std.specs.Prelude.{◌≡◌, if◌then◌else◌, List, [], ◌∷◌, ◌++◌, Some, None, OnOk, IfOk, MatchOption};
 ghost use Rattle.flt_model.specs.Program as program;
 ghost use Rattle.flt_model.specs.Steps as steps;
 ghost use Rattle.flt_model.specs.World as spec;
 ghost use Rattle.flt_model.specs.declared.event.Event.{Event};
 ghost use Rattle.flt_records.specs.Rest.{statement_of};
 ghost use Rattle.flt_steps.specs.Boards.{coming};
+ghost use Rattle.flt_steps.specs.Unseen.{unseen};
 ghost use Rattle.flt_world.specs.Happening.{later, Happened, ComesOf, holds_given};
 ghost use Rattle.flt_tree.specs.declared.filter.Filter.{Filter};
 ghost use Rattle.flt_tree.specs.declared.filter.Statement.{out-Statement};
@@ -325,6 +326,25 @@ pub fn step_unseen(world: &mut World<'_>, a: usize) -> Result<bool, AllocError>
     let draining = world.has_flag(a);
     match world.activations.get_mut(a) {
         Some(activation) => activation.step_locally(draining),
+        None => Ok(false),
+    }
+}
+
+/// So many steps that nobody else sees, in place. False where one of them is seen, or isn't enabled.
+#[tactic(auto, using(crate::proofs::Together::made_together, crate::proofs::Together::ended_unseen))]
+pub fn steps_unseen(world: &mut World<'_>, a: usize, steps: u32) -> Result<bool, AllocError>
+    ensures { IfOk result (λ all. unseen steps world.old a ≡ (if all then Some world.new else None)) }
+{
+    if steps == 0 {
+        return Ok(true);
+    }
+    let ended = world.has_ended(a);
+    if ended {
+        return Ok(false);
+    }
+    let draining = world.has_flag(a);
+    match world.activations.get_mut(a) {
+        Some(activation) => activation.step_locally_often(draining, steps),
         None => Ok(false),
     }
 }

@@ -13,4 +13,4 @@ mod queueing;
 mod reads;
 mod settling;
 
-pub use board::{Setup, step_seen, step_unseen};
+pub use board::{Setup, step_seen, step_unseen, steps_unseen};

@@ -2,7 +2,7 @@
 use Rattle.std.proofs.Common.{◌≡◌, ◌<◌, ◌-◌, ◌+◌, ℕ, zero, suc, Bool, true, false, List, [], ◌∷◌, ◌++◌, Option, Some, None, Result, Ok, Err, IfOk, find, not, replicate, drop, get_or, length, add-one, refl, sym, ◌∙◌, ap, subst, arith, sub-one}
 use Rattle.std.specs.List.{list_all}
 use Rattle.std.specs.Option.{option_or}
-use Rattle.std.specs.Prelude.{IsTrue}
+use Rattle.std.specs.Prelude.{IsTrue, if◌then◌else◌, option_and_then}
 use Rattle.flt_rules.specs.declared.held.HeldLock.{HeldLock}
 use Rattle.flt_tree.specs.declared.filter.Filter.{Filter}
 use Rattle.flt_model.specs.declared.event.Event.{Event}
@@ -20,6 +20,7 @@ use Rattle.flt_model.specs.World.{World, activation_at, opening}
 use Rattle.flt_replay.specs.Judging.{Follows, first_of, of_holding, of_rules, with_locks, keeps_rule, is_by}
 use Rattle.flt_replay.specs.Ledger.{Agrees}
 use Rattle.flt_replay.specs.Monitoring.{IsAt, ComesTo, GoesOn}
+use Rattle.flt_steps.specs.Unseen as several
 use Rattle.flt_world.specs.Happening.{ComesOf, Happened, holds_visit, holds_given}
 use Rattle.flt_replay.specs.declared.monitor.Course.{Course as Code}
 use Rattle.flt_replay.specs.declared.monitor.Course.TheVariants as code
@@ -193,9 +194,47 @@ module _ (p : List Filter) (m : Moment) (a : ℕ) (old : Monitor) (u : World) (e
       let t = happened (local p m.trace m.world a) enabled u [] [] is local_here in
       unseen_by quiet stay t.0 t.1 t.2.0
 
--- one more of some steps is made
-pub one_less : (steps made : ℕ) → made < steps → steps - made ≡ suc (steps - (made + 1))
-one_less steps made h = omega (arith, h)
+-- ---- such steps, one after another
+
+module _ (p : List Filter) (a : ℕ) (xs : List Transition) (quiet : AreQuiet) (stay : StayExclusive) where
+  -- so many of them lead from where a monitor stands to a world, or one of them isn't enabled
+  abbrev Lead : ℕ → Bool → World → Type 0
+  Lead n all u =
+      (m : Moment) (old : Monitor) → IsAt old m → several.unseen n old.world a ≡ (if all then Some u else None) →
+      GoesOn all (record { world = u; ledger = old.ledger }) p xs (course p m (replicate n (Local a) ++ xs))
+
+  stops_there : (n : ℕ) (all : Bool) (u : World) (m : Moment) (old : Monitor) → IsAt old m → local [] [] old.world a ≡ None →
+      None ≡ (if all then Some u else None) →
+      GoesOn all (record { world = u; ledger = old.ledger }) p xs (course p m (Local a ∷ (replicate n (Local a) ++ xs)))
+  stops_there n true u m old at e h = absurd (cc h)
+  stops_there n false u m old at e h =
+      not_unseen p m a old u false at (λ q t. subst (λ o. ComesOf o false u [] []) (sym e) refl) (replicate n (Local a) ++ xs) refl
+
+  goes_there : (n : ℕ) (all : Bool) (u : World) → Lead n all u → (m : Moment) (old : Monitor) → IsAt old m → (s : Step) →
+      local [] [] old.world a ≡ Some s → several.unseen n s.world a ≡ (if all then Some u else None) →
+      GoesOn all (record { world = u; ledger = old.ledger }) p xs (course p m (Local a ∷ (replicate n (Local a) ++ xs)))
+  goes_there n all u lead m old at s e h =
+      let here : next p m (Local a) ≡ Some s = subst (λ w. local [] [] w a ≡ Some s) at.world e in
+      let none : s.events ≡ [] = quiet.events p m a s here in
+      let comes : (q : List Filter) → (t : List Event) → ComesOf (local q t old.world a) true s.world [] [] =
+      λ q t. subst (λ o. ComesOf o true s.world [] []) (sym e) (refl, (refl, sym none)) in
+      let step = unseen p m a old s.world true at comes (replicate n (Local a) ++ xs) quiet stay refl in
+      subst (λ k. GoesOn all (record { world = u; ledger = old.ledger }) p xs k) (sym step.2)
+      (lead step.0 (record { world = s.world; ledger = old.ledger }) step.1 h)
+
+  one_and_more : (n : ℕ) (all : Bool) (u : World) → Lead n all u → (m : Moment) (old : Monitor) → IsAt old m → (first : Option Step) →
+      local [] [] old.world a ≡ first → option_and_then (λ (s : Step). several.unseen n s.world a) first ≡ (if all then Some u else None) →
+      GoesOn all (record { world = u; ledger = old.ledger }) p xs (course p m (Local a ∷ (replicate n (Local a) ++ xs)))
+  one_and_more n all u lead m old at None e h = stops_there n all u m old at e h
+  one_and_more n all u lead m old at (Some s) e h = goes_there n all u lead m old at s e h
+
+  pub all_unseen : (n : ℕ) (all : Bool) (u : World) → Lead n all u
+  all_unseen zero true u m old at h =
+      let same : old.world ≡ u = cc h in
+      (m, record { world = sym same ∙ at.world; counts = at.counts; exclusive = at.exclusive }, refl)
+  all_unseen zero false u m old at h = absurd (cc h)
+  all_unseen (suc n) all u m old at h =
+      one_and_more n all u (all_unseen n all u) m old at (local [] [] old.world a) refl h
 
 pub go_on_more : (a steps : ℕ) (grant : Bool) → (steps ≡ 0 → ⊥) →
     go_on a steps grant ≡ Some (replicate (steps - 1) (Local a) ++ Board a grant ∷ [])
