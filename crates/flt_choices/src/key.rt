@@ -108,8 +108,8 @@ fn put_position(mix: &mut Mix, position: Position) {
 fn put_frames(mix: &mut Mix, world: &World<'_>, operation: usize) {
     if let Some(route) = world.routes.get(operation) {
         for frame in route.frames.as_slice() {
-            mix.put_size(frame.filter);
-            mix.put_option(frame.context);
+            mix.put(u64::from(frame.filter));
+            mix.put_option(frame.context());
         }
     }
 }

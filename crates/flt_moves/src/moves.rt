@@ -12,7 +12,6 @@ use flt_model::{Event, Move, fits_mode};
 use flt_records::{Arrival, Frame, Outcome, Position, Route};
 use flt_rules::{FinalStatus, Mode, Operation};
 use flt_world::{Stack, World};
-use sqlite_items::Items;
 use std::alloc::{AllocError, Global};
 
 // ---- operations arrive, go down and up, and are cancelled
@@ -24,7 +23,7 @@ fn add_operation(world: &mut World<'_>, alloc: Global, arrival: Arrival) -> Resu
     world.arrivals.push(arrival)?;
     world.routes.push(Route {
         position: Position::Down(0),
-        frames: Items::new(alloc),
+        frames: Vec::new(alloc),
         cancelled: false,
         outcome: None,
     })?;

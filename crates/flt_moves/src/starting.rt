@@ -104,13 +104,8 @@ pub(crate) fn start_pre<'a>(
 ) -> Result<(), AllocError>
     ensures { OnOk result (Happened world.new events.old.items events.new.items (moves.pre_of stack.now world.old operation kind filter)) }
 {
+    let visit = Visit::of(operation, filter, Stage::Pre, false)?;
     world.set_position(operation, Position::Visiting);
-    let visit = Visit {
-        operation,
-        filter,
-        stage: Stage::Pre,
-        draining: false,
-    };
     let body = stack.pre_body(filter, kind);
     start_visit(world, alloc, visit, Place::Pre(kind), body, None, events)
 }
@@ -129,13 +124,9 @@ pub(crate) fn start_post<'a>(
         (starts_post stack.now world.old operation frame draining)) }
 {
     let kind = world.kind(operation);
-    let Frame { filter, context } = frame;
-    let visit = Visit {
-        operation,
-        filter,
-        stage: Stage::Post,
-        draining,
-    };
+    let filter = frame.filter as usize;
+    let context = frame.context();
+    let visit = Visit::of(operation, filter, Stage::Post, draining)?;
     let body = stack.post_body(filter, kind);
     start_visit(
         world,

@@ -193,7 +193,7 @@ fn has_active(filter: usize, actors: &[Actor], activations: &[Activation<'_>]) -
     while number < actors.len() && number < activations.len() {
         let actor = &actors[number];
         let activation = &activations[number];
-        if actor.filter == filter && !activation.has_ended() {
+        if actor.filter as usize == filter && !activation.has_ended() {
             return true;
         }
         number += 1;

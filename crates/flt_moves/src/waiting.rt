@@ -29,11 +29,7 @@ fn canceled_by<'a>(
     match world.take_entry(alloc, filter, operation)? {
         Some(entry) => {
             let start = Start {
-                actor: Actor {
-                    filter,
-                    place: Place::Canceled,
-                    draining: false,
-                },
+                actor: Actor::of(filter, Place::Canceled, false)?,
                 body: stack.canceled_body(filter),
                 visit: Some(entry.visit),
                 context: entry.context,
@@ -85,11 +81,7 @@ pub(crate) fn work<'a>(
                 context,
             } = item;
             let start = Start {
-                actor: Actor {
-                    filter,
-                    place: stack.place_at(filter, routine),
-                    draining: false,
-                },
+                actor: Actor::of(filter, stack.place_at(filter, routine), false)?,
                 body: stack.body_at(filter, routine),
                 visit,
                 context,

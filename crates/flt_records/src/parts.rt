@@ -1,9 +1,22 @@
 //! What activations share: operations, visits, contexts and what waits, one struct for each record of the machine.
 
+ghost use Rattle.std.specs.Prelude.{◌≡◌, IfOk};
+
+use crate::slot::Slot;
 use flt_model::Key;
 use flt_rules::{Access, FinalStatus, Mode, Operation, Place, Stage};
-use sqlite_items::Items;
+use std::alloc::AllocError;
 use std::marker::Model;
+
+/// A number in four bytes. It fails where it is 2^32 or greater.
+fn in_four_bytes(number: usize) -> Result<u32, AllocError>
+    ensures { IfOk result (λ short. short ≡ number) }
+{
+    match u32::try_from(number) {
+        Ok(short) => Ok(short),
+        Err(_) => Err(AllocError),
+    }
+}
 
 /// Whether a filter's instance is there.
 #[derive(Clone, Copy, PartialEq, Eq)]
@@ -79,8 +92,8 @@ impl Model for Arrival {
 /// A post callback that will be called, with its completion context.
 #[derive(Drop)]
 pub struct Frame {
-    pub filter: usize,
-    pub context: Option<usize>,
+    pub filter: u32,
+    pub(crate) context: Slot,
 }
 
 impl Model for Frame {
@@ -91,12 +104,31 @@ impl Model for Frame {
     ghost view = { λ f. record { filter = f.filter; context = f.context } };
 }
 
+impl Frame {
+    /// It fails where the filter's number is 2^32 or greater, or the context's 2^32 - 1 or greater.
+    pub fn of(filter: usize, context: Option<usize>) -> Result<Frame, AllocError>
+        ensures { IfOk result (λ f. f ≡ record { filter = filter; context = context }) }
+    {
+        Ok(Frame {
+            filter: in_four_bytes(filter)?,
+            context: Slot::naming(context)?,
+        })
+    }
+
+    /// The completion context; none where there is none.
+    pub fn context(&self) -> Option<usize>
+        ensures { result ≡ self.now.context }
+    {
+        self.context.get()
+    }
+}
+
 /// How far an operation has come.
 #[derive(Drop)]
 pub struct Route {
     pub position: Position,
     /// In the order of the filters.
-    pub frames: Items<Frame>,
+    pub frames: Vec<Frame>,
     pub cancelled: bool,
     pub outcome: Option<Outcome>,
 }
@@ -111,7 +143,7 @@ impl Model for Route {
 
     ghost view = { λ r. record {
       position = position_of r.position;
-      frames = r.frames;
+      frames = r.frames.items;
       cancelled = r.cancelled;
       outcome = option_map outcome_of r.outcome;
     } };
@@ -120,8 +152,8 @@ impl Model for Route {
 /// One passing of an operation through a filter; it never changes.
 #[derive(Drop)]
 pub struct Visit {
-    pub operation: usize,
-    pub filter: usize,
+    pub operation: u32,
+    pub filter: u32,
     pub stage: Stage,
     pub draining: bool,
 }
@@ -132,6 +164,25 @@ impl Model for Visit {
     ghost Value = { machine.Visit };
 
     ghost view = { λ v. record { operation = v.operation; filter = v.filter; stage = v.stage; draining = v.draining } };
+}
+
+impl Visit {
+    /// It fails where a number is 2^32 or greater.
+    pub fn of(
+        operation: usize,
+        filter: usize,
+        stage: Stage,
+        draining: bool,
+    ) -> Result<Visit, AllocError>
+        ensures { IfOk result (λ v. v ≡ record { operation = operation; filter = filter; stage = stage; draining = draining }) }
+    {
+        Ok(Visit {
+            operation: in_four_bytes(operation)?,
+            filter: in_four_bytes(filter)?,
+            stage,
+            draining,
+        })
+    }
 }
 
 /// What a context is linked to, of a filter.
@@ -205,7 +256,7 @@ impl Model for Holder {
 /// Whose callback an activation runs, and where; it never changes.
 #[derive(Drop)]
 pub struct Actor {
-    pub filter: usize,
+    pub filter: u32,
     pub place: Place,
     pub draining: bool,
 }
@@ -216,4 +267,18 @@ impl Model for Actor {
     ghost Value = { machine.Actor };
 
     ghost view = { λ a. record { filter = a.filter; place = a.place; draining = a.draining } };
+}
+
+impl Actor {
+    /// It fails where the filter's number is 2^32 or greater.
+    pub fn of(filter: usize, place: Place, draining: bool) -> Result<Actor, AllocError>
+        ensures { IfOk result (λ a. a ≡ record { filter = filter; place = place; draining = draining }) }
+    {
+        let short = in_four_bytes(filter)?;
+        Ok(Actor {
+            filter: short,
+            place,
+            draining,
+        })
+    }
 }

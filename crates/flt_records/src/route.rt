@@ -1,12 +1,11 @@
 //! The frames of an operation's route: post callbacks that will be called, in the order of the filters.
 
-ghost use Rattle.std.specs.Prelude.{◌≡◌, ◌++◌, Bool, Some, None, find, position, MatchOption};
+ghost use Rattle.std.specs.Prelude.{◌≡◌, ◌++◌, ◌<◌, Bool, Some, None, find, position, length, remove, slice_get, MatchOption};
 ghost use Rattle.std.specs.List.{before_first, after_first};
 ghost use Rattle.flt_model.specs.Moves as moves;
 ghost use Rattle.flt_model.specs.World as spec;
 
 use crate::parts::{Frame, Position, Route};
-use sqlite_items::Items;
 
 impl Route {
     /// The frame of the lowest filter is taken out, and its visit begins.
@@ -20,6 +19,7 @@ impl Route {
         if frame.is_some() {
             self.position = Position::Visiting;
         }
+        give_back(&mut self.frames);
         frame
     }
 
@@ -40,7 +40,9 @@ impl Route {
             × (self.new ≡ record self.old { frames = moves.other_frames filter self.old.frames })) }
     {
         let place = self.frame_place(filter);
-        take_out(&mut self.frames, place)
+        let frame = take_out(&mut self.frames, place);
+        give_back(&mut self.frames);
+        frame
     }
 
     /// Whether a post callback of the filter will be called.
@@ -54,21 +56,39 @@ impl Route {
     }
 }
 
+/// Gives the memory of frames back, where none is left.
+fn give_back(frames: &mut Vec<Frame>)
+    ensures { frames.new.items ≡ frames.old.items }
+{
+    if frames.is_empty() {
+        frames.shrink_to_fit();
+    }
+}
+
 fn is_frame_of(filter: usize, frame: &Frame) -> bool
     ensures { result ≡ moves.is_frame_of filter frame.now }
 {
-    frame.filter == filter
+    frame.filter as usize == filter
+}
+
+fn remove_at<T: Drop>(items: &mut Vec<T>, place: usize) -> T
+    requires { place < length items.old.items }
+    ensures item { slice_get items.old.items place ≡ Some result }
+    ensures rest { items.new.items ≡ remove items.old.items place }
+{
+    items.remove(place)
 }
 
 /// Takes out what stands at a place, if one is given.
 #[tactic(auto, using(crate::proofs::FirstPlaces::found_there, crate::proofs::FirstPlaces::without, crate::proofs::FirstPlaces::none_found, crate::proofs::FirstPlaces::within))]
-fn take_out<T: Drop>(items: &mut Items<T>, place: Option<usize>) -> Option<T>
-    ensures { (test : T → Bool) → place ≡ position test items.old →
-        MatchOption result (find test items.old ≡ None)
-        (λ x. (find test items.old ≡ Some x) × (items.new ≡ before_first test items.old ++ after_first test items.old)) }
+fn take_out<T: Drop>(items: &mut Vec<T>, place: Option<usize>) -> Option<T>
+    ensures { (test : T → Bool) → place ≡ position test items.old.items →
+        MatchOption result (find test items.old.items ≡ None)
+        (λ x. (find test items.old.items ≡ Some x)
+        × (items.new.items ≡ before_first test items.old.items ++ after_first test items.old.items)) }
 {
     match place {
-        Some(place) if place < items.len() => Some(items.remove(place)),
+        Some(place) if place < items.len() => Some(remove_at(items, place)),
         _ => None,
     }
 }

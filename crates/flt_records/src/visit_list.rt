@@ -8,6 +8,7 @@ ghost use Rattle.flt_records.specs.Unsettled.{is_visit_of};
 use crate::counts::Counts;
 use crate::number_map::NumberMap;
 use crate::parts::Visit;
+use crate::slot::Slot;
 use std::alloc::{AllocError, Global};
 use std::marker::Model;
 
@@ -17,7 +18,7 @@ pub struct Visits {
     visits: Vec<Visit>,
     settled: Vec<bool>,
     /// Of each visit, its operation's visit before it.
-    before: Vec<Option<usize>>,
+    before: Vec<Slot>,
     /// Of each operation, its last visit.
     last: NumberMap,
     /// Of each operation, how many of its visits aren't settled.
@@ -77,11 +78,11 @@ impl Visits {
         ensures { OnOk result (self.new ≡ (self.old.0 ++ visit ∷ [], self.old.1 ++ false ∷ [])) }
     {
         let number = self.visits.len();
-        let operation = visit.operation;
+        let operation = visit.operation as usize;
         self.visits.reserve(1)?;
         self.settled.reserve(1)?;
         self.before.reserve(1)?;
-        let before = self.last.get(operation);
+        let before = Slot::naming(self.last.get(operation))?;
         self.unsettled.add(operation)?;
         match self.last.set(operation, number) {
             Ok(()) => {
@@ -109,7 +110,7 @@ impl Visits {
         }
         *settled = true;
         if let Some(visit) = self.visits.get(visit) {
-            self.unsettled.take(visit.operation);
+            self.unsettled.take(visit.operation as usize);
         }
     }
 
@@ -130,7 +131,7 @@ impl Visits {
         while let Some(number) = latest {
             numbers.push(number)?;
             latest = match self.before.get(number) {
-                Some(before) => *before,
+                Some(before) => before.get(),
                 None => None,
             };
         }

@@ -112,7 +112,7 @@ fn lead_from(
         Way::Passes => route.position = next_below(filter)?,
         Way::Frames => {
             route.position = next_below(filter)?;
-            route.frames.push(Frame { filter, context })?;
+            route.frames.push(Frame::of(filter, context)?)?;
         }
         Way::Ends(outcome) => {
             route.position = Position::Up;

@@ -230,7 +230,7 @@ impl<'a> World<'a> {
         ensures { result ≡ (spec.visit_at self.now.store visit).operation }
     {
         match at(self.visits.as_slice(), visit) {
-            Some(visit) => visit.operation,
+            Some(visit) => visit.operation as usize,
             None => 0,
         }
     }
@@ -241,7 +241,7 @@ impl<'a> World<'a> {
         ensures { result ≡ (spec.visit_at self.now.store visit).filter }
     {
         match at(self.visits.as_slice(), visit) {
-            Some(visit) => visit.filter,
+            Some(visit) => visit.filter as usize,
             None => 0,
         }
     }
@@ -357,7 +357,7 @@ impl<'a> World<'a> {
         ensures { result ≡ (spec.actor_at self.now activation).filter }
     {
         match at(self.actors.as_slice(), activation) {
-            Some(actor) => actor.filter,
+            Some(actor) => actor.filter as usize,
             None => 0,
         }
     }

@@ -23,7 +23,8 @@ invariant_of-self-in-Ok c =
       c.in_ok-reserve.ensures.items,
       c.in_ok-reserve-2.ensures.items,
       c.in_ok-reserve-3.ensures.items,
-      c.get-before.ensures,
+      c.in_ok-before.ensures,
+      c.get.ensures,
       ← c.visit.view_is,
     ) is
 
