@@ -1,5 +1,5 @@
 -- Local steps of an activation by itself are those in its world.
-use Rattle.std.proofs.Common.{◌≡◌, ◌<◌, ℕ, zero, suc, Bool, true, false, List, [], ◌∷◌, Option, Some, None, option_map, Result, Ok, Err, IfOk, length, get_or, set, refl, sym, ap, subst, ◌∙◌, arith}
+use Rattle.std.proofs.Common.{◌≡◌, ◌<◌, ℕ, zero, suc, Bool, true, false, List, [], ◌∷◌, Option, Some, None, option_map, Result, Ok, Err, IfOk, length, set, refl, sym, ap, subst, ◌∙◌}
 use Rattle.std.proofs.lemmas.List.{get_or-set_same, length-set, set-set, set-get_or}
 use Rattle.std.specs.Prelude.{option_and_then, if◌then◌else◌}
 use Rattle.flt_tree.specs.declared.filter.Action.{Action}
@@ -8,7 +8,7 @@ use Rattle.flt_tree.specs.declared.filter.Statement.{Statement, out-Statement}
 use Rattle.flt_tree.specs.declared.filter.Statement.TheOpen.{Statement-F}
 use Rattle.flt_model.specs.Effects.{Step}
 use Rattle.flt_model.specs.LocalSteps.{after_action, after_statement, local_step, holds_condition, goes_on_to}
-use Rattle.flt_model.specs.Steps.{local, moved_on}
+use Rattle.flt_model.specs.Steps.{moved_on}
 use Rattle.flt_model.specs.World.{World, Activation, activation_at, actor_at, nobody}
 use Rattle.flt_records.specs.Local.{local_steps}
 use Rattle.flt_steps.specs.Unseen.{unseen}
@@ -97,11 +97,11 @@ came : (n : ℕ) (w : World) (a : ℕ) (act new : Activation) (draining all : Bo
     act.ended ≡ false → (actor_at w a).draining ≡ draining → local_steps draining n act ≡ (if all then Some new else None) →
     unseen n w a ≡ (if all then Some (with_act w a new) else None)
 came n w a act new draining true within is goes_on flag made =
-    together n a w within (ap (λ (x : Activation). x.ended) is ∙ goes_on)
-    ∙ ap (option_map (with_act w a)) (rw (is, flag) made)
+    let here : local_steps (actor_at w a).draining n (activation_at w a) ≡ Some new = rw (is, flag) made in
+    together n a w within (ap (λ (x : Activation). x.ended) is ∙ goes_on) ∙ ap (option_map (with_act w a)) here
 came n w a act new draining false within is goes_on flag made =
-    together n a w within (ap (λ (x : Activation). x.ended) is ∙ goes_on)
-    ∙ ap (option_map (with_act w a)) (rw (is, flag) made)
+    let here : local_steps (actor_at w a).draining n (activation_at w a) ≡ None = rw (is, flag) made in
+    together n a w within (ap (λ (x : Activation). x.ended) is ∙ goes_on) ∙ ap (option_map (with_act w a)) here
 
 pub made_together : {E : Type 0} (r : Result Bool E) (n : ℕ) (w x : World) (a : ℕ) (act new : Activation) (draining : Bool) →
     a < length w.activations → activation_at w a ≡ act → act.ended ≡ false → (actor_at w a).draining ≡ draining →
