@@ -29,6 +29,11 @@ said_with_one : (noted : List Noted) (n : Noted) →
 said_with_one [] n = refl
 said_with_one (m ∷ noted) n = ap (λ ones. said m.scheduled ∷ ones) (said_with_one noted n)
 
+-- what lines begin with, they begin with where there are more
+pub begins_more : (old more new first : List ℕ) → new ≡ old ++ more → BeginsWith old first → BeginsWith new first
+begins_more old more new first added (rest, begins) =
+    (rest ++ more, added ∙ ap (λ bytes. bytes ++ more) begins ∙ append_assoc first rest more)
+
 -- with lines more
 pub output_more : (trees : List Tree) (old new : Output) (more : List ℕ) → IsOutput trees old →
     new.bytes.items ≡ old.bytes.items ++ more → new.noted ≡ old.noted → IsOutput trees new

@@ -42,8 +42,8 @@ pub record IsNoted (trees : List Tree) (n : Noted) : Type 0 where
   pub own : slice_get trees n.filter ≡ Some tree
   pub suspect : Suspect
   pub filter : suspect.filter ≡ n.filter
-  pub lowered : IsLowered tree.filter suspect.graph.now
+  pub lowered : IsLowered tree.filter suspect.outlook.now
   pub found : List Finding
-  pub findings : AreFindings suspect.graph.now found
+  pub findings : AreFindings suspect.outlook.now found
   pub finding : slice_get found n.finding ≡ Some suspect.finding
   pub scheduled : IsScheduled trees suspect n.scheduled

@@ -3,6 +3,7 @@ use Rattle.std.specs.Prelude.{◌≡◌, ℕ, All, List, [], ◌∷◌, ◌++◌
 use Rattle.flt_syntax.specs.declared.fault.SyntaxFault.{SyntaxFault}
 use Rattle.flt_tree.specs.declared.tree.Tree.{Tree}
 use Rattle.flt_graph.specs.Lowering.{IsLowered}
+use Rattle.flt_graph.specs.declared.graph.Graph.{Graph}
 use Rattle.flt_explain.specs.Findings.{AreFindings}
 use Rattle.flt_explain.specs.declared.finding.Finding.{Finding}
 use Rattle.flt_reasons.specs.Notice as notices
@@ -32,13 +33,18 @@ pub record IsKnownIn (trees : List Tree) (k : Known) : Type 0 where
   pub lowered : IsLowered tree.filter k.graph.now
   pub findings : AreFindings k.graph.now k.found.now
 
+-- the same, with what runs can reach of these points
+pub record IsLooked (trees : List Tree) (k : Known) (outlook : Graph) : Type 0 where
+  pub known : IsKnownIn trees k
+  pub same : outlook ≡ k.graph.now
+
 -- what comes of a finding of a text that parses, which has this number
 pub record IsNoteOf (trees : List Tree) (k : Known) (number : ℕ) (finding : Finding) (n : Noted) : Type 0 where
   pub filter : n.filter ≡ k.place
   pub finding_number : n.finding ≡ number
   pub suspect : Suspect
   pub suspect_filter : suspect.filter ≡ k.place
-  pub points : suspect.graph.now ≡ k.graph.now
+  pub points : suspect.outlook.now ≡ k.graph.now
   pub own : suspect.finding ≡ finding
   pub scheduled : IsScheduled trees suspect n.scheduled
 

@@ -3,15 +3,18 @@
 //!
 //! `readings` has what each text is found to be, beside the trees of all that parse; `notices` what is said of a certificate, a
 //! journal or a script. `noted` says what comes of a finding, `lines` has
-//! the words for it, and `printing` puts reports and notes together. It exports `explain`, and `first_journal`.
+//! the words for it; `setters` adds a callback to a text that sets what nothing in it sets, and `again` what comes of a finding then.
+//! `printing` puts reports and notes together. It exports `explain`, and `first_journal`.
 #![tactic(auto)]
 
+mod again;
 mod explaining;
 mod lines;
 mod noted;
 mod notices;
 mod printing;
 mod readings;
+mod setters;
 
 pub use explaining::{Told, explain};
 pub use noted::{Noted, first_journal};

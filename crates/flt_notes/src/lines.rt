@@ -4,8 +4,9 @@ ghost use Rattle.std.specs.Prelude.{◌≡◌, Some, IfOk, string_bytes};
 ghost use Rattle.flt_notes.specs.Lines as spec;
 
 use crate::noted::schedule_of;
+use flt_graph::Place;
 use flt_model::{Journal, JournalEntry, Move, Verdict, Violation};
-use flt_schedules::{Schedule, Scheduled, only};
+use flt_schedules::{Schedule, Scheduled, Unset, only};
 use flt_seek::Broken;
 use flt_timeline::Timeline;
 use flt_tree::Tree;
@@ -17,7 +18,7 @@ use std::fmt::Write;
 const INDENT: usize = 4;
 
 /// How the rows of a journal are read.
-const LEGEND: &str =
+pub(crate) const LEGEND: &str =
     "    (in front: entries; behind: lines, without those that nobody else sees; `yes` and `no`: how a call went)\n";
 
 /// Why `arg` is never held.
@@ -34,7 +35,7 @@ const IS_STRICTER: &str =
 #[derive(Drop)]
 struct BreakWords(Violation, usize);
 
-fn violation_number(violation: Violation) -> u8
+pub(crate) fn violation_number(violation: Violation) -> u8
     ensures { result ≡ spec.violation_number violation }
 {
     match violation {
@@ -68,9 +69,11 @@ fn beginning(alloc: Global, schedule: &Schedule) -> Result<String, AllocError>
             let words = BreakWords(broken.violation, broken.entry);
             format!(in alloc; "   = journal: {words}")
         }
-        Schedule::NotWithin | Schedule::Cut | Schedule::NeverHanded => {
-            String::from_str(alloc, "   = journal: none")
-        }
+        Schedule::NotWithin
+        | Schedule::Cut
+        | Schedule::NeverHanded
+        | Schedule::NeverStarted
+        | Schedule::NeverGot(_) => { String::from_str(alloc, "   = journal: none") }
     }
 }
 
@@ -88,7 +91,7 @@ fn operations_of(journal: &Journal) -> usize {
 }
 
 /// How long a journal is.
-fn put_counts(out: &mut String, journal: &Journal) -> Result<(), AllocError> {
+pub(crate) fn put_counts(out: &mut String, journal: &Journal) -> Result<(), AllocError> {
     let operations = operations_of(journal);
     let entries = journal.len();
     let many = if operations == 1 { "" } else { "s" };
@@ -122,7 +125,7 @@ fn put_filters(out: &mut String, trees: &[Tree], own: &[Tree]) -> Result<(), All
 }
 
 /// A journal as rows.
-fn put_rows(
+pub(crate) fn put_rows(
     alloc: Global,
     out: &mut String,
     own: &[Tree],
@@ -150,24 +153,53 @@ fn put_journal(
 
 // ---- no journal
 
-/// Where there is none, how the search for one went.
+/// What the words for a finding without a run depend on.
 #[derive(Clone, Copy)]
-pub(crate) struct Bounds {
+pub(crate) struct Case {
     /// Each way to the finding that is known breaks another rule before.
     pub(crate) is_behind: bool,
-    /// How many states a round has at most.
+    /// How many states a round of a search has at most.
     pub(crate) states: usize,
+    /// Where the finding's callback is.
+    pub(crate) place: Place,
+}
+
+/// Why a callback at this place never runs.
+fn never_started(place: Place) -> &'static str {
+    match place {
+        Place::Post(_) => {
+            ": nothing that runs asks for this callback by WITH_CALLBACK or SYNCHRONIZE, so it never runs\n"
+        }
+        Place::Canceled =>
+            ": nothing that runs puts an operation into the queue, so `canceled` never runs\n",
+        _ => ": nothing that runs queues a work item for this routine, so it never runs\n",
+    }
+}
+
+/// Which calls never succeed, and why.
+fn never_got(unset: Unset) -> &'static str {
+    match (unset.stream, unset.instance) {
+        (true, true) => {
+            ": no callback of this text sets a stream or an instance context, so neither `FltGetStreamContext` nor `FltGetInstanceContext` ever succeeds in a run\n"
+        }
+        (true, false) => {
+            ": no callback of this text sets a stream context, so `FltGetStreamContext` never succeeds in a run\n"
+        }
+        _ => {
+            ": no callback of this text sets an instance context, so `FltGetInstanceContext` never succeeds in a run\n"
+        }
+    }
 }
 
 /// Why no run is shown. That the search ended is never taken for more than that.
-fn put_missing(out: &mut String, bounds: Bounds, is_cut: bool) -> Result<(), AllocError> {
-    if bounds.is_behind {
+fn put_missing(out: &mut String, case: Case, is_cut: bool) -> Result<(), AllocError> {
+    if case.is_behind {
         return out.push_str(
             ": each path there that is known breaks another rule first, and a run ends where it breaks something\n",
         );
     }
     if is_cut {
-        let states = bounds.states;
+        let states = case.states;
         return write!(
             out,
             ": no run was found in {states} states a round; `--states N` sets another bound\n"
@@ -193,16 +225,18 @@ fn put_rest(
     trees: &[Tree],
     own: &[Tree],
     schedule: &Schedule,
-    bounds: Bounds,
+    case: Case,
 ) -> Result<(), AllocError> {
     match schedule {
         Schedule::Breaks(broken) => put_journal(alloc, out, trees, own, broken),
-        Schedule::NotWithin => put_missing(out, bounds, false),
-        Schedule::Cut => put_missing(out, bounds, true),
+        Schedule::NotWithin => put_missing(out, case, false),
+        Schedule::Cut => put_missing(out, case, true),
         Schedule::NeverHanded => {
             out.push_str(NEVER_HANDED)?;
             out.push_str(IS_STRICTER)
         }
+        Schedule::NeverStarted => out.push_str(never_started(case.place)),
+        Schedule::NeverGot(unset) => out.push_str(never_got(*unset)),
     }
 }
 
@@ -212,7 +246,7 @@ pub(crate) fn note_lines(
     trees: &[Tree],
     number: usize,
     scheduled: &Scheduled,
-    bounds: Bounds,
+    case: Case,
 ) -> Result<Vec<u8>, AllocError>
     ensures { IfOk result (λ lines. spec.BeginsWith lines.items (spec.said scheduled.now)) }
 {
@@ -220,7 +254,7 @@ pub(crate) fn note_lines(
     let own = own_trees(trees, number, scheduled);
     let mut lines = beginning(alloc, schedule)?.into_bytes();
     let mut rest = String::new(alloc);
-    put_rest(alloc, &mut rest, trees, own, schedule, bounds)?;
+    put_rest(alloc, &mut rest, trees, own, schedule, case)?;
     lines.extend_from_slice(rest.as_bytes())?;
     Ok(lines)
 }

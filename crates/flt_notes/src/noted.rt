@@ -32,7 +32,11 @@ fn journal_of(noted: &Noted) -> Option<&Journal>
 {
     match schedule_of(&noted.scheduled) {
         Schedule::Breaks(broken) => Some(&broken.journal),
-        Schedule::NotWithin | Schedule::Cut | Schedule::NeverHanded => None,
+        Schedule::NotWithin
+        | Schedule::Cut
+        | Schedule::NeverHanded
+        | Schedule::NeverStarted
+        | Schedule::NeverGot(_) => None,
     }
 }
 

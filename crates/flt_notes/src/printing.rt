@@ -2,20 +2,23 @@
 
 ghost use Rattle.std.specs.Prelude.{◌≡◌, ◌++◌, IfOk, OnOk, max, option_map, slice_get};
 ghost use Rattle.flt_model.specs.Program.{filters_of};
+ghost use Rattle.flt_notes.specs.Lines.{BeginsWith, said};
 ghost use Rattle.flt_notes.specs.Printing as spec;
 ghost use Rattle.flt_notes.specs.Readings.{AreStudied, IsStudied, texts_read};
 ghost use Rattle.flt_notes.specs.Reported.{AreReportsOf, IsReport, IsStatus, stack_of};
 
-use crate::lines::{Bounds, note_lines};
-use crate::noted::Noted;
+use crate::again::Again;
+use crate::lines::{Case, note_lines};
+use crate::noted::{Noted, schedule_of};
 use crate::notices::notice_lines;
 use crate::readings::{Reading, Studied};
+use crate::setters::Setter;
 use flt_details::{Source, fault_line, findings_line};
 use flt_explain::Finding;
 use flt_graph::Graph;
 use flt_reasons::{Kind, Notice, describe};
 use flt_reports::{Report, report_findings, report_nothing, report_unread};
-use flt_schedules::{Suspect, schedule_among};
+use flt_schedules::{Outlook, Schedule, Suspect, schedule_among};
 use flt_syntax::SyntaxFault;
 use flt_tree::Tree;
 use sqlite_items::Items;
@@ -56,6 +59,14 @@ struct Known<'a> {
     found: &'a [Finding],
 }
 
+/// The same, with what runs can reach of it, and the text that sets the contexts which nothing in it sets.
+#[derive(Clone, Copy)]
+struct Looked<'a> {
+    known: Known<'a>,
+    outlook: &'a Outlook<'a>,
+    again: Option<&'a Again<'a>>,
+}
+
 /// The finding of a number, from 0.
 fn finding_at(found: &[Finding], number: usize) -> Option<Finding>
     ensures { result ≡ slice_get found.now number }
@@ -65,49 +76,78 @@ fn finding_at(found: &[Finding], number: usize) -> Option<Finding>
 
 impl Stage<'_> {
     /// What comes of a finding of the filter of a number.
-    fn note(&self, known: Known<'_>, number: usize, finding: Finding) -> Result<Noted, AllocError>
-        ensures { IfOk result (spec.IsNoteOf self.now.trees.now known.entry number finding) }
+    fn note(&self, looked: Looked<'_>, number: usize, finding: Finding) -> Result<Noted, AllocError>
+        requires looked { looked.outlook.now ≡ looked.known.graph.now }
+        ensures { IfOk result (spec.IsNoteOf self.now.trees.now looked.entry.known number finding) }
     {
         let suspect = Suspect {
-            filter: known.place,
-            graph: known.graph,
+            filter: looked.known.place,
+            outlook: looked.outlook,
             finding,
         };
         let scheduled = schedule_among(self.alloc, self.trees, &suspect, self.states)?;
         Ok(Noted {
-            filter: known.place,
+            filter: looked.known.place,
             finding: number,
             scheduled,
         })
+    }
+
+    /// What is said of a finding where one more callback sets the contexts that nothing in its text sets.
+    fn again_lines(
+        &self,
+        looked: Looked<'_>,
+        noted: &Noted,
+        finding: &Finding,
+    ) -> Result<String, AllocError> {
+        match (schedule_of(&noted.scheduled), looked.again) {
+            (Schedule::NeverGot(_), Some(again)) => {
+                again.lines(self.alloc, noted.finding, finding, self.states)
+            }
+            _ => Ok(String::new(self.alloc)),
+        }
+    }
+
+    /// What is said of what comes of a finding.
+    #[tactic(auto, using(crate::proofs::Outputs::begins_more))]
+    fn note_lines(
+        &self,
+        looked: Looked<'_>,
+        noted: &Noted,
+        finding: &Finding,
+        is_behind: bool,
+    ) -> Result<Vec<u8>, AllocError>
+        ensures { IfOk result (λ lines. BeginsWith lines.items (said noted.now.scheduled)) }
+    {
+        let case = Case {
+            is_behind,
+            states: self.states,
+            place: looked.known.graph.place(finding.callback),
+        };
+        let number = looked.known.place;
+        let mut lines = note_lines(self.alloc, self.trees, number, &noted.scheduled, case)?;
+        let again = self.again_lines(looked, noted, finding)?;
+        lines.extend_from_slice(again.as_bytes())?;
+        Ok(lines)
     }
 
     /// Writes the report of a finding, and what comes of it.
     fn put_report(
         &self,
         output: &mut Output,
-        known: Known<'_>,
+        looked: Looked<'_>,
         report: &Report,
     ) -> Result<(), AllocError>
-        requires known { spec.IsKnownIn self.now.trees.now known }
+        requires looked { spec.IsLooked self.now.trees.now looked.known looked.outlook.now }
         requires old { spec.IsOutput self.now.trees.now output.old }
         ensures { OnOk result (spec.IsOutput self.now.trees.now output.new) }
     {
         output.lines(report.lines.as_slice())?;
-        let Some(finding) = finding_at(known.found, report.finding) else {
+        let Some(finding) = finding_at(looked.known.found, report.finding) else {
             return Ok(());
         };
-        let noted = self.note(known, report.finding, finding)?;
-        let bounds = Bounds {
-            is_behind: report.is_behind,
-            states: self.states,
-        };
-        let lines = note_lines(
-            self.alloc,
-            self.trees,
-            known.place,
-            &noted.scheduled,
-            bounds,
-        )?;
+        let noted = self.note(looked, report.finding, finding)?;
+        let lines = self.note_lines(looked, &noted, &finding, report.is_behind)?;
         output.lines(lines.as_slice())?;
         output.noted.push(noted)?;
         Ok(())
@@ -117,15 +157,15 @@ impl Stage<'_> {
     fn put_reports(
         &self,
         output: &mut Output,
-        known: Known<'_>,
+        looked: Looked<'_>,
         reports: &[Report],
     ) -> Result<(), AllocError>
-        requires known { spec.IsKnownIn self.now.trees.now known }
+        requires looked { spec.IsLooked self.now.trees.now looked.known looked.outlook.now }
         requires old { spec.IsOutput self.now.trees.now output.old }
         ensures { OnOk result (spec.IsOutput self.now.trees.now output.new) }
     {
         for report in reports {
-            self.put_report(output, known, report)?;
+            self.put_report(output, looked, report)?;
         }
         Ok(())
     }
@@ -152,7 +192,18 @@ impl Stage<'_> {
             known.graph,
             known.found,
         )?;
-        self.put_reports(output, known, reports.as_slice())
+        let outlook = Outlook::of(self.alloc, known.graph)?;
+        let setter = Setter::of(self.alloc, source, tree, known.found, outlook.unset())?;
+        let again = match &setter {
+            Some(setter) => Some(Again::of(self.alloc, setter)?),
+            None => None,
+        };
+        let looked = Looked {
+            known,
+            outlook: &outlook,
+            again: again.as_ref(),
+        };
+        self.put_reports(output, looked, reports.as_slice())
     }
 
     /// Writes what is found of a text that parses.

@@ -9,6 +9,7 @@ use Rattle.flt_seek.specs.declared.seeking.Sought.{Sought}
 use Rattle.flt_model.specs.Program.{filters_of, HasDistinctAltitudes}
 use Rattle.flt_schedules.specs.HandOver.{is_without_hand_over}
 use Rattle.flt_schedules.specs.Meeting.{meets_others}
+use Rattle.flt_schedules.specs.Reach.{IsNeverStarted, IsNeverGot}
 use Rattle.flt_schedules.specs.Violations.{violations_of}
 use Rattle.flt_schedules.specs.declared.schedules.Schedule.{Schedule}
 use Rattle.flt_schedules.specs.declared.schedules.Schedule.TheVariants as schedule
@@ -20,11 +21,14 @@ use Rattle.flt_schedules.specs.declared.schedules.Suspect.{Suspect}
 abbrev pub IsSoughtFor : List Filter → Finding → Sought → Type 0
 IsSoughtFor p f = IsSought p (violations_of f.rule)
 
--- the journal breaks, by its last entry, something that the finding's rule prevents. That no run can is said exactly where `arg` is held
--- where it mustn't be, and nothing ever gives it a context. Where none was found nothing is claimed.
+-- the journal breaks, by its last entry, something that the finding's rule prevents. That nothing hands a context is said exactly where
+-- `arg` is held where it mustn't be, and nothing ever gives it one. That nothing starts the callback, and that nothing sets a context
+-- which is asked for on each path to what is found, are said only where that is so. Where no run was found nothing is claimed.
 abbrev pub IsSchedule : List Filter → Graph → Finding → Schedule → Type 0
 IsSchedule p g f (schedule.Breaks b) = IsFound p (violations_of f.rule) b × (is_without_hand_over g f ≡ false)
 IsSchedule p g f schedule.NeverHanded = is_without_hand_over g f ≡ true
+IsSchedule p g f schedule.NeverStarted = IsNeverStarted g f
+IsSchedule p g f (schedule.NeverGot u) = IsNeverGot g f u
 IsSchedule p g f schedule.NotWithin = is_without_hand_over g f ≡ false
 IsSchedule p g f schedule.Cut = is_without_hand_over g f ≡ false
 
@@ -40,5 +44,5 @@ pub record MayMeet (trees : List Tree) (n : ℕ) : Type 0 where
 
 -- what is answered holds of the filter alone, or of all of them where those may meet
 abbrev pub IsScheduled : List Tree → Suspect → Scheduled → Type 0
-IsScheduled trees s (scheduled.Alone a) = IsSchedule (filters_of (only trees s.filter)) s.graph.now s.finding a
-IsScheduled trees s (scheduled.Together a) = IsSchedule (filters_of trees) s.graph.now s.finding a × MayMeet trees s.filter
+IsScheduled trees s (scheduled.Alone a) = IsSchedule (filters_of (only trees s.filter)) s.outlook.now s.finding a
+IsScheduled trees s (scheduled.Together a) = IsSchedule (filters_of trees) s.outlook.now s.finding a × MayMeet trees s.filter

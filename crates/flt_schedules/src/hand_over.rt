@@ -71,7 +71,7 @@ fn is_handed(graph: &Graph, number: usize) -> bool
 
 // ---- what else gives `arg` a context
 
-fn is_argument(variable: ContextVariable) -> bool
+pub(crate) fn is_argument(variable: ContextVariable) -> bool
     ensures { result ≡ spec.is_argument variable }
 {
     matches!(variable, ContextVariable::Arg)

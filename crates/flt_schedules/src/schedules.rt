@@ -6,9 +6,10 @@ ghost use Rattle.flt_schedules.specs.Schedules as spec;
 
 use crate::hand_over::is_without_hand_over;
 use crate::meeting::meets_others;
+use crate::outlook::Outlook;
+use crate::unset::Unset;
 use crate::violations::violations_of;
 use flt_explain::Finding;
-use flt_graph::Graph;
 use flt_model::first_repeated;
 use flt_rules::Rule;
 use flt_seek::{Aim, Broken, Sought, Spot, seek};
@@ -18,11 +19,11 @@ use std::alloc::{AllocError, Global};
 /// How many filters a stack has at most.
 const MAX_FILTERS: usize = 16;
 
-/// A finding of one of some filters, by the filter's number from 0, and the filter's points.
+/// A finding of one of some filters, by the filter's number from 0, and what runs can reach of the filter's text.
 #[derive(Clone, Copy)]
 pub struct Suspect<'g> {
     pub filter: usize,
-    pub graph: &'g Graph,
+    pub outlook: &'g Outlook<'g>,
     pub finding: Finding,
 }
 
@@ -37,6 +38,10 @@ pub enum Schedule {
     Cut,
     /// No run can: `arg` is held where it mustn't be, and nothing hands a context there.
     NeverHanded,
+    /// No run can: nothing starts the finding's callback.
+    NeverStarted,
+    /// No run can: what is found isn't reached unless a call gets a context on one of these anchors, and no callback of the filter sets one.
+    NeverGot(Unset),
 }
 
 /// What comes of a finding in runs of several filters.
@@ -97,10 +102,16 @@ pub fn schedule_for(
     suspect: &Suspect<'_>,
     states: usize,
 ) -> Result<Schedule, AllocError>
-    ensures { IfOk result (spec.IsSchedule (filters_of trees.now) suspect.now.graph.now suspect.now.finding) }
+    ensures { IfOk result (spec.IsSchedule (filters_of trees.now) suspect.now.outlook.now suspect.now.finding) }
 {
-    if is_without_hand_over(suspect.graph, &suspect.finding) {
+    if is_without_hand_over(suspect.outlook.graph(), &suspect.finding) {
         return Ok(Schedule::NeverHanded);
+    }
+    if suspect.outlook.is_unstarted(&suspect.finding) {
+        return Ok(Schedule::NeverStarted);
+    }
+    if let Some(unset) = suspect.outlook.unset_for(&suspect.finding) {
+        return Ok(Schedule::NeverGot(unset));
     }
     match sought(alloc, trees, suspect, states)? {
         Sought::Found(broken) => Ok(Schedule::Breaks(broken)),

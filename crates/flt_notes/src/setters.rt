@@ -1,0 +1,148 @@
+//! A text with one more callback, which sets contexts that nothing in the text sets: as the driver kit's InstanceSetupCallback does, which the
+//! language leaves out.
+
+use flt_details::{Judged, Source, judge};
+use flt_explain::Finding;
+use flt_graph::Graph;
+use flt_rules::{Operation, number};
+use flt_schedules::Unset;
+use flt_tree::{Filter, Head, Tree};
+use sqlite_items::Items;
+use std::alloc::{AllocError, Global};
+use std::fmt::Write;
+
+/// A text that sets what another doesn't: its tree alone, its points and its findings, the lines that were added, and the number of the
+/// first of them, from 1.
+#[derive(Drop)]
+pub(crate) struct Setter {
+    pub(crate) trees: Items<Tree>,
+    pub(crate) graph: Graph,
+    pub(crate) found: Items<Finding>,
+    pub(crate) added: String,
+    pub(crate) line: usize,
+}
+
+/// The operations, the one first that a driver sees least of.
+const OPERATIONS: [(Operation, &str); 4] = [
+    (Operation::Cleanup, "cleanup"),
+    (Operation::Create, "create"),
+    (Operation::Write, "write"),
+    (Operation::Read, "read"),
+];
+
+/// Whether a callback is of an operation.
+fn is_of(head: &Head, operation: Operation) -> bool {
+    match head {
+        Head::Pre(own) | Head::Post(own) => own.is_same(operation),
+        _ => false,
+    }
+}
+
+/// Whether a context can be set in a filter's pre callback of an operation: it has no callback of that, and a create has no stream yet.
+fn is_free(filter: &Filter, operation: Operation, unset: Unset) -> bool {
+    let is_early = unset.stream && operation.is_same(Operation::Create);
+    let mut callbacks = filter.callbacks.as_slice().iter();
+    !is_early && !callbacks.any(|c| is_of(&c.head, operation))
+}
+
+/// Writes the statements that set a context by a call.
+fn put_set(out: &mut String, call: &str) -> Result<(), AllocError> {
+    write!(
+        out,
+        "  if FltAllocateContext c0 {{\n    if {call} KEEP_IF_EXISTS c0 {{ }}\n    FltReleaseContext c0\n  }}\n"
+    )
+}
+
+/// The lines of a pre callback of an operation that sets contexts on these anchors.
+fn setter_lines(alloc: Global, operation: &str, unset: Unset) -> Result<String, AllocError> {
+    let mut out = String::new(alloc);
+    write!(out, "pre {operation} {{\n")?;
+    if unset.instance {
+        put_set(&mut out, "FltSetInstanceContext")?;
+    }
+    if unset.stream {
+        put_set(&mut out, "FltSetStreamContext")?;
+    }
+    out.push_str("  return NO_CALLBACK\n}\n")?;
+    Ok(out)
+}
+
+/// The lines that a filter can have behind its last one to set contexts on these anchors; none where it has a callback of each operation.
+fn added_lines(alloc: Global, filter: &Filter, unset: Unset) -> Result<Option<String>, AllocError> {
+    for (operation, word) in OPERATIONS {
+        if is_free(filter, operation, unset) {
+            return Ok(Some(setter_lines(alloc, word, unset)?));
+        }
+    }
+    Ok(None)
+}
+
+/// How many lines end in a text.
+fn line_ends(text: &[u8]) -> usize {
+    let mut count: usize = 0;
+    for byte in text {
+        if *byte == b'\n' {
+            count = count.saturating_add(1);
+        }
+    }
+    count
+}
+
+/// Whether two findings are of one rule at one point.
+pub(crate) fn is_same(one: &Finding, other: &Finding) -> bool {
+    one.callback == other.callback
+        && one.point == other.point
+        && one.line == other.line
+        && number(one.rule) == number(other.rule)
+}
+
+/// Whether what is found first is the same.
+fn begin_alike(found: &[Finding], other: &[Finding]) -> bool {
+    match (found, other) {
+        ([first, ..], [other, ..]) => is_same(first, other),
+        _ => false,
+    }
+}
+
+impl Setter {
+    /// A text with a callback that sets contexts on these anchors; none where there is none to set, no place for one, or something else is
+    /// found first then.
+    ///
+    /// # Errors
+    ///
+    /// Where a growth was refused.
+    pub(crate) fn of(
+        alloc: Global,
+        source: Source<'_>,
+        tree: &Tree,
+        found: &[Finding],
+        unset: Unset,
+    ) -> Result<Option<Setter>, AllocError> {
+        if !unset.stream && !unset.instance {
+            return Ok(None);
+        }
+        let Some(added) = added_lines(alloc, &tree.filter, unset)? else {
+            return Ok(None);
+        };
+        let mut text = Vec::from_slice(alloc, source.text)?;
+        if text.last() != Some(&b'\n') {
+            text.push(b'\n')?;
+        }
+        let line = line_ends(&text).saturating_add(1);
+        text.extend_from_slice(added.as_bytes())?;
+        match judge(alloc, &text)? {
+            Judged::Known(tree, graph, own) if begin_alike(found, own.as_slice()) => {
+                let mut trees = Items::new(alloc);
+                trees.push(tree)?;
+                Ok(Some(Setter {
+                    trees,
+                    graph,
+                    found: own,
+                    added,
+                    line,
+                }))
+            }
+            _ => Ok(None),
+        }
+    }
+}
