@@ -58,6 +58,15 @@ form_named name =
 abbrev pub form_of : List Row → Option Form
 form_of rows = option_map_or form_named (first_of (codes "form") rows) (Some Human)
 
+-- the file that is written, if one is named for it; none at all where `-` is
+abbrev pub written_by : Option Text → Option (Option Text)
+written_by None = Some None
+written_by (Some name) = if bytes_eq name (codes "-") then None else Some (Some name)
+
+-- the same of the file behind an option
+abbrev pub written_of : Text → List Row → Option (Option Text)
+written_of id rows = written_by (first_of id rows)
+
 -- ---- commands
 
 abbrev pub check_of : List Row → Asked
@@ -80,19 +89,25 @@ replay_by true picture journal files = Show true picture journal files
 replay_by false (Some picture) journal files = Show false (Some picture) journal files
 replay_by false None journal files = Replay journal files
 
-abbrev pub replay_of : List Row → Asked
+-- a picture that is drawn into `-` asks for nothing
+abbrev pub replay_of : List Row → Option Asked
 replay_of rows =
-    replay_by (is_set (codes "timeline") rows) (first_of (codes "svg") rows) (text_of (codes "JOURNAL") rows) (files_of rows)
+    option_map (λ picture. replay_by (is_set (codes "timeline") rows) picture (text_of (codes "JOURNAL") rows) (files_of rows))
+    (written_of (codes "svg") rows)
 
 -- for people one name that a page has asks for the page, all else for reports
 abbrev pub explain_of : Form → ℕ → Option Text → List Text → Asked
 explain_of Human states journal (name ∷ []) = if has_page name then Page name else Explain Human states journal (name ∷ [])
 explain_of form states journal files = Explain form states journal files
 
+-- in a form, with the file into which a journal is written; `-` isn't one, and asks for nothing
+abbrev pub explain_in : List Row → Form → Option Asked
+explain_in rows form =
+    option_map (λ journal. explain_of form (states_of rows) journal (files_of rows)) (written_of (codes "journal") rows)
+
 -- a form that there isn't asks for nothing
 abbrev pub explain_by : List Row → Option Asked
-explain_by rows =
-    option_map (λ form. explain_of form (states_of rows) (first_of (codes "journal") rows) (files_of rows)) (form_of rows)
+explain_by rows = option_and_then (explain_in rows) (form_of rows)
 
 -- what a subcommand with its arguments asks for
 abbrev pub asked_by : Text × List Row → Option Asked
@@ -102,7 +117,7 @@ asked_by (name, rows) =
     else (if bytes_eq name (codes "thin") then Some (thin_of rows)
     else (if bytes_eq name (codes "explain") then explain_by rows
     else (if bytes_eq name (codes "run") then run_of rows
-    else (if bytes_eq name (codes "replay") then Some (replay_of rows) else None)))))
+    else (if bytes_eq name (codes "replay") then replay_of rows else None)))))
 
 -- ---- all of it
 

@@ -26,6 +26,14 @@ const STATES: u32 = 20_000;
 const NO_FORM: &str =
     "error: `--form` takes `human`, `lines` or `sarif`\n\nUsage: fltstack explain [--form <FORM>] [--states <N>] [--journal <JOURNAL>] <FILE>...\n\nFor more information, try '--help'.\n";
 
+/// What is said where the standard input is named for a journal that is written.
+const NO_JOURNAL: &str =
+    "error: `--journal` takes the name of a file\n\nUsage: fltstack explain [--form <FORM>] [--states <N>] [--journal <JOURNAL>] <FILE>...\n\nFor more information, try '--help'.\n";
+
+/// The same of a picture.
+const NO_PICTURE: &str =
+    "error: `--svg` takes the name of a file\n\nUsage: fltstack replay [--timeline] [--svg <PICTURE>] <JOURNAL> <FILE>...\n\nFor more information, try '--help'.\n";
+
 // ---- values
 
 /// The value of an argument that is always there.
@@ -97,6 +105,23 @@ fn form_of(matches: &ArgMatches) -> Option<Form>
     }
 }
 
+/// The file that is written, if one is named for it; none at all where `-` is.
+fn written_by<'a>(name: Option<&'a str>) -> Option<Option<&'a str>>
+    ensures { option_map (λ file. option_map (λ name. name.now) file) result ≡ spec.written_by (option_map (λ name. name.now) name.entry) }
+{
+    match name {
+        Some("-") => None,
+        _ => Some(name),
+    }
+}
+
+/// The same of the file behind an option.
+fn written_of<'a>(matches: &ArgMatches<'a>, id: &str) -> Option<Option<&'a str>>
+    ensures { option_map (λ file. option_map (λ name. name.now) file) result ≡ spec.written_of id.now (rows_of (found_of matches.now)) }
+{
+    written_by(matches.get_str(id))
+}
+
 // ---- commands
 
 /// What the matches of `check` ask for.
@@ -149,6 +174,21 @@ fn explain_of<'a>(
     }
 }
 
+/// What the matches of `explain` ask for, in a form.
+fn explain_in<'a>(
+    alloc: Global,
+    explain: &ArgMatches<'a>,
+    form: Form,
+) -> Result<Request<'a>, AllocError>
+    ensures { IfOk result (λ r. asked_of r ≡ spec.explain_in (rows_of (found_of explain.now)) form) }
+{
+    let Some(journal) = written_of(explain, "journal") else {
+        return Ok(Request::Usage(String::from_str(alloc, NO_JOURNAL)?));
+    };
+    let files = files_of(alloc, explain)?;
+    Ok(explain_of(form, states_of(explain), journal, files))
+}
+
 /// What the matches of `explain` ask for.
 fn asked_explain<'a>(alloc: Global, explain: &ArgMatches<'a>) -> Result<Request<'a>, AllocError>
     ensures { IfOk result (λ r. asked_of r ≡ spec.explain_by (rows_of (found_of explain.now))) }
@@ -156,8 +196,7 @@ fn asked_explain<'a>(alloc: Global, explain: &ArgMatches<'a>) -> Result<Request<
     let Some(form) = form_of(explain) else {
         return Ok(Request::Usage(String::from_str(alloc, NO_FORM)?));
     };
-    let files = files_of(alloc, explain)?;
-    Ok(explain_of(form, states_of(explain), explain.get_str("journal"), files))
+    explain_in(alloc, explain, form)
 }
 
 /// What the matches of `run` ask for.
@@ -198,12 +237,15 @@ fn replay_by<'a>(
 
 /// What the matches of `replay` ask for.
 fn asked_replay<'a>(alloc: Global, replay: &ArgMatches<'a>) -> Result<Request<'a>, AllocError>
-    ensures { IfOk result (λ r. asked_of r ≡ Some (spec.replay_of (rows_of (found_of replay.now)))) }
+    ensures { IfOk result (λ r. asked_of r ≡ spec.replay_of (rows_of (found_of replay.now))) }
 {
+    let Some(picture) = written_of(replay, "svg") else {
+        return Ok(Request::Usage(String::from_str(alloc, NO_PICTURE)?));
+    };
     let files = files_of(alloc, replay)?;
     Ok(replay_by(
         is_set(replay, "timeline"),
-        replay.get_str("svg"),
+        picture,
         text_of(replay, "JOURNAL"),
         files,
     ))
