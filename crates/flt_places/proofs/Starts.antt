@@ -1,5 +1,6 @@
 -- The place of a byte and the lines of a text, by where lines begin.
-use Rattle.std.proofs.Common.{◌≡◌, refl, sym, ◌∙◌, ap, subst, arith, ℕ, zero, suc, ◌+◌, ◌-◌, ◌≤◌, nat_lt, Bool, true, false, [], ◌∷◌, length, take, drop, get_or, slice_get}
+use Rattle.std.specs.List.Sorted.{IsNonDecreasingBy, IsPartitionPoint}
+use Rattle.std.proofs.Common.{◌≡◌, ◌<◌, List, true, false, nat_le, refl, sym, ◌∙◌, ap, subst, arith, ℕ, zero, suc, ◌+◌, ◌-◌, ◌≤◌, nat_lt, Bool, [], ◌∷◌, length, take, drop, get_or, slice_get}
 use Rattle.std.specs.Prelude.{◌==◌, if◌then◌else◌, min}
 use Rattle.std.proofs.lemmas.Grind.{common_steps}
 use Rattle.std.proofs.lemmas.List.{take_min}
@@ -47,6 +48,68 @@ by_lines text at =
     let here : 0 + min at (length text) ≡ min at (length text) = omega arith in
     ap (counted 1 0 (starts_from 0 text)) (sym here) ∙ along 1 0 0 (min at (length text)) text (omega arith) (min-le_right at (length text))
     ∙ ap (behind (record { line = 1; column = 1 })) (take_min at text)
+
+-- ---- the same by a search
+
+-- the line is found by how many lines begin until there
+along_point : (line start : ℕ) (xs : List ℕ) (at k : ℕ) → k ≤ length xs →
+    IsPartitionPoint (λ (n : ℕ). nat_le n at ≡ true) (λ (n : ℕ). nat_le n at ≡ false) xs k →
+    counted line start xs at ≡ record { line = line + k; column = at - get_or (start ∷ xs) k 0 + 1 }
+along_point line start [] at zero few point = let same : line + 0 ≡ line = omega arith in rw same refl
+along_point line start [] at (suc k) few point = absurd (omega (arith, few))
+along_point line start (x ∷ xs) at zero few point =
+    let further = point.1 0 0 (omega arith) (omega arith) in
+    let less : nat_lt at x ≡ true = grind (arith, further) in
+    let same : line + 0 ≡ line = omega arith in rw (less, same) refl
+along_point line start (x ∷ xs) at (suc k) few point =
+    let until = point.0 0 0 (omega arith) (omega arith) in
+    let more : nat_lt at x ≡ false = grind (arith, until) in
+    let same : line + suc k ≡ line + 1 + k = omega arith in
+    rw (more, same) (along_point (line + 1) x xs at k (omega (arith, few)) (
+      λ i d low high. point.0 (suc i) d (omega arith) (omega (arith, high)),
+      λ i d low high. point.1 (suc i) d (omega (arith, low)) (omega (arith, high)),
+    ))
+
+pub by_point : (xs : List ℕ) (at k : ℕ) → k ≤ length xs →
+    IsPartitionPoint (λ (n : ℕ). nat_le n at ≡ true) (λ (n : ℕ). nat_le n at ≡ false) xs k →
+    record { line = k + 1; column = at - get_or (0 ∷ xs) k 0 + 1 } ≡ counted 1 0 xs at
+by_point xs at k few point = let same : 1 + k ≡ k + 1 = omega arith in sym (rw same at (along_point 1 0 xs at k few point))
+
+-- where a line begins, as it is looked up
+pub first_or : (xs : List ℕ) (lines : ℕ) → lines ≡ 0 → 0 ≡ get_or (0 ∷ xs) lines 0
+first_or xs lines none = rw none refl
+
+pub later_or : (xs : List ℕ) (lines : ℕ) → 1 ≤ lines → unwrap_or (slice_get xs (lines - 1)) 0 ≡ get_or (0 ∷ xs) lines 0
+later_or xs lines some =
+    let one : lines ≡ suc (lines - 1) = omega (arith, some) in
+    unwrap_or-slice_get xs (lines - 1) 0 ∙ ap (λ l. get_or (0 ∷ xs) l 0) (sym one)
+
+-- each start is behind the place from which they are looked for
+starts_behind : (o : ℕ) (z : Text) (i d : ℕ) → i < length (starts_from o z) → o < get_or (starts_from o z) i d
+starts_behind o [] i d h = absurd (omega (arith, h))
+starts_behind o (b ∷ z) i d h = go (b == 10) refl i h (starts_behind (o + 1) z)
+  where
+    go : (x : Bool) → (b == 10) ≡ x → (i : ℕ) → i < length (starts_from o (b ∷ z)) →
+        ((i d : ℕ) → i < length (starts_from (o + 1) z) → o + 1 < get_or (starts_from (o + 1) z) i d) → o < get_or (starts_from o (b ∷ z)) i d
+    go true e zero h later = rw e (omega arith)
+    go true e (suc i) h later = rw e (omega (arith, later i d (let l = rw e at h in omega (arith, l))))
+    go false e i h later = rw e (omega (arith, later i d (rw e at h)))
+
+ascending_from : (o : ℕ) (z : Text) → IsNonDecreasingBy (λ (n : ℕ). n) (starts_from o z)
+ascending_from o [] = λ i j d le h. absurd (omega (arith, h))
+ascending_from o (b ∷ z) = go (b == 10) refl (ascending_from (o + 1) z)
+  where
+    go : (x : Bool) → (b == 10) ≡ x → IsNonDecreasingBy (λ (n : ℕ). n) (starts_from (o + 1) z) →
+        IsNonDecreasingBy (λ (n : ℕ). n) (starts_from o (b ∷ z))
+    go true e later zero zero d le h = omega arith
+    go true e later zero (suc j) d le h =
+        rw e (omega (arith, starts_behind (o + 1) z j d (let l = rw e at h in omega (arith, l))))
+    go true e later (suc i) zero d le h = absurd (omega (arith, le))
+    go true e later (suc i) (suc j) d le h = rw e (later i j d (omega (arith, le)) (let l = rw e at h in omega (arith, l)))
+    go false e later i j d le h = rw e (later i j d le (rw e at h))
+
+pub ascending : (starts : List ℕ) (z : Text) → starts ≡ starts_from 0 z → IsNonDecreasingBy (λ (n : ℕ). n) starts
+ascending starts z same = rw same (ascending_from 0 z)
 
 -- ---- lines
 

@@ -1,6 +1,7 @@
 //! Where things stand in a text.
 
-ghost use Rattle.std.specs.Prelude.{◌≡◌, ◌<◌, ◌≤◌, ◌^◌, ◌-◌, drop, length, IfOk};
+ghost use Rattle.std.specs.Prelude.{◌≡◌, ◌<◌, ◌≤◌, ◌^◌, ◌-◌, ◌∷◌, ℕ, true, false, drop, get_or, length, nat_le, IfOk};
+ghost use Rattle.std.specs.List.Sorted.{IsNonDecreasingBy, IsPartitionPoint};
 ghost use Rattle.flt_places.specs.Places as spec;
 
 use flt_tree::{Position, Span};
@@ -50,23 +51,37 @@ fn starts_of(alloc: Global, text: &[u8]) -> Result<Items<usize>, AllocError>
     Ok(starts)
 }
 
-/// Where a byte stands, where lines begin at these bytes, and the first at 0.
+/// How many of these bytes, which ascend, stand at most as far as another.
+fn count_until(starts: &[usize], at: usize) -> usize
+    requires { IsNonDecreasingBy (λ (n : ℕ). n) starts.now }
+    ensures bound { result ≤ length starts.now }
+    ensures point { IsPartitionPoint (λ (n : ℕ). nat_le n at ≡ true) (λ (n : ℕ). nat_le n at ≡ false) starts.now result }
+{
+    starts.partition_point(|start| *start <= at)
+}
+
+/// Where the line begins before which so many others do, from 0; 0 where it isn't there.
+#[tactic(auto, using(crate::proofs::Starts::first_or, crate::proofs::Starts::later_or))]
+fn start_behind(starts: &[usize], lines: usize) -> usize
+    ensures { result ≡ get_or (0 ∷ starts.now) lines 0 }
+{
+    match lines.checked_sub(1) {
+        Some(last) => starts.get(last).copied().unwrap_or(0),
+        None => 0,
+    }
+}
+
+/// Where a byte stands, where lines begin at these bytes, which ascend, and the first at 0.
+#[tactic(auto, using(crate::proofs::Starts::by_point))]
 fn counted(starts: &[usize], at: usize) -> Position
-    requires { at < 2 ^ 63 }
+    requires at { at < 2 ^ 63 }
+    requires ascending { IsNonDecreasingBy (λ (n : ℕ). n) starts.now }
     ensures { result ≡ spec.counted 1 0 starts.now at }
 {
-    let mut line: usize = 1;
-    let mut start: usize = 0;
-    for next in starts {
-        if at < *next {
-            break;
-        }
-        line += 1;
-        start = *next;
-    }
+    let lines = count_until(starts, at);
     Position {
-        line,
-        column: at - start + 1,
+        line: lines + 1,
+        column: at.saturating_sub(start_behind(starts, lines)) + 1,
     }
 }
 
@@ -98,7 +113,7 @@ impl<'a> Lines<'a> {
     }
 
     /// Where a byte stands, which counts from 0; the end of the text for one that isn't there.
-    #[tactic(auto, using(crate::proofs::Starts::by_lines))]
+    #[tactic(auto, using(crate::proofs::Starts::by_lines, crate::proofs::Starts::ascending))]
     pub fn place(&self, at: usize) -> Position
         ensures { result ≡ spec.place_in self.now at }
     {
