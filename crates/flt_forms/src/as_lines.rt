@@ -94,20 +94,19 @@ pub(crate) fn greater(a: u8, b: u8) -> u8
 fn put_sources(alloc: Global, out: Vec<u8>, sources: &[Source<'_>]) -> Result<Explained, AllocError>
     ensures { IfOk result (λ e. spec.AreLines sources.now out.items e.output.items e.status) }
 {
-    match sources {
-        [] => Ok(Explained {
-            output: out,
-            status: 0,
-        }),
-        [source, others @ ..] => {
-            let first = put_source(alloc, out, *source)?;
-            let rest = put_sources(alloc, first.output, others)?;
-            Ok(Explained {
-                output: rest.output,
-                status: greater(first.status, rest.status),
-            })
-        }
+    let mut told = Explained {
+        output: out,
+        status: 0,
+    };
+    for source in sources {
+        let before = told.status;
+        let one = put_source(alloc, told.output, *source)?;
+        told = Explained {
+            output: one.output,
+            status: greater(before, one.status),
+        };
     }
+    Ok(told)
 }
 
 /// What is wrong with some texts, a JSON object a line: one for each finding of a text that parses, in their order, and one for a text

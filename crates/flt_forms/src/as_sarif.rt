@@ -229,14 +229,12 @@ fn put_source(alloc: Global, writer: &mut Writer, source: Source<'_>) -> Result<
 fn put_sources(alloc: Global, writer: &mut Writer, sources: &[Source<'_>]) -> Result<u8, AllocError>
     ensures { IfOk result (λ status. (ts : List Token) × spec.AreResults sources.now ts status × Added writer.old writer.new ts) }
 {
-    match sources {
-        [] => Ok(0),
-        [source, others @ ..] => {
-            let first = put_source(alloc, writer, *source)?;
-            let rest = put_sources(alloc, writer, others)?;
-            Ok(greater(first, rest))
-        }
+    let mut status = 0;
+    for source in sources {
+        let own = put_source(alloc, writer, *source)?;
+        status = greater(status, own);
     }
+    Ok(status)
 }
 
 fn put_results_member(
