@@ -24,8 +24,11 @@ const LANES: usize = 100;
 /// How many contexts have lanes, at most.
 const MOST_CONTEXTS: usize = 12;
 
-/// How many lines are drawn, at most.
+/// How many lines are drawn, at most; beside them a line stands in each place where some are left out.
 const MOST_LINES: usize = 1_000;
+
+/// How many of these are the first ones, where the line that breaks something stands behind them.
+const FIRST_LINES: usize = 500;
 
 const NOTHING: Row = Row { first: 0, count: 0 };
 
@@ -74,11 +77,45 @@ const LEAST_LETTERS: usize = 40;
 /// Up to how many operations each has a column of its own.
 const OWN_COLUMNS: usize = 8;
 
+/// Which lines are drawn: those before `first`, and those from `from` to before `end`. A line is told by its number, from 0.
+#[derive(Clone, Copy)]
+struct Excerpt {
+    first: usize,
+    from: usize,
+    end: usize,
+}
+
+impl Excerpt {
+    /// So many lines, of which one breaks something. If it isn't among the first, it is the last that is drawn.
+    fn of(lines: usize, broken: Option<usize>) -> Excerpt {
+        match broken {
+            Some(number) if number >= MOST_LINES => {
+                let end = number.saturating_add(1);
+                Excerpt {
+                    first: FIRST_LINES,
+                    from: end.saturating_sub(MOST_LINES - FIRST_LINES),
+                    end,
+                }
+            }
+            _ => Excerpt {
+                first: lines.min(MOST_LINES),
+                from: lines,
+                end: lines,
+            },
+        }
+    }
+
+    fn has(&self, number: usize) -> bool {
+        number < self.first || self.from <= number && number < self.end
+    }
+}
+
 /// What is drawn, and how many lanes there are.
 #[derive(Clone, Copy)]
 struct Plan<'b, 'a> {
     alloc: Global,
     timeline: &'b Timeline<'a>,
+    excerpt: Excerpt,
     columns: usize,
     /// Whether a column is that of one operation alone.
     is_numbered: bool,
@@ -94,6 +131,10 @@ struct Sheet<'b, 'a> {
     course: Course<'b, 'a>,
     /// The top of the next line.
     top: usize,
+    /// The number of the next line of the timeline, drawn or not.
+    number: usize,
+    /// How many lines are left out since the last one that is drawn.
+    left_out: usize,
 }
 
 /// How many columns the rows of a timeline have.
@@ -107,16 +148,62 @@ fn columns_of(timeline: &Timeline<'_>) -> usize {
     columns
 }
 
+/// The last row of a block and of what repeats it.
+fn last_in(timeline: &Timeline<'_>, fold: Fold) -> Row {
+    let rows = fold.block.saturating_add(fold.repeated);
+    row_of(timeline, fold.first.saturating_add(rows).saturating_sub(1))
+}
+
+/// Whether the run breaks something by the last row that repeats a block. That row has a line of its own.
+fn ends_broken(timeline: &Timeline<'_>, fold: Fold) -> bool {
+    fold.repeated > 0 && timeline.is_broken(last_in(timeline, fold))
+}
+
+/// How many rows are drawn as repetitions of a block, in one line.
+fn repeated_in(timeline: &Timeline<'_>, fold: Fold) -> usize {
+    fold.repeated
+        .saturating_sub(usize::from(ends_broken(timeline, fold)))
+}
+
+/// How many lines a block and what repeats it have.
+fn lines_in(timeline: &Timeline<'_>, fold: Fold) -> usize {
+    let again = usize::from(repeated_in(timeline, fold) > 0);
+    let broken = usize::from(ends_broken(timeline, fold));
+    fold.block.saturating_add(again).saturating_add(broken)
+}
+
 /// How many lines the blocks of a timeline have.
 fn lines_of(timeline: &Timeline<'_>) -> usize {
     let mut lines: usize = 0;
     for fold in timeline.folds.as_slice() {
-        lines = lines.saturating_add(fold.block);
-        if fold.repeated > 0 {
-            lines = lines.saturating_add(1);
+        lines = lines.saturating_add(lines_in(timeline, *fold));
+    }
+    lines
+}
+
+/// Which of the lines of a block and of what repeats it breaks something, if one does.
+fn broken_in(timeline: &Timeline<'_>, fold: Fold) -> Option<usize> {
+    for number in 0..fold.block {
+        if timeline.is_broken(row_of(timeline, fold.first.saturating_add(number))) {
+            return Some(number);
         }
     }
-    lines.min(MOST_LINES)
+    if ends_broken(timeline, fold) {
+        return Some(lines_in(timeline, fold).saturating_sub(1));
+    }
+    None
+}
+
+/// The number of the line that breaks something, if one does.
+fn broken_line(timeline: &Timeline<'_>) -> Option<usize> {
+    let mut lines: usize = 0;
+    for fold in timeline.folds.as_slice() {
+        if let Some(number) = broken_in(timeline, *fold) {
+            return Some(lines.saturating_add(number));
+        }
+        lines = lines.saturating_add(lines_in(timeline, *fold));
+    }
+    None
 }
 
 /// The row of a number; none of its entries where there is none.
@@ -213,6 +300,20 @@ impl<'b, 'a> Plan<'b, 'a> {
     /// The left side of the words.
     fn words(&self) -> usize {
         self.context(self.contexts.max(3)).saturating_add(LANE)
+    }
+
+    /// How many lines are drawn: those of the timeline, and one in each place where some are left out.
+    fn lines(&self) -> usize {
+        let mut lines: usize = 0;
+        let mut is_drawn = true;
+        for number in 0..lines_of(self.timeline) {
+            let was_drawn = is_drawn;
+            is_drawn = self.excerpt.has(number);
+            if is_drawn || was_drawn {
+                lines = lines.saturating_add(1);
+            }
+        }
+        lines
     }
 
     /// How wide the picture is.
@@ -388,35 +489,74 @@ impl<'b, 'a> Plan<'b, 'a> {
         self.draw_words(sheet, row)
     }
 
-    /// What repeats a block, with what is there behind it.
-    fn draw_repetition(&self, sheet: &mut Sheet<'_, '_>, fold: Fold) -> Result<(), AllocError> {
+    /// So many rows that repeat a block, with what is there behind them.
+    fn draw_repetition(
+        &self,
+        sheet: &mut Sheet<'_, '_>,
+        fold: Fold,
+        repeated: usize,
+    ) -> Result<(), AllocError> {
         let first = fold.first.saturating_add(fold.block);
-        let last = self.row(first.saturating_add(fold.repeated).saturating_sub(1));
+        let last = self.row(first.saturating_add(repeated).saturating_sub(1));
         self.begin_line(sheet, self.row(first).first, end_of(last))?;
         self.draw_state(sheet)?;
-        let words = repeated_words(self.alloc, fold.repeated)?;
+        let words = repeated_words(self.alloc, repeated)?;
         sheet.end_line(self.words(), Look::Faint, words.as_str())
     }
 
-    fn draw_fold(&self, sheet: &mut Sheet<'_, '_>, fold: Fold) -> Result<(), AllocError> {
-        for number in 0..fold.block {
-            let row = self.row(fold.first.saturating_add(number));
-            self.draw_row(sheet, row)?;
+    /// A line in place of those that are left out, if some are.
+    fn draw_left_out(&self, sheet: &mut Sheet<'_, '_>) -> Result<(), AllocError> {
+        if sheet.left_out == 0 {
+            return Ok(());
         }
-        if fold.repeated > 0 {
-            self.draw_repetition(sheet, fold)?;
+        let words = left_out_words(self.alloc, sheet.left_out)?;
+        sheet.left_out = 0;
+        let base = sheet.top.saturating_add(15);
+        sheet.drawing.words(LANES - 15, base, Look::Before, "...")?;
+        sheet.end_line(self.words(), Look::Plain, words.as_str())
+    }
+
+    /// Whether the next line is drawn. What is left out before it is said first.
+    fn begins(&self, sheet: &mut Sheet<'_, '_>) -> Result<bool, AllocError> {
+        let number = sheet.number;
+        sheet.number = number.saturating_add(1);
+        if !self.excerpt.has(number) {
+            sheet.left_out = sheet.left_out.saturating_add(1);
+            return Ok(false);
+        }
+        self.draw_left_out(sheet)?;
+        Ok(true)
+    }
+
+    /// A row, where its line is drawn.
+    fn draw_next(&self, sheet: &mut Sheet<'_, '_>, row: Row) -> Result<(), AllocError> {
+        if self.begins(sheet)? {
+            self.draw_row(sheet, row)?;
         }
         Ok(())
     }
 
-    /// As many blocks as there is room for.
-    fn draw_folds(&self, sheet: &mut Sheet<'_, '_>) -> Result<(), AllocError> {
-        for fold in self.timeline.folds.as_slice() {
-            if sheet.top < MOST_LINES * LINE {
-                self.draw_fold(sheet, *fold)?;
-            }
+    /// A block, what repeats it, and the row of it by which the run breaks something.
+    fn draw_fold(&self, sheet: &mut Sheet<'_, '_>, fold: Fold) -> Result<(), AllocError> {
+        for number in 0..fold.block {
+            self.draw_next(sheet, self.row(fold.first.saturating_add(number)))?;
+        }
+        let repeated = repeated_in(self.timeline, fold);
+        if repeated > 0 && self.begins(sheet)? {
+            self.draw_repetition(sheet, fold, repeated)?;
+        }
+        if ends_broken(self.timeline, fold) {
+            self.draw_next(sheet, last_in(self.timeline, fold))?;
         }
         Ok(())
+    }
+
+    /// The blocks, as far as they are drawn, and how much is left out behind them.
+    fn draw_folds(&self, sheet: &mut Sheet<'_, '_>) -> Result<(), AllocError> {
+        for fold in self.timeline.folds.as_slice() {
+            self.draw_fold(sheet, *fold)?;
+        }
+        self.draw_left_out(sheet)
     }
 
     fn draw(&self, sheet: &mut Sheet<'_, '_>) -> Result<(), AllocError> {
@@ -430,6 +570,17 @@ impl<'b, 'a> Plan<'b, 'a> {
 fn repeated_words(alloc: Global, rows: usize) -> Result<String, AllocError> {
     let mut words = String::new(alloc);
     write!(words, "the same again, {rows} rows")?;
+    Ok(words)
+}
+
+/// The words for so many lines that are left out.
+fn left_out_words(alloc: Global, lines: usize) -> Result<String, AllocError> {
+    let mut words = String::new(alloc);
+    if lines == 1 {
+        words.push_str("1 line is left out here")?;
+    } else {
+        write!(words, "{lines} lines are left out here")?;
+    }
     Ok(words)
 }
 
@@ -463,6 +614,7 @@ fn plan_of<'b, 'a>(
     Ok(Plan {
         alloc,
         timeline,
+        excerpt: Excerpt::of(lines_of(timeline), broken_line(timeline)),
         columns: columns_of(timeline),
         is_numbered: operations_of(journal) <= OWN_COLUMNS,
         contexts,
@@ -476,13 +628,15 @@ fn sheet_of<'b, 'a>(
     stack: &'b Stack<'a>,
     journal: &'b Journal,
 ) -> Result<Sheet<'b, 'a>, AllocError> {
-    let lines = lines_of(plan.timeline).saturating_add(KEY.len() + 3);
+    let lines = plan.lines().saturating_add(KEY.len() + 3);
     let height = lines.saturating_mul(LINE);
     let drawing = Drawing::new(plan.alloc, plan.width(), height)?;
     Ok(Sheet {
         drawing,
         course: Course::new(plan.alloc, stack, journal)?,
         top: 2 * LINE,
+        number: 0,
+        left_out: 0,
     })
 }
 
@@ -510,7 +664,8 @@ fn picture_on(
 
 /// A journal as a picture, in SVG: the rows of its timeline, with lanes for operations, for how many visits wait in queues and work items
 /// when a row ends, and for the references that each context then has. Below it stands what the colours say. The filters and the journal
-/// are those of the timeline. At most 1,000 lines are drawn, and the first twelve contexts.
+/// are those of the timeline. At most 1,000 lines are drawn, the one that breaks something among them, and the first twelve contexts. Where lines
+/// are left out, a line says how many.
 ///
 /// # Errors
 ///
