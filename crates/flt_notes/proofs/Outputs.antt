@@ -1,10 +1,10 @@
 -- What is printed with a part more.
-use Rattle.std.proofs.Common.{◌⊎◌, inl, inr, ◌≡◌, ◌<◌, ℕ, arith, length, List, [], ◌∷◌, ◌++◌, Some, Result, Ok, Err, All, IfOk, map, refl, sym, ap, ◌∙◌, append_assoc, slice_get}
+use Rattle.std.proofs.Common.{◌⊎◌, inl, inr, ◌≡◌, ℕ, List, [], ◌∷◌, ◌++◌, Some, Result, Ok, Err, All, IfOk, map, refl, sym, ap, ◌∙◌, append_assoc, slice_get}
 use Rattle.std.proofs.Math.Path.{subst}
 use Rattle.std.proofs.lemmas.List.Elements.{All-nil, All-push, All-weaker}
 use Rattle.flt_model.specs.Program.{filters_of}
-use Rattle.flt_notes.specs.Readings.{AreParsed, IsOther, IsUnread, texts_read}
-use Rattle.flt_notes.specs.Reported.{AreReportsOf, HasNotice, HasNoticeStatus, HasReport, HasStatus, IsReport, IsStatus, stack_of}
+use Rattle.flt_notes.specs.Readings.{AreParsed, IsOther, IsUnread}
+use Rattle.flt_notes.specs.Reported.{HasNotice, HasNoticeStatus, HasReport, HasStatus, IsReport, IsStatus, stack_of}
 use Rattle.std.specs.declared.alloc.AllocError.{AllocError}
 use Rattle.flt_syntax.specs.declared.fault.SyntaxFault.{SyntaxFault}
 use Rattle.flt_tree.specs.Names.{Text}
@@ -22,7 +22,6 @@ use Rattle.flt_notes.specs.Told.{AreNoted, IsNotedOf, StandIn}
 use Rattle.flt_notes.specs.declared.noted.Noted.{Noted}
 use Rattle.flt_notes.specs.declared.printing.Known.{Known}
 use Rattle.flt_notes.specs.declared.printing.Output.{Output}
-use Rattle.flt_notes.specs.declared.readings.Studied.{Studied}
 use Rattle.flt_notes.proofs.Printed.{stand_in_more, stand_with_one}
 
 said_with_one : (noted : List Noted) (n : Noted) →
@@ -95,12 +94,6 @@ status_of_either filters text printed status (inr (n, is, same, ends)) = inr (n,
 pub status_of_report : (filters : List Filter) (text : Text) (printed : List ℕ) (status : ℕ) → IsReport filters text printed status →
     IsStatus filters text status
 status_of_report filters text printed status report = record { is = status_of_either filters text printed status report.is }
-
--- no texts are left, and nothing is said of them
-pub reports_of_none : (filters : List Filter) (left : List Studied) (printed : List ℕ) → length left < 1 →
-    AreReportsOf filters (texts_read left) printed 0
-reports_of_none filters [] printed none = refl
-reports_of_none filters (s ∷ left) printed none = absurd (omega (arith, none))
 
 -- nothing is noted before anything is printed
 pub output_none : (trees : List Tree) (o : Output) → o.noted ≡ [] → IsOutput trees o

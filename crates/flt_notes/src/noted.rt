@@ -44,10 +44,11 @@ fn journal_of(noted: &Noted) -> Option<&Journal>
 pub fn first_journal(noted: &[Noted]) -> Option<&Journal>
     ensures { option_copied result ≡ spec.first_journal noted.now }
 {
-    for one in noted {
-        if let Some(journal) = journal_of(one) {
-            return Some(journal);
-        }
+    match noted {
+        [] => None,
+        [first, others @ ..] => match journal_of(first) {
+            Some(journal) => Some(journal),
+            None => first_journal(others),
+        },
     }
-    None
 }

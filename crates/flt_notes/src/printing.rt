@@ -346,18 +346,13 @@ impl Stage<'_> {
         ensures output { OnOk result (spec.IsOutput self.now.trees.now output.new) }
         ensures reports { IfOk result (AreReportsOf (filters_of self.now.trees.now) (texts_read each.now) output.new.bytes.items) }
     {
-        let mut left = each;
-        let mut status = 0;
-        while let [studied, _, ..] = left {
-            let own = self.put_before(output, studied)?;
-            status = greater(status, own);
-            left = &left[1..];
-        }
-        match left {
-            [] => Ok(status),
-            [last, ..] => {
-                let own = self.put_text(output, last)?;
-                Ok(greater(status, own))
+        match each {
+            [] => Ok(0),
+            [studied] => self.put_text(output, studied),
+            [studied, others @ ..] => {
+                let first = self.put_before(output, studied)?;
+                let rest = self.put_all(output, others)?;
+                Ok(greater(first, rest))
             }
         }
     }
