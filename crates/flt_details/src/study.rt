@@ -9,7 +9,7 @@ use crate::case::Case;
 use crate::page::Page;
 use crate::scene::Scene;
 use crate::subjects::state_word;
-use crate::tracing::{Shown, trace};
+use crate::tracing::{Shown, trace_all};
 use flt_explain::Finding;
 use flt_graph::Graph;
 use flt_origins::Cause;
@@ -315,13 +315,27 @@ fn detail_by(
     })
 }
 
-fn detail_of(alloc: Global, scene: &Scene<'_>, finding: &Finding) -> Result<Detail, AllocError>
+/// What is said of a finding, by what shows it, or else as one to which the search for ways was ended.
+fn detail_of(
+    alloc: Global,
+    scene: &Scene<'_>,
+    finding: &Finding,
+    shown: Option<&Shown>,
+) -> Result<Detail, AllocError>
     ensures { IfOk result (spec.IsDetail scene.now.lines.now scene.now.graph.now finding.now) }
 {
-    let shown = trace(alloc, scene.graph, finding)?;
-    let detail = detail_by(alloc, scene, finding, &shown);
-    drop(shown);
-    detail
+    match shown {
+        Some(shown) => detail_by(alloc, scene, finding, shown),
+        None => detail_by(
+            alloc,
+            scene,
+            finding,
+            &Shown {
+                answer: Answer::Unknown,
+                origin: None,
+            },
+        ),
+    }
 }
 
 /// What is said of each finding of a text that parses, in their order.
@@ -344,9 +358,10 @@ pub fn details(
         tree,
         graph,
     };
+    let shown = trace_all(alloc, graph, found)?;
     let mut all = Items::new(alloc);
     for finding in found {
-        all.push(detail_of(alloc, &scene, finding)?)?;
+        all.push(detail_of(alloc, &scene, finding, shown.get(all.len()))?)?;
     }
     Ok(all)
 }

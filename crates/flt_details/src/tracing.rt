@@ -143,20 +143,21 @@ fn shown_by(
     Ok(Shown { answer, origin })
 }
 
-/// What shows a finding, with its origin.
-pub(crate) fn trace(alloc: Global, graph: &Graph, finding: &Finding) -> Result<Shown, AllocError> {
-    let answer = ways(alloc, graph, finding)?;
-    let origin = origin_by(alloc, graph, finding, &answer);
-    shown_by(answer, origin)
-}
-
-/// What shows each finding of a text.
-fn trace_all(alloc: Global, graph: &Graph, found: &[Finding]) -> Result<Items<Shown>, AllocError> {
-    let mut all = Items::new(alloc);
-    for finding in found {
-        all.push(trace(alloc, graph, finding)?)?;
+/// What shows each finding of a text, with its origin.
+pub(crate) fn trace_all(
+    alloc: Global,
+    graph: &Graph,
+    found: &[Finding],
+) -> Result<Items<Shown>, AllocError> {
+    let mut answers = ways(alloc, graph, found)?;
+    let mut all = Vec::new(alloc);
+    for finding in found.iter().rev() {
+        let answer = answers.pop().unwrap_or(Answer::Unknown);
+        let origin = origin_by(alloc, graph, finding, &answer);
+        all.push(shown_by(answer, origin)?)?;
     }
-    Ok(all)
+    all.reverse();
+    Ok(Items::from_vec(all))
 }
 
 /// What made an origin's fact.

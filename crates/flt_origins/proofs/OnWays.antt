@@ -26,7 +26,7 @@ use Rattle.flt_abs.specs.Outcome.{context_now, operation_now, left, called, fail
 use Rattle.flt_abs.specs.Sets.{StatusSet, ModeSet, DrainingSet, null_alone}
 use Rattle.flt_abs.specs.State.{Status, Null, Held, Stale, Situation, State, Means, has_status, have_statuses, has_mode, has_draining}
 use Rattle.flt_abs.specs.Variables.{context_in, operation_in}
-use Rattle.flt_ways.specs.Ways.{IsWay, moment, breaks_nothing, next_point, moment_after, is_taken, end_of}
+use Rattle.flt_ways.specs.Ways.{moment, breaks_nothing, next_point, moment_after, is_taken, end_of}
 use Rattle.flt_ways.specs.declared.answer.Step.{Step}
 use Rattle.flt_ways.specs.declared.situation.Moment.{Moment}
 use Rattle.flt_origins.specs.Facts.{same_status, is_so, makes, keeps, IsWhole}

@@ -37,19 +37,46 @@ fn may_come_out(instruction: &Instruction, granted: bool) -> bool {
     }
 }
 
-/// Whether it is reached already.
-fn is_seen(found: &[Reached], other: Reached) -> bool {
-    found
-        .iter()
-        .any(|one| one.point == other.point && one.is_so == other.is_so)
+/// The points that are reached, in order, and for each point whether it is without the fact and with it.
+#[derive(Drop)]
+struct Search {
+    found: Vec<Reached>,
+    seen: Vec<(bool, bool)>,
 }
 
-/// A point is reached.
-fn arrive(found: &mut Items<Reached>, one: Reached) -> Result<(), AllocError> {
-    if is_seen(found.as_slice(), one) {
-        return Ok(());
+impl Search {
+    /// No point of a callback is reached.
+    fn none(alloc: Global, points: usize) -> Result<Search, AllocError> {
+        let mut seen = Vec::new(alloc);
+        for _point in 0..points {
+            seen.push((false, false))?;
+        }
+        Ok(Search {
+            found: Vec::new(alloc),
+            seen,
+        })
     }
-    found.push(one)
+
+    /// Whether it is reached already; a point that isn't there needn't be.
+    fn is_seen(&self, one: Reached) -> bool {
+        match self.seen.get(one.point) {
+            Some((without, with)) => { if one.is_so { *with } else { *without } }
+            None => true,
+        }
+    }
+
+    /// A point is reached, with the fact or without it.
+    fn arrive(&mut self, one: Reached) -> Result<(), AllocError> {
+        if self.is_seen(one) {
+            return Ok(());
+        }
+        self.found.push(one)?;
+        if let Some(seen) = self.seen.get_mut(one.point) {
+            let (without, with) = *seen;
+            *seen = (without || !one.is_so, with || one.is_so);
+        }
+        Ok(())
+    }
 }
 
 /// Reaches what a step from the point of a number leads to.
@@ -57,38 +84,32 @@ fn take(
     graph: &Graph,
     callback: usize,
     fact: Fact,
-    found: &mut Items<Reached>,
+    search: &mut Search,
     number: usize,
     from: Reached,
     step: Step,
 ) -> Result<(), AllocError> {
-    let instruction = graph.instruction(callback, step.point);
-    let Some(point) = next(&instruction, step.granted) else {
+    let instruction = graph.instruction_ref(callback, step.point);
+    let Some(point) = next(instruction, step.granted) else {
         return Ok(());
     };
-    if !may_come_out(&instruction, step.granted) {
+    if !may_come_out(instruction, step.granted) {
         return Ok(());
     }
     let arrival = Some((number, step));
-    let is_kept = from.is_so && keeps(&instruction, step.granted, fact);
-    if is_kept || makes(&instruction, step.granted, step.gives, fact) {
-        arrive(
-            found,
-            Reached {
-                point,
-                is_so: true,
-                arrival,
-            },
-        )?;
-    }
-    arrive(
-        found,
-        Reached {
+    let is_kept = from.is_so && keeps(instruction, step.granted, fact);
+    if is_kept || makes(instruction, step.granted, step.gives, fact) {
+        search.arrive(Reached {
             point,
-            is_so: false,
+            is_so: true,
             arrival,
-        },
-    )
+        })?;
+    }
+    search.arrive(Reached {
+        point,
+        is_so: false,
+        arrival,
+    })
 }
 
 /// Reaches what follows the point of a number.
@@ -96,7 +117,7 @@ fn go_on(
     graph: &Graph,
     callback: usize,
     fact: Fact,
-    found: &mut Items<Reached>,
+    search: &mut Search,
     number: usize,
     from: Reached,
 ) -> Result<(), AllocError> {
@@ -106,7 +127,7 @@ fn go_on(
             granted,
             gives,
         };
-        take(graph, callback, fact, found, number, from, step)?;
+        take(graph, callback, fact, search, number, from, step)?;
     }
     Ok(())
 }
@@ -131,27 +152,27 @@ fn steps_to(alloc: Global, found: &[Reached], number: usize) -> Result<Items<Ste
     Ok(Items::from_vec(steps))
 }
 
-/// The entry of a callback, with the fact if it may be so there, and without it.
+/// The entry of a callback is reached, with the fact if it may be so there, and without it.
 fn entered(
     alloc: Global,
     graph: &Graph,
     callback: usize,
     fact: Fact,
-) -> Result<Items<Reached>, AllocError> {
-    let mut found = Items::new(alloc);
+) -> Result<Search, AllocError> {
+    let mut search = Search::none(alloc, graph.points(callback))?;
     let entry = Reached {
         point: 0,
         is_so: false,
         arrival: None,
     };
     if may_be_at_entry(alloc, graph.place(callback), fact) {
-        found.push(Reached {
+        search.arrive(Reached {
             is_so: true,
             ..entry
         })?;
     }
-    found.push(entry)?;
-    Ok(found)
+    search.arrive(entry)?;
+    Ok(search)
 }
 
 /// The steps of a shortest path to a point, at which the fact is so.
@@ -162,16 +183,16 @@ fn path_to(
     fact: Fact,
     point: usize,
 ) -> Result<Option<Items<Step>>, AllocError> {
-    let mut found = entered(alloc, graph, callback, fact)?;
+    let mut search = entered(alloc, graph, callback, fact)?;
     for number in 0..LIMIT {
-        let Some(from) = found.get(number) else {
+        let Some(from) = search.found.get(number) else {
             return Ok(None);
         };
         let from = *from;
         if from.point == point && from.is_so {
-            return Ok(Some(steps_to(alloc, found.as_slice(), number)?));
+            return Ok(Some(steps_to(alloc, search.found.as_slice(), number)?));
         }
-        go_on(graph, callback, fact, &mut found, number, from)?;
+        go_on(graph, callback, fact, &mut search, number, from)?;
     }
     Ok(None)
 }

@@ -1,4 +1,5 @@
 pub mod Breaking
 pub mod Leading
+pub mod MoreAnswers
 pub mod Nine
 pub mod Singles

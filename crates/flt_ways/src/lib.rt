@@ -2,12 +2,22 @@
 //! `ways`, which looks for one and checks it.
 #![tactic(auto)]
 
+mod aims;
 mod answer;
+mod choices;
 mod ends;
 mod faults;
+mod ground;
+mod held;
 mod meeting;
+mod plan;
+mod possible;
 mod search;
+mod seeking;
 mod situation;
+mod sought;
+mod table;
+mod tasks;
 mod to_finding;
 
 pub use answer::{Answer, Step, Way, Ways};

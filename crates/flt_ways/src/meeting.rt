@@ -1,101 +1,176 @@
-//! The search for two ways that meet with other locks. Nothing is proved of its answer; what it finds is checked by walking it again.
+//! The search for two ways that meet with other locks.
 
-use crate::answer::Step;
-use crate::faults::are_apart;
-use crate::search::{OUTCOMES, Reach, Reached, reach_all};
+use crate::choices::{Branch, branches_to, path_along};
+use crate::ground::Ground;
+use crate::possible::Possible;
+use crate::search::{Followed, Manner, Node, Search, Stop};
+use crate::sought::{Budget, Found, Sought};
 use flt_explain::Finding;
-use flt_graph::Graph;
 use std::alloc::{AllocError, Global};
 
-/// Two moments that meet: a number and the step from there, and the number of the other.
+/// How often a search is done anew with more that is followed: once for each part.
+const TURNS: usize = 18;
+
+/// Two moments that meet: the number and the outcome from which the first comes, and the number of the other; and what stopped one of the
+/// ways.
 #[derive(Clone, Copy)]
 struct Pair {
     number: usize,
-    step: Step,
+    granted: bool,
     other: usize,
+    stop: Option<Stop>,
 }
 
-impl Reach {
-    /// What the step from a moment meets with other locks.
-    fn meets(&self, graph: &Graph, finding: &Finding, number: usize, step: Step) -> Option<usize> {
-        let next = self
-            .situation(number)?
-            .after(graph, finding.callback, step)?;
-        let others = self.numbers_at(next.point);
-        let place = others.iter().position(|other| match self.situation(*other) {
-            Some(other) => are_apart(finding.subject, &next.situation, other),
-            None => false,
-        });
-        others.get(place?).copied()
+/// The better one of two pairs: the first, if no way of it was stopped.
+fn better(first: Option<Pair>, second: Option<Pair>) -> Option<Pair> {
+    match (first, second) {
+        (Some(pair), Some(other)) if pair.stop.is_some() && other.stop.is_none() => second,
+        (Some(_), _) => first,
+        (None, _) => second,
     }
+}
 
-    /// The pair of which the first is the moment of a number at the finding's point.
-    fn pair_from(&self, graph: &Graph, finding: &Finding, number: usize) -> Option<Pair> {
-        for (granted, gives) in OUTCOMES {
-            let step = Step {
-                point: finding.point,
-                granted,
-                gives,
-            };
-            if let Some(other) = self.meets(graph, finding, number, step) {
-                return Some(Pair {
+impl Search {
+    /// What a moment behind the one of a number meets with other locks.
+    fn meets(
+        &self,
+        ground: &Ground<'_>,
+        finding: &Finding,
+        number: usize,
+        next: Node,
+        granted: bool,
+    ) -> Option<Pair> {
+        let mut found = None;
+        for (other, met) in self.nodes.iter().enumerate() {
+            let is_met = met.point == next.point
+                && ground.lists.are_apart(finding.subject, next.list, met.list);
+            if is_met {
+                let pair = Pair {
                     number,
-                    step,
+                    granted,
                     other,
-                });
+                    stop: next.stop.or(met.stop),
+                };
+                found = better(found, Some(pair));
             }
         }
-        None
+        found
     }
 
-    fn pair(&self, graph: &Graph, finding: &Finding, clean: bool) -> Option<Pair> {
-        for number in self.numbers_at(finding.point) {
-            if !clean || self.is_clean(graph, finding.callback, *number) {
-                if let Some(pair) = self.pair_from(graph, finding, *number) {
-                    return Some(pair);
+    /// The pair of which the first comes from the moment of a number.
+    fn pair_from(
+        &mut self,
+        ground: &mut Ground<'_>,
+        finding: &Finding,
+        number: usize,
+        node: Node,
+    ) -> Result<Option<Pair>, AllocError> {
+        let (granted, refused) = self.behind(ground, number, node)?;
+        let first = match granted {
+            Some(next) => self.meets(ground, finding, number, next, true),
+            None => None,
+        };
+        let second = match refused {
+            Some(next) => self.meets(ground, finding, number, next, false),
+            None => None,
+        };
+        Ok(better(first, second))
+    }
+
+    fn pair(
+        &mut self,
+        ground: &mut Ground<'_>,
+        finding: &Finding,
+    ) -> Result<Option<Pair>, AllocError> {
+        let mut found = None;
+        for number in 0..self.nodes.len() {
+            if let Some(node) = self.node(number) {
+                if node.point == finding.point {
+                    found = better(found, self.pair_from(ground, finding, number, node)?);
                 }
             }
         }
-        None
+        Ok(found)
     }
 }
 
-/// The ways to a pair.
-fn ways_to(search: &Reach, alloc: Global, pair: Pair) -> Result<Reached, AllocError> {
-    let Some(path) = search.path_to(alloc, pair.number, Some(pair.step))? else {
-        return Ok(Reached::TooMany);
-    };
-    match search.path_to(alloc, pair.other, None)? {
-        Some(other) => Ok(Reached::Met(path, other)),
-        None => Ok(Reached::TooMany),
-    }
-}
-
-/// The ways to a pair among what was reached, which may be all that can be.
-fn meeting_in(
-    search: &Reach,
+/// The ways to a pair that no part stopped.
+fn ways_to(
     alloc: Global,
-    graph: &Graph,
+    ground: &Ground<'_>,
+    search: &Search,
     finding: &Finding,
-    clean: bool,
-    is_all: bool,
-) -> Result<Reached, AllocError> {
-    match search.pair(graph, finding, clean) {
-        Some(pair) => ways_to(search, alloc, pair),
-        None if is_all => Ok(Reached::Nothing),
-        None => Ok(Reached::TooMany),
+    pair: Pair,
+) -> Result<Sought, AllocError> {
+    let clean = search.manner.clean;
+    let last = Branch {
+        point: finding.point,
+        granted: pair.granted,
+    };
+    let branches = branches_to(alloc, search, pair.number, Some(last))?;
+    let others = branches_to(alloc, search, pair.other, None)?;
+    let first = path_along(alloc, ground, clean, branches.as_slice(), Possible::ALL)?;
+    let second = path_along(alloc, ground, clean, others.as_slice(), Possible::ALL)?;
+    match (first, second) {
+        (Some(first), Some(second)) => Ok(Sought::of(clean, Found::Two(first, second))),
+        _ => Ok(Sought::Unknown),
+    }
+}
+
+/// What a search came to: ways, or the next that must be followed too, or neither.
+#[derive(Drop)]
+enum Came {
+    To(Sought),
+    Stopped(Stop),
+}
+
+fn meeting_with(
+    alloc: Global,
+    ground: &mut Ground<'_>,
+    finding: &Finding,
+    manner: Manner,
+    budget: &mut Budget,
+) -> Result<Came, AllocError> {
+    let mut search = Search::open(alloc, ground, manner)?;
+    search.reach_all(alloc, ground, budget.limit())?;
+    budget.take(search.looked);
+    let is_all = search.is_all();
+    match search.pair(ground, finding)? {
+        Some(
+            Pair {
+                stop: Some(stop),
+                ..
+            },
+        ) => Ok(Came::Stopped(stop)),
+        Some(pair) => Ok(Came::To(ways_to(alloc, ground, &search, finding, pair)?)),
+        None if is_all => Ok(Came::To(Sought::Nothing)),
+        None => Ok(Came::To(Sought::Unknown)),
     }
 }
 
 /// Looks for two ways that meet as the finding says: where `clean`, past nothing that is broken.
-pub(crate) fn search_meeting(
+pub(crate) fn seek_meeting(
     alloc: Global,
-    graph: &Graph,
+    ground: &mut Ground<'_>,
     finding: &Finding,
     clean: bool,
-) -> Result<Reached, AllocError> {
-    let (search, is_all) = reach_all(alloc, graph, finding.callback, clean)?;
-    let reached = meeting_in(&search, alloc, graph, finding, clean, is_all);
-    drop(search);
-    reached
+    budget: &mut Budget,
+) -> Result<Sought, AllocError> {
+    let mut followed = Followed {
+        parts: Possible::NOTHING,
+        locks: true,
+    };
+    for _turn in 0..TURNS {
+        let manner = Manner {
+            clean,
+            followed,
+            refused_first: false,
+            open_alone: false,
+        };
+        match meeting_with(alloc, ground, finding, manner, budget)? {
+            Came::To(sought) => return Ok(sought),
+            Came::Stopped(stop) => followed = followed.with(stop),
+        }
+    }
+    Ok(Sought::Unknown)
 }

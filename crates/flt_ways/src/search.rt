@@ -1,277 +1,311 @@
-//! The search for a way: breadth first over the points and the single situations in which they are reached. Nothing is proved of its
-//! answer but that it comes to one; what it finds is checked by walking it again.
+//! The search for ways: breadth first over the points of a callback and what is possible of the parts that are followed. A status never
+//! depends on another variable but by the way that is taken. So along one way each part has a set of its own, which tests and asks cut, and
+//! the way can be gone exactly where no set becomes empty. Nothing is proved of the search's answer but that it comes to one; what it finds is
+//! checked by walking it again.
 
-use crate::answer::Step;
-use crate::faults::{breaks_nothing, is_found_in};
-use crate::situation::{Moment, Situation, entered};
-use flt_explain::Finding;
-use flt_graph::{Graph, Place};
-use sqlite_items::Items;
+use crate::aims::Aims;
+use crate::ground::Ground;
+use crate::plan::{Side, Spot};
+use crate::possible::{Part, Possible};
+use crate::table::{Key, Table};
 use std::alloc::{AllocError, Global};
 
-/// How many situations are looked at, at most.
-const LIMIT: usize = 200_000;
-
-/// The digits of one status, and those of one mode or one answer to the draining test.
-const STATUSES: [u8; 3] = [1, 2, 4];
-
-const PAIR: [u8; 2] = [1, 2];
-
-/// How the point of a step can come out: granted or not, and a context given or not.
-pub(crate) const OUTCOMES: [(bool, bool); 4] = [
-    (true, true),
-    (true, false),
-    (false, true),
-    (false, false),
-];
-
-/// A situation at the entry, and steps from there.
-#[derive(Drop)]
-pub(crate) struct Path {
-    pub(crate) start: Situation,
-    pub(crate) steps: Items<Step>,
-}
-
-/// Where a search came to.
-#[derive(Drop)]
-pub(crate) enum Reached {
-    Found(Path),
-    /// Two paths to one point.
-    Met(Path, Path),
-    /// Nothing more can be reached.
-    Nothing,
-    TooMany,
-}
-
-/// The step by which a moment was reached first, from the moment of a number.
+/// What of the state is followed: what is possible of the other parts isn't told apart.
 #[derive(Clone, Copy)]
-struct Arrival {
-    from: usize,
-    step: Step,
+pub(crate) struct Followed {
+    pub(crate) parts: Possible,
+    pub(crate) locks: bool,
 }
 
-/// A moment that was reached; at the entry by no step.
+/// What stopped a way that isn't followed: nothing was possible of a part, or the locks broke a rule.
+#[derive(Clone, Copy)]
+pub(crate) enum Stop {
+    Part(Part),
+    Locks,
+}
+
+/// A point that was reached, with all that is possible there along the way by which it was reached first.
+#[derive(Clone, Copy)]
+pub(crate) struct Node {
+    pub(crate) point: usize,
+    pub(crate) all: Possible,
+    pub(crate) list: usize,
+    pub(crate) stop: Option<Stop>,
+    /// How many steps lead there, and the number from which the last one does, with its outcome.
+    pub(crate) steps: usize,
+    pub(crate) arrival: Option<(usize, bool)>,
+}
+
+impl Followed {
+    pub(crate) fn is_same(self, other: Followed) -> bool {
+        self.parts.is_same(other.parts) && self.locks == other.locks
+    }
+
+    /// The same with what stopped a way.
+    pub(crate) fn with(self, stop: Stop) -> Followed {
+        match stop {
+            Stop::Part(part) => Followed {
+                parts: self.parts.or(Possible::whole(part)),
+                ..self
+            },
+            Stop::Locks => Followed {
+                locks: true,
+                ..self
+            },
+        }
+    }
+
+    /// How much is followed.
+    pub(crate) fn size(self) -> u32 {
+        let locks: u32 = if self.locks { 4 } else { 0 };
+        self.parts.count().saturating_add(locks)
+    }
+}
+
+impl Stop {
+    pub(crate) fn of(part: Option<Part>) -> Option<Stop> {
+        match part {
+            Some(part) => Some(Stop::Part(part)),
+            None => None,
+        }
+    }
+}
+
+/// What is left of what is possible where some of it is kept; none where nothing is left of a part that is followed. Where nothing is left of
+/// one that isn't, all that is kept of it is possible again, and the part is answered.
+pub(crate) fn kept(
+    followed: Possible,
+    all: Possible,
+    keeps: Possible,
+) -> Option<(Possible, Option<Part>)> {
+    let left = all.and(keeps);
+    let missing = left.missing();
+    if missing.is_nothing() {
+        return Some((left, None));
+    }
+    if !missing.and(followed).is_nothing() {
+        return None;
+    }
+    Some((left.or(keeps.and(missing)), missing.first()))
+}
+
+/// How a search is done.
+#[derive(Clone, Copy)]
+pub(crate) struct Manner {
+    /// Past nothing that is broken.
+    pub(crate) clean: bool,
+    pub(crate) followed: Followed,
+    /// What isn't granted is looked at first. It stops ways less often, since less is held then.
+    pub(crate) refused_first: bool,
+    /// Moments to which the way was stopped aren't gone on from.
+    pub(crate) open_alone: bool,
+}
+
 #[derive(Drop)]
-struct Node {
-    moment: Moment,
-    arrival: Option<Arrival>,
+pub(crate) struct Search {
+    pub(crate) manner: Manner,
+    pub(crate) nodes: Vec<Node>,
+    table: Table,
+    /// Whether something was left out.
+    is_cut: bool,
+    /// How many moments were looked at.
+    pub(crate) looked: usize,
 }
 
-/// What was reached, in order, and the numbers of that by point.
-#[derive(Drop)]
-pub(crate) struct Reach {
-    nodes: Items<Node>,
-    numbers: Vec<Vec<usize>>,
-}
-
-impl Reach {
+impl Search {
     /// The entry is reached.
-    fn open(alloc: Global, graph: &Graph, callback: usize) -> Result<Reach, AllocError> {
-        let mut numbers = Vec::new(alloc);
-        for _point in 0..graph.points(callback) {
-            numbers.push(Vec::new(alloc))?;
-        }
-        let mut search = Reach {
-            nodes: Items::new(alloc),
-            numbers,
+    pub(crate) fn open(
+        alloc: Global,
+        ground: &Ground<'_>,
+        manner: Manner,
+    ) -> Result<Search, AllocError> {
+        let mut search = Search {
+            manner,
+            nodes: Vec::new(alloc),
+            table: Table::new(alloc)?,
+            is_cut: false,
+            looked: 0,
         };
-        for arg in STATUSES {
-            search.enter(alloc, graph.place(callback), arg)?;
-        }
+        search.arrive(
+            alloc,
+            Node {
+                point: 0,
+                all: ground.entry,
+                list: 0,
+                stop: None,
+                steps: 0,
+                arrival: None,
+            },
+        )?;
         Ok(search)
     }
 
-    /// The entry is reached with this status of `arg`, if it can be.
-    fn enter(&mut self, alloc: Global, place: Place, arg: u8) -> Result<(), AllocError> {
-        for mode in PAIR {
-            for draining in PAIR {
-                if let Some(situation) = entered(alloc, place, arg, mode, draining) {
-                    self.arrive(
-                        Moment {
-                            point: 0,
-                            situation,
-                        },
-                        None,
-                    )?;
-                }
-            }
-        }
-        Ok(())
-    }
-
-    /// Whether the moment of a number is in the same situation.
-    fn is_in(&self, number: usize, situation: &Situation) -> bool {
+    pub(crate) fn node(&self, number: usize) -> Option<Node> {
         match self.nodes.get(number) {
-            Some(node) => node.moment.situation.is_same(situation),
-            None => false,
+            Some(node) => Some(*node),
+            None => None,
         }
     }
 
-    fn is_seen(&self, moment: &Moment) -> bool {
-        match self.numbers.get(moment.point) {
-            Some(numbers) => numbers
-                .iter()
-                .any(|number| self.is_in(*number, &moment.situation)),
-            None => true,
+    /// What tells a moment apart.
+    fn key(&self, node: Node) -> Key {
+        Key {
+            point: node.point,
+            possible: node.all.and(self.manner.followed.parts).number(),
+            list: if self.manner.followed.locks {
+                node.list
+            } else {
+                0
+            },
+        }
+    }
+
+    /// Takes a way that wasn't stopped in place of one that was, and is as long.
+    fn better(&mut self, known: usize, node: Node) {
+        if let Some(before) = self.nodes.get_mut(known) {
+            if before.stop.is_some() && node.stop.is_none() && before.steps == node.steps {
+                *before = node;
+            }
         }
     }
 
     /// A moment is reached.
-    fn arrive(&mut self, moment: Moment, arrival: Option<Arrival>) -> Result<(), AllocError> {
-        if self.is_seen(&moment) {
+    fn arrive(&mut self, alloc: Global, node: Node) -> Result<(), AllocError> {
+        if self.manner.open_alone && node.stop.is_some() {
             return Ok(());
         }
-        let number = self.nodes.len();
-        if let Some(numbers) = self.numbers.get_mut(moment.point) {
-            numbers.push(number)?;
-        }
-        self.nodes.push(Node { moment, arrival })
-    }
-
-    /// Reaches what follows the moment of a number.
-    fn go_on(&mut self, graph: &Graph, callback: usize, number: usize) -> Result<(), AllocError> {
-        for (granted, gives) in OUTCOMES {
-            let Some(node) = self.nodes.get(number) else {
-                return Ok(());
-            };
-            let step = Step {
-                point: node.moment.point,
-                granted,
-                gives,
-            };
-            if let Some(next) = node.moment.situation.after(graph, callback, step) {
-                let arrival = Arrival { from: number, step };
-                self.arrive(next, Some(arrival))?;
+        let key = self.key(node);
+        match self.table.find(key) {
+            Some(known) => self.better(known, node),
+            None => {
+                self.table.insert(alloc, key, self.nodes.len())?;
+                self.nodes.push(node)?;
             }
         }
         Ok(())
     }
 
-    /// Whether what is found is so at the moment of a number.
-    fn is_goal(
-        &self,
-        alloc: Global,
-        graph: &Graph,
-        finding: &Finding,
+    /// A moment is reached, if there is one.
+    fn arrive_at(&mut self, alloc: Global, node: Option<Node>) -> Result<(), AllocError> {
+        match node {
+            Some(node) => self.arrive(alloc, node),
+            None => Ok(()),
+        }
+    }
+
+    /// What is left at a point: on a clean way where no rule is broken, none where one is.
+    fn past(&self, ground: &Ground<'_>, spot: &Spot, node: Node) -> Option<Node> {
+        if !self.manner.clean {
+            return Some(node);
+        }
+        let by_locks = ground.lists.breaks(node.list, spot.asks);
+        if spot.is_broken || (by_locks && self.manner.followed.locks) {
+            return None;
+        }
+        let fine = Possible::ALL.without(spot.bad);
+        let (all, part) = kept(self.manner.followed.parts, node.all, fine)?;
+        let locks = if by_locks { Some(Stop::Locks) } else { None };
+        Some(Node {
+            all,
+            stop: node.stop.or(locks).or(Stop::of(part)),
+            ..node
+        })
+    }
+
+    /// The moment to which a side leads, if the point may come out so.
+    fn by(&self, number: usize, left: Node, granted: bool, side: Option<Side>) -> Option<Node> {
+        let side = side?;
+        let (all, part) = kept(self.manner.followed.parts, left.all, side.keeps)?;
+        Some(Node {
+            point: side.point,
+            all: all.without(side.clears).or(side.puts),
+            list: left.list,
+            stop: left.stop.or(Stop::of(part)),
+            steps: left.steps.saturating_add(1),
+            arrival: Some((number, granted)),
+        })
+    }
+
+    /// The moments that follow that of a number: first by what is granted, then otherwise.
+    pub(crate) fn behind(
+        &mut self,
+        ground: &mut Ground<'_>,
         number: usize,
-    ) -> Result<bool, AllocError> {
-        match self.nodes.get(number) {
-            Some(node) if node.moment.point == finding.point => {
-                is_found_in(alloc, graph, finding, &node.moment.situation)
-            }
-            _ => Ok(false),
-        }
-    }
-
-    /// Whether nothing is broken at the moment of a number.
-    pub(crate) fn is_clean(&self, graph: &Graph, callback: usize, number: usize) -> bool {
-        match self.nodes.get(number) {
-            Some(node) => breaks_nothing(
-                graph,
-                callback,
-                node.moment.point,
-                &node.moment.situation,
-            ),
-            None => false,
-        }
-    }
-
-    fn arrival(&self, number: usize) -> Option<Arrival> {
-        match self.nodes.get(number) {
-            Some(node) => node.arrival,
-            None => None,
-        }
-    }
-
-    /// The path to the moment of a number, and the step behind it, if there is one.
-    pub(crate) fn path_to(
-        &self,
-        alloc: Global,
-        number: usize,
-        last: Option<Step>,
-    ) -> Result<Option<Path>, AllocError> {
-        let mut steps = Vec::new(alloc);
-        if let Some(step) = last {
-            steps.push(step)?;
-        }
-        let mut number = number;
-        for _step in 0..self.nodes.len() {
-            if let Some(Arrival { from, step }) = self.arrival(number) {
-                steps.push(step)?;
-                number = from;
-            }
-        }
-        steps.reverse();
-        let start = match self.nodes.get(number) {
-            Some(node) => node.moment.situation.copied(),
-            None => None,
+        node: Node,
+    ) -> Result<(Option<Node>, Option<Node>), AllocError> {
+        let spot = ground.plan.spot(node.point);
+        let Some(left) = self.past(ground, &spot, node) else {
+            return Ok((None, None));
         };
-        match start {
-            Some(start) => Ok(Some(Path {
-                start,
-                steps: Items::from_vec(steps),
-            })),
-            None => Ok(None),
-        }
+        let Some(list) = ground.list_behind(node.point, node.list)? else {
+            self.is_cut = true;
+            return Ok((None, None));
+        };
+        let left = Node { list, ..left };
+        let granted = self.by(number, left, true, spot.granted);
+        Ok((granted, self.by(number, left, false, spot.refused)))
     }
 
-    /// What is at a point, by its numbers.
-    pub(crate) fn numbers_at(&self, point: usize) -> &[usize] {
-        match self.numbers.get(point) {
-            Some(numbers) => numbers.as_slice(),
-            None => &[],
-        }
+    /// Reaches what follows the moment of a number.
+    fn go_on(
+        &mut self,
+        alloc: Global,
+        ground: &mut Ground<'_>,
+        number: usize,
+        node: Node,
+    ) -> Result<(), AllocError> {
+        let (granted, refused) = self.behind(ground, number, node)?;
+        let asks_entry = ground.plan.spot(node.point).asks_entry;
+        let (first, second) = if self.manner.refused_first || asks_entry {
+            (refused, granted)
+        } else {
+            (granted, refused)
+        };
+        self.arrive_at(alloc, first)?;
+        self.arrive_at(alloc, second)
     }
 
-    pub(crate) fn situation(&self, number: usize) -> Option<&Situation> {
-        match self.nodes.get(number) {
-            Some(node) => Some(&node.moment.situation),
-            None => None,
-        }
-    }
-}
-
-/// What can be reached, and whether that is all.
-pub(crate) fn reach_all(
-    alloc: Global,
-    graph: &Graph,
-    callback: usize,
-    clean: bool,
-) -> Result<(Reach, bool), AllocError> {
-    let mut search = Reach::open(alloc, graph, callback)?;
-    for number in 0..LIMIT {
-        if number >= search.nodes.len() {
-            return Ok((search, true));
-        }
-        if !clean || search.is_clean(graph, callback, number) {
-            search.go_on(graph, callback, number)?;
-        }
-    }
-    Ok((search, false))
-}
-
-/// Looks for a way to what is found: where `clean`, past nothing that is broken.
-pub(crate) fn search_way(
-    alloc: Global,
-    graph: &Graph,
-    finding: &Finding,
-    clean: bool,
-) -> Result<Reached, AllocError> {
-    let callback = finding.callback;
-    let mut search = Reach::open(alloc, graph, callback)?;
-    for number in 0..LIMIT {
-        if number >= search.nodes.len() {
-            return Ok(Reached::Nothing);
-        }
-        if search.is_goal(alloc, graph, finding, number)? {
-            return match search.path_to(alloc, number, None)? {
-                Some(path) => Ok(Reached::Found(path)),
-                None => Ok(Reached::TooMany),
+    /// Goes on until all aims are met, nothing more can be reached, or so many moments were looked at.
+    pub(crate) fn run(
+        &mut self,
+        alloc: Global,
+        ground: &mut Ground<'_>,
+        aims: &mut Aims,
+        limit: usize,
+    ) -> Result<(), AllocError> {
+        for number in 0..limit {
+            let Some(node) = self.node(number) else {
+                return Ok(());
             };
+            self.looked = number.saturating_add(1);
+            aims.look(ground, self.manner.followed, number, node);
+            if aims.are_met(node.steps) {
+                return Ok(());
+            }
+            self.go_on(alloc, ground, number, node)?;
         }
-        if !clean || search.is_clean(graph, callback, number) {
-            search.go_on(graph, callback, number)?;
-        }
+        Ok(())
     }
-    Ok(Reached::TooMany)
+
+    /// Goes on until nothing more can be reached, or so many moments were looked at.
+    pub(crate) fn reach_all(
+        &mut self,
+        alloc: Global,
+        ground: &mut Ground<'_>,
+        limit: usize,
+    ) -> Result<(), AllocError> {
+        for number in 0..limit {
+            let Some(node) = self.node(number) else {
+                return Ok(());
+            };
+            self.looked = number.saturating_add(1);
+            self.go_on(alloc, ground, number, node)?;
+        }
+        Ok(())
+    }
+
+    /// Whether all was reached that can be.
+    pub(crate) fn is_all(&self) -> bool {
+        !self.manner.open_alone && !self.is_cut && self.looked >= self.nodes.len()
+    }
 }

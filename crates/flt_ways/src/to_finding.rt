@@ -1,17 +1,18 @@
 //! Ways that show a finding, checked by walking them.
 
+ghost use Rattle.std.specs.List.{AllZip};
 ghost use Rattle.std.specs.Prelude.{◌≡◌, IfOk, IfSome, IsTrue};
 ghost use Rattle.flt_ways.specs.Ways as spec;
 
-use crate::answer::{Answer, Step, Way, Ways};
+use crate::answer::{Answer, Way, Ways};
+use crate::choices::Path;
 use crate::ends::{end_of, is_last};
 use crate::faults::{are_apart, is_found_in};
-use crate::meeting::search_meeting;
-use crate::search::{Path, Reached, search_way};
+use crate::seeking::seek_all;
 use crate::situation::Moment;
+use crate::sought::{Found, Sought};
 use flt_explain::Finding;
 use flt_graph::Graph;
-use flt_rules::Rule;
 use sqlite_items::Items;
 use std::alloc::{AllocError, Global};
 
@@ -84,59 +85,68 @@ fn met(
     }
 }
 
-/// What a search came to, checked; none where it came to its end without finding anything.
+/// What was found, checked.
 fn checked(
     alloc: Global,
     graph: &Graph,
     finding: &Finding,
     clean: bool,
-    reached: Reached,
+    found: Found,
 ) -> Result<Option<Ways>, AllocError>
-    ensures { IfOk result (λ found. IfSome found (spec.Show graph.now finding.now clean)) }
+    ensures { IfOk result (λ ways. IfSome ways (spec.Show graph.now finding.now clean)) }
 {
-    match reached {
-        Reached::Found(path) => shown(alloc, graph, finding, clean, path),
-        Reached::Met(path, other) => Ok(met(alloc, graph, finding, clean, path, other)),
-        Reached::Nothing | Reached::TooMany => Ok(None),
+    match found {
+        Found::One(path) => shown(alloc, graph, finding, clean, path),
+        Found::Two(path, other) => Ok(met(alloc, graph, finding, clean, path, other)),
     }
 }
 
-/// Looks for what shows a finding: where `clean`, past nothing that is broken.
-fn look(
+/// What is told of a finding, by what the searches for it came to.
+fn answer(
     alloc: Global,
     graph: &Graph,
     finding: &Finding,
-    clean: bool,
-) -> Result<Reached, AllocError> {
-    match finding.rule {
-        Rule::R12 => search_meeting(alloc, graph, finding, clean),
-        _ => search_way(alloc, graph, finding, clean),
+    sought: Sought,
+) -> Result<Answer, AllocError>
+    ensures { IfOk result (spec.IsAnswer graph.now finding.now) }
+{
+    match sought {
+        Sought::Clean(found) => match checked(alloc, graph, finding, true, found)? {
+            Some(ways) => Ok(Answer::Clean(ways)),
+            None => Ok(Answer::Unknown),
+        },
+        Sought::Behind(found) => match checked(alloc, graph, finding, false, found)? {
+            Some(ways) => Ok(Answer::Behind(ways)),
+            None => Ok(Answer::Unknown),
+        },
+        Sought::Nothing => Ok(Answer::Unreached),
+        Sought::Unknown => Ok(Answer::Unknown),
     }
 }
 
-/// What shows a finding: a way to its point, or, where ways meet with other locks, two to the point where they meet, the first of
-/// which comes from the finding's point. Numbers aren't followed, so a test of them may come out either way; nor is how many turns
-/// a `repeat` has left. No clause says that a way is found where there is one, nor that it is a shortest one.
+/// What the searches for the finding of a number came to.
+fn taken_from(sought: &mut Vec<Option<Sought>>, number: usize) -> Sought {
+    match sought.get_mut(number) {
+        Some(place) => place.take().unwrap_or(Sought::Unknown),
+        None => Sought::Unknown,
+    }
+}
+
+/// What shows each finding of a text, in their order: a way to its point, or, where ways meet with other locks, two to the point where they
+/// meet, the first of which comes from the finding's point. Numbers aren't followed, so a test of them may come out either way; nor is how
+/// many turns a `repeat` has left. No clause says that a way is found where there is one, nor that it is a shortest one.
 ///
 /// # Errors
 ///
 /// Where a growth was refused.
-pub fn ways(alloc: Global, graph: &Graph, finding: &Finding) -> Result<Answer, AllocError>
-    ensures { IfOk result (spec.IsAnswer graph.now finding.now) }
+pub fn ways(alloc: Global, graph: &Graph, found: &[Finding]) -> Result<Items<Answer>, AllocError>
+    ensures { IfOk result (AllZip (spec.IsAnswer graph.now) found.now) }
 {
-    let reached = look(alloc, graph, finding, true)?;
-    let ended = matches!(&reached, Reached::Nothing);
-    if let Some(ways) = checked(alloc, graph, finding, true, reached)? {
-        return Ok(Answer::Clean(ways));
+    let mut sought = seek_all(alloc, graph, found)?;
+    let mut all = Items::new(alloc);
+    for finding in found {
+        let came = taken_from(&mut sought, all.len());
+        all.push(answer(alloc, graph, finding, came)?)?;
     }
-    if !ended {
-        return Ok(Answer::Unknown);
-    }
-    let reached = look(alloc, graph, finding, false)?;
-    let ended = matches!(&reached, Reached::Nothing);
-    match checked(alloc, graph, finding, false, reached)? {
-        Some(ways) => Ok(Answer::Behind(ways)),
-        None if ended => Ok(Answer::Unreached),
-        None => Ok(Answer::Unknown),
-    }
+    Ok(all)
 }

@@ -1,0 +1,93 @@
+//! The searches for all findings of a text, callback after callback.
+
+ghost use Rattle.std.specs.Prelude.{◌≤◌, length};
+
+use crate::ground::Ground;
+use crate::meeting::seek_meeting;
+use crate::sought::{Budgets, Sought, put};
+use crate::tasks::Tasks;
+use flt_explain::Finding;
+use flt_graph::Graph;
+use flt_rules::Rule;
+use std::alloc::{AllocError, Global};
+
+/// Nothing is sought yet for each of some findings.
+fn unsought(alloc: Global, found: &[Finding]) -> Result<Vec<Option<Sought>>, AllocError> {
+    let mut sought = Vec::new(alloc);
+    for _finding in found {
+        sought.push(None)?;
+    }
+    Ok(sought)
+}
+
+/// Looks for two ways that meet, past nothing that is broken, then otherwise.
+fn seek_pair(
+    alloc: Global,
+    ground: &mut Ground<'_>,
+    finding: &Finding,
+    budgets: &mut Budgets,
+) -> Result<Sought, AllocError> {
+    match seek_meeting(alloc, ground, finding, true, &mut budgets.text)? {
+        Sought::Nothing => seek_meeting(alloc, ground, finding, false, &mut budgets.text),
+        sought => Ok(sought),
+    }
+}
+
+/// Looks for what shows the findings of one callback, the first of which has this number.
+fn seek_in(
+    alloc: Global,
+    graph: &Graph,
+    first: usize,
+    found: &[Finding],
+    budgets: &mut Budgets,
+    sought: &mut Vec<Option<Sought>>,
+) -> Result<(), AllocError> {
+    let [finding, ..] = found else {
+        return Ok(());
+    };
+    let mut ground = Ground::of(alloc, graph, finding.callback)?;
+    let mut tasks = Tasks::none(alloc);
+    for (at, finding) in found.iter().enumerate() {
+        let number = first.saturating_add(at);
+        if matches!(finding.rule, Rule::R12) {
+            let pair = seek_pair(alloc, &mut ground, finding, budgets)?;
+            put(sought, number, pair);
+        } else {
+            tasks.push(number, *finding)?;
+        }
+    }
+    tasks.seek_all(alloc, &mut ground, budgets, sought)
+}
+
+/// How many findings there are of the first one's callback before one of another.
+fn run_of(found: &[Finding]) -> usize
+    ensures { result ≤ length found.now }
+{
+    let [first, ..] = found else {
+        return 0;
+    };
+    match found.iter().position(|f| f.callback != first.callback) {
+        Some(count) => count,
+        None => found.len(),
+    }
+}
+
+/// Looks for what shows each finding of a text.
+pub(crate) fn seek_all(
+    alloc: Global,
+    graph: &Graph,
+    found: &[Finding],
+) -> Result<Vec<Option<Sought>>, AllocError> {
+    let mut sought = unsought(alloc, found)?;
+    let mut budgets = Budgets::new();
+    let mut first: usize = 0;
+    let mut rest = found;
+    for _run in 0..found.len() {
+        let count = run_of(rest);
+        let (run, later) = rest.split_at(count);
+        seek_in(alloc, graph, first, run, &mut budgets, &mut sought)?;
+        first = first.saturating_add(count);
+        rest = later;
+    }
+    Ok(sought)
+}

@@ -1,0 +1,85 @@
+//! What searches come to, and how far they go.
+
+use crate::choices::Path;
+
+/// How many moments are looked at, at most: for all findings of a text, in one search, and for all in the searches that take ways which may
+/// not be shortest where these didn't come to an end.
+const OF_TEXT: usize = 200_000;
+
+const OF_SEARCH: usize = 50_000;
+
+const LAST: usize = 100_000;
+
+/// A path, or two to one point.
+#[derive(Drop)]
+pub(crate) enum Found {
+    One(Path),
+    Two(Path, Path),
+}
+
+/// Where searches for a finding came to.
+#[derive(Drop)]
+pub(crate) enum Sought {
+    /// Past nothing that is broken.
+    Clean(Found),
+    Behind(Found),
+    /// Nothing more can be reached.
+    Nothing,
+    Unknown,
+}
+
+impl Sought {
+    /// Something was found: where `clean`, past nothing that is broken.
+    pub(crate) fn of(clean: bool, found: Found) -> Sought {
+        if clean {
+            Sought::Clean(found)
+        } else {
+            Sought::Behind(found)
+        }
+    }
+}
+
+/// How many moments may still be looked at.
+#[derive(Drop)]
+pub(crate) struct Budget {
+    left: usize,
+}
+
+/// How far the searches for a text go, and the last ones.
+#[derive(Drop)]
+pub(crate) struct Budgets {
+    pub(crate) text: Budget,
+    pub(crate) last: Budget,
+}
+
+impl Budgets {
+    pub(crate) fn new() -> Budgets {
+        Budgets {
+            text: Budget { left: OF_TEXT },
+            last: Budget { left: LAST },
+        }
+    }
+}
+
+impl Budget {
+    /// How many may be looked at in one search.
+    pub(crate) fn limit(&self) -> usize {
+        if self.left < OF_SEARCH {
+            self.left
+        } else {
+            OF_SEARCH
+        }
+    }
+
+    /// So many were looked at.
+    pub(crate) fn take(&mut self, looked: usize) {
+        self.left = self.left.saturating_sub(looked);
+    }
+}
+
+/// Writes down what the searches for the finding of a number came to.
+pub(crate) fn put(all: &mut Vec<Option<Sought>>, number: usize, sought: Sought) {
+    if let Some(place) = all.get_mut(number) {
+        *place = Some(sought);
+    }
+}

@@ -1,0 +1,258 @@
+//! The findings of a callback for which ways are sought, put together by what must be followed for them: one search for all of which that is
+//! the same.
+
+use crate::aims::{Aim, Aims, asked};
+use crate::choices::{branches_to, path_along};
+use crate::ground::Ground;
+use crate::possible::Possible;
+use crate::search::{Followed, Manner, Search, Stop};
+use crate::sought::{Budget, Budgets, Found, Sought, put};
+use flt_explain::Finding;
+use std::alloc::{AllocError, Global};
+
+/// How often a finding can be sought anew: what is refused is looked at first, and then what is followed grows, once for each part.
+const TURNS: usize = 20;
+
+/// Where the searches for a finding stand.
+#[derive(Clone, Copy)]
+enum Standing {
+    Open,
+    /// Nothing more can be reached.
+    Ended,
+    /// A search was ended.
+    Cut,
+    Found,
+}
+
+/// A finding of the callback, where it stands among all, and what is followed for it.
+#[derive(Clone, Copy)]
+struct Task {
+    number: usize,
+    finding: Finding,
+    followed: Followed,
+    refused_first: bool,
+    standing: Standing,
+}
+
+/// The findings of a callback, and the paths to them.
+#[derive(Drop)]
+pub(crate) struct Tasks {
+    tasks: Vec<Task>,
+}
+
+impl Task {
+    fn is_open(&self) -> bool {
+        matches!(self.standing, Standing::Open)
+    }
+
+    /// Whether one search is for both.
+    fn is_sought_with(&self, followed: Followed, refused_first: bool) -> bool {
+        self.is_open() && self.followed.is_same(followed) && self.refused_first == refused_first
+    }
+
+    /// What is sought next where a way was stopped: the same with what is refused first, then more is followed.
+    fn stopped_by(&mut self, stop: Stop) {
+        if self.refused_first {
+            self.followed = self.followed.with(stop);
+        } else {
+            self.refused_first = true;
+        }
+    }
+}
+
+impl Tasks {
+    pub(crate) fn none(alloc: Global) -> Tasks {
+        Tasks {
+            tasks: Vec::new(alloc),
+        }
+    }
+
+    pub(crate) fn push(&mut self, number: usize, finding: Finding) -> Result<(), AllocError> {
+        self.tasks.push(Task {
+            number,
+            finding,
+            followed: asked(&finding),
+            refused_first: false,
+            standing: Standing::Open,
+        })?;
+        Ok(())
+    }
+
+    /// The open task for which least must be followed.
+    fn least(&self) -> Option<Task> {
+        let mut least: Option<Task> = None;
+        for task in self.tasks.iter() {
+            let is_less = match least {
+                Some(other) => task.followed.size() < other.followed.size(),
+                None => true,
+            };
+            if task.is_open() && is_less {
+                least = Some(*task);
+            }
+        }
+        least
+    }
+
+    /// The aims of the open tasks that are sought in this manner.
+    fn aims(&self, alloc: Global, ground: &Ground<'_>, manner: Manner) -> Result<Aims, AllocError> {
+        let mut aims = Aims::none(alloc, ground.plan.points())?;
+        for (number, task) in self.tasks.iter().enumerate() {
+            if task.is_sought_with(manner.followed, manner.refused_first) {
+                aims.push(Aim::of(ground.graph, &task.finding, number))?;
+            }
+        }
+        Ok(aims)
+    }
+
+    /// A task stands otherwise from now on.
+    fn stand(&mut self, at: usize, standing: Standing) {
+        if let Some(task) = self.tasks.get_mut(at) {
+            task.standing = standing;
+        }
+    }
+
+    fn stopped_by(&mut self, at: usize, stop: Stop) {
+        if let Some(task) = self.tasks.get_mut(at) {
+            task.stopped_by(stop);
+        }
+    }
+
+    fn number(&self, at: usize) -> usize {
+        match self.tasks.get(at) {
+            Some(task) => task.number,
+            None => usize::MAX,
+        }
+    }
+
+    /// What becomes of a task by what a search came to.
+    fn settle(
+        &mut self,
+        alloc: Global,
+        ground: &Ground<'_>,
+        search: &Search,
+        aim: Aim,
+        sought: &mut Vec<Option<Sought>>,
+    ) -> Result<(), AllocError> {
+        match (aim.met, aim.stop) {
+            (Some(_), Some(stop)) => self.stopped_by(aim.task, stop),
+            (Some(number), None) => {
+                let found = found_by(alloc, ground, search, number, aim.wants)?;
+                self.stand(aim.task, Standing::Found);
+                put(sought, self.number(aim.task), found);
+            }
+            (None, _) if search.is_all() => self.stand(aim.task, Standing::Ended),
+            (None, _) => self.stand(aim.task, Standing::Cut),
+        }
+        Ok(())
+    }
+
+    /// One search for all open tasks that are sought in this manner.
+    fn seek_with(
+        &mut self,
+        alloc: Global,
+        ground: &mut Ground<'_>,
+        manner: Manner,
+        budget: &mut Budget,
+        sought: &mut Vec<Option<Sought>>,
+    ) -> Result<(), AllocError> {
+        let mut aims = self.aims(alloc, ground, manner)?;
+        let mut search = Search::open(alloc, ground, manner)?;
+        search.run(alloc, ground, &mut aims, budget.limit())?;
+        budget.take(search.looked);
+        for aim in aims.aims.iter() {
+            self.settle(alloc, ground, &search, *aim, sought)?;
+        }
+        Ok(())
+    }
+
+    /// Search after search, until no task is open: where `clean`, past nothing that is broken; where `open_alone`, by the ways alone that
+    /// nothing stops, which may not be shortest.
+    fn seek(
+        &mut self,
+        alloc: Global,
+        ground: &mut Ground<'_>,
+        clean: bool,
+        open_alone: bool,
+        budget: &mut Budget,
+        sought: &mut Vec<Option<Sought>>,
+    ) -> Result<(), AllocError> {
+        for _turn in 0..self.tasks.len().saturating_mul(TURNS) {
+            let Some(task) = self.least() else {
+                return Ok(());
+            };
+            let manner = Manner {
+                clean,
+                followed: task.followed,
+                refused_first: task.refused_first,
+                open_alone,
+            };
+            self.seek_with(alloc, ground, manner, budget, sought)?;
+        }
+        Ok(())
+    }
+
+    /// Opens the tasks again whose searches came to their end, or where `cut` those whose searches were ended.
+    fn open_again(&mut self, cut: bool) {
+        for task in self.tasks.iter_mut() {
+            let is_meant = match task.standing {
+                Standing::Ended => !cut,
+                Standing::Cut => cut,
+                Standing::Open | Standing::Found => false,
+            };
+            if is_meant {
+                task.standing = Standing::Open;
+                task.followed = asked(&task.finding);
+                task.refused_first = cut;
+            }
+        }
+    }
+
+    /// Writes down what became of each task that has no path.
+    fn write_down(&self, sought: &mut Vec<Option<Sought>>) {
+        for task in self.tasks.iter() {
+            let came = match task.standing {
+                Standing::Ended => Some(Sought::Nothing),
+                Standing::Open | Standing::Cut => Some(Sought::Unknown),
+                Standing::Found => None,
+            };
+            if let Some(came) = came {
+                put(sought, task.number, came);
+            }
+        }
+    }
+
+    /// Looks for a path to each finding: past nothing that is broken, then otherwise.
+    pub(crate) fn seek_all(
+        &mut self,
+        alloc: Global,
+        ground: &mut Ground<'_>,
+        budgets: &mut Budgets,
+        sought: &mut Vec<Option<Sought>>,
+    ) -> Result<(), AllocError> {
+        self.seek(alloc, ground, true, false, &mut budgets.text, sought)?;
+        self.open_again(false);
+        self.seek(alloc, ground, false, false, &mut budgets.text, sought)?;
+        self.open_again(true);
+        self.seek(alloc, ground, true, true, &mut budgets.last, sought)?;
+        self.open_again(true);
+        self.seek(alloc, ground, false, true, &mut budgets.last, sought)?;
+        self.write_down(sought);
+        Ok(())
+    }
+}
+
+/// The path to the moment of a number, in which this is wanted.
+fn found_by(
+    alloc: Global,
+    ground: &Ground<'_>,
+    search: &Search,
+    number: usize,
+    wants: Possible,
+) -> Result<Sought, AllocError> {
+    let clean = search.manner.clean;
+    let branches = branches_to(alloc, search, number, None)?;
+    match path_along(alloc, ground, clean, branches.as_slice(), wants)? {
+        Some(path) => Ok(Sought::of(clean, Found::One(path))),
+        None => Ok(Sought::Unknown),
+    }
+}
