@@ -10,6 +10,10 @@ word_of serial = serial / 64
 abbrev pub place_of : ℕ → ℕ
 place_of serial = serial % 64
 
+-- the group that a serial's word is in: 16 words, one after the other
+abbrev pub group_of : ℕ → ℕ
+group_of serial = serial / 1024
+
 -- a word in which no bit is set but the serial's
 abbrev pub mask_of : ℕ → ℕ
 mask_of serial = 2 ^ place_of serial

@@ -37,6 +37,10 @@ put_by place = put_hand place.tickets
 abbrev pub asked_by : CallerPlace → View
 asked_by place = requests.view place.requests
 
+-- the marks that were set through a caller's place
+abbrev pub marked_by : CallerPlace → View
+marked_by place = requests.marks place.requests
+
 -- nothing went through a caller's place
 abbrev pub IsFreshCaller : CallerPlace → Type 0
 IsFreshCaller place = (put_by place ≡ newcomer) × (asked_by place ≡ steps.newcomer)
@@ -58,6 +62,10 @@ hands_by place = hands place.tickets
 -- the requests that were collected through a worker's place
 abbrev pub collected_by : WorkerPlace → View
 collected_by place = requests.view place.requests
+
+-- the marks that were taken and set again through a worker's place
+abbrev pub marks_by : WorkerPlace → View
+marks_by place = requests.marks place.requests
 
 -- nothing went through a worker's place
 abbrev pub IsFreshWorker : WorkerPlace → Type 0

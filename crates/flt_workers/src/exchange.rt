@@ -1,11 +1,11 @@
 //! The exchange: opening it, and what callers and workers do there.
 ghost use Rattle.std.specs.Prelude.{◌≡◌, ◌<◌, ◌≤◌, ◌++◌, ◌∷◌, [], ℕ, All, IfErr, IfNone, IfOk, IfSome, OnOk, length, map};
-ghost use Rattle.flt_cancel.specs.Serials.{serials, IsPresent};
+ghost use Rattle.flt_cancel.specs.Serials.{group_of, serials, IsPresent};
 ghost use Rattle.flt_cancel.specs.Steps.{words_after, IsNext, WasAsked};
 ghost use Rattle.flt_cancel.specs.declared.step.Step.TheVariants.{Ask, Collect};
 ghost use Rattle.flt_pool.specs.Hands.{having_put};
 ghost use Rattle.flt_pool.specs.Seats.{IsTakenOf};
-ghost use Rattle.flt_workers.specs.Places.{asked_by, collected_by, hands_by, other_deques, own_deque, put_by, IsCallerOf, IsFreshCaller, IsFreshWorker, IsWorkerOf, LeadsToOthers};
+ghost use Rattle.flt_workers.specs.Places.{asked_by, collected_by, hands_by, marked_by, marks_by, other_deques, own_deque, put_by, IsCallerOf, IsFreshCaller, IsFreshWorker, IsWorkerOf, LeadsToOthers};
 
 use crate::opening::{caller_places, worker_places};
 use crate::places::{CallerPlace, WorkerPlace};
@@ -63,7 +63,8 @@ impl Exchange {
         self.pool.put(rt, &mut place.tickets, ticket)
     }
 
-    /// Asks for the cancel of an operation, by its serial number. It waits for nobody, takes no memory and is never refused.
+    /// Asks for the cancel of an operation, by its serial number, and then sets the mark of the number's group. It waits for nobody, takes no
+    /// memory and is never refused.
     pub fn ask(&self, place: &mut CallerPlace, serial: u32)
         requires serial { serial < 65536 }
         requires place { IsCallerOf self.now place.old }
@@ -72,6 +73,10 @@ impl Exchange {
         ensures collected { (asked_by place.new).collected ≡ (asked_by place.old).collected }
         ensures step { (by : ℕ) × IsNext by (Ask by serial) (asked_by place.old).seen (asked_by place.new).seen }
         ensures present { IsPresent (words_after (asked_by place.new).seen) serial }
+        ensures marked { (marked_by place.new).asked ≡ (marked_by place.old).asked ++ group_of serial ∷ [] }
+        ensures unmarked { (marked_by place.new).collected ≡ (marked_by place.old).collected }
+        ensures mark_step { (by : ℕ) × IsNext by (Ask by (group_of serial)) (marked_by place.old).seen (marked_by place.new).seen }
+        ensures mark_present { IsPresent (words_after (marked_by place.new).seen) (group_of serial) }
         ensures tickets { place.new.tickets ≡ place.old.tickets }
     {
         self.pads.ask(&mut place.requests, serial)
@@ -102,8 +107,39 @@ impl Exchange {
         ensures collected { (collected_by place.new).collected ≡ (collected_by place.old).collected ++ serials word result }
         ensures step { (by : ℕ) × IsNext by (Collect by word result) (collected_by place.old).seen (collected_by place.new).seen }
         ensures were_asked { All (λ serial. WasAsked serial (collected_by place.new).seen) (serials word result) }
+        ensures marks { marks_by place.new ≡ marks_by place.old }
         ensures tickets { place.new.tickets ≡ place.old.tickets }
     {
         self.pads.collect(&mut place.requests, word)
+    }
+
+    /// Takes all marks, in one step. Bit `g` of the result is the mark of group `g`, whose words are `16 * g` to `16 * g + 15`. Whoever does
+    /// so collects these words, or sets the marks again. It waits for nobody.
+    pub fn unmark(&self, place: &mut WorkerPlace) -> u64
+        requires { IsWorkerOf self.now place.old }
+        ensures place { IsWorkerOf self.now place.new }
+        ensures marked { (marks_by place.new).asked ≡ (marks_by place.old).asked }
+        ensures unmarked { (marks_by place.new).collected ≡ (marks_by place.old).collected ++ serials 0 result }
+        ensures mark_step { (by : ℕ) × IsNext by (Collect by 0 result) (marks_by place.old).seen (marks_by place.new).seen }
+        ensures were_marked { All (λ group. WasAsked group (marks_by place.new).seen) (serials 0 result) }
+        ensures requests { collected_by place.new ≡ collected_by place.old }
+        ensures tickets { place.new.tickets ≡ place.old.tickets }
+    {
+        self.pads.unmark(&mut place.requests)
+    }
+
+    /// Sets a group's mark, in one step. It waits for nobody.
+    pub fn mark(&self, place: &mut WorkerPlace, group: u32)
+        requires group { group < 64 }
+        requires place { IsWorkerOf self.now place.old }
+        ensures place { IsWorkerOf self.now place.new }
+        ensures marked { (marks_by place.new).asked ≡ (marks_by place.old).asked ++ group ∷ [] }
+        ensures unmarked { (marks_by place.new).collected ≡ (marks_by place.old).collected }
+        ensures mark_step { (by : ℕ) × IsNext by (Ask by group) (marks_by place.old).seen (marks_by place.new).seen }
+        ensures mark_present { IsPresent (words_after (marks_by place.new).seen) group }
+        ensures requests { collected_by place.new ≡ collected_by place.old }
+        ensures tickets { place.new.tickets ≡ place.old.tickets }
+    {
+        self.pads.mark(&mut place.requests, group)
     }
 }

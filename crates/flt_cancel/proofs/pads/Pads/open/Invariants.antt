@@ -1,7 +1,7 @@
 use Rattle.std.proofs.Common.{◌≡◌, ◌≤◌, ◌+◌, length, All}
 use Rattle.std.specs.Vec.{vec_len, vec_capacity}
 use Rattle.flt_cancel.specs.Steps.{newcomer}
-use Rattle.flt_cancel.specs.Seats.{view}
+use Rattle.flt_cancel.specs.Seats.{marks, view}
 use Rattle.flt_cancel.proofs.pads.Pads.open.Given as goal
 
 abbrev pub invariant-loop : goal.invariant-loop
@@ -12,4 +12,8 @@ invariant-loop l =
     × (l.seats ≤ vec_capacity l.made)
     × (l.first.table_id ≡ l.table.shared.table_id)
     × (l.first.me.0 ≡ newcomer)
-    × All (λ seat. (seat.token.table_id ≡ l.table.shared.table_id) × (view seat ≡ newcomer)) l.made.items
+    × (l.first_mark.table_id ≡ l.marks.shared.table_id)
+    × (l.first_mark.me.0 ≡ newcomer)
+    × All (λ seat. ((seat.token.table_id ≡ l.table.shared.table_id) × (seat.mark.table_id ≡ l.marks.shared.table_id))
+    × (view seat ≡ newcomer)) l.made.items
+    × All (λ seat. marks seat ≡ newcomer) l.made.items

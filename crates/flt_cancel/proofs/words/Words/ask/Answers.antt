@@ -5,16 +5,16 @@ use Rattle.std.specs.Prelude.{bit_or}
 use Rattle.atomic_table.specs.Table.{Allows, step}
 use Rattle.flt_cancel.specs.Rule.{Kept, Asked}
 use Rattle.flt_cancel.proofs.Steps.{asks, asked_is_present}
-use Rattle.flt_cancel.proofs.pads.Pads.ask.Goals as goal
+use Rattle.flt_cancel.proofs.words.Words.ask.Goals as goal
 
 pub fetch_or-requires : goal.fetch_or-requires
 fetch_or-requires c =
-    let t = c.args.self.now.words.table.shared.table_id.slots in let s = c.args.serial in let seat = c.args.seat.now.token in (
-      c.requires.seat,
-      omega (arith, c.args.self.now.words.size, c.requires.serial),
-      subst (λ (k : ℕ). Allows Kept t seat.id seat.me (s / 64) (λ n. bit_or n k) (Asked (step t (s / 64) k 0 none) seat.me))
+    let t = c.args.self.now.table.shared.table_id.slots in let s = c.args.serial in let token = c.args.token.now in (
+      c.requires.token,
+      omega (arith, c.args.self.now.size, c.requires.serial),
+      subst (λ (k : ℕ). Allows Kept t token.id token.me (s / 64) (λ n. bit_or n k) (Asked (step t (s / 64) k 0 none) token.me))
           (sym (one_shl (s % 64) 64 (omega arith)))
-          (asks t seat.id s seat.me c.requires.serial),
+          (asks t token.id s token.me c.requires.serial),
     )
 
 pub returns-clause-asked : goal.returns-clause-asked
