@@ -1,8 +1,8 @@
 //! Cancel pads: requests to cancel an operation, named by its serial number, in 1,024 words that threads share.
 //!
-//! Any thread asks for a serial in one atomic step, and sets a mark in another, which says in which 16 words there is something to collect. It
-//! waits for nobody, takes no memory and is never refused. Any thread collects a word of requests, or all marks, in one atomic step. Whatever
-//! the threads do, no request and no mark is lost, and none is invented.
+//! Any thread asks for a serial in one atomic step, and sets a mark in another, which says which 16 words are to be looked at. It waits for
+//! nobody, takes no memory and is never refused. Any thread collects a word of requests, or all marks, in one atomic step. Whatever the
+//! threads do, no request and no mark is lost, and none is invented.
 #![tactic(auto)]
 
 mod laws;

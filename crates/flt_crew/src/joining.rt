@@ -17,7 +17,6 @@ use flt_running::{CallerSeat, Stack, StackName, WorkerSeat};
 use flt_script::Script;
 use flt_workers::Exchange;
 use std::alloc::{AllocError, Global};
-use std::sync::atomic::AtomicBool;
 use std::sync::ledger::Share;
 use std::sync::{Mutex, Wait};
 use std::thread;
@@ -109,7 +108,6 @@ fn work_all<N: StackName + Send + Sync, R: Threads + Wait + Sync>(
 {
     loaded_is_shared();
     shared::<Exchange>();
-    shared::<AtomicBool>();
     shared::<Mutex<Locked<N>>>();
     sent::<Share<CallerEntries<N>>>();
     sent::<Share<OtherEntries<N>>>();
@@ -206,7 +204,6 @@ pub(crate) fn follow<N: StackName + Send + Sync, R: Threads + Wait + Sync, W: Wa
 {
     loaded_is_shared();
     shared::<Exchange>();
-    shared::<AtomicBool>();
     shared::<Mutex<Locked<N>>>();
     sent::<Share<CallerEntries<N>>>();
     sent::<Share<OtherEntries<N>>>();

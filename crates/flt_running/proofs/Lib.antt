@@ -1,3 +1,4 @@
 mod Bits
 mod Leaving
 mod Lists
+mod Sweeping

@@ -7,7 +7,6 @@
 
 mod asking;
 mod ending;
-mod mark;
 mod opening;
 mod pace;
 mod requests;
@@ -15,6 +14,7 @@ mod seats;
 pub mod sharing;
 mod stack;
 mod waiting;
+mod word;
 mod working;
 
 pub use ending::Differ;

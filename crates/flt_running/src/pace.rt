@@ -1,10 +1,12 @@
 //! How far a worker has come.
+ghost use Rattle.std.specs.Prelude.{◌≡◌, ◌↔◌, IsTrue};
+
 use flt_pool::Gate;
 
 /// A worker's number, from 0 on, and how many changes it has announced to a gate.
 #[derive(Drop)]
 pub(crate) struct Pace {
-    number: usize,
+    pub(crate) number: usize,
     changes: u64,
 }
 
@@ -15,7 +17,9 @@ impl Pace {
     }
 
     /// Whether the worker is the one that collects requests.
-    pub(crate) fn collects(&self) -> bool {
+    pub(crate) fn collects(&self) -> bool
+        ensures { IsTrue result ↔ (self.now.number ≡ 0) }
+    {
         self.number == 0
     }
 

@@ -4,9 +4,10 @@ ghost use Rattle.std.specs.Int.{bit_at};
 ghost use Rattle.flt_cancel.specs.Serials.{serials};
 ghost use Rattle.flt_cancel.specs.Steps.{IsNext};
 ghost use Rattle.flt_cancel.specs.declared.step.Step.TheVariants.{Collect};
-ghost use Rattle.flt_workers.specs.Places.{IsWorkerOf, collected_by};
+ghost use Rattle.flt_workers.specs.Places.{IsWorkerOf, collected_by, marks_by};
 ghost use Rattle.flt_running.specs.Requests.{IsWithout};
 
+use crate::word::has_bit;
 use flt_workers::{Exchange, WorkerPlace};
 
 /// The requests of one word that are still to be tried. They stay here where a cancel is refused.
@@ -33,6 +34,7 @@ impl Requests {
         ensures word { result.word ≡ word }
         ensures collected { (collected_by place.new).collected ≡ (collected_by place.old).collected ++ serials word result.bits }
         ensures step { (by : ℕ) × IsNext by (Collect by word result.bits) (collected_by place.old).seen (collected_by place.new).seen }
+        ensures marks { marks_by place.new ≡ marks_by place.old }
         ensures tickets { place.new.tickets ≡ place.old.tickets }
     {
         let bits = exchange.collect(place, word);
@@ -44,7 +46,7 @@ impl Requests {
         requires { bit < 64 }
         ensures { IsTrue result ↔ (bit_at self.now.bits bit ≡ 1) }
     {
-        self.bits & (1u64 << bit) != 0
+        has_bit(self.bits, bit)
     }
 
     /// The serial number that a bit stands for.

@@ -21,7 +21,6 @@ ghost use Rattle.flt_workers.specs.Places.{IsCallerOf, IsFreshCaller, IsFreshWor
 use crate::OutOfMemory;
 use crate::asking::{arrive_on, detach_on, refuse_on};
 use crate::ending::{Differ, agrees, merge_callers, merge_workers};
-use crate::mark::{Mark, ask};
 use crate::opening::seats;
 use crate::seats::{CallerSeat, WorkerSeat};
 use flt_core::{
@@ -61,8 +60,6 @@ pub struct Blanks {
 pub struct Stack<N: StackName> {
     pub(crate) loaded: Loaded,
     pub(crate) exchange: Exchange,
-    /// Whether something was asked to be cancelled since a worker last began to collect.
-    pub(crate) asked: Mark,
     pub(crate) locked: Mutex<Locked<N>>,
     /// Nobody takes this lock. It stands here so that threads may share the stack.
     pub(crate) spare: Mutex<Spare<N>>,
@@ -146,7 +143,6 @@ impl<N: StackName> Stack<N> {
         Stack {
             loaded,
             exchange,
-            asked: Mark::new(),
             locked: Mutex::new(Locked::new(alloc, core)),
             spare: Mutex::new(spare),
         }
@@ -264,8 +260,7 @@ impl<N: StackName> Stack<N> {
         ensures receipts { seat.new.receipts ≡ seat.old.receipts }
         ensures fulls { seat.new.fulls ≡ seat.old.fulls }
     {
-        let unmarked = ask(&self.exchange, &mut seat.place, serial);
-        self.asked.raise(unmarked);
+        self.exchange.ask(&mut seat.place, serial);
     }
 
     /// From now on the system's choice of this number, counted from 0, is answered no, if it is still to come.
@@ -322,7 +317,6 @@ impl<N: StackName> Stack<N> {
         let Stack {
             loaded,
             exchange: _,
-            asked: _,
             locked,
             spare,
         } = self;

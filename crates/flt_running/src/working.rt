@@ -1,16 +1,18 @@
 //! What a worker does: it takes a ticket and makes its move, over and over.
-ghost use Rattle.std.specs.Prelude.{◌≡◌, ◌≢◌, ◌⊎◌, ◌+◌, ◌<◌, ◌≤◌, ◌∷◌, [], IfErr, IfOk, IfSome, Err, None, OnErr, OnOk};
+ghost use Rattle.std.specs.Prelude.{◌≡◌, ◌≢◌, ◌⊎◌, ◌+◌, ◌*◌, ◌<◌, ◌≤◌, ◌++◌, ◌∷◌, [], IfErr, IfOk, IfSome, Err, None, OnErr, OnOk};
+ghost use Rattle.flt_cancel.specs.Serials.{serials};
 ghost use Rattle.flt_core.specs.Turning.{grows};
 ghost use Rattle.flt_running.specs.Left.{AreUnpushed, Leaves, LeavesRequest};
-ghost use Rattle.flt_running.specs.Requests.{AreCollected, IsEmpty, IsWithout};
+ghost use Rattle.flt_running.specs.Requests.{AreCollected, AreSetAgain, AreSwept, HasSwept, IsEmpty, IsWithout};
 ghost use Rattle.flt_running.specs.Waiting as waiting;
 ghost use Rattle.flt_run.specs.declared.fault.TurnFault.TheVariants as fault;
-ghost use Rattle.flt_workers.specs.Places.{IsWorkerOf, collected_by, hands_by};
+ghost use Rattle.flt_workers.specs.Places.{IsWorkerOf, collected_by, hands_by, marks_by};
 
 use crate::pace::Pace;
 use crate::requests::Requests;
 use crate::seats::WorkerSeat;
 use crate::stack::Stack;
+use crate::word::{has_bit, has_none_from, lowest_bit};
 use flt_core::{Fulls, OtherEntries, StackName, Turned};
 use flt_machine::{Frame, advance};
 use flt_pool::Gate;
@@ -20,8 +22,11 @@ use std::alloc::Global;
 use std::sync::Wait;
 use std::sync::ledger::Share;
 
-/// How many words of requests there are.
-const WORDS: usize = 1024;
+/// How many groups of words of requests there are.
+const GROUPS: u32 = 64;
+
+/// How many words each has.
+const WORDS_OF_GROUP: usize = 16;
 
 /// How many tickets are taken in one call at most.
 const MAX_TICKETS: u32 = 1_000_000;
@@ -251,7 +256,7 @@ impl<N: StackName> Stack<N> {
     // ---- requests
 
     /// Cancels what was asked to be cancelled, in the order of the serial numbers, where it can be. It answers how many entries were made.
-    /// Only the worker of number 0 does so, and it looks at the words only where something was asked for since it last began to.
+    /// Only the worker of number 0 does so, and it looks only at the words of groups that have a mark.
     fn collect<R: Wait, G: Gate>(
         &self,
         rt: &R,
@@ -265,8 +270,8 @@ impl<N: StackName> Stack<N> {
         ensures waiting { OnOk result (waiting.tickets seat.new.waiting ≡ []) }
         ensures left { IfErr result (λ f. LeavesRequest f seat.new.place seat.new.waiting seat.new.requests) }
         ensures tried { OnOk result (IsEmpty seat.old.requests.bits → IsEmpty seat.new.requests.bits) }
-        ensures swept { OnOk result (((collected_by seat.new.place).seen ≡ (collected_by seat.old.place).seen)
-            ⊎ AreCollected 1024 (collected_by seat.old.place).seen (collected_by seat.new.place).seen) }
+        ensures swept { OnOk result (seat.old.pace.number ≡ 0 → HasSwept seat.old.place.requests seat.new.place.requests) }
+        ensures again { OnErr result (AreSetAgain seat.old.place.requests seat.new.place.requests) }
         ensures share { IfOk result (λ made. seat.new.share.amount ≡ seat.old.share.amount + made) }
         ensures few { IfOk result (λ made. made ≤ 65600) }
         ensures grown { seat.old.share.amount ≤ seat.new.share.amount }
@@ -279,24 +284,13 @@ impl<N: StackName> Stack<N> {
             return Ok(0);
         }
         let made = self.cancel_all(rt, alloc, seat, gate)?;
-        let Some(unmarked) = self.asked.lower() else {
-            return Ok(made);
-        };
-        match self.sweep(rt, alloc, seat, gate) {
-            Ok(more) => {
-                unmarked.end(&seat.place);
-                Ok(made + more)
-            }
-            Err(fault) => {
-                // Words are left that weren't looked at.
-                self.asked.raise(unmarked);
-                Err(fault)
-            }
-        }
+        let more = self.sweep_marked(rt, alloc, seat, gate)?;
+        Ok(made + more)
     }
 
-    /// Collects all words in their order, and cancels what each asks for, where it can be. It answers how many entries were made.
-    fn sweep<R: Wait, G: Gate>(
+    /// Takes all marks, collects the words of the groups that had one, and cancels what each asks for, where it can be. It answers how many
+    /// entries were made. Where it is refused something it sets the marks again, since words are left that weren't looked at.
+    fn sweep_marked<R: Wait, G: Gate>(
         &self,
         rt: &R,
         alloc: Global,
@@ -310,7 +304,64 @@ impl<N: StackName> Stack<N> {
         ensures waiting { OnOk result (waiting.tickets seat.new.waiting ≡ []) }
         ensures left { IfErr result (λ f. LeavesRequest f seat.new.place seat.new.waiting seat.new.requests) }
         ensures tried { OnOk result (IsEmpty seat.new.requests.bits) }
-        ensures swept { OnOk result (AreCollected 1024 (collected_by seat.old.place).seen (collected_by seat.new.place).seen) }
+        ensures swept { OnOk result (HasSwept seat.old.place.requests seat.new.place.requests) }
+        ensures again { OnErr result (AreSetAgain seat.old.place.requests seat.new.place.requests) }
+        ensures share { IfOk result (λ made. seat.new.share.amount ≡ seat.old.share.amount + made) }
+        ensures few { IfOk result (λ made. made ≤ 65536) }
+        ensures grown { seat.old.share.amount ≤ seat.new.share.amount }
+        ensures parts { seat.new.share.parts ≡ seat.old.share.parts }
+        ensures full { result ≡ Err fault.Full → seat.new.fulls.amount ≡ seat.old.fulls.amount + 1 }
+        ensures room { result ≢ Err fault.Full → seat.new.fulls.amount ≡ seat.old.fulls.amount }
+        ensures fulls_parts { seat.new.fulls.parts ≡ seat.old.fulls.parts }
+    {
+        let groups = self.exchange.unmark(&mut seat.place);
+        match self.sweep(rt, alloc, seat, gate, groups) {
+            Ok(made) => Ok(made),
+            Err(fault) => {
+                self.mark_again(seat, groups);
+                Err(fault)
+            }
+        }
+    }
+
+    /// Sets the marks of these groups, one bit each.
+    fn mark_again(&self, seat: &mut WorkerSeat<N>, groups: u64)
+        requires { IsWorkerOf self.now.exchange seat.old.place }
+        ensures seat { IsWorkerOf self.now.exchange seat.new.place }
+        ensures marked { (marks_by seat.new.place).asked ≡ (marks_by seat.old.place).asked ++ serials 0 groups }
+        ensures unmarked { (marks_by seat.new.place).collected ≡ (marks_by seat.old.place).collected }
+        ensures requests { collected_by seat.new.place ≡ collected_by seat.old.place }
+        ensures tickets { seat.new.place.tickets ≡ seat.old.place.tickets }
+        ensures rest { (seat.new.waiting ≡ seat.old.waiting) × ((seat.new.requests ≡ seat.old.requests)
+            × ((seat.new.share ≡ seat.old.share) × (seat.new.fulls ≡ seat.old.fulls))) }
+    {
+        for group in 0..GROUPS {
+            if !has_bit(groups, group) {
+                continue;
+            }
+            self.exchange.mark(&mut seat.place, group);
+        }
+    }
+
+    /// Collects the words of these groups, one bit each, in their order, and cancels what each asks for, where it can be. It answers how many
+    /// entries were made.
+    fn sweep<R: Wait, G: Gate>(
+        &self,
+        rt: &R,
+        alloc: Global,
+        seat: &mut WorkerSeat<N>,
+        gate: &mut G,
+        groups: u64,
+    ) -> Result<u64, TurnFault>
+        requires seat { IsWorkerOf self.now.exchange seat.old.place }
+        requires waiting { waiting.tickets seat.old.waiting ≡ [] }
+        requires requests { IsEmpty seat.old.requests.bits }
+        ensures seat { IsWorkerOf self.now.exchange seat.new.place }
+        ensures waiting { OnOk result (waiting.tickets seat.new.waiting ≡ []) }
+        ensures left { IfErr result (λ f. LeavesRequest f seat.new.place seat.new.waiting seat.new.requests) }
+        ensures tried { OnOk result (IsEmpty seat.new.requests.bits) }
+        ensures swept { OnOk result (AreSwept groups 64 (collected_by seat.old.place).seen (collected_by seat.new.place).seen) }
+        ensures marks { marks_by seat.new.place ≡ marks_by seat.old.place }
         ensures share { IfOk result (λ made. seat.new.share.amount ≡ seat.old.share.amount + made) }
         ensures few { IfOk result (λ made. made ≤ 65536) }
         ensures grown { seat.old.share.amount ≤ seat.new.share.amount }
@@ -320,8 +371,53 @@ impl<N: StackName> Stack<N> {
         ensures fulls_parts { seat.new.fulls.parts ≡ seat.old.fulls.parts }
     {
         let mut made: u64 = 0;
-        for word in 0..WORDS {
-            seat.requests = Requests::collect(&self.exchange, &mut seat.place, word);
+        for group in lowest_bit(groups)..GROUPS {
+            if has_none_from(groups, group) {
+                return Ok(made);
+            }
+            if !has_bit(groups, group) {
+                continue;
+            }
+            made += self.sweep_group(rt, alloc, seat, gate, group)?;
+        }
+        Ok(made)
+    }
+
+    /// Collects the words of a group in their order, and cancels what each asks for, where it can be. It answers how many entries were made.
+    fn sweep_group<R: Wait, G: Gate>(
+        &self,
+        rt: &R,
+        alloc: Global,
+        seat: &mut WorkerSeat<N>,
+        gate: &mut G,
+        group: u32,
+    ) -> Result<u64, TurnFault>
+        requires group { group < 64 }
+        requires seat { IsWorkerOf self.now.exchange seat.old.place }
+        requires waiting { waiting.tickets seat.old.waiting ≡ [] }
+        requires requests { IsEmpty seat.old.requests.bits }
+        ensures seat { IsWorkerOf self.now.exchange seat.new.place }
+        ensures waiting { OnOk result (waiting.tickets seat.new.waiting ≡ []) }
+        ensures left { IfErr result (λ f. LeavesRequest f seat.new.place seat.new.waiting seat.new.requests) }
+        ensures tried { OnOk result (IsEmpty seat.new.requests.bits) }
+        ensures swept { OnOk result (AreCollected (16 * group) 16 (collected_by seat.old.place).seen (collected_by seat.new.place).seen) }
+        ensures marks { marks_by seat.new.place ≡ marks_by seat.old.place }
+        ensures share { IfOk result (λ made. seat.new.share.amount ≡ seat.old.share.amount + made) }
+        ensures few { IfOk result (λ made. made ≤ 1024) }
+        ensures grown { seat.old.share.amount ≤ seat.new.share.amount }
+        ensures parts { seat.new.share.parts ≡ seat.old.share.parts }
+        ensures full { result ≡ Err fault.Full → seat.new.fulls.amount ≡ seat.old.fulls.amount + 1 }
+        ensures room { result ≢ Err fault.Full → seat.new.fulls.amount ≡ seat.old.fulls.amount }
+        ensures fulls_parts { seat.new.fulls.parts ≡ seat.old.fulls.parts }
+    {
+        let mut made: u64 = 0;
+        let first = WORDS_OF_GROUP * group as usize;
+        for k in 0..WORDS_OF_GROUP {
+            let requests = Requests::collect(&self.exchange, &mut seat.place, first + k);
+            if requests.bits == 0 {
+                continue;
+            }
+            seat.requests = requests;
             made += self.cancel_all(rt, alloc, seat, gate)?;
         }
         Ok(made)
@@ -351,10 +447,10 @@ impl<N: StackName> Stack<N> {
         ensures fulls_parts { seat.new.fulls.parts ≡ seat.old.fulls.parts }
     {
         let mut made: u64 = 0;
-        if seat.requests.bits == 0 {
-            return Ok(made);
-        }
-        for bit in 0..64 {
+        for bit in lowest_bit(seat.requests.bits)..64 {
+            if seat.requests.bits == 0 {
+                return Ok(made);
+            }
             if seat.requests.has(bit) {
                 made += self.cancel_one(rt, alloc, seat, gate, bit)? as u64;
             }

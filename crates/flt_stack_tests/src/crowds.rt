@@ -309,7 +309,6 @@ fn call_all<N: StackName + Send + Sync, R: Threads + Wait + Sync>(
 {
     loaded_is_shared();
     shared::<Exchange>();
-    shared::<AtomicBool>();
     shared::<Mutex<Locked<N>>>();
     sent::<Share<CallerEntries<N>>>();
     sent::<Share<OtherEntries<N>>>();
@@ -333,7 +332,6 @@ fn work_all<N: StackName + Send + Sync, R: Threads + Wait + Sync>(
 {
     loaded_is_shared();
     shared::<Exchange>();
-    shared::<AtomicBool>();
     shared::<Mutex<Locked<N>>>();
     sent::<Share<CallerEntries<N>>>();
     sent::<Share<OtherEntries<N>>>();
@@ -370,7 +368,6 @@ fn crowd<N: StackName + Send + Sync, R: Threads + Wait + Sync>(
 {
     loaded_is_shared();
     shared::<Exchange>();
-    shared::<AtomicBool>();
     shared::<Mutex<Locked<N>>>();
     sent::<Share<CallerEntries<N>>>();
     sent::<Share<OtherEntries<N>>>();

@@ -1,4 +1,4 @@
-use Rattle.std.proofs.Common.{◌≡◌, List, map, ap, ◌∙◌, subst}
+use Rattle.std.proofs.Common.{List, map, ap, ◌∙◌, subst}
 use Rattle.std.specs.Prelude.{◌↔◌, IsPermutation, IsTrue}
 use Rattle.flt_machine.specs.Situations.{Situation}
 use Rattle.flt_model.specs.declared.moves.JournalEntry.{JournalEntry}

@@ -1,4 +1,4 @@
-use Rattle.std.proofs.Common.{◌≡◌, ◌+◌, [], ◌∷◌, ◌++◌, length, arith}
+use Rattle.std.proofs.Common.{◌≡◌, arith}
 use Rattle.std.proofs.lemmas.List.{length_push}
 use Rattle.flt_running.proofs.Lists.{all_more, map_more}
 use Rattle.flt_running.proofs.opening.worker_seats.Goals as goal

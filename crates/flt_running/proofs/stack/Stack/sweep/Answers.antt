@@ -1,17 +1,17 @@
-use Rattle.std.proofs.Common.{rules, ◌+◌, refl, sym, subst}
-use Rattle.flt_cancel.specs.Seats.{view}
-use Rattle.flt_cancel.specs.declared.seat.Seat.{Seat}
-use Rattle.flt_workers.specs.Places.{collected_by}
-use Rattle.flt_running.specs.Requests.{AreCollected}
-use Rattle.flt_running.specs.Requests.AreCollected.{none, one_more}
+use Rattle.std.proofs.Common.{rules, refl, arith}
+use Rattle.flt_running.proofs.Bits.{is_clear}
+use Rattle.flt_running.proofs.Sweeping.{swept_up_to}
+use Rattle.flt_running.specs.Requests.AreSwept.{none, passed, swept}
 use Rattle.flt_running.proofs.stack.Stack.sweep.Goals as goal
 
-pub loop-word-init : goal.loop-word-init
-loop-word-init g c = record {
+pub loop-group-init : goal.loop-group-init
+loop-group-init g c = record {
   seat = c.requires.seat;
   waiting = c.requires.waiting;
   tried = c.requires.requests;
-  swept = none (collected_by c.args.seat.now.place).seen;
+  swept = swept_up_to c.args.groups 0 c.lowest_bit-group.result _ _ (none _) (omega arith)
+      (λ k _ below. c.lowest_bit-group.ensures.below k below);
+  marks = refl;
   share = search rules;
   few = search rules;
   parts = refl;
@@ -19,19 +19,37 @@ loop-word-init g c = record {
   fulls_parts = refl;
 }
 
-pub loop-word-preserved : goal.loop-word-preserved
-loop-word-preserved g c =
-    let before = (collected_by c.args.seat.now.place).seen in
-    let step = c.collect-seat.ensures.step in
-    record {
-      seat = c.in_ok-made.ensures.seat;
-      waiting = c.in_ok-made.ensures.waiting;
-      tried = c.in_ok-made.ensures.tried;
-      swept = subst (λ (s : Seat). AreCollected (c.loop-word.word + 1) before (view s).seen) (sym c.in_ok-made.ensures.pads)
-          (one_more c.loop-word.word before _ _ step.0 c.collect-seat.result.bits c.loop-word.invariant.swept step.1);
-      share = search rules;
-      few = search rules;
-      parts = search rules;
-      fulls = search rules;
-      fulls_parts = search rules;
-    }
+pub loop-group-preserved-then-not-has_bit : goal.loop-group-preserved-then-not-has_bit
+loop-group-preserved-then-not-has_bit g c = record {
+  seat = search rules;
+  waiting = search rules;
+  tried = search rules;
+  swept = passed c.loop-group.group _ _ c.loop-group.invariant.swept
+      (is_clear c.has_bit.result c.args.groups c.loop-group.group c.has_bit.ensures c.if-not-has_bit.true);
+  marks = search rules;
+  share = search rules;
+  few = search rules;
+  parts = search rules;
+  fulls = search rules;
+  fulls_parts = search rules;
+}
+
+pub loop-group-preserved : goal.loop-group-preserved
+loop-group-preserved g c = record {
+  seat = search rules;
+  waiting = search rules;
+  tried = search rules;
+  swept = swept c.loop-group.group _ _ _ c.loop-group.invariant.swept (c.has_bit.ensures.0 c.if-not-has_bit.false)
+      c.in_ok-made.ensures.swept;
+  marks = search rules;
+  share = search rules;
+  few = search rules;
+  parts = search rules;
+  fulls = search rules;
+  fulls_parts = search rules;
+}
+
+pub returns-then-has_none_from-clause-swept : goal.returns-then-has_none_from-clause-swept
+returns-then-has_none_from-clause-swept g c =
+    swept_up_to c.args.groups c.loop-group.group 64 _ _ c.loop-group.invariant.swept (omega arith)
+    (λ k from _. c.has_none_from.ensures c.if-has_none_from.true k from)
