@@ -6,8 +6,7 @@ use Rattle.flt_forms.proofs.as_sarif.put_sources.Goals as goal
 pub loop-source-preserved : goal.loop-source-preserved
 loop-source-preserved c =
     let sofar = c.loop-source.invariant in
-    let one = c.in_ok-own.ensures in
-    (
+    let one = c.in_ok-own.ensures in (
       sofar.0 ++ one.0,
       one_more_shown c.args.sources.now c.loop-source.source-index _ (omega (arith, c.loop-source-test.true)) sofar.0 one.0 _ _ _ sofar.1 one.1
           c.greater-status.ensures,
