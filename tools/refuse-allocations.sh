@@ -150,6 +150,13 @@ runs=(
     "explain R02"
 )
 
+# Nothing sets the context that this gets, so that it is looked at once more with a callback that does.
+never_set='filter never_set altitude 370020
+pre read {
+  if FltGetInstanceContext c0 { }
+  return NO_CALLBACK
+}'
+
 # The crates with tests that are there for memory.
 crates_of_tests=(flt_tests flt_machine_tests flt_stack_tests)
 
@@ -163,6 +170,8 @@ try_all() {
         (cd "$top/examples" && "$top/tools/refuse-allocations.sh" program "${words[@]}" </dev/null) &
         started+=($!)
     done
+    "$0" program explain - <<<"$never_set" &
+    started+=($!)
     for each in "${crates_of_tests[@]}"; do
         "$0" tests "$each" memory &
         started+=($!)
