@@ -57,6 +57,7 @@ pub(crate) fn merge_workers<N: StackName>(
             share,
             fulls: counted,
             pace: _,
+            round: _,
             waiting: _,
             requests: _,
         } = seat;

@@ -10,6 +10,7 @@ mod ending;
 mod opening;
 mod pace;
 mod requests;
+mod round;
 mod seats;
 pub mod sharing;
 mod stack;

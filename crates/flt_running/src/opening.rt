@@ -5,6 +5,7 @@ ghost use Rattle.flt_workers.specs.Places.{IsCallerOf, IsFreshCaller, IsFreshWor
 use crate::OutOfMemory;
 use crate::pace::Pace;
 use crate::requests::Requests;
+use crate::round::Round;
 use crate::seats::{CallerSeat, WorkerSeat};
 use crate::waiting::Waiting;
 use flt_core::{CallerEntries, Fulls, OtherEntries, Receipts, StackName};
@@ -58,6 +59,7 @@ fn worker_seats<N: StackName>(
     ensures fulls_left { OnOk result ((fulls.new.parts + length places.items ≡ fulls.old.parts) × (fulls.new.amount ≡ 0)) }
 {
     let mut seats = Vec::with_capacity(alloc, places.len())?;
+    let alone = places.len() == 1;
     'seats: for place in places {
         let pace = Pace::new(seats.len());
         let share = all.split_off(1, 0);
@@ -67,6 +69,7 @@ fn worker_seats<N: StackName>(
             share,
             fulls,
             pace,
+            round: Round::new(alone),
             waiting: Waiting::new(alloc),
             requests: Requests::none(),
         })?;

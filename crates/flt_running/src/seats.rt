@@ -3,6 +3,7 @@ ghost use Rattle.std.specs.Prelude.{◌<◌};
 
 use crate::pace::Pace;
 use crate::requests::Requests;
+use crate::round::Round;
 use crate::waiting::Waiting;
 use flt_core::{Fulls, OtherEntries, Receipt, Receipts, StackName};
 use flt_receipts::HoldsReceipts;
@@ -36,6 +37,7 @@ pub struct WorkerSeat<N: StackName> {
     pub(crate) share: Share<OtherEntries<N>>,
     pub(crate) fulls: Share<Fulls<N>>,
     pub(crate) pace: Pace,
+    pub(crate) round: Round,
     pub(crate) waiting: Waiting,
     pub(crate) requests: Requests,
     pub(crate) ghost backed: { 0 < share.parts },

@@ -22,6 +22,8 @@ pub(crate) struct Waiting {
     pushed: usize,
     /// The move's own ticket.
     own: Option<Ticket>,
+    /// How many tickets lie in the place's own deque, where no other worker takes any.
+    held: u64,
 }
 
 impl Waiting {
@@ -33,18 +35,29 @@ impl Waiting {
             named: Vec::new(alloc),
             pushed: 0,
             own: None,
+            held: 0,
         }
     }
 
     /// These wait.
-    pub(crate) fn of(named: Vec<Ticket>, own: Option<Ticket>) -> Waiting
-        ensures { spec.tickets result ≡ named.items ++ spec.listed own }
+    fn wait(&mut self, named: Vec<Ticket>, own: Option<Ticket>)
+        ensures { spec.tickets self.new ≡ named.items ++ spec.listed own }
     {
-        Waiting {
-            named,
-            pushed: 0,
-            own,
-        }
+        self.named = named;
+        self.pushed = 0;
+        self.own = own;
+    }
+
+    /// How many tickets lie in the place's own deque, where no other worker takes any.
+    pub(crate) fn held(&self) -> u64 {
+        self.held
+    }
+
+    /// A ticket was taken: from the own deque, where one lay there.
+    pub(crate) fn take(&mut self)
+        ensures { spec.tickets self.new ≡ spec.tickets self.old }
+    {
+        self.held = self.held.saturating_sub(1);
     }
 
     /// Ends a ticket's turn: pushes what it gave a ticket, and the ticket itself, where it stays. Where the turn was refused, the ticket
@@ -106,7 +119,7 @@ impl Waiting {
             stays: _,
             made,
         } = turned;
-        *self = Waiting::of(next, own);
+        self.wait(next, own);
         self.push_all(place)?;
         Ok(made)
     }
@@ -139,6 +152,7 @@ impl Waiting {
                 return Err(AllocError);
             }
             self.pushed += 1;
+            self.held = self.held.saturating_add(1);
         }
         Ok(())
     }
@@ -160,6 +174,7 @@ impl Waiting {
             return Err(AllocError);
         }
         self.own = None;
+        self.held = self.held.saturating_add(1);
         Ok(())
     }
 }

@@ -44,10 +44,19 @@ struct Looked {
     taken: u32,
 }
 
+/// Whether a ticket stays, and nothing was moved at its turn.
+fn is_still(outcome: &Result<Turned, TurnFault>) -> bool {
+    match outcome {
+        Ok(turned) => turned.stays && !turned.made,
+        Err(_) => false,
+    }
+}
+
 impl<N: StackName> Stack<N> {
     /// Works until one look at all deques finds no ticket, or 1,000,000 tickets were taken, and answers how many entries it added. The
     /// worker of number 0 also collects what was asked to be cancelled: before its first ticket, and again where it finds none. What an
-    /// earlier call left over comes first. The gate is called before each change, with no lock held.
+    /// earlier call left over comes first. The gate is called before each change, with no lock held. Where there is one worker, and each
+    /// ticket of its deque had a turn that moved nothing, further rounds of them are counted as if they were taken, and aren't.
     ///
     /// # Errors
     ///
@@ -74,8 +83,12 @@ impl<N: StackName> Stack<N> {
     {
         seat.waiting.push_all(&mut seat.place)?;
         let mut made = self.collect(rt, alloc, seat, gate)?;
+        if seat.round.goes_on() {
+            seat.round.begin(self.entries(rt));
+        }
         let mut taken: u32 = 0;
         for _ in 0..MAX_LOOKS {
+            taken += seat.round.passes(seat.waiting.held(), MAX_TICKETS - taken);
             if taken == MAX_TICKETS {
                 return Ok(made);
             }
@@ -86,6 +99,11 @@ impl<N: StackName> Stack<N> {
             taken += looked.taken;
         }
         Ok(made)
+    }
+
+    /// How many entries the journal has.
+    fn entries<R: Wait>(&self, rt: &R) -> usize {
+        self.locked.lock(rt).core.board().journal().len()
     }
 
     /// Serves a ticket, or else what was asked to be cancelled. It answers none where it finds neither.
@@ -112,6 +130,7 @@ impl<N: StackName> Stack<N> {
         ensures fulls_parts { seat.new.fulls.parts ≡ seat.old.fulls.parts }
     {
         if let Some(ticket) = self.exchange.take(rt, &mut seat.place) {
+            seat.waiting.take();
             let made = self.serve(rt, alloc, seat, gate, ticket)?;
             return Ok(Some(Looked {
                 made: made as u64,
@@ -160,6 +179,7 @@ impl<N: StackName> Stack<N> {
             gate,
             ticket,
         );
+        seat.round.turn(is_still(&outcome));
         seat.waiting.finish_turn(&mut seat.place, ticket, outcome)
     }
 

@@ -11,7 +11,7 @@ invariant-loop g l = record {
   tried : IsEmpty l.fn.seat.requests.bits → IsEmpty l.seat.requests.bits;
   share : l.seat.share.amount ≡ l.fn.seat.share.amount + l.made;
   few : l.made ≤ 65600 * l.counter + 65600;
-  taken : l.taken ≤ l.counter;
+  taken : l.taken ≤ 1000000;
   parts : l.seat.share.parts ≡ l.fn.seat.share.parts;
   fulls : l.seat.fulls.amount ≡ l.fn.seat.fulls.amount;
   fulls_parts : l.seat.fulls.parts ≡ l.fn.seat.fulls.parts;

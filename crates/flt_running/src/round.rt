@@ -1,0 +1,60 @@
+//! How a worker that is alone goes round among tickets of which none moves anything.
+ghost use Rattle.std.specs.Prelude.{◌≤◌};
+
+/// Which turns of a worker can be passed over. A ticket that stays goes to the back of the worker's deque. Where each of its tickets had its
+/// turn, all stay, and none moved anything, the next round finds all as it was, and so does each one after it: the worker is alone, so
+/// nobody else makes a move, and what callers add lies elsewhere. Such a round leaves the tickets in their order.
+#[derive(Drop)]
+pub(crate) struct Round {
+    /// Whether the worker has its deque for itself.
+    alone: bool,
+    /// How many tickets had a turn since something was moved last, at which all stayed.
+    still: u64,
+    /// How many entries the journal had when that was last looked at.
+    entries: usize,
+}
+
+impl Round {
+    /// That of a worker before its first turn.
+    pub(crate) fn new(alone: bool) -> Round {
+        Round {
+            alone,
+            still: 0,
+            entries: 0,
+        }
+    }
+
+    /// A ticket had its turn. Either it stays and nothing was moved, or not.
+    pub(crate) fn turn(&mut self, is_still: bool) {
+        self.still = if is_still {
+            self.still.saturating_add(1)
+        } else {
+            0
+        };
+    }
+
+    /// Whether turns of an earlier call count.
+    pub(crate) fn goes_on(&self) -> bool {
+        self.alone && self.still != 0
+    }
+
+    /// The journal has this many entries. If these are others than before, each ticket is to have a turn once more.
+    pub(crate) fn begin(&mut self, entries: usize) {
+        if entries != self.entries {
+            self.entries = entries;
+            self.still = 0;
+        }
+    }
+
+    /// How many turns of so many that are left can be passed over: whole rounds, where the deque has `held` tickets.
+    pub(crate) fn passes(&self, held: u64, left: u32) -> u32
+        ensures { result ≤ left }
+    {
+        let is_round = self.alone && 0 < held && held <= self.still;
+        if !is_round || (left as u64) < held {
+            return 0;
+        }
+        let held = held as u32;
+        left - left % held
+    }
+}
