@@ -57,9 +57,8 @@ pub(crate) fn start_activation<'a>(
         context,
     } = start;
     world.actors.push(actor)?;
-    world
-        .activations
-        .push(Activation::starting(alloc, body, visit, context)?)?;
+    let activation = Activation::starting(alloc, &mut world.spare, body, visit, context)?;
+    world.activations.push(activation)?;
     gain_given(number, visit, context, events)
 }
 

@@ -1,5 +1,5 @@
 -- What a local step does to the variables doesn't depend on the statements that remain.
-use Rattle.std.proofs.Common.{◌≡◌, ◌<◌, ◌-◌, ◌+◌, ℕ, suc, Bool, List, Option, Some, None, option_map, refl, sym, ap, ◌∙◌, arith}
+use Rattle.std.proofs.Common.{◌≡◌, ◌<◌, ◌-◌, ◌+◌, ℕ, zero, suc, Bool, List, [], Option, Some, None, option_map, refl, sym, ap, ◌∙◌, arith}
 use Rattle.std.specs.Prelude.{option_and_then}
 use Rattle.flt_tree.specs.declared.filter.Action.{Action}
 use Rattle.flt_tree.specs.declared.filter.Action.TheVariants as action
@@ -73,3 +73,9 @@ module _ (draining : Bool) (steps made : ℕ) (old : Activation) (whole : Option
 
   pub none_more : local_step draining old old.rest ≡ None → whole ≡ None
   none_more is = sym unrolled ∙ ap (option_and_then (local_steps draining (steps - (made + 1)))) is
+
+-- where nothing remains, there is none
+pub none_of_ended : (draining : Bool) (steps : ℕ) (act : Activation) → (steps ≡ 0 → ⊥) → act.rest ≡ [] → local_steps draining steps act ≡ None
+none_of_ended draining zero act some none = absurd (some refl)
+none_of_ended draining (suc n) act some none =
+    ap (λ (rest : List Statement). option_and_then (local_steps draining n) (local_step draining act rest)) none

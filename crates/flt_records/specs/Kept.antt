@@ -26,8 +26,9 @@ few_contexts few = few.c0 ∷ few.c1 ∷ None ∷ None ∷ None ∷ None ∷ Non
 abbrev pub few_operations : Few → List (Option ℕ)
 few_operations few = few.o0 ∷ None ∷ None ∷ None ∷ few.data ∷ []
 
-abbrev pub contents_of : Form → Contents
-contents_of (form.Few ended few) = record {
+-- no more than these
+abbrev pub few_alone : Bool → Few → Contents
+few_alone ended few = record {
   after = [];
   numbers = replicate 8 0;
   contexts = few_contexts few;
@@ -35,6 +36,9 @@ contents_of (form.Few ended few) = record {
   locks = [];
   ended = ended;
 }
+
+abbrev pub contents_of : Form → Contents
+contents_of (form.Few ended few) = few_alone ended few
 contents_of (form.All ended all) = record {
   after = all.value.after.items;
   numbers = all.value.numbers;

@@ -1,3 +1,4 @@
+pub mod Activations
 pub mod Coded
 pub mod Counts
 pub mod Kept

@@ -1,26 +1,37 @@
-//! An activation: one run of a callback, with its variables and the locks that it holds.
+//! An activation: one run of a callback, with its variables and the locks that it holds. Most that ended have few variables, and keep
+//! no more than these.
 
-ghost use Rattle.std.specs.Prelude.{◌≡◌, ◌++◌, ◌∷◌, true, false, [], replicate, IfOk, OnOk, MatchOption};
-ghost use Rattle.flt_model.specs.LocalSteps.{turns_left};
+ghost use Rattle.std.specs.Prelude.{◌≡◌, ◌++◌, ◌∷◌, [], true, Some, None, if◌then◌else◌, IfOk, OnOk, MatchOption};
+ghost use Rattle.flt_model.specs.LocalSteps as local;
 ghost use Rattle.flt_model.specs.Variables as spec;
-ghost use Rattle.flt_records.specs.Rest.{statement_of, others, IsTurn};
+ghost use Rattle.flt_records.specs.Activations.{activation_of, IsGoing};
+ghost use Rattle.flt_records.specs.Local.{local_steps};
+ghost use Rattle.flt_records.specs.Rest.{statement_of, others};
 ghost use Rattle.flt_records.specs.Writes.{written};
+ghost use Rattle.flt_rules.specs.Held as held;
 
-use crate::kept::Kept;
-use crate::rest::{Rest, Upcoming};
+use crate::going::Going;
+use crate::kept::Few;
+use crate::rest::Upcoming;
 use flt_rules::{HeldLock, LockNumber};
 use flt_tree::{
-    Atom, ContextVariable, Expression, NumberVariable, OperationVariable, RemovedVariable, Span,
-    Statement,
+    Atom, ContextVariable, NumberVariable, OperationVariable, RemovedVariable, Statement,
 };
 use std::alloc::{AllocError, Global};
 use std::marker::Model;
 
+#[derive(Drop)]
+enum State<'a> {
+    Going(Box<Going<'a>>),
+    /// It ended, and all other variables are 0 or NULL.
+    Ended(Few),
+}
+
 /// How far a callback has come. A variable keeps its number when what it names is released or handed over.
 #[derive(Drop)]
 pub struct Activation<'a> {
-    rest: Rest<'a>,
-    pub(crate) kept: Kept<'a>,
+    alloc: Global,
+    state: State<'a>,
 }
 
 impl<'a> Model for Activation<'a> {
@@ -32,17 +43,15 @@ impl<'a> Model for Activation<'a> {
 
     ghost coded = { activation_code };
 
-    ghost use Rattle.flt_records.specs.Kept.{contents};
-    ghost use Rattle.flt_records.specs.Rest.{remains};
+    ghost use Rattle.flt_records.specs.Activations.{activation_of};
 
-    ghost view = { λ a. record {
-      rest = remains a.rest (contents a.kept).after;
-      numbers = (contents a.kept).numbers;
-      contexts = (contents a.kept).contexts;
-      operations = (contents a.kept).operations;
-      locks = (contents a.kept).locks;
-      ended = (contents a.kept).ended;
-    } };
+    ghost view = { λ a. activation_of a.state };
+}
+
+/// The memory of an activation that ended, for the next one that starts.
+#[derive(Drop)]
+pub struct Spare<'a> {
+    room: Option<Box<Going<'a>>>,
 }
 
 /// What a step writes to an activation.
@@ -60,90 +69,89 @@ pub enum Write {
     Unlock(LockNumber),
 }
 
+impl<'a> Spare<'a> {
+    /// No memory.
+    pub fn none() -> Spare<'a> {
+        Spare { room: None }
+    }
+
+    /// The memory at hand, or else some that is asked for.
+    fn place(&mut self, alloc: Global, going: Going<'a>) -> Result<Box<Going<'a>>, AllocError>
+        ensures { IfOk result (λ room. room.value ≡ going.entry) }
+    {
+        match self.room.take() {
+            Some(mut room) => {
+                *room = going;
+                Ok(room)
+            }
+            None => Ok(Box::new(alloc, going)?),
+        }
+    }
+}
+
+/// Asks for memory again, where an activation that ended goes on.
+#[cold]
+fn go_again<'a>(state: &mut State<'a>, alloc: Global) -> Result<(), AllocError>
+    ensures same { OnOk result (activation_of state.new ≡ activation_of state.old) }
+    ensures going { OnOk result (IsGoing state.new) }
+{
+    let State::Ended(few) = &*state else {
+        return Ok(());
+    };
+    let going = Box::new(alloc, Going::ended(alloc, few.copied()))?;
+    *state = State::Going(going);
+    Ok(())
+}
+
 impl<'a> Activation<'a> {
     /// At entry all is 0 or NULL but the given operation and the given context. It fails where a number is 2^32 - 1 or greater.
     pub fn starting(
         alloc: Global,
+        spare: &mut Spare<'a>,
         body: &'a [Statement],
         given: Option<usize>,
         arg: Option<usize>,
     ) -> Result<Activation<'a>, AllocError>
         ensures { IfOk result (λ act. act ≡ spec.starting body.now given arg) }
     {
+        let going = Going::starting(alloc, body, given, arg)?;
         Ok(Activation {
-            rest: Rest::new(body),
-            kept: Kept::starting(alloc, given, arg)?,
+            alloc,
+            state: State::Going(spare.place(alloc, going)?),
         })
     }
 
     /// The value of a number variable.
-    #[inline(always)]
-    pub fn number(&self, variable: NumberVariable) -> u64
+    fn number(&self, variable: NumberVariable) -> u64
         ensures { result ≡ spec.number_in self.now variable }
     {
-        self.kept.number(variable.place())
+        match &self.state {
+            State::Going(going) => going.number(variable),
+            State::Ended(_) => 0,
+        }
     }
 
     /// The number of the context that a variable names; none where it is NULL.
     pub fn context(&self, variable: ContextVariable) -> Option<usize>
         ensures { result ≡ spec.context_in self.now variable }
     {
-        self.kept.context(variable.place())
+        match &self.state {
+            State::Going(going) => going.context(variable),
+            State::Ended(few) => few.context(variable.place()),
+        }
     }
 
     /// The number of the visit that a variable names; none where it is NULL.
     pub fn operation(&self, variable: OperationVariable) -> Option<usize>
         ensures { result ≡ spec.operation_in self.now variable }
     {
-        self.kept.operation(variable.place())
-    }
-
-    /// Sets a number variable.
-    #[inline(always)]
-    pub fn set_number(&mut self, variable: NumberVariable, value: u64) -> Result<(), AllocError>
-        ensures { OnOk result (self.new ≡ spec.with_number self.old variable value) }
-    {
-        self.kept.set_number(variable.place(), value)
-    }
-
-    /// Sets a context variable, or makes it NULL. It fails where the number is 2^32 - 1 or greater, or where memory is refused.
-    pub fn set_context(
-        &mut self,
-        variable: ContextVariable,
-        context: Option<usize>,
-    ) -> Result<(), AllocError>
-        ensures { OnOk result (self.new ≡ spec.with_context_in self.old variable context) }
-    {
-        self.kept.set_context(variable.place(), context)
-    }
-
-    /// Sets an operation variable, or makes it NULL. It fails where the number is 2^32 - 1 or greater, or where memory is refused.
-    pub fn set_operation(
-        &mut self,
-        variable: OperationVariable,
-        visit: Option<usize>,
-    ) -> Result<(), AllocError>
-        ensures { OnOk result (self.new ≡ spec.with_operation_in self.old variable visit) }
-    {
-        self.kept.set_operation(variable.place(), visit)
-    }
-
-    /// Sets a variable that a call need not have. It fails where the number is 2^32 - 1 or greater, or where memory is refused.
-    pub fn set_old(
-        &mut self,
-        variable: Option<ContextVariable>,
-        context: Option<usize>,
-    ) -> Result<(), AllocError>
-        ensures { OnOk result (self.new ≡ spec.with_old self.old variable context) }
-    {
-        match variable {
-            Some(variable) => self.set_context(variable, context),
-            None => Ok(()),
+        match &self.state {
+            State::Going(going) => going.operation(variable),
+            State::Ended(few) => few.operation(variable.place()),
         }
     }
 
     /// The value of a number or of a variable.
-    #[inline(always)]
     pub fn atom(&self, atom: Atom) -> u64
         ensures { result ≡ spec.atom_value self.now atom }
     {
@@ -153,114 +161,108 @@ impl<'a> Activation<'a> {
         }
     }
 
-    /// The value of a number, a sum or a difference; these wrap.
-    #[inline(always)]
-    pub fn expression(&self, expression: Expression) -> u64
-        ensures { result ≡ spec.expression_value self.now expression }
+    /// The locks that the activation holds.
+    pub fn locks(&self) -> &[HeldLock]
+        ensures { result.now ≡ self.now.locks }
     {
-        match expression {
-            Expression::Atom(atom) => self.atom(atom),
-            Expression::Sum(left, right) => self.atom(left).wrapping_add(self.atom(right)),
-            Expression::Difference(left, right) => self.atom(left).wrapping_sub(self.atom(right)),
+        match &self.state {
+            State::Going(going) => going.locks(),
+            State::Ended(_) => &[],
         }
     }
 
-    fn write(&mut self, write: Write) -> Result<(), AllocError>
-        ensures { OnOk result (self.new ≡ written write self.old) }
+    /// Whether the activation took the lock and didn't give it up.
+    pub fn holds_lock(&self, lock: LockNumber) -> bool
+        ensures { result ≡ held.holds_lock lock self.now.locks }
     {
-        match write {
-            Write::Nothing => {}
-            Write::Number(variable, value) => self.set_number(variable, value)?,
-            Write::Output(variable, context) => self.set_old(variable, context)?,
-            Write::Entry(removed, variable, visit, context) => {
-                self.set_operation(OperationVariable::Removed(removed), visit)?;
-                self.set_context(variable, context)?;
-            }
-            Write::Lock(held) => self.kept.push_lock(held)?,
-            Write::Unlock(lock) => self.remove_lock(lock),
+        match &self.state {
+            State::Going(going) => going.holds_lock(lock),
+            State::Ended(_) => false,
         }
-        Ok(())
     }
 
     /// Goes on with a block in place of the first statement.
     pub fn go_on(&mut self, block: &'a [Statement], write: Write) -> Result<(), AllocError>
         ensures { OnOk result (self.new ≡ written write (record self.old { rest = block.now ++ others self.old.rest })) }
     {
-        self.rest.replace_first(&mut self.kept, block)?;
-        self.write(write)
+        if let State::Ended(_) = &self.state {
+            go_again(&mut self.state, self.alloc)?;
+        }
+        if let State::Going(going) = &mut self.state {
+            going.go_on(block, write)?;
+        }
+        Ok(())
     }
-}
 
-// ---- what remains
-
-impl<'a> Activation<'a> {
     /// Takes out the first statement that remains.
     pub fn next(&mut self) -> Option<Upcoming<'a>>
         ensures rest { MatchOption result ((self.old.rest ≡ []) × (self.new.rest ≡ [])) (λ u. self.old.rest ≡ statement_of u ∷ self.new.rest) }
         ensures others { self.new ≡ record self.old { rest = self.new.rest } }
     {
-        self.rest.next(&mut self.kept)
-    }
-
-    /// Takes out the first statement of the block at hand; none where nothing is left of it.
-    #[inline(always)]
-    pub(crate) fn next_in_block(&mut self) -> Option<&'a Statement>
-        ensures rest { MatchOption result (self.new ≡ self.old) (λ s. self.old.rest ≡ s.now ∷ self.new.rest) }
-        ensures others { self.new ≡ record self.old { rest = self.new.rest } }
-    {
-        self.rest.next_in_block()
-    }
-
-    /// Begins another turn of a `repeat` whose body is through. False, and nothing is changed, where that doesn't come next.
-    #[inline(always)]
-    pub(crate) fn turn_again(&mut self) -> bool
-        ensures turned { result ≡ true → IsTurn self.old.rest self.new.rest }
-        ensures same { result ≡ false → self.new ≡ self.old }
-        ensures others { self.new ≡ record self.old { rest = self.new.rest } }
-    {
-        self.rest.turn_again(&mut self.kept)
+        match &mut self.state {
+            State::Going(going) => going.next(),
+            State::Ended(_) => None,
+        }
     }
 
     /// The first statement that remains, which stays. A `repeat` that was begun is taken out and put back.
+    #[inline(always)]
     pub fn first(&mut self) -> Result<Option<Upcoming<'a>>, AllocError>
         ensures same { OnOk result (self.new ≡ self.old) }
         ensures first { IfOk result (λ f. MatchOption f (self.old.rest ≡ []) (λ u. self.old.rest ≡ statement_of u ∷ others self.old.rest)) }
     {
-        self.rest.first(&mut self.kept)
+        match &mut self.state {
+            State::Going(going) => going.first(),
+            State::Ended(_) => Ok(None),
+        }
     }
 
-    /// Goes into a block, after which it goes on here.
-    #[inline(always)]
-    pub(crate) fn enter(&mut self, block: &'a [Statement]) -> Result<(), AllocError>
-        ensures { OnOk result (self.new ≡ record self.old { rest = block.now ++ self.old.rest }) }
+    /// One step that nobody else sees. False where the next one is seen; the first statement is then gone.
+    pub fn step_locally(&mut self, draining: bool) -> Result<bool, AllocError>
+        ensures { IfOk result (λ stepped. local.local_step draining self.old self.old.rest ≡ (if stepped then Some self.new else None)) }
     {
-        self.rest.enter(&mut self.kept, block)
+        match &mut self.state {
+            State::Going(going) => going.step_locally(draining),
+            State::Ended(_) => Ok(false),
+        }
     }
 
-    /// Goes through a turn of a `repeat`, if one is left.
-    pub(crate) fn turn(
-        &mut self,
-        span: &'a Span,
-        turns: u64,
-        body: &'a [Statement],
-    ) -> Result<(), AllocError>
-        ensures { OnOk result (self.new ≡ record self.old { rest = turns_left span.now turns body.now self.old.rest }) }
+    /// So many steps that nobody else sees. False where one of them is seen, or others see the end of the body.
+    #[tactic(auto, using(crate::proofs::LocalLaws::none_of_ended))]
+    pub fn step_locally_often(&mut self, draining: bool, steps: u32) -> Result<bool, AllocError>
+        ensures { IfOk result (λ stepped. local_steps draining steps self.old ≡ (if stepped then Some self.new else None)) }
     {
-        self.rest.turn(&mut self.kept, span, turns, body)
+        match &mut self.state {
+            State::Going(going) => going.step_locally_often(draining, steps),
+            State::Ended(_) if steps == 0 => Ok(true),
+            State::Ended(_) => Ok(false),
+        }
     }
 
     /// Whether it ended.
+    #[inline(always)]
     pub fn has_ended(&self) -> bool
         ensures { result ≡ self.now.ended }
     {
-        self.kept.has_ended()
+        match &self.state {
+            State::Going(going) => going.has_ended(),
+            State::Ended(_) => true,
+        }
     }
 
-    /// It ends, and nothing remains. A lock that it holds stays held.
-    pub fn end(&mut self)
+    /// It ends, and nothing remains. A lock that it holds stays held. Memory that it needs no longer is spare.
+    pub fn end(&mut self, spare: &mut Spare<'a>)
         ensures { self.new ≡ record self.old { rest = []; ended = true } }
     {
-        self.rest = Rest::new(&[]);
-        self.kept.end();
+        let State::Going(going) = &mut self.state else {
+            return;
+        };
+        let Some(few) = going.few() else {
+            going.end();
+            return;
+        };
+        if let State::Going(room) = std::mem::replace(&mut self.state, State::Ended(few)) {
+            spare.room = Some(room);
+        }
     }
 }

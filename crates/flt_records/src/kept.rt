@@ -1,8 +1,8 @@
 //! What an activation keeps beside the blocks in which it stands. Most use few variables, which stand in place; the others ask for
 //! memory of their own, once.
 
-ghost use Rattle.std.specs.Prelude.{◌≡◌, ◌<◌, ◌++◌, ◌∷◌, [], true, false, None, length, get_or, set, remove, replicate, IfOk, OnOk, MatchOption};
-ghost use Rattle.flt_records.specs.Kept.{contents, contents_of, few_contexts, few_operations, IsAll, TurnsLast};
+ghost use Rattle.std.specs.Prelude.{◌≡◌, ◌<◌, ◌++◌, ◌∷◌, [], true, false, None, length, get_or, set, remove, replicate, IfOk, IfSome, OnOk, MatchOption};
+ghost use Rattle.flt_records.specs.Kept.{contents, contents_of, few_alone, few_contexts, few_operations, IsAll, TurnsLast};
 
 use crate::rest::Part;
 use crate::slot::Slot;
@@ -13,7 +13,7 @@ use std::alloc::{AllocError, Global};
 
 /// The variables that stand in place; the others are NULL or 0.
 #[derive(Drop)]
-struct Few {
+pub(crate) struct Few {
     c0: Slot,
     c1: Slot,
     arg: Slot,
@@ -47,7 +47,20 @@ pub(crate) struct Kept<'a> {
 }
 
 impl Few {
-    fn context(&self, place: usize) -> Option<usize>
+    /// The same once more.
+    pub(crate) fn copied(&self) -> Few
+        ensures { result ≡ self.now }
+    {
+        Few {
+            c0: self.c0.copied(),
+            c1: self.c1.copied(),
+            arg: self.arg.copied(),
+            o0: self.o0.copied(),
+            data: self.data.copied(),
+        }
+    }
+
+    pub(crate) fn context(&self, place: usize) -> Option<usize>
         requires { place < 9 }
         ensures { result ≡ get_or (few_contexts self.now) place None }
     {
@@ -59,7 +72,7 @@ impl Few {
         }
     }
 
-    fn operation(&self, place: usize) -> Option<usize>
+    pub(crate) fn operation(&self, place: usize) -> Option<usize>
         requires { place < 5 }
         ensures { result ≡ get_or (few_operations self.now) place None }
     {
@@ -199,6 +212,26 @@ impl<'a> Kept<'a> {
             alloc,
             form: Form::Few(false, few),
         })
+    }
+
+    /// Those of an activation that ended.
+    pub(crate) fn ended(alloc: Global, few: Few) -> Kept<'a>
+        ensures { contents result ≡ few_alone true few }
+    {
+        Kept {
+            alloc,
+            form: Form::Few(true, few),
+        }
+    }
+
+    /// The variables, where none but these are in use and no locks.
+    pub(crate) fn few(&self) -> Option<Few>
+        ensures { IfSome result (λ few. contents self.now ≡ few_alone (contents self.now).ended few) }
+    {
+        match &self.form {
+            Form::Few(_, few) => Some(few.copied()),
+            Form::All(_, _) => None,
+        }
     }
 
     /// Whether the activation ended.

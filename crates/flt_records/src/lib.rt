@@ -10,6 +10,7 @@
 
 mod activation;
 mod counts;
+mod going;
 mod holders;
 mod kept;
 mod laws;
@@ -27,7 +28,7 @@ mod sparse_counts;
 mod visit_list;
 mod waiting_list;
 
-pub use activation::{Activation, Write};
+pub use activation::{Activation, Spare, Write};
 pub use counts::Counts;
 pub use holders::Holders;
 pub use laws::same_tests_find_the_same;

@@ -6,12 +6,12 @@ ghost use Rattle.flt_records.specs.Local.{local_steps};
 ghost use Rattle.flt_records.specs.Rest.{statement_of};
 ghost use Rattle.flt_tree.specs.declared.filter.Statement.{out-Statement};
 
-use crate::activation::Activation;
+use crate::going::Going;
 use crate::rest::Upcoming;
 use flt_tree::{Action, Condition, OperationVariable, Statement, Test};
 use std::alloc::AllocError;
 
-impl<'a> Activation<'a> {
+impl<'a> Going<'a> {
     /// Computes a number, or sets a variable to NULL. False where others see the action.
     #[inline(always)]
     fn act(&mut self, action: Action) -> Result<bool, AllocError>
@@ -137,14 +137,18 @@ impl<'a> Activation<'a> {
     }
 
     /// One step that nobody else sees. False where the next one is seen; the first statement is then gone.
-    pub fn step_locally(&mut self, draining: bool) -> Result<bool, AllocError>
+    pub(crate) fn step_locally(&mut self, draining: bool) -> Result<bool, AllocError>
         ensures { IfOk result (λ local. spec.local_step draining self.old self.old.rest ≡ (if local then Some self.new else None)) }
     {
         self.step(draining)
     }
 
     /// So many steps that nobody else sees. False where one of them is seen, or others see the end of the body.
-    pub fn step_locally_often(&mut self, draining: bool, steps: u32) -> Result<bool, AllocError>
+    pub(crate) fn step_locally_often(
+        &mut self,
+        draining: bool,
+        steps: u32,
+    ) -> Result<bool, AllocError>
         ensures { IfOk result (λ local. local_steps draining steps self.old ≡ (if local then Some self.new else None)) }
     {
         for _ in 0..steps {

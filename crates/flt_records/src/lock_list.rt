@@ -3,7 +3,7 @@
 ghost use Rattle.std.specs.Prelude.{◌≡◌, ◌<◌, length, remove, is_some, IfSome, MatchOption};
 ghost use Rattle.flt_rules.specs.Held as spec;
 
-use crate::activation::Activation;
+use crate::going::Going;
 use flt_rules::{HeldLock, LockNumber};
 
 /// Whether a lock stands among some, held in either way.
@@ -30,23 +30,23 @@ fn last_place(lock: LockNumber, locks: &[HeldLock]) -> Option<usize>
     }
 }
 
-impl<'a> Activation<'a> {
+impl<'a> Going<'a> {
     /// The locks that the activation holds.
-    pub fn locks(&self) -> &[HeldLock]
+    pub(crate) fn locks(&self) -> &[HeldLock]
         ensures { result.now ≡ self.now.locks }
     {
         self.kept.locks()
     }
 
     /// Whether the activation took the lock and didn't give it up.
-    pub fn holds_lock(&self, lock: LockNumber) -> bool
+    pub(crate) fn holds_lock(&self, lock: LockNumber) -> bool
         ensures { result ≡ spec.holds_lock lock self.now.locks }
     {
         holds_lock(lock, self.locks())
     }
 
     /// Takes the last entry of the lock out of the list, of either kind.
-    pub fn remove_lock(&mut self, lock: LockNumber)
+    pub(crate) fn remove_lock(&mut self, lock: LockNumber)
         ensures { self.new ≡ record self.old { locks = spec.without_last lock self.old.locks } }
     {
         if let Some(place) = last_place(lock, self.locks()) {

@@ -124,6 +124,7 @@ impl<'a> Rest<'a> {
     }
 
     /// The first statement, which stays. A `repeat` that was begun is taken out and put back.
+    #[inline(always)]
     pub(crate) fn first(&mut self, kept: &mut Kept<'a>) -> Result<Option<Upcoming<'a>>, AllocError>
         ensures same { OnOk result (remains self.new (contents kept.new).after ≡ remains self.old (contents kept.old).after) }
         ensures first { IfOk result (λ f. MatchOption f (remains self.old (contents kept.old).after ≡ [])

@@ -43,7 +43,7 @@ fn end_activation(world: &mut World<'_>, a: usize)
     } }
 {
     if let Some(activation) = world.activations.get_mut(a) {
-        activation.end();
+        activation.end(&mut world.spare);
     }
 }
 

@@ -17,7 +17,7 @@ ghost use Rattle.flt_world.specs.Happening.{later};
 
 use flt_records::{
     Activation, Actor, Arrival, Context, Contexts, Entry, Holder, Holders, Item, Link, Position,
-    Presence, Route, Standing, Visit, Visits, Waiting, Write, same_tests_find_the_same,
+    Presence, Route, Spare, Standing, Visit, Visits, Waiting, Write, same_tests_find_the_same,
 };
 use flt_rules::{Access, HeldLock, LockNumber, Mode, Operation, Place, Stage};
 use flt_tree::{Atom, ContextVariable, OperationVariable, Statement};
@@ -30,6 +30,7 @@ use std::marker::Model;
 pub struct World<'a> {
     pub actors: Vec<Actor>,
     pub activations: Vec<Activation<'a>>,
+    pub spare: Spare<'a>,
     presences: Vec<Standing>,
     /// By lock.
     holders: Vec<[Holders; 8]>,
@@ -487,6 +488,7 @@ impl<'a> World<'a> {
         World {
             actors: Vec::new(alloc),
             activations: Vec::new(alloc),
+            spare: Spare::none(),
             presences: Vec::new(alloc),
             holders: Vec::new(alloc),
             arrivals: Vec::new(alloc),

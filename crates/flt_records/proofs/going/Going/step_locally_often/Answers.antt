@@ -1,7 +1,7 @@
 use Rattle.std.proofs.Common.{◌≡◌, ◌-◌, sym, ap, ◌∙◌, arith}
 use Rattle.flt_records.specs.Local.{local_steps}
 use Rattle.flt_records.proofs.LocalLaws.{one_more, none_more}
-use Rattle.flt_records.proofs.activation.Activation.step_locally_often.Goals as goal
+use Rattle.flt_records.proofs.going.Going.step_locally_often.Goals as goal
 
 pub loop-preserved : goal.loop-preserved
 loop-preserved c =
