@@ -10,3 +10,4 @@ pub mod Ones
 pub mod Rows
 pub mod Taking
 pub mod Tallies
+pub mod Totals

@@ -11,6 +11,7 @@ use Rattle.flt_model.specs.Violations.{in_queue, in_item, is_fresh, leaks_nothin
 use Rattle.flt_model.specs.World.{World, Store, Activation, is_settled}
 use Rattle.flt_replay.specs.Apart.{is_apart, are_apart, ends_in}
 use Rattle.flt_records.specs.Counts.{count, occurs}
+use Rattle.flt_replay.specs.Holdings.{times_held}
 use Rattle.flt_replay.specs.Rows.{Counted, count_of}
 
 -- the counts: by activation, how often it holds each context and each visit; how often each context was freed and each visit
@@ -25,7 +26,7 @@ pub record Tally : Type 0 where
 
 -- how often an activation holds an object
 abbrev pub held : Tally → ℕ → Object → ℕ
-held c a (Context x) = count_of c.contexts a x
+held c a (Context x) = times_held c.contexts a x
 held c a (Visit v) = count_of c.visits a v
 
 -- what the counts say of a trace

@@ -1,4 +1,5 @@
 pub mod Apart
+pub mod Holdings
 pub mod Judging
 pub mod Ledger
 pub mod Monitoring

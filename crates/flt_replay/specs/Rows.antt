@@ -1,4 +1,4 @@
--- How often each number was counted of each activation: of each, one number in place, and others beside it.
+-- How often each number was counted of each activation, or of each context: of each, one number in place, and others beside it.
 use Rattle.std.specs.Prelude.{◌≡◌, ℕ, ◌+◌, ◌==◌, if◌then◌else◌, List, [], get_or}
 use Rattle.std.specs.BTreeMap.{is_at}
 use Rattle.std.specs.Map.{lookup}

@@ -24,16 +24,17 @@ use flt_world::World;
 use std::alloc::{AllocError, Global};
 use std::marker::Model;
 
+mod holdings;
 mod others;
 pub(crate) mod rows;
 
+use holdings::Holdings;
 use rows::Rows;
 
 #[derive(Drop)]
 pub(crate) struct Ledger {
-    /// How often each activation holds each context.
-    contexts: Rows,
-    /// The same of each visit.
+    contexts: Holdings,
+    /// How often each activation holds each visit.
     visits: Rows,
     /// How often each context was freed.
     freed: Counts,
@@ -467,7 +468,7 @@ impl Ledger {
         ensures { (p : List Filter) → spec.Agrees (start p) result }
     {
         Ledger {
-            contexts: Rows::new(alloc),
+            contexts: Holdings::new(alloc),
             visits: Rows::new(alloc),
             freed: Counts::new(alloc),
             settled: Counts::new(alloc),

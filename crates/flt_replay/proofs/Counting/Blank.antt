@@ -7,12 +7,13 @@ use Rattle.flt_model.specs.Runs.{start}
 use Rattle.flt_model.specs.Trace.{gains, loses, frees, settles}
 use Rattle.flt_replay.proofs.Machine.Owners.{tidy_start}
 use Rattle.flt_records.specs.Counts.{count}
+use Rattle.flt_replay.specs.Holdings.{times_held}
 use Rattle.flt_replay.specs.Rows.{count_of}
 use Rattle.flt_replay.specs.Ledger.{Tally, Tells, Agrees, held, running_with}
 
 -- nothing is counted
 pub record IsBlank (c : Tally) : Type 0 where
-  pub contexts : (a n : ℕ) → count_of c.contexts a n ≡ 0
+  pub contexts : (a n : ℕ) → times_held c.contexts a n ≡ 0
   pub visits : (a n : ℕ) → count_of c.visits a n ≡ 0
   pub freed : (n : ℕ) → count c.freed n ≡ 0
   pub settled : (n : ℕ) → count c.settled n ≡ 0

@@ -27,6 +27,7 @@ use Rattle.flt_replay.proofs.Machine.Owners.{Tidy, Spared, tidy_after, one_owner
 use Rattle.flt_replay.proofs.Counting.Tallies.{held_is}
 use Rattle.flt_replay.specs.Apart.{ends_in}
 use Rattle.flt_records.specs.Counts.{count, occurs}
+use Rattle.flt_replay.specs.Holdings.{times_held}
 use Rattle.flt_replay.specs.Rows.{count_of}
 use Rattle.flt_replay.specs.Judging.{Follows, first_of, of_holding}
 use Rattle.flt_replay.specs.Ledger.{Tally, Tells, IsCounted, Agrees, Judged, Halted, Joined, held, share, running_with, going, waiting, owns, owns_any, first_broken}
@@ -81,7 +82,7 @@ module _ (t : List Event) (c : Tally) (k : Tells t c) (v : ℕ) where
 
 held_alike : (old new : Tally) (ons : List Bool) (holders : List ℕ) →
     new ≡ record old { running = ons; holders = holders } → (a : ℕ) (o : Object) → held new a o ≡ held old a o
-held_alike old new ons holders e a (Context x) = ap (λ (d : Tally). count_of d.contexts a x) e
+held_alike old new ons holders e a (Context x) = ap (λ (d : Tally). times_held d.contexts a x) e
 held_alike old new ons holders e a (Visit v) = ap (λ (d : Tally). count_of d.visits a v) e
 
 tells_alike : (t : List Event) (old new : Tally) (ons : List Bool) (holders : List ℕ) →

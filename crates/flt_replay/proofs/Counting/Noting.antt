@@ -15,6 +15,7 @@ use Rattle.flt_replay.proofs.Counting.Ones.{actor_none}
 use Rattle.flt_replay.proofs.Counting.Tallies.{held_is}
 use Rattle.flt_replay.specs.Apart.{is_apart}
 use Rattle.flt_records.specs.Counts.{count, occurs}
+use Rattle.flt_replay.specs.Holdings.{times_held}
 use Rattle.flt_replay.specs.Rows.{Counted, count_of}
 use Rattle.flt_replay.specs.Ledger.{Tally, Tells, IsCounted, Turned, Noted, held}
 
@@ -53,22 +54,22 @@ apart_from_one u v h = grind (arith, nat_tests)
 
 module _ (c : Tally) (a : ℕ) where
   held_gained_context : (x : ℕ) (rows : Counted) →
-      ((b n : ℕ) → count_of rows b n ≡ count_of c.contexts b n + of_actor a b (one_if x n)) →
+      ((b n : ℕ) → times_held rows b n ≡ times_held c.contexts b n + of_actor a b (one_if x n)) →
       (b : ℕ) (o : Object) → held (record c { contexts = rows }) b o + lose b o (event.Gain a (Context x)) ≡ held c b o + gain b o
       (event.Gain a (Context x))
   held_gained_context x rows h b (Context n) = omega (arith, h b n)
   held_gained_context x rows h b (Visit u) = omega (arith, actor_none a b)
 
   held_lost_context : (x : ℕ) (rows : Counted) →
-      ((b n : ℕ) → count_of c.contexts b n ≡ count_of rows b n + of_actor a b (one_if x n)) →
+      ((b n : ℕ) → times_held c.contexts b n ≡ times_held rows b n + of_actor a b (one_if x n)) →
       (b : ℕ) (o : Object) → held (record c { contexts = rows }) b o + lose b o (event.Lose a (Context x)) ≡ held c b o + gain b o
       (event.Lose a (Context x))
   held_lost_context x rows h b (Context n) = omega (arith, h b n)
   held_lost_context x rows h b (Visit u) = omega (arith, actor_none a b)
 
   module _ (v : ℕ) (new : Tally) (turned : Turned c new) where
-    contexts_same : (b n : ℕ) → count_of new.contexts b n ≡ count_of c.contexts b n
-    contexts_same b n = ap (λ (d : Tally). count_of d.contexts b n) turned.only
+    contexts_same : (b n : ℕ) → times_held new.contexts b n ≡ times_held c.contexts b n
+    contexts_same b n = ap (λ (d : Tally). times_held d.contexts b n) turned.only
 
     held_gained_visit : ((b n : ℕ) → count_of new.visits b n ≡ count_of c.visits b n + of_actor a b (one_if v n)) →
         (b : ℕ) (o : Object) → held new b o + lose b o (event.Gain a (Visit v)) ≡ held c b o + gain b o (event.Gain a (Visit v))
@@ -96,7 +97,7 @@ held_settled c counts v a (Visit u) = refl
 
 module _ (t : List Event) (c : Tally) (was : List ℕ) (k : Tells t c) (counted : IsCounted c) where
   pub gained_context : (a x : ℕ) (rows : Counted) →
-      ((b n : ℕ) → count_of rows b n ≡ count_of c.contexts b n + of_actor a b (one_if x n)) →
+      ((b n : ℕ) → times_held rows b n ≡ times_held c.contexts b n + of_actor a b (one_if x n)) →
       Noted t (event.Gain a (Context x)) c (record c { contexts = rows }) was was
   gained_context a x rows h = record {
     tells = told t (event.Gain a (Context x)) c (record c { contexts = rows }) (held_gained_context c a x rows h)
@@ -108,7 +109,7 @@ module _ (t : List Event) (c : Tally) (was : List ℕ) (k : Tells t c) (counted 
   }
 
   pub lost_context : (a x : ℕ) (rows : Counted) →
-      ((b n : ℕ) → count_of c.contexts b n ≡ count_of rows b n + of_actor a b (one_if x n)) →
+      ((b n : ℕ) → times_held c.contexts b n ≡ times_held rows b n + of_actor a b (one_if x n)) →
       Noted t (event.Lose a (Context x)) c (record c { contexts = rows }) was was
   lost_context a x rows h = record {
     tells = told t (event.Lose a (Context x)) c (record c { contexts = rows }) (held_lost_context c a x rows h) (λ y. omega arith)

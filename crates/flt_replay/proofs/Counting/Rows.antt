@@ -24,13 +24,6 @@ counts_no_other : (f : First) (n : ℕ) → f.number ≢ n → in_place f n ≡ 
 unfolding in_place
 counts_no_other f n ne = grind (arith, nat_tests)
 
--- with it, an activation counts some number
-pub some_counts : (c : Counted) (a : ℕ) → 0 < (get_or c.firsts a blank).times → ((n : ℕ) → count_of c a n ≡ 0) → ⊥
-unfolding count_of
-some_counts c a some none =
-    let f : First = get_or c.firsts a blank in
-    omega (arith, none f.number, counts_itself f, some)
-
 -- once, where it counts
 pub once : (f : First) (n : ℕ) → 0 < f.times → min 1 (in_place f n) ≡ one_if f.number n
 unfolding in_place one_if

@@ -13,7 +13,7 @@ use Rattle.flt_model.specs.Trace.{one_if, of_actor, gains, loses, gain, is_held}
 use Rattle.flt_model.specs.Violations.{is_live, is_let_go, leaks_nothing}
 use Rattle.flt_replay.proofs.Counting.Ones.{one_elsewhere, actor_none}
 use Rattle.flt_records.specs.Counts.{count}
-use Rattle.flt_replay.specs.Rows.{count_of}
+use Rattle.flt_replay.specs.Holdings.{times_held}
 use Rattle.flt_replay.specs.Ledger.{Tally, Tells, held}
 
 balanced : (l g h : ℕ) → g ≡ l + h → nat_lt 0 h ≡ nat_lt l g
@@ -89,17 +89,17 @@ module _ (t : List Event) (a : ℕ) where
       let more : loses t a (Context x) < gains t a (Context x) = ltb-true (loses t a (Context x)) (gains t a (Context x)) holds in
       omega arith)
 
-  count_none : (c : Tally) → Tells t c → (x : ℕ) → is_held t a (Context x) ≡ false → count_of c.contexts a x ≡ 0
+  count_none : (c : Tally) → Tells t c → (x : ℕ) → is_held t a (Context x) ≡ false → times_held c.contexts a x ≡ 0
   count_none c k x h =
-      let none : count_of c.contexts a x ≤ 0 = ltb-false 0 (count_of c.contexts a x) (held_is t c a (Context x) k ∙ h) in
+      let none : times_held c.contexts a x ≤ 0 = ltb-false 0 (times_held c.contexts a x) (held_is t c a (Context x) k ∙ h) in
       omega arith
 
-  held_none : (c : Tally) → Tells t c → (x : ℕ) → count_of c.contexts a x ≡ 0 → is_held t a (Context x) ≡ false
+  held_none : (c : Tally) → Tells t c → (x : ℕ) → times_held c.contexts a x ≡ 0 → is_held t a (Context x) ≡ false
   held_none c k x h = sym (held_is t c a (Context x) k) ∙ ap (λ n. nat_lt 0 n) h
 
 -- it has let all go if no context counts
 pub leaks_nothing_is : (t : List Event) (c : Tally) (a : ℕ) (b : Bool) → Tells t c →
-    (IsTrue b ↔ ((x : ℕ) → count_of c.contexts a x ≡ 0)) → b ≡ leaks_nothing t (event.End a)
+    (IsTrue b ↔ ((x : ℕ) → times_held c.contexts a x ≡ 0)) → b ≡ leaks_nothing t (event.End a)
 leaks_nothing_is t c a b k h =
     ⊎_elim (λ (e : b ≡ true). e ∙ sym (all_let_go t a (λ x. held_none t a c k x (h.0 e x)) t))
     (λ (e : b ≡ false). e ∙ sym (false_from_ne_true (list_all (is_let_go t a) t)

@@ -1,7 +1,7 @@
 //! How often each number was counted of each activation, beside the one that stands in place. Most activations have none of
 //! these and take no memory here, so what looks for them stays out of its callers' code.
 
-ghost use Rattle.std.specs.Prelude.{◌≡◌, ◌+◌, ℕ, ◌<◌, ◌≤◌, min, OnOk, ◌↔◌, IsTrue};
+ghost use Rattle.std.specs.Prelude.{◌≡◌, ◌+◌, ℕ, ◌<◌, ◌≤◌, min, OnOk, OnErr, IsTrue};
 ghost use Rattle.flt_model.specs.Trace.{one_if, of_actor};
 ghost use Rattle.flt_records.specs.Counts.{count, occurs};
 ghost use Rattle.flt_replay.specs.Rows as spec;
@@ -55,18 +55,6 @@ impl Others {
         }
     }
 
-    /// Whether no number counts of an activation.
-    #[inline(never)]
-    #[tactic(auto, unfolding(crate::specs::Rows::count_among, flt_records::specs::Counts::count_in))]
-    pub(crate) fn is_empty(&self, activation: usize) -> bool
-        ensures { IsTrue result ↔ ((n : ℕ) → spec.count_among self.now activation n ≡ 0) }
-    {
-        match self.rows.get(&activation) {
-            Some(row) => row.is_empty(),
-            None => true,
-        }
-    }
-
     /// Once more of an activation.
     #[inline(never)]
     #[tactic(auto, unfolding(crate::specs::Rows::count_among, flt_records::specs::Counts::count_in, flt_model::specs::Trace::of_actor))]
@@ -78,6 +66,7 @@ impl Others {
     ) -> Result<(), AllocError>
         ensures ok { OnOk result ((a n : ℕ) → spec.count_among self.new a n ≡ spec.count_among self.old a n + of_actor activation a
             (one_if number n)) }
+        ensures err { OnErr result ((a n : ℕ) → spec.count_among self.new a n ≡ spec.count_among self.old a n) }
         ensures rest { (a n : ℕ) → of_actor activation a (one_if number n) ≡ 0 → spec.count_among self.new a n ≡ spec.count_among self.old a n }
     {
         if let Some(row) = self.rows.get_mut(&activation) {

@@ -1,6 +1,6 @@
-//! How often each number was counted of each activation, which mostly counts one: that one stands in place.
+//! How often each number was counted of each activation, or of each context, which mostly counts one: that one stands in place.
 
-ghost use Rattle.std.specs.Prelude.{◌≡◌, ◌+◌, ℕ, ◌<◌, ◌≤◌, length, get_or, set, min, OnOk, ◌↔◌, IsTrue};
+ghost use Rattle.std.specs.Prelude.{◌≡◌, ◌+◌, ℕ, ◌<◌, ◌≤◌, length, get_or, set, min, OnOk, OnErr};
 ghost use Rattle.flt_model.specs.Trace.{one_if, of_actor};
 ghost use Rattle.flt_records.specs.Counts.{count, occurs};
 ghost use Rattle.flt_replay.specs.Rows as spec;
@@ -123,16 +123,6 @@ impl Rows {
         self.count_beside(activation, number)
     }
 
-    #[tactic(auto, using(crate::proofs::Counting::Rows::some_counts), unfolding(crate::specs::Rows::count_of, crate::specs::Rows::in_place))]
-    pub(crate) fn is_empty(&self, activation: usize) -> bool
-        ensures { IsTrue result ↔ ((n : ℕ) → spec.count_of self.now activation n ≡ 0) }
-    {
-        if self.first(activation).times > 0 {
-            return false;
-        }
-        self.others.are_none() || self.others.is_empty(activation)
-    }
-
     /// Counts each number that counts of an activation once more.
     #[tactic(auto, using(crate::proofs::Counting::Rows::once_each), unfolding(crate::specs::Rows::count_of, crate::specs::Rows::in_place))]
     pub(crate) fn add_to(
@@ -228,8 +218,9 @@ impl Rows {
         activation: usize,
         number: usize,
     ) -> Result<(), AllocError>
-        ensures { OnOk result ((a n : ℕ) → spec.count_of self.new a n ≡ spec.count_of self.old a n + of_actor activation a
+        ensures ok { OnOk result ((a n : ℕ) → spec.count_of self.new a n ≡ spec.count_of self.old a n + of_actor activation a
             (one_if number n)) }
+        ensures err { OnErr result ((a n : ℕ) → spec.count_of self.new a n ≡ spec.count_of self.old a n) }
     {
         self.grow(activation)?;
         let first = self.first(activation);
