@@ -10,10 +10,13 @@ ghost use Rattle.flt_model.specs.Variables.{operation_in};
 ghost use Rattle.flt_model.specs.Violations as spec;
 ghost use Rattle.flt_model.specs.World.{activation_at, actor_at, arrival_of, visit_at};
 ghost use Rattle.flt_model.specs.declared.event.Event.{Event};
+ghost use Rattle.flt_model.specs.declared.event.Event.TheVariants.{Call as Called};
 ghost use Rattle.flt_model.specs.declared.event.Object.TheVariants.{Visit};
 ghost use Rattle.flt_replay.specs.Judging.{is_by, keeps_rule, least_of, of_rules};
 ghost use Rattle.flt_replay.specs.Scenes.{before};
 ghost use Rattle.flt_world.specs.Happening.{holds_visit, holds_given};
+ghost use Rattle.flt_rules.specs.Call as calls;
+ghost use Rattle.flt_rules.specs.Columns.{has_place};
 ghost use Rattle.flt_rules.specs.Held as held;
 ghost use Rattle.flt_rules.specs.Place as places;
 ghost use Rattle.flt_rules.specs.Status.{is_with_callback, status_row};
@@ -25,7 +28,7 @@ use crate::statuses::{is_of_mode, is_possessed};
 use flt_model::{Answer, Event, Violation};
 use flt_records::holds_lock;
 use flt_rules::{
-    Call, HeldLock, Level, LockNumber, Mode, Operation, Place, Possessed, Stage, StatusRow,
+    Call, HeldLock, Level, LockNumber, Mode, Operation, Place, Places, Possessed, Stage, StatusRow,
     StatusWord, is_legal_in_draining, row, status_row,
 };
 use flt_tree::{OperationVariable, Status};
@@ -241,53 +244,21 @@ impl<'b, 'a> Scene<'b, 'a> {
 // ---- one event
 
 impl<'b, 'a> Scene<'b, 'a> {
-    fn is_legal(&self, event: Event) -> bool
-        ensures { (t : List Event) → self.now.held ≡ holds_given t (before self.now) self.now.activation →
-            is_by self.now.activation event ≡ true → result ≡ spec.is_legal self.now.stack.now (before self.now) t event }
-    {
-        match event {
-            Event::Status(_, answer) => self.may_answer(answer),
-            Event::Call(_, call) => self.may_pend(call),
-            _ => true,
-        }
-    }
-
     /// Whether a call isn't made above its greatest level.
-    fn is_low_enough(&self, event: Event) -> bool
-        ensures { (t : List Event) → is_by self.now.activation event ≡ true →
-            result ≡ spec.is_low_enough self.now.stack.now (before self.now) t event }
+    fn is_low_enough(&self, greatest: Level) -> bool
+        ensures { result ≡ not (places.is_above (level_at (program.filter_at self.now.stack.now (actor_at (before self.now) self.now.activation).filter)
+            (actor_at (before self.now) self.now.activation).place (activation_at (before self.now) self.now.activation).locks) greatest) }
     {
-        match event {
-            Event::Call(_, call) => !self.level().is_above(row(call).greatest),
-            _ => true,
-        }
-    }
-
-    /// The latest lock is released first, none is taken twice, none is kept at the end.
-    fn is_disciplined(&self, event: Event) -> bool
-        ensures { (t : List Event) → is_by self.now.activation event ≡ true →
-            result ≡ spec.is_disciplined self.now.stack.now (before self.now) t event }
-    {
-        match event {
-            Event::Lock(_, lock) => !holds_lock(lock, self.locks()),
-            Event::Unlock(_, lock) => is_latest(lock, self.locks()),
-            Event::End(_) => self.locks().is_empty(),
-            _ => true,
-        }
+        !self.level().is_above(greatest)
     }
 
     /// Each call where the table has it, and in a draining callback only what cleans up.
-    fn is_in_place(&self, event: Event) -> bool
-        ensures { (t : List Event) → is_by self.now.activation event ≡ true →
-            result ≡ spec.is_in_place self.now.stack.now (before self.now) t event }
+    fn is_in_place(&self, legal: Places, call: Call) -> bool
+        ensures { result ≡ (has_place legal (actor_at (before self.now) self.now.activation).place
+            && (not (actor_at (before self.now) self.now.activation).draining || calls.is_legal_in_draining call)) }
     {
-        match event {
-            Event::Call(_, call) => {
-                row(call).places.contains(self.world.place(self.activation))
-                    && (!self.world.has_flag(self.activation) || is_legal_in_draining(call))
-            }
-            _ => true,
-        }
+        legal.contains(self.world.place(self.activation))
+            && (!self.world.has_flag(self.activation) || is_legal_in_draining(call))
     }
 }
 
@@ -322,27 +293,28 @@ impl Kept {
 }
 
 impl<'b, 'a> Scene<'b, 'a> {
-    /// Which rules an event of which one speaks keeps beside those before it.
-    fn also_said(&self, event: Event, kept: Kept) -> Kept
-        ensures statuses { (t : List Event) → self.now.held ≡ holds_given t (before self.now) self.now.activation →
-            is_by self.now.activation event ≡ true →
-            result.statuses ≡ (kept.statuses && spec.is_legal self.now.stack.now (before self.now) t event) }
-        ensures levels { (t : List Event) → is_by self.now.activation event ≡ true →
-            result.levels ≡ (kept.levels && spec.is_low_enough self.now.stack.now (before self.now) t event) }
-        ensures locks { (t : List Event) → is_by self.now.activation event ≡ true →
-            result.locks ≡ (kept.locks && spec.is_disciplined self.now.stack.now (before self.now) t event) }
-        ensures places { (t : List Event) → is_by self.now.activation event ≡ true →
-            result.places ≡ (kept.places && spec.is_in_place self.now.stack.now (before self.now) t event) }
+    /// Which rules a call keeps beside those before it. Its row is looked up once.
+    #[inline(always)]
+    fn also_call(&self, call: Call, kept: Kept) -> Kept
+        ensures statuses { (t : List Event) →
+            result.statuses ≡ (kept.statuses && spec.is_legal self.now.stack.now (before self.now) t (Called self.now.activation call)) }
+        ensures levels { (t : List Event) →
+            result.levels ≡ (kept.levels && spec.is_low_enough self.now.stack.now (before self.now) t (Called self.now.activation call)) }
+        ensures locks { result.locks ≡ kept.locks }
+        ensures places { (t : List Event) →
+            result.places ≡ (kept.places && spec.is_in_place self.now.stack.now (before self.now) t (Called self.now.activation call)) }
     {
+        let row = row(call);
         Kept {
-            statuses: kept.statuses && self.is_legal(event),
-            levels: kept.levels && self.is_low_enough(event),
-            locks: kept.locks && self.is_disciplined(event),
-            places: kept.places && self.is_in_place(event),
+            statuses: kept.statuses & self.may_pend(call),
+            levels: kept.levels & self.is_low_enough(row.greatest),
+            places: kept.places & self.is_in_place(row.places, call),
+            ..kept
         }
     }
 
-    /// Which rules an event keeps beside those before it. Of most events no rule speaks.
+    /// Which rules an event keeps beside those before it: the latest lock is released first, none is taken twice, and none is kept at the
+    /// end. Of most events no rule speaks.
     #[tactic(auto, using(crate::proofs::Judging::Rules::kept_still))]
     fn also(&self, event: Event, kept: Kept) -> Kept
         ensures statuses { (t : List Event) → self.now.held ≡ holds_given t (before self.now) self.now.activation →
@@ -356,13 +328,24 @@ impl<'b, 'a> Scene<'b, 'a> {
             result.places ≡ (kept.places && spec.is_in_place self.now.stack.now (before self.now) t event) }
     {
         match event {
-            Event::Use(_, _)
-            | Event::Empty(_)
-            | Event::Gain(_, _)
-            | Event::Lose(_, _)
-            | Event::Free(_)
-            | Event::Settle(_) => kept,
-            _ => self.also_said(event, kept),
+            Event::Call(_, call) => self.also_call(call, kept),
+            Event::Status(_, answer) => Kept {
+                statuses: kept.statuses & self.may_answer(answer),
+                ..kept
+            },
+            Event::Lock(_, lock) => Kept {
+                locks: kept.locks & !holds_lock(lock, self.locks()),
+                ..kept
+            },
+            Event::Unlock(_, lock) => Kept {
+                locks: kept.locks & is_latest(lock, self.locks()),
+                ..kept
+            },
+            Event::End(_) => Kept {
+                locks: kept.locks & self.locks().is_empty(),
+                ..kept
+            },
+            _ => kept,
         }
     }
 

@@ -22,13 +22,6 @@ pub all_more : (f : Event → Bool) (es : List Event) (i : ℕ) (d : Event) → 
     kept ≡ list_all f (take i es) → now ≡ (kept && f (get_or es i d)) → now ≡ list_all f (take (i + 1) es)
 all_more f es i d l kept now so_far more = more ∙ ap (λ b. b && f (get_or es i d)) so_far ∙ sym (list_all_more f es i d l)
 
--- what is kept so far decides whether it is kept with one event more
-pub and_then : (kept now all : Bool) → kept ≡ true → all ≡ now → all ≡ (kept && now)
-and_then kept now all e f = f ∙ ap (λ b. b && now) (sym e)
-
-pub and_else : (kept now all : Bool) → kept ≡ false → all ≡ false → all ≡ (kept && now)
-and_else kept now all e f = f ∙ ap (λ b. b && now) (sym e)
-
 -- one of which the rule doesn't speak
 pub kept_still : (kept : Bool) → kept ≡ (kept && true)
 kept_still true = refl
