@@ -1,3 +1,4 @@
+pub mod Alike
 pub mod Closing
 pub mod Reports
 pub mod Stages

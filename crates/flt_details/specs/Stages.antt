@@ -1,5 +1,5 @@
 -- Where what is said of findings stands. This project's own program.
-use Rattle.std.specs.Prelude.{◌≡◌, ℕ, List, IfSome, All}
+use Rattle.std.specs.Prelude.{◌≡◌, ℕ, List, [], None, IfSome, All}
 use Rattle.std.specs.List.{AllZip}
 use Rattle.flt_explain.specs.declared.finding.Finding.{Finding}
 use Rattle.flt_graph.specs.Graph.{span_at}
@@ -7,6 +7,7 @@ use Rattle.flt_graph.specs.declared.graph.Graph.{Graph}
 use Rattle.flt_places.specs.Places.{place_in}
 use Rattle.flt_tree.specs.Names.{Text}
 use Rattle.flt_tree.specs.declared.filter.Position.{Position}
+use Rattle.flt_details.specs.Alike.{AreLike}
 use Rattle.flt_details.specs.declared.study.Detail.{Detail}
 use Rattle.flt_details.specs.declared.study.Route.{Route}
 use Rattle.flt_details.specs.declared.study.Stage.{Stage}
@@ -23,8 +24,9 @@ IsPlaced text g callback s = s.place ≡ place_of text g callback s.point
 abbrev pub ArePlaced : Text → Graph → ℕ → List Stage → Type 0
 ArePlaced text g callback = All (IsPlaced text g callback)
 
--- the stages of a callback's ways, and the origin, stand at their points
+-- the stages of a callback's ways, and the origin, stand at their points. Where the way of another finding serves, none stands here
 pub record IsRoute (text : Text) (g : Graph) (callback : ℕ) (r : Route) : Type 0 where
+  pub served : IfSome r.like (λ _. (r.stages ≡ []) × (r.other ≡ None))
   pub stages : ArePlaced text g callback r.stages
   pub other : IfSome r.other (ArePlaced text g callback)
   pub origin : IfSome r.origin (IsPlaced text g callback)
@@ -36,5 +38,6 @@ pub record IsDetail (text : Text) (g : Graph) (found : Finding) (d : Detail) : T
   pub route : IsRoute text g found.callback d.route
 
 -- what is said of each of some findings, in their order
-abbrev pub AreDetails : Text → Graph → List Finding → List Detail → Type 0
-AreDetails text g = AllZip (IsDetail text g)
+pub record AreDetails (text : Text) (g : Graph) (found : List Finding) (details : List Detail) : Type 0 where
+  pub each : AllZip (IsDetail text g) found details
+  pub like : AreLike found details

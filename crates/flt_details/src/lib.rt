@@ -3,6 +3,7 @@
 #![tactic(auto)]
 
 mod advice;
+mod alike;
 mod branches;
 mod case;
 mod closing;

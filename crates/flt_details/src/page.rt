@@ -63,8 +63,8 @@ impl Page {
         }
     }
 
-    /// Words of a text among those of the program. A tab is a blank, and what isn't printed as it stands a `?`, so that each byte has one
-    /// column.
+    /// Words of a text among those of the program. A tab is a blank. In place of what a terminal may act on, and of what is no UTF-8,
+    /// there is a `?` for each byte, so that each has one column.
     pub fn words(&mut self, words: &[&[u8]]) -> Result<(), AllocError> {
         for word in words {
             self.word(word)?;
@@ -73,8 +73,16 @@ impl Page {
     }
 
     fn word(&mut self, word: &[u8]) -> Result<(), AllocError> {
-        for byte in word {
-            self.out.push(shown(*byte))?;
+        let mut at = 0;
+        while at < word.len() {
+            let (count, is_shown) = character(&word[at..]);
+            let end = at.saturating_add(count).min(word.len());
+            if is_shown {
+                self.bytes(&word[at..end])?;
+            } else {
+                self.run(hidden(word[at]), end - at, "")?;
+            }
+            at = end;
         }
         Ok(())
     }
@@ -113,12 +121,31 @@ impl Page {
     }
 }
 
-/// What is printed for a byte of a text.
-fn shown(byte: u8) -> u8 {
+/// What is printed for each byte of a character that isn't shown, by its first one.
+fn hidden(byte: u8) -> u8 {
     match byte {
         b'\t' => b' ',
-        0..=31 | 127 => b'?',
-        _ => byte,
+        _ => b'?',
+    }
+}
+
+/// How many bytes the first character has, and whether it is shown. A terminal may act on a control, on a character that turns the
+/// direction of those behind it, and on one that ends a line. A byte that begins none is one by itself.
+fn character(bytes: &[u8]) -> (usize, bool)
+    ensures { 0 < result.0 }
+{
+    match bytes {
+        [0..=31 | 127, ..] => (1, false),
+        [0..=127, ..] => (1, true),
+        [0xc2, 0x80..=0x9f, ..] | [0xd8, 0x9c, ..] => (2, false),
+        [0xc2..=0xdf, 0x80..=0xbf, ..] => (2, true),
+        [0xe2, 0x80, 0x8e..=0x8f | 0xa8..=0xae, ..] | [0xe2, 0x81, 0xa6..=0xa9, ..] => (3, false),
+        [0xe0, 0xa0..=0xbf, 0x80..=0xbf, ..] | [0xed, 0x80..=0x9f, 0x80..=0xbf, ..] => (3, true),
+        [0xe1..=0xec | 0xee..=0xef, 0x80..=0xbf, 0x80..=0xbf, ..] => (3, true),
+        [0xf0, 0x90..=0xbf, 0x80..=0xbf, 0x80..=0xbf, ..] => (4, true),
+        [0xf1..=0xf3, 0x80..=0xbf, 0x80..=0xbf, 0x80..=0xbf, ..] => (4, true),
+        [0xf4, 0x80..=0x8f, 0x80..=0xbf, 0x80..=0xbf, ..] => (4, true),
+        _ => (1, false),
     }
 }
 

@@ -1,15 +1,16 @@
 //! What other forms of reports say of a finding: its words and its places.
 
-ghost use Rattle.std.specs.Prelude.{◌≡◌, IfOk, IfSome};
+ghost use Rattle.std.specs.Prelude.{◌≡◌, [], None, IfOk, IfSome};
 ghost use Rattle.flt_details.specs.Stages as spec;
 
 use crate::advice::{tell_advice, tell_note, tell_title};
+use crate::alike::{firsts_of, like};
 use crate::branches::{step_outcome, tell_branch};
 use crate::case::Case;
 use crate::page::Page;
 use crate::scene::Scene;
 use crate::subjects::state_word;
-use crate::tracing::{Shown, trace_all};
+use crate::tracing::{Shown, Traces};
 use flt_explain::Finding;
 use flt_graph::Graph;
 use flt_origins::Cause;
@@ -64,6 +65,8 @@ pub struct Words {
 #[derive(Drop)]
 pub struct Route {
     pub kind: WayKind,
+    /// The number, from 0, of a finding before it of the same origin, of which the way is told: it serves here too, and none is told here.
+    pub like: Option<usize>,
     /// A way there, from the callback's entry.
     pub stages: Items<Stage>,
     /// Where ways meet with other locks, the other of them.
@@ -252,10 +255,15 @@ pub fn state_at_end(finding: &Finding, way: Option<&Way>) -> Option<&'static str
 // ---- findings
 
 /// How a finding is reached, before its stages are told.
-fn bare_route(alloc: Global, finding: &Finding, shown: &Shown) -> Route {
+fn bare_route(alloc: Global, finding: &Finding, shown: &Shown, like: Option<usize>) -> Route
+    ensures like { result.like ≡ like }
+    ensures stages { result.stages ≡ [] }
+    ensures other { result.other ≡ None }
+{
     let (way, _) = shown.ways();
     Route {
         kind: kind_of(&shown.answer),
+        like,
         stages: Items::new(alloc),
         other: None,
         origin: None,
@@ -264,7 +272,7 @@ fn bare_route(alloc: Global, finding: &Finding, shown: &Shown) -> Route {
 }
 
 impl Route {
-    /// Tells the stages of what shows a finding in a callback.
+    /// Tells the stages of what shows a finding in a callback, unless another finding's serve.
     fn tell(
         &mut self,
         alloc: Global,
@@ -272,11 +280,16 @@ impl Route {
         callback: usize,
         shown: &Shown,
     ) -> Result<(), AllocError>
-        ensures { IfOk result (λ _. spec.IsRoute scene.now.lines.now scene.now.graph.now callback self.new) }
+        requires stages { self.old.stages ≡ [] }
+        requires other { self.old.other ≡ None }
+        ensures route { IfOk result (λ _. spec.IsRoute scene.now.lines.now scene.now.graph.now callback self.new) }
+        ensures like { IfOk result (λ _. self.new.like ≡ self.old.like) }
     {
-        let (way, other) = shown.ways();
-        self.stages = stages_on(alloc, scene, callback, way)?;
-        self.other = other_stages(alloc, scene, callback, other)?;
+        if self.like.is_none() {
+            let (way, other) = shown.ways();
+            self.stages = stages_on(alloc, scene, callback, way)?;
+            self.other = other_stages(alloc, scene, callback, other)?;
+        }
         self.origin = origin_of(alloc, scene, callback, shown)?;
         Ok(())
     }
@@ -288,25 +301,29 @@ fn route_by(
     scene: &Scene<'_>,
     finding: &Finding,
     shown: &Shown,
+    like: Option<usize>,
 ) -> Result<Route, AllocError>
-    ensures { IfOk result (spec.IsRoute scene.now.lines.now scene.now.graph.now finding.now.callback) }
+    ensures route { IfOk result (spec.IsRoute scene.now.lines.now scene.now.graph.now finding.now.callback) }
+    ensures like { IfOk result (λ r. r.like ≡ like) }
 {
-    let mut route = bare_route(alloc, finding, shown);
+    let mut route = bare_route(alloc, finding, shown, like);
     route.tell(alloc, scene, finding.callback, shown)?;
     Ok(route)
 }
 
-/// What is said of a finding, by what shows it.
+/// What is said of a finding, by what shows it, where the way of another one serves, if that is given.
 fn detail_by(
     alloc: Global,
     scene: &Scene<'_>,
     finding: &Finding,
     shown: &Shown,
+    like: Option<usize>,
 ) -> Result<Detail, AllocError>
-    ensures { IfOk result (spec.IsDetail scene.now.lines.now scene.now.graph.now finding.now) }
+    ensures detail { IfOk result (spec.IsDetail scene.now.lines.now scene.now.graph.now finding.now) }
+    ensures like { IfOk result (λ d. d.route.like ≡ like) }
 {
     let words = words_of(alloc, scene, finding, Some(shown))?;
-    let route = route_by(alloc, scene, finding, shown)?;
+    let route = route_by(alloc, scene, finding, shown, like)?;
     Ok(Detail {
         finding: *finding,
         place: scene.place(finding.callback, finding.point),
@@ -321,11 +338,13 @@ fn detail_of(
     scene: &Scene<'_>,
     finding: &Finding,
     shown: Option<&Shown>,
+    like: Option<usize>,
 ) -> Result<Detail, AllocError>
-    ensures { IfOk result (spec.IsDetail scene.now.lines.now scene.now.graph.now finding.now) }
+    ensures detail { IfOk result (spec.IsDetail scene.now.lines.now scene.now.graph.now finding.now) }
+    ensures like { IfOk result (λ d. d.route.like ≡ like) }
 {
     match shown {
-        Some(shown) => detail_by(alloc, scene, finding, shown),
+        Some(shown) => detail_by(alloc, scene, finding, shown, like),
         None => detail_by(
             alloc,
             scene,
@@ -334,11 +353,12 @@ fn detail_of(
                 answer: Answer::Unknown,
                 origin: None,
             },
+            like,
         ),
     }
 }
 
-/// What is said of each finding of a text that parses, in their order.
+/// What is said of each finding of a text that parses, in their order. The ways of the first one of each origin serve the others.
 ///
 /// # Errors
 ///
@@ -358,10 +378,14 @@ pub fn details(
         tree,
         graph,
     };
-    let shown = trace_all(alloc, graph, found)?;
+    let traces = Traces::of(alloc, graph, found)?;
+    let firsts = firsts_of(alloc, traces.groups.as_slice(), found.len())?;
     let mut all = Items::new(alloc);
     for finding in found {
-        all.push(detail_of(alloc, &scene, finding, shown.get(all.len()))?)?;
+        let number = all.len();
+        let like = like(found, firsts.as_slice(), number);
+        let shown = traces.shown_at(number);
+        all.push(detail_of(alloc, &scene, finding, shown, like)?)?;
     }
     Ok(all)
 }

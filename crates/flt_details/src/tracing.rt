@@ -144,11 +144,7 @@ fn shown_by(
 }
 
 /// What shows each finding of a text, with its origin.
-pub(crate) fn trace_all(
-    alloc: Global,
-    graph: &Graph,
-    found: &[Finding],
-) -> Result<Items<Shown>, AllocError> {
+fn trace_all(alloc: Global, graph: &Graph, found: &[Finding]) -> Result<Items<Shown>, AllocError> {
     let mut answers = ways(alloc, graph, found)?;
     let mut all = Vec::new(alloc);
     for finding in found.iter().rev() {
@@ -208,9 +204,14 @@ impl Traces {
         Ok(Traces { shown, groups })
     }
 
+    /// What shows the finding of a number.
+    pub(crate) fn shown_at(&self, number: usize) -> Option<&Shown> {
+        self.shown.get(number)
+    }
+
     /// What shows a finding.
     pub fn shown(&self, traced: &Traced) -> Option<&Shown> {
-        self.shown.get(traced.number)
+        self.shown_at(traced.number)
     }
 
     /// Whether each way to a finding that was found breaks another rule before.

@@ -9,7 +9,7 @@ use Rattle.flt_details.specs.declared.study.Route.{Route}
 use Rattle.flt_details.specs.declared.study.Words.{Words}
 use Rattle.flt_explain.specs.declared.finding.Finding.{Finding}
 use Rattle.flt_forms.specs.Members.{filled_member, line_of, string_member, text_member, number_member, null_member}
-use Rattle.flt_forms.specs.Steps.{kind_name, step_member, steps, steps_member}
+use Rattle.flt_forms.specs.Steps.{kind_name, like_member, step_member, steps, steps_member}
 
 -- where a finding is
 abbrev pub place : Detail → List Token
@@ -37,7 +37,7 @@ state (Some word) = string_member (codes "state") word.now
 abbrev pub way : Route → List Token
 way r =
     key (codes "way") ∷ begin_object ∷ string_member (codes "kind") (kind_name r.kind)
-    ++ (key (codes "steps") ∷ (steps r.stages ++ (steps_member (codes "other") r.other ++ end_object ∷ [])))
+    ++ (like_member r.like ++ (key (codes "steps") ∷ (steps r.stages ++ (steps_member (codes "other") r.other ++ end_object ∷ []))))
 
 -- where it comes from, and how it is reached
 abbrev pub route : Route → List Token

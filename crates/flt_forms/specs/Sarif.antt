@@ -97,6 +97,14 @@ flows_by Behind uri d = both_flows uri d
 flows_by Unreached uri d = []
 flows_by Unknown uri d = []
 
+-- none where another finding's serve
+abbrev pub own_flows : Option ℕ → List ℕ → Detail → List Token
+own_flows None uri d = flows_by d.route.kind uri d
+own_flows (Some n) uri d = []
+
+abbrev pub flows : List ℕ → Detail → List Token
+flows uri d = own_flows d.route.like uri d
+
 -- ---- results
 
 -- what breaks a rule is an error
@@ -128,7 +136,7 @@ abbrev pub result_members : List ℕ → Detail → List Token
 result_members uri d =
     string_member (codes "ruleId") (rule_name d.finding.rule) ++ (level ++ (message d.words.title.items ++ (locations uri d
     ++ (array_member (codes "relatedLocations") (related uri d.route.origin)
-    ++ (array_member (codes "codeFlows") (flows_by d.route.kind uri d) ++ (fingerprints d ++ properties d))))))
+    ++ (array_member (codes "codeFlows") (flows uri d) ++ (fingerprints d ++ properties d))))))
 
 abbrev pub result : List ℕ → Detail → List Token
 result uri d = item (result_members uri d)

@@ -32,6 +32,11 @@ abbrev pub steps_member : List ℕ → Option (List Stage) → List Token
 steps_member name None = null_member name
 steps_member name (Some stages) = key name ∷ steps stages
 
+-- which finding's way serves
+abbrev pub like_member : Option ℕ → List Token
+like_member None = null_member (codes "like")
+like_member (Some n) = number_member (codes "like") n
+
 -- what a way is
 abbrev pub kind_name : WayKind → List ℕ
 kind_name Clean = codes "clean"

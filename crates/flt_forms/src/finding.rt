@@ -9,7 +9,7 @@ ghost use Rattle.flt_details.specs.Closing.{rule_name};
 use crate::members::{
     close_object, open_object, put_filled, put_key, put_null, put_number, put_string, put_text,
 };
-use crate::steps::{put_kind, put_step_member, put_steps, put_steps_member};
+use crate::steps::{put_kind, put_like, put_step_member, put_steps, put_steps_member};
 use flt_details::{Detail, Route, RuleName, Words};
 use flt_explain::Finding;
 use flt_rules::{Rule, text};
@@ -73,6 +73,7 @@ fn put_way(alloc: Global, writer: &mut Writer, route: &Route) -> Result<(), Allo
     put_key(writer, "way")?;
     open_object(writer)?;
     put_kind(writer, route.kind)?;
+    put_like(writer, route.like)?;
     put_key(writer, "steps")?;
     put_steps(alloc, writer, &route.stages)?;
     put_steps_member(alloc, writer, "other", &route.other)?;

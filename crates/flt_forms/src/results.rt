@@ -293,7 +293,22 @@ fn put_found_flows(
     }
 }
 
-/// The ways, where one was found.
+/// The ways, where one was found and another finding's don't serve.
+fn put_own_flows(
+    alloc: Global,
+    writer: &mut Writer,
+    uri: &Vec<u8>,
+    detail: &Detail,
+) -> Result<(), AllocError>
+    ensures { Adds result writer.old writer.new (spec.flows uri.now.items detail.now) }
+{
+    match detail.route.like {
+        None => put_found_flows(alloc, writer, uri, detail, detail.route.kind),
+        Some(_) => Ok(()),
+    }
+}
+
+/// The ways of a result.
 fn put_flows(
     alloc: Global,
     writer: &mut Writer,
@@ -301,11 +316,11 @@ fn put_flows(
     detail: &Detail,
 ) -> Result<(), AllocError>
     ensures { Adds result writer.old writer.new
-        (array_member (codes "codeFlows") (spec.flows_by detail.now.route.kind uri.now.items detail.now)) }
+        (array_member (codes "codeFlows") (spec.flows uri.now.items detail.now)) }
 {
     put_key(writer, "codeFlows")?;
     open_array(writer)?;
-    put_found_flows(alloc, writer, uri, detail, detail.route.kind)?;
+    put_own_flows(alloc, writer, uri, detail)?;
     close_array(writer)
 }
 

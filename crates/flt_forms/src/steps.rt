@@ -38,6 +38,16 @@ pub(crate) fn put_kind(writer: &mut Writer, kind: WayKind) -> Result<(), AllocEr
     put_string(writer, "kind", kind_name(kind))
 }
 
+/// The number of the finding whose way serves, or null.
+pub(crate) fn put_like(writer: &mut Writer, like: Option<usize>) -> Result<(), AllocError>
+    ensures { Adds result writer.old writer.new (spec.like_member like) }
+{
+    match like {
+        None => put_null(writer, "like"),
+        Some(number) => put_number(writer, "like", number),
+    }
+}
+
 fn put_step(alloc: Global, writer: &mut Writer, stage: &Stage) -> Result<(), AllocError>
     ensures { Adds result writer.old writer.new (spec.step stage.now) }
 {
