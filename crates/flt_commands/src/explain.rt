@@ -44,7 +44,7 @@ fn sources<'s, 'a: 's>(
 /// What is asked of texts beside their reports.
 #[derive(Clone, Copy)]
 pub struct Asked<'a> {
-    /// How many states a round of the search for a run has at most.
+    /// How many states the search for runs of a text goes on from at most.
     pub states: u32,
     /// The file into which the journal of the first finding that has one is written.
     pub journal: Option<&'a str>,
@@ -61,7 +61,7 @@ fn noted(
     if asked.journal.is_none() {
         return Ok(Items::new(alloc));
     }
-    let told = explain(alloc, false, sources, asked.states as usize)?;
+    let told = explain(alloc, false, sources, asked.states)?;
     Ok(told.noted)
 }
 
@@ -78,7 +78,7 @@ fn told(
     ensures notes { IfOk result (spec.IsNoteTold form) }
 {
     let explained = match form {
-        Form::Human => return explain(alloc, coloured, sources, asked.states as usize),
+        Form::Human => return explain(alloc, coloured, sources, asked.states),
         Form::Lines => lines(alloc, sources)?,
         Form::Sarif => sarif(alloc, sources)?,
     };

@@ -1,7 +1,8 @@
 -- What is printed with a part more.
-use Rattle.std.proofs.Common.{◌⊎◌, inl, inr, ◌≡◌, ℕ, List, [], ◌∷◌, ◌++◌, Some, Result, Ok, Err, All, IfOk, map, refl, sym, ap, ◌∙◌, append_assoc, slice_get}
+use Rattle.std.proofs.Common.{◌⊎◌, inl, inr, ◌≡◌, ℕ, List, [], ◌∷◌, ◌++◌, Result, Ok, Err, All, IfOk, OnOk, map, reverse, refl, ap, ◌∙◌, append_assoc}
 use Rattle.std.proofs.Math.Path.{subst}
-use Rattle.std.proofs.lemmas.List.Elements.{All-nil, All-push, All-weaker}
+use Rattle.std.proofs.lemmas.List.Sorted.{All-permutation, IsPermutation-reverse}
+use Rattle.std.proofs.lemmas.List.Elements.{All-nil, All-cons, All-head, All-tail, All-push, All-weaker}
 use Rattle.flt_model.specs.Program.{filters_of}
 use Rattle.flt_notes.specs.Readings.{AreParsed, IsOther, IsUnread}
 use Rattle.flt_notes.specs.Reported.{HasNotice, HasNoticeStatus, HasReport, HasStatus, IsReport, IsStatus, stack_of}
@@ -17,8 +18,11 @@ use Rattle.flt_details.specs.Reports.{IsKnown}
 use Rattle.flt_details.specs.declared.judged.Judged.TheVariants.{Unread, Known as Found}
 use Rattle.flt_notes.specs.Lines.{BeginsWith, said}
 use Rattle.flt_notes.specs.Noted.{IsNoted}
-use Rattle.flt_notes.specs.Printing.{ClosesFault, ClosesFindings, ClosesOther, IsKnownIn, IsNoteOf, IsOutput}
+use Rattle.flt_notes.specs.Printing.{ClosesFault, ClosesFindings, ClosesOther, IsKnownIn, IsOutcomeIn, IsOutput, IsSuspectOf}
 use Rattle.flt_notes.specs.Told.{AreNoted, IsNotedOf, StandIn}
+use Rattle.flt_schedules.specs.Schedules.{AreOutcomes, IsScheduled}
+use Rattle.flt_schedules.specs.declared.schedules.Outcome.{Outcome}
+use Rattle.flt_schedules.specs.declared.schedules.Suspect.{Suspect}
 use Rattle.flt_notes.specs.declared.noted.Noted.{Noted}
 use Rattle.flt_notes.specs.declared.printing.Known.{Known}
 use Rattle.flt_notes.specs.declared.printing.Output.{Output}
@@ -42,19 +46,38 @@ output_more trees old new more is added same = record {
   said = rw (same, added) (stand_in_more (map (λ (n : Noted). said n.scheduled) old.noted) old.bytes.items more is.said);
 }
 
+-- what comes of findings is what comes of those of a text
+pub outcomes_in : (trees : List Tree) (k : Known) (g : Graph) (found : List Suspect) (all : List Outcome) → g ≡ k.graph.now →
+    All (IsSuspectOf k.found.now) found → AreOutcomes trees k.place g found all → All (IsOutcomeIn trees k) all
+outcomes_in trees k g [] [] same suspects are = All-nil (IsOutcomeIn trees k)
+outcomes_in trees k g [] (o ∷ all) same suspects are = absurd are
+outcomes_in trees k g (s ∷ found) [] same suspects are = absurd are
+outcomes_in trees k g (s ∷ found) (o ∷ all) same suspects are =
+    let first : IsOutcomeIn trees k o = record {
+      finding = s.finding;
+      numbered = rw are.0.number (All-head (IsSuspectOf k.found.now) s found suspects);
+      scheduled = subst (λ h. IsScheduled trees k.place h s.finding o.scheduled) same are.0.scheduled;
+    } in
+    All-cons (IsOutcomeIn trees k) o all first
+    (outcomes_in trees k g found all same (All-tail (IsSuspectOf k.found.now) s found suspects) are.1)
+
+-- the same in whichever order
+pub outcomes_back : (trees : List Tree) (k : Known) (all : List Outcome) → All (IsOutcomeIn trees k) all → All (IsOutcomeIn trees k) (reverse all)
+outcomes_back trees k all are = All-permutation (IsOutcomeIn trees k) all (reverse all) (IsPermutation-reverse all) are
+
 -- what comes of a finding is noted
-pub noted_of : (trees : List Tree) (k : Known) (number : ℕ) (finding : Finding) (n : Noted) → IsKnownIn trees k →
-    slice_get k.found.now number ≡ Some finding → IsNoteOf trees k number finding n → IsNoted trees n
-noted_of trees k number finding n known at note = record {
+pub noted_of : (trees : List Tree) (k : Known) (o : Outcome) (n : Noted) → IsKnownIn trees k → IsOutcomeIn trees k o → n.filter ≡ k.place →
+    n.finding ≡ o.number → n.scheduled ≡ o.scheduled → IsNoted trees n
+noted_of trees k o n known is filter number scheduled = record {
   tree = known.tree;
-  own = rw note.filter known.own;
-  suspect = note.suspect;
-  filter = note.suspect_filter ∙ sym note.filter;
-  lowered = rw note.points known.lowered;
+  own = rw filter known.own;
+  graph = k.graph.now;
+  lowered = known.lowered;
   found = k.found.now;
-  findings = rw note.points known.findings;
-  finding = rw (note.finding_number, note.own) at;
-  scheduled = note.scheduled;
+  findings = known.findings;
+  finding = is.finding;
+  numbered = rw number is.numbered;
+  scheduled = rw (filter, scheduled) is.scheduled;
 }
 
 -- with a note more
@@ -107,3 +130,8 @@ pub all_noted : (texts : List Text) (trees : List Tree) (noted : List Noted) →
     All (IsNoted trees) noted → AreNoted texts noted
 all_noted texts trees noted parsed all =
     All-weaker (IsNoted trees) (IsNotedOf texts) (λ n is. record { trees = trees; parsed = parsed; is = is }) noted all
+
+-- what holds, holds where something is done
+pub on_ok : {A E : Type 0} (r : Result A E) (P : Type 0) → P → OnOk r P
+on_ok (Ok a) P holds = holds
+on_ok (Err e) P holds = tt

@@ -2,6 +2,7 @@
 use Rattle.std.specs.Prelude.{◌≡◌, List, [], ◌∷◌, Option, Some, None, slice_get}
 use Rattle.flt_tree.specs.declared.tree.Tree.{Tree}
 use Rattle.flt_graph.specs.Lowering.{IsLowered}
+use Rattle.flt_graph.specs.declared.graph.Graph.{Graph}
 use Rattle.flt_explain.specs.Findings.{AreFindings}
 use Rattle.flt_explain.specs.declared.finding.Finding.{Finding}
 use Rattle.flt_model.specs.JournalText.{Entries}
@@ -10,7 +11,6 @@ use Rattle.flt_schedules.specs.declared.schedules.Schedule.{Schedule}
 use Rattle.flt_schedules.specs.declared.schedules.Schedule.TheVariants.{Breaks}
 use Rattle.flt_schedules.specs.declared.schedules.Scheduled.{Scheduled}
 use Rattle.flt_schedules.specs.declared.schedules.Scheduled.TheVariants.{Together, Alone}
-use Rattle.flt_schedules.specs.declared.schedules.Suspect.{Suspect}
 use Rattle.flt_notes.specs.declared.noted.Noted.{Noted}
 
 -- what comes of a finding, in whichever runs
@@ -40,10 +40,10 @@ first_journal (n ∷ ns) = one_or (journal_of n) (first_journal ns)
 pub record IsNoted (trees : List Tree) (n : Noted) : Type 0 where
   pub tree : Tree
   pub own : slice_get trees n.filter ≡ Some tree
-  pub suspect : Suspect
-  pub filter : suspect.filter ≡ n.filter
-  pub lowered : IsLowered tree.filter suspect.outlook.now
+  pub graph : Graph
+  pub lowered : IsLowered tree.filter graph
   pub found : List Finding
-  pub findings : AreFindings suspect.outlook.now found
-  pub finding : slice_get found n.finding ≡ Some suspect.finding
-  pub scheduled : IsScheduled trees suspect n.scheduled
+  pub findings : AreFindings graph found
+  pub finding : Finding
+  pub numbered : slice_get found n.finding ≡ Some finding
+  pub scheduled : IsScheduled trees n.filter graph finding n.scheduled

@@ -3,7 +3,6 @@ use Rattle.std.specs.Prelude.{◌≡◌, ℕ, All, List, [], ◌∷◌, ◌++◌
 use Rattle.flt_syntax.specs.declared.fault.SyntaxFault.{SyntaxFault}
 use Rattle.flt_tree.specs.declared.tree.Tree.{Tree}
 use Rattle.flt_graph.specs.Lowering.{IsLowered}
-use Rattle.flt_graph.specs.declared.graph.Graph.{Graph}
 use Rattle.flt_explain.specs.Findings.{AreFindings}
 use Rattle.flt_explain.specs.declared.finding.Finding.{Finding}
 use Rattle.flt_reasons.specs.Notice as notices
@@ -14,10 +13,10 @@ use Rattle.flt_tree.specs.Names.{Text}
 use Rattle.flt_details.specs.Closing.{findings_closing, syntax_line}
 use Rattle.flt_details.specs.Reports.{EndsWith, findings_status}
 use Rattle.flt_schedules.specs.Schedules.{IsScheduled}
+use Rattle.flt_schedules.specs.declared.schedules.Outcome.{Outcome}
 use Rattle.flt_schedules.specs.declared.schedules.Suspect.{Suspect}
 use Rattle.flt_notes.specs.Noted.{IsNoted}
 use Rattle.flt_notes.specs.Told.{AreSaid}
-use Rattle.flt_notes.specs.declared.noted.Noted.{Noted}
 use Rattle.flt_notes.specs.declared.printing.Known.{Known}
 use Rattle.flt_notes.specs.declared.printing.Output.{Output}
 
@@ -33,20 +32,15 @@ pub record IsKnownIn (trees : List Tree) (k : Known) : Type 0 where
   pub lowered : IsLowered tree.filter k.graph.now
   pub findings : AreFindings k.graph.now k.found.now
 
--- the same, with what runs can reach of these points
-pub record IsLooked (trees : List Tree) (k : Known) (outlook : Graph) : Type 0 where
-  pub known : IsKnownIn trees k
-  pub same : outlook ≡ k.graph.now
+-- a finding has this number among these
+abbrev pub IsSuspectOf : List Finding → Suspect → Type 0
+IsSuspectOf found s = slice_get found s.number ≡ Some s.finding
 
--- what comes of a finding of a text that parses, which has this number
-pub record IsNoteOf (trees : List Tree) (k : Known) (number : ℕ) (finding : Finding) (n : Noted) : Type 0 where
-  pub filter : n.filter ≡ k.place
-  pub finding_number : n.finding ≡ number
-  pub suspect : Suspect
-  pub suspect_filter : suspect.filter ≡ k.place
-  pub points : suspect.outlook.now ≡ k.graph.now
-  pub own : suspect.finding ≡ finding
-  pub scheduled : IsScheduled trees suspect n.scheduled
+-- what comes of a finding of a text that parses
+pub record IsOutcomeIn (trees : List Tree) (k : Known) (o : Outcome) : Type 0 where
+  pub finding : Finding
+  pub numbered : slice_get k.found.now o.number ≡ Some finding
+  pub scheduled : IsScheduled trees k.place k.graph.now finding o.scheduled
 
 -- the status of what is found, and what ends what is printed
 abbrev pub ClosesFindings : List Finding → List ℕ → ℕ → Type 0

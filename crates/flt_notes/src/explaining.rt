@@ -20,9 +20,9 @@ pub struct Told {
 }
 
 /// What is wrong with some texts, for people to read: each finding with the lines that show it, a way that leads there, how to mend it,
-/// and a journal that breaks what its rule prevents, if one is found. A journal is looked for in rounds of growing bounds, each up to so
-/// many states: where several texts parse and the finding's filter meets another one on an operation, on all that parse, else, or where
-/// none is found, on the filter alone. The last line of each text is what `analyse` says of it, or `nothing found`. A text that doesn't
+/// and a journal that breaks what its rule prevents, if one is found. Journals are looked for by one search for all findings of a text, up to
+/// so many states: where several texts parse and the text's filter meets another one on an operation, half of them on all that parse, and
+/// for what isn't found there on the filter alone. The last line of each text is what `analyse` says of it, or `nothing found`. A text that doesn't
 /// parse and begins as a certificate, a journal or a script is taken for one: what is said of it is why a line of it is malformed, and its last
 /// line is what `check`, `replay` or `run` say of it, or `nothing found`. A script is taken for one for the filters of the texts that
 /// parse, or, where none does, for whichever filters it detaches. With `coloured`, marks of a terminal colour it.
@@ -34,7 +34,7 @@ pub fn explain(
     alloc: Global,
     coloured: bool,
     sources: &[Source<'_>],
-    states: usize,
+    states: u32,
 ) -> Result<Told, AllocError>
     ensures reports { IfOk result (λ t. AreReports (texts_of sources.now) t.explained.output.items t.explained.status) }
     ensures noted { IfOk result (λ t. spec.AreNoted (texts_of sources.now) t.noted) }

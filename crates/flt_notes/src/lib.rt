@@ -4,10 +4,11 @@
 //! `readings` has what each text is found to be, beside the trees of all that parse; `notices` what is said of a certificate, a
 //! journal or a script. `noted` says what comes of a finding, `lines` has
 //! the words for it; `setters` adds a callback to a text that sets what nothing in it sets, and `again` what comes of a finding then.
-//! `printing` puts reports and notes together. It exports `explain`, and `first_journal`.
+//! `also` says what a run that was shown breaks beside the least. `printing` puts reports and notes together. It exports `explain`, and `first_journal`.
 #![tactic(auto)]
 
 mod again;
+mod also;
 mod explaining;
 mod lines;
 mod noted;

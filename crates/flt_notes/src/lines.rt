@@ -7,7 +7,7 @@ use crate::noted::schedule_of;
 use flt_graph::Place;
 use flt_model::{Journal, JournalEntry, Move, Verdict, Violation};
 use flt_schedules::{Schedule, Scheduled, Unset, only};
-use flt_seek::Broken;
+use flt_search::Broken;
 use flt_timeline::Timeline;
 use flt_tree::Tree;
 use std::alloc::{AllocError, Global};
@@ -158,10 +158,12 @@ fn put_journal(
 pub(crate) struct Case {
     /// Each way to the finding that is known breaks another rule before.
     pub(crate) is_behind: bool,
-    /// How many states a round of a search has at most.
-    pub(crate) states: usize,
+    /// How many states the search goes on from at most.
+    pub(crate) states: u32,
     /// Where the finding's callback is.
     pub(crate) place: Place,
+    /// What the run of a finding that was told before breaks too, by the same entry, that this finding's rule prevents.
+    pub(crate) also: Option<Violation>,
 }
 
 /// Why a callback at this place never runs.
@@ -191,8 +193,20 @@ fn never_got(unset: Unset) -> &'static str {
     }
 }
 
+/// That a run which was shown before breaks this too.
+fn put_also(out: &mut String, violation: Violation) -> Result<(), AllocError> {
+    let number = violation_number(violation);
+    write!(
+        out,
+        ": the run above breaks V{number} by the same entry, too; `replay` says the least of what an entry breaks\n"
+    )
+}
+
 /// Why no run is shown. That the search ended is never taken for more than that.
 fn put_missing(out: &mut String, case: Case, is_cut: bool) -> Result<(), AllocError> {
+    if let Some(violation) = case.also {
+        return put_also(out, violation);
+    }
     if case.is_behind {
         return out.push_str(
             ": each path there that is known breaks another rule first, and a run ends where it breaks something\n",
@@ -200,12 +214,15 @@ fn put_missing(out: &mut String, case: Case, is_cut: bool) -> Result<(), AllocEr
     }
     if is_cut {
         let states = case.states;
+        let many = if states == 1 { "" } else { "s" };
         return write!(
             out,
-            ": no run was found in {states} states a round; `--states N` sets another bound\n"
+            ": no run was found in {states} state{many}; `--states N` sets another bound\n"
         );
     }
-    out.push_str(": no run was found among those of up to 3 operations that are tried\n")
+    out.push_str(
+        ": no run was found among those that are tried, of up to 3 operations at once and 1,100 one after the other\n",
+    )
 }
 
 // ---- both

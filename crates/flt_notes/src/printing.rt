@@ -1,6 +1,6 @@
 //! Reports and notes, put together.
 
-ghost use Rattle.std.specs.Prelude.{◌≡◌, ◌++◌, IfOk, OnOk, max, option_map, slice_get};
+ghost use Rattle.std.specs.Prelude.{◌≡◌, ◌++◌, All, IfOk, OnOk, max, option_map, option_to_list, slice_get};
 ghost use Rattle.flt_model.specs.Program.{filters_of};
 ghost use Rattle.flt_notes.specs.Lines.{BeginsWith, said};
 ghost use Rattle.flt_notes.specs.Printing as spec;
@@ -8,6 +8,7 @@ ghost use Rattle.flt_notes.specs.Readings.{AreStudied, IsStudied, texts_read};
 ghost use Rattle.flt_notes.specs.Reported.{AreReportsOf, IsReport, IsStatus, stack_of};
 
 use crate::again::Again;
+use crate::also::also_broken;
 use crate::lines::{Case, note_lines};
 use crate::noted::{Noted, schedule_of};
 use crate::notices::notice_lines;
@@ -15,10 +16,11 @@ use crate::readings::{Reading, Studied};
 use crate::setters::Setter;
 use flt_details::{Source, fault_line, findings_line};
 use flt_explain::Finding;
-use flt_graph::Graph;
+use flt_graph::{Graph, Place};
+use flt_model::Violation;
 use flt_reasons::{Kind, Notice, describe};
 use flt_reports::{Report, report_findings, report_nothing, report_unread};
-use flt_schedules::{Outlook, Schedule, Suspect, schedule_among};
+use flt_schedules::{Outcome, Outlook, Schedule, Suspect, Suspects, outcomes_among};
 use flt_syntax::SyntaxFault;
 use flt_tree::Tree;
 use sqlite_items::Items;
@@ -47,8 +49,8 @@ pub(crate) struct Stage<'a> {
     pub(crate) coloured: bool,
     /// Those of the texts that parse.
     pub(crate) trees: &'a [Tree],
-    /// How many states a round of a search has at most.
-    pub(crate) states: usize,
+    /// How many states the search for runs of a text goes on from at most.
+    pub(crate) states: u32,
 }
 
 /// A text that parses: the number of its tree, its points and its findings.
@@ -59,12 +61,11 @@ struct Known<'a> {
     found: &'a [Finding],
 }
 
-/// The same, with what runs can reach of it, and the text that sets the contexts which nothing in it sets.
+/// The same, with what is said of it with the callback that sets the contexts which nothing in it sets.
 #[derive(Clone, Copy)]
 struct Looked<'a> {
     known: Known<'a>,
-    outlook: &'a Outlook<'a>,
-    again: Option<&'a Again<'a>>,
+    again: Option<&'a Again>,
 }
 
 /// The finding of a number, from 0.
@@ -74,36 +75,114 @@ fn finding_at(found: &[Finding], number: usize) -> Option<Finding>
     found.get(number).copied()
 }
 
+/// Where the callback of the finding of a number is.
+fn place_of(known: Known<'_>, number: usize) -> Place {
+    match finding_at(known.found, number) {
+        Some(finding) => known.graph.place(finding.callback),
+        None => Place::Generic,
+    }
+}
+
+/// The findings of a text that are reported by themselves.
+fn suspects_of(
+    alloc: Global,
+    found: &[Finding],
+    reports: &[Report],
+) -> Result<Vec<Suspect>, AllocError>
+    ensures { IfOk result (λ all. All (spec.IsSuspectOf found.now) all.items) }
+{
+    let mut all = Vec::new(alloc);
+    for report in reports {
+        if let Some(finding) = finding_at(found, report.finding) {
+            all.push(Suspect {
+                number: report.finding,
+                finding,
+            })?;
+        }
+    }
+    Ok(all)
+}
+
+/// What comes of the finding of a number, if that is the last one.
+fn take_outcome(outcomes: &mut Vec<Outcome>, number: usize) -> Option<Outcome>
+    ensures { outcomes.old.items ≡ outcomes.new.items ++ option_to_list result }
+{
+    match outcomes.last() {
+        Some(outcome) if outcome.number == number => outcomes.pop(),
+        _ => None,
+    }
+}
+
 impl Stage<'_> {
-    /// What comes of a finding of the filter of a number.
-    fn note(&self, looked: Looked<'_>, number: usize, finding: Finding) -> Result<Noted, AllocError>
-        requires looked { looked.outlook.now ≡ looked.known.graph.now }
-        ensures { IfOk result (spec.IsNoteOf self.now.trees.now looked.entry.known number finding) }
+    /// What comes of the findings of a text that are reported by themselves, the last one first.
+    fn outcomes(
+        &self,
+        known: Known<'_>,
+        outlook: &Outlook<'_>,
+        reports: &[Report],
+    ) -> Result<Vec<Outcome>, AllocError>
+        requires known { spec.IsKnownIn self.now.trees.now known }
+        requires same { outlook.now ≡ known.graph.now }
+        ensures { IfOk result (λ all. All (spec.IsOutcomeIn self.now.trees.now known.entry) all.items) }
     {
-        let suspect = Suspect {
-            filter: looked.known.place,
-            outlook: looked.outlook,
-            finding,
+        let found = suspects_of(self.alloc, known.found, reports)?;
+        let suspects = Suspects {
+            filter: known.place,
+            outlook,
+            found: found.as_slice(),
         };
-        let scheduled = schedule_among(self.alloc, self.trees, &suspect, self.states)?;
-        Ok(Noted {
-            filter: looked.known.place,
-            finding: number,
-            scheduled,
-        })
+        let mut outcomes = outcomes_among(self.alloc, self.trees, &suspects, self.states)?;
+        outcomes.reverse();
+        Ok(outcomes)
+    }
+
+    /// What the run of a finding that was told before breaks too, where this one has none.
+    fn also(
+        &self,
+        earlier: &[Noted],
+        known: Known<'_>,
+        noted: &Noted,
+    ) -> Result<Option<Violation>, AllocError> {
+        match (
+            schedule_of(&noted.scheduled),
+            finding_at(known.found, noted.finding),
+        ) {
+            (Schedule::NotWithin | Schedule::Cut, Some(finding)) => {
+                also_broken(
+                    self.alloc,
+                    self.trees,
+                    earlier,
+                    known.place,
+                    known.found,
+                    &finding,
+                )
+            }
+            _ => Ok(None),
+        }
+    }
+
+    /// What comes of the findings for which contexts would be needed that nothing sets, where one more callback sets them.
+    fn again(
+        &self,
+        source: Source<'_>,
+        tree: &Tree,
+        known: Known<'_>,
+        outlook: &Outlook<'_>,
+        outcomes: &[Outcome],
+    ) -> Result<Option<Again>, AllocError> {
+        match Setter::of(self.alloc, source, tree, known.found, outlook.unset())? {
+            Some(setter) => {
+                let again = Again::of(self.alloc, setter, known.found, outcomes, self.states)?;
+                Ok(Some(again))
+            }
+            None => Ok(None),
+        }
     }
 
     /// What is said of a finding where one more callback sets the contexts that nothing in its text sets.
-    fn again_lines(
-        &self,
-        looked: Looked<'_>,
-        noted: &Noted,
-        finding: &Finding,
-    ) -> Result<String, AllocError> {
+    fn again_lines(&self, looked: Looked<'_>, noted: &Noted) -> Result<String, AllocError> {
         match (schedule_of(&noted.scheduled), looked.again) {
-            (Schedule::NeverGot(_), Some(again)) => {
-                again.lines(self.alloc, noted.finding, finding, self.states)
-            }
+            (Schedule::NeverGot(_), Some(again)) => again.lines(self.alloc, noted.finding),
             _ => Ok(String::new(self.alloc)),
         }
     }
@@ -114,21 +193,45 @@ impl Stage<'_> {
         &self,
         looked: Looked<'_>,
         noted: &Noted,
-        finding: &Finding,
-        is_behind: bool,
+        case: Case,
     ) -> Result<Vec<u8>, AllocError>
         ensures { IfOk result (λ lines. BeginsWith lines.items (said noted.now.scheduled)) }
     {
+        let number = looked.known.place;
+        let mut lines = note_lines(self.alloc, self.trees, number, &noted.scheduled, case)?;
+        let again = self.again_lines(looked, noted)?;
+        lines.extend_from_slice(again.as_bytes())?;
+        Ok(lines)
+    }
+
+    /// Writes what comes of a finding.
+    fn put_note(
+        &self,
+        output: &mut Output,
+        looked: Looked<'_>,
+        outcome: Outcome,
+        is_behind: bool,
+    ) -> Result<(), AllocError>
+        requires known { spec.IsKnownIn self.now.trees.now looked.known }
+        requires outcome { spec.IsOutcomeIn self.now.trees.now looked.known outcome }
+        requires old { spec.IsOutput self.now.trees.now output.old }
+        ensures { OnOk result (spec.IsOutput self.now.trees.now output.new) }
+    {
+        let noted = Noted {
+            filter: looked.known.place,
+            finding: outcome.number,
+            scheduled: outcome.scheduled,
+        };
         let case = Case {
             is_behind,
             states: self.states,
-            place: looked.known.graph.place(finding.callback),
+            place: place_of(looked.known, noted.finding),
+            also: self.also(output.noted.as_slice(), looked.known, &noted)?,
         };
-        let number = looked.known.place;
-        let mut lines = note_lines(self.alloc, self.trees, number, &noted.scheduled, case)?;
-        let again = self.again_lines(looked, noted, finding)?;
-        lines.extend_from_slice(again.as_bytes())?;
-        Ok(lines)
+        let lines = self.note_lines(looked, &noted, case)?;
+        output.lines(lines.as_slice())?;
+        output.noted.push(noted)?;
+        Ok(())
     }
 
     /// Writes the report of a finding, and what comes of it.
@@ -136,21 +239,20 @@ impl Stage<'_> {
         &self,
         output: &mut Output,
         looked: Looked<'_>,
+        outcomes: &mut Vec<Outcome>,
         report: &Report,
     ) -> Result<(), AllocError>
-        requires looked { spec.IsLooked self.now.trees.now looked.known looked.outlook.now }
+        requires known { spec.IsKnownIn self.now.trees.now looked.known }
+        requires outcomes { All (spec.IsOutcomeIn self.now.trees.now looked.known) outcomes.old.items }
         requires old { spec.IsOutput self.now.trees.now output.old }
-        ensures { OnOk result (spec.IsOutput self.now.trees.now output.new) }
+        ensures output { OnOk result (spec.IsOutput self.now.trees.now output.new) }
+        ensures outcomes { OnOk result (All (spec.IsOutcomeIn self.now.trees.now looked.entry.known) outcomes.new.items) }
     {
         output.lines(report.lines.as_slice())?;
-        let Some(finding) = finding_at(looked.known.found, report.finding) else {
-            return Ok(());
-        };
-        let noted = self.note(looked, report.finding, finding)?;
-        let lines = self.note_lines(looked, &noted, &finding, report.is_behind)?;
-        output.lines(lines.as_slice())?;
-        output.noted.push(noted)?;
-        Ok(())
+        match take_outcome(outcomes, report.finding) {
+            Some(outcome) => self.put_note(output, looked, outcome, report.is_behind),
+            None => Ok(()),
+        }
     }
 
     /// Writes the reports of a text's findings.
@@ -158,14 +260,16 @@ impl Stage<'_> {
         &self,
         output: &mut Output,
         looked: Looked<'_>,
+        outcomes: &mut Vec<Outcome>,
         reports: &[Report],
     ) -> Result<(), AllocError>
-        requires looked { spec.IsLooked self.now.trees.now looked.known looked.outlook.now }
+        requires known { spec.IsKnownIn self.now.trees.now looked.known }
+        requires outcomes { All (spec.IsOutcomeIn self.now.trees.now looked.known) outcomes.old.items }
         requires old { spec.IsOutput self.now.trees.now output.old }
         ensures { OnOk result (spec.IsOutput self.now.trees.now output.new) }
     {
         for report in reports {
-            self.put_report(output, looked, report)?;
+            self.put_report(output, looked, outcomes, report)?;
         }
         Ok(())
     }
@@ -193,17 +297,13 @@ impl Stage<'_> {
             known.found,
         )?;
         let outlook = Outlook::of(self.alloc, known.graph)?;
-        let setter = Setter::of(self.alloc, source, tree, known.found, outlook.unset())?;
-        let again = match &setter {
-            Some(setter) => Some(Again::of(self.alloc, setter)?),
-            None => None,
-        };
+        let mut outcomes = self.outcomes(known, &outlook, reports.as_slice())?;
+        let again = self.again(source, tree, known, &outlook, outcomes.as_slice())?;
         let looked = Looked {
             known,
-            outlook: &outlook,
             again: again.as_ref(),
         };
-        self.put_reports(output, looked, reports.as_slice())
+        self.put_reports(output, looked, &mut outcomes, reports.as_slice())
     }
 
     /// Writes what is found of a text that parses.

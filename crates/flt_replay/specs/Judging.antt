@@ -34,6 +34,12 @@ pub record Follows (p : List Filter) (m : Moment) (x : Transition) (s : Step) (w
   pub world : s.world ≡ w
   pub events_are : s.events ≡ events
 
+-- the same step, and the least violation of rules that it breaks
+pub record IsJudgedBy (p : List Filter) (m : Moment) (x : Transition) (w : World) (events : List Event) (rule : Option Violation) : Type 0 where
+  pub step : Step
+  pub follows : Follows p m x step w events
+  pub least : rule ≡ first_of of_rules p m step
+
 -- ---- rules, read in the world after a step: it has all that they read as it was before, but the locks
 
 -- the world where an activation has these locks

@@ -1,14 +1,15 @@
 //! The monitor: it runs a journal entry by entry, and stops at the first that isn't a run or that breaks something.
 
-ghost use Rattle.std.specs.Prelude.{◌≡◌, ◌↔◌, ℕ, List, [], ◌∷◌, ◌++◌, replicate, IfOk};
+ghost use Rattle.std.specs.Prelude.{◌≡◌, ◌↔◌, ℕ, List, [], ◌∷◌, ◌++◌, None, Some, replicate, IfOk, IfSome};
 ghost use Rattle.flt_model.specs.declared.moves.Move.{Move};
 ghost use Rattle.flt_model.specs.declared.verdict.Violation.{Violation};
 ghost use Rattle.flt_model.specs.Effects.{Step};
 ghost use Rattle.flt_model.specs.Expansion as spec;
-ghost use Rattle.flt_model.specs.Runs.{Moment, broken, after, start};
+ghost use Rattle.flt_model.specs.Runs.{Moment, broken, after, next, start};
 ghost use Rattle.flt_model.specs.Steps.{Transition, Make, Local, Board};
 ghost use Rattle.flt_replay.specs.Ledger.{Agrees};
-ghost use Rattle.flt_replay.specs.Judging.{Follows, first_of, of_rules};
+ghost use Rattle.flt_replay.specs.Judging.{Follows, IsJudgedBy, first_of, of_rules};
+ghost use Rattle.flt_replay.specs.Lesser.{BreaksRule, EndsBy, moment_after};
 ghost use Rattle.flt_world.specs.Filters.{filters_of};
 ghost use Rattle.flt_replay.specs.Monitoring.{IsAt, ComesTo, GoesOn};
 ghost use Rattle.flt_world.specs.Happening.{holds_given};
@@ -101,6 +102,41 @@ impl<'a> Monitor<'a> {
         self.judged(alloc, room, None)
     }
 
+    /// Makes a step that others see, and says which of the last four violations is the least that it breaks; nothing where it isn't enabled.
+    fn step_seen(
+        &mut self,
+        alloc: Global,
+        stack: &Stack<'a>,
+        a: usize,
+        grant: bool,
+        room: &mut Room,
+    ) -> Result<Option<Option<Violation>>, AllocError>
+        ensures stops { IfOk result (λ o. o ≡ None → (m : Moment) → IsAt self.old m → next stack.now m (Board a grant) ≡ None) }
+        ensures steps { IfOk result (λ o. IfSome o (λ rule. (m : Moment) → IsAt self.old m →
+            IsJudgedBy stack.now m (Board a grant) self.new.world room.new.events.items rule)) }
+        ensures ledger { IfOk result (λ o. self.new.ledger ≡ self.old.ledger) }
+    {
+        locks_stay_exclusive();
+        let setup = Setup {
+            activation: a,
+            grant,
+            held: self.holds_given(a),
+        };
+        let locks = self.world.locks_of(alloc, a)?;
+        room.events.clear();
+        if !flt_steps::step_seen(&mut self.world, stack, setup, &mut room.events)? {
+            return Ok(None);
+        }
+        let scene = Scene {
+            stack,
+            world: &self.world,
+            activation: a,
+            held: setup.held,
+            locks: locks.as_slice(),
+        };
+        Ok(Some(scene.broken_rule(room.events.as_slice())))
+    }
+
     /// What comes of a step that others see.
     fn go_seen(
         &mut self,
@@ -112,26 +148,10 @@ impl<'a> Monitor<'a> {
     ) -> Result<Course, AllocError>
         ensures { IfOk result (λ c. (m : Moment) → IsAt self.old m → ComesTo c self.new (spec.course stack.now m (Board a grant ∷ []))) }
     {
-        locks_stay_exclusive();
-        let setup = Setup {
-            activation: a,
-            grant,
-            held: self.holds_given(a),
-        };
-        let locks = self.world.locks_of(alloc, a)?;
-        room.events.clear();
-        if !flt_steps::step_seen(&mut self.world, stack, setup, &mut room.events)? {
-            return Ok(Course::Stops);
+        match self.step_seen(alloc, stack, a, grant, room)? {
+            Some(rule) => self.judged(alloc, room, rule),
+            None => Ok(Course::Stops),
         }
-        let scene = Scene {
-            stack,
-            world: &self.world,
-            activation: a,
-            held: setup.held,
-            locks: locks.as_slice(),
-        };
-        let rule = scene.broken_rule(room.events.as_slice());
-        self.judged(alloc, room, rule)
     }
 
     /// Makes steps that nobody else sees, unless one of them isn't such a step.
@@ -161,6 +181,47 @@ impl<'a> Monitor<'a> {
             return Ok(Course::Stops);
         }
         self.go_seen(alloc, stack, a, grant, room)
+    }
+
+    /// The least of the last four violations that so many steps of an activation break, of which exactly the last is seen.
+    fn go_rule(
+        &mut self,
+        alloc: Global,
+        stack: &Stack<'a>,
+        a: usize,
+        steps: u32,
+        grant: bool,
+        room: &mut Room,
+    ) -> Result<Option<Violation>, AllocError>
+        ensures { IfOk result (λ o. IfSome o (λ v. (m : Moment) → IsAt self.old m → EndsBy stack.now m (spec.go_on a steps grant) v)) }
+    {
+        if steps == 0 || !self.go_unseen(a, steps - 1)? {
+            return Ok(None);
+        }
+        match self.step_seen(alloc, stack, a, grant, room)? {
+            Some(rule) => Ok(rule),
+            None => Ok(None),
+        }
+    }
+
+    /// The least of the last four violations that an entry breaks by its last step. No move breaks one of them.
+    fn entry_rule(
+        &mut self,
+        alloc: Global,
+        stack: &Stack<'a>,
+        entry: JournalEntry,
+        room: &mut Room,
+    ) -> Result<Option<Violation>, AllocError>
+        ensures { IfOk result (λ o. IfSome o (λ v. (m : Moment) → IsAt self.old m → EndsBy stack.now m (spec.expansion entry) v)) }
+    {
+        match entry {
+            JournalEntry::Move(_) => Ok(None),
+            JournalEntry::Go {
+                activation,
+                steps,
+                grant,
+            } => self.go_rule(alloc, stack, activation as usize, steps, grant, room),
+        }
     }
 
     /// What comes of an entry.
@@ -206,20 +267,57 @@ impl<'a> Monitor<'a> {
     }
 }
 
+impl<'a> Monitor<'a> {
+    /// The least of the last four violations that the last of some entries breaks, before the first of which the monitor stands, where those
+    /// before it are a run that breaks nothing.
+    fn last_rule(
+        &mut self,
+        alloc: Global,
+        stack: &Stack<'a>,
+        before: &[JournalEntry],
+        last: JournalEntry,
+        room: &mut Room,
+    ) -> Result<Option<Violation>, AllocError>
+        requires { IsAt self.old (start stack.now) }
+        ensures { IfOk result (λ o. IfSome o (λ v. (m : Moment)
+            × (moment_after stack.now (start stack.now) before.now ≡ Some m) × EndsBy stack.now m (spec.expansion last) v)) }
+    {
+        for entry in before {
+            match self.entry(alloc, stack, *entry, room)? {
+                Course::Reaches => {}
+                Course::Stops | Course::Fails(_) => return Ok(None),
+            }
+        }
+        self.entry_rule(alloc, stack, last, room)
+    }
+}
+
 /// The verdict about a journal on a stack.
 fn verdict_on(alloc: Global, stack: &Stack<'_>, journal: &Journal) -> Result<Verdict, AllocError>
     ensures { IfOk result (λ v. v ≡ spec.verdict_from stack.now (start stack.now) 0 journal.now) }
 {
+    let mut monitor = opening(alloc, stack)?;
+    let mut room = no_room(alloc);
+    monitor.verdict(alloc, stack, journal, &mut room)
+}
+
+/// The monitor before the first entry.
+fn opening<'a>(alloc: Global, stack: &Stack<'a>) -> Result<Monitor<'a>, AllocError>
+    ensures { IfOk result (λ m. IsAt m (start stack.now)) }
+{
     locks_stay_exclusive();
-    let mut monitor = Monitor {
+    Ok(Monitor {
         world: World::opening(alloc, stack.len())?,
         ledger: Ledger::new(alloc),
-    };
-    let mut room = Room {
+    })
+}
+
+/// Room for the events of a step.
+fn no_room(alloc: Global) -> Room {
+    Room {
         events: Vec::new(alloc),
         touched: Vec::new(alloc),
-    };
-    monitor.verdict(alloc, stack, journal, &mut room)
+    }
 }
 
 /// The verdict about a journal on the filters of some texts.
@@ -249,4 +347,27 @@ pub fn replay(alloc: Global, trees: &[Tree], journal: &Journal) -> Result<Verdic
     legal_journals_are_clean_runs();
     first_faults_are_told();
     Ok(verdict)
+}
+
+/// Which of the violations of statuses, levels, lock discipline and places the last entry of a journal breaks, the least of them, whatever else
+/// it breaks; none where it breaks none of them, or the entries before it aren't a run that breaks nothing. The verdict of `replay` tells
+/// the least of all violations alone.
+///
+/// # Errors
+///
+/// Where a growth was refused, or a number or a count would reach 2^32.
+pub fn broken_rule_at_last(
+    alloc: Global,
+    trees: &[Tree],
+    journal: &Journal,
+) -> Result<Option<Violation>, AllocError>
+    ensures { IfOk result (λ o. IfSome o (BreaksRule (filters_of trees.now) journal.now)) }
+{
+    let Some((last, before)) = journal.entries().split_last() else {
+        return Ok(None);
+    };
+    let stack = Stack::of(alloc, trees)?;
+    let mut monitor = opening(alloc, &stack)?;
+    let mut room = no_room(alloc);
+    monitor.last_rule(alloc, &stack, before, *last, &mut room)
 }

@@ -1,7 +1,10 @@
-//! The schedule of a finding.
+//! The schedules of findings.
 
-ghost use Rattle.std.specs.Prelude.{◌≡◌, IsTrue, IfOk};
+ghost use Rattle.std.specs.Prelude.{◌≡◌, List, IsTrue, IfOk, IfSome, None, false};
+ghost use Rattle.std.specs.List.{AllZip};
+ghost use Rattle.flt_tree.specs.declared.filter.Filter.{Filter};
 ghost use Rattle.flt_world.specs.Filters.{filters_of};
+ghost use Rattle.flt_schedules.specs.HandOver as hand;
 ghost use Rattle.flt_schedules.specs.Schedules as spec;
 
 use crate::hand_over::is_without_hand_over;
@@ -10,21 +13,28 @@ use crate::outlook::Outlook;
 use crate::unset::Unset;
 use crate::violations::violations_of;
 use flt_explain::Finding;
-use flt_model::first_repeated;
+use flt_model::{Violation, first_repeated};
 use flt_rules::Rule;
-use flt_seek::{Aim, Broken, Sought, Spot, seek};
+use flt_search::{Answer, Bounds, Broken, Goal, search};
 use flt_tree::Tree;
 use std::alloc::{AllocError, Global};
 
 /// How many filters a stack has at most.
 const MAX_FILTERS: usize = 16;
 
-/// A finding of one of some filters, by the filter's number from 0, and what runs can reach of the filter's text.
+/// A finding, by its number among those of its text.
 #[derive(Clone, Copy)]
-pub struct Suspect<'g> {
+pub struct Suspect {
+    pub number: usize,
+    pub finding: Finding,
+}
+
+/// Findings of one of some filters, by the filter's number from 0, and what runs can reach of the filter's text.
+#[derive(Clone, Copy)]
+pub struct Suspects<'g> {
     pub filter: usize,
     pub outlook: &'g Outlook<'g>,
-    pub finding: Finding,
+    pub found: &'g [Suspect],
 }
 
 /// What comes of a finding in runs of some filters.
@@ -53,71 +63,109 @@ pub enum Scheduled {
     Alone(Schedule),
 }
 
+/// What comes of a finding, by its number among those of its text.
+#[derive(Drop)]
+pub struct Outcome {
+    pub number: usize,
+    pub scheduled: Scheduled,
+}
+
+// ---- what is looked for
+
 /// Whether the harm that a broken rule does may come at another line of the callback.
 fn is_anywhere(rule: Rule) -> bool {
     matches!(rule, Rule::R03 | Rule::R12)
 }
 
-/// Where a finding's break is looked for.
-fn spot_of(suspect: &Suspect<'_>) -> Spot {
-    let finding = suspect.finding;
-    let line = if is_anywhere(finding.rule) {
-        None
+/// Why no run can, where that is known without a search.
+fn known_for(outlook: &Outlook<'_>, finding: &Finding) -> Option<Schedule>
+    ensures known { (p : List Filter) → IfSome result (spec.IsSchedule p outlook.now finding.now) }
+    ensures otherwise { result ≡ None → hand.is_without_hand_over outlook.now finding.now ≡ false }
+{
+    if is_without_hand_over(outlook.graph(), finding) {
+        return Some(Schedule::NeverHanded);
+    }
+    if outlook.is_unstarted(finding) {
+        return Some(Schedule::NeverStarted);
+    }
+    match outlook.unset_for(finding) {
+        Some(unset) => Some(Schedule::NeverGot(unset)),
+        None => None,
+    }
+}
+
+/// Whether an answer is a run.
+fn is_run(answer: Option<&Answer>) -> bool {
+    matches!(answer, Some(Answer::Breaks(_)))
+}
+
+/// What is to be broken for a finding: nothing, where that is known without a search, or where this answer is a run.
+fn wanted_for(
+    outlook: &Outlook<'_>,
+    finding: &Finding,
+    answer: Option<&Answer>,
+) -> &'static [Violation]
+    ensures { spec.AreWanted finding.now result.now }
+{
+    if is_run(answer) || known_for(outlook, finding).is_some() {
+        &[]
     } else {
-        Some(finding.line)
-    };
-    Spot {
-        filter: suspect.filter,
+        violations_of(finding.rule)
+    }
+}
+
+/// What is looked for of a finding of the filter of a number, where this is answered already.
+fn goal_for(
+    outlook: &Outlook<'_>,
+    filter: usize,
+    suspect: &Suspect,
+    answer: Option<&Answer>,
+) -> Goal<'static>
+    ensures { spec.IsGoalFor suspect.now result }
+{
+    let finding = &suspect.finding;
+    Goal {
+        filter,
         callback: finding.callback,
-        line,
+        point: finding.point,
+        wanted: wanted_for(outlook, finding, answer),
+        is_anywhere: is_anywhere(finding.rule),
     }
 }
 
-/// Seeks a run.
-fn sought(
+/// What is looked for of some findings of the filter of a number, where these are answers already.
+fn goals_for(
     alloc: Global,
-    trees: &[Tree],
-    suspect: &Suspect<'_>,
-    states: usize,
-) -> Result<Sought, AllocError>
-    ensures { IfOk result (spec.IsSoughtFor (filters_of trees.now) suspect.now.finding) }
+    outlook: &Outlook<'_>,
+    filter: usize,
+    found: &[Suspect],
+    answers: &[Answer],
+) -> Result<Vec<Goal<'static>>, AllocError>
+    ensures { IfOk result (λ goals. AllZip spec.IsGoalFor found.now goals.items) }
 {
-    let aim = Aim {
-        wanted: violations_of(suspect.finding.rule),
-        spot: Some(spot_of(suspect)),
-    };
-    seek(alloc, trees, aim, states)
+    let mut goals = Vec::new(alloc);
+    for (place, suspect) in found.iter().enumerate() {
+        let goal = goal_for(outlook, filter, suspect, answers.get(place));
+        goals.push(goal)?;
+    }
+    Ok(goals)
 }
 
-/// What comes of a finding in runs of some filters, in any order, all of which are there. A run is looked for in rounds of growing
-/// bounds, each up to so many states, as `flt_seek::seek` says. One that breaks something where the finding is comes before one that
-/// breaks it elsewhere in the callback; no clause speaks of that.
-///
-/// # Errors
-///
-/// Where a growth was refused, or a number or a count would reach 2^32.
-pub fn schedule_for(
+// ---- the searches
+
+/// What runs of some filters have of some findings of the filter of a number, where these are answers already.
+fn searched(
     alloc: Global,
     trees: &[Tree],
-    suspect: &Suspect<'_>,
-    states: usize,
-) -> Result<Schedule, AllocError>
-    ensures { IfOk result (spec.IsSchedule (filters_of trees.now) suspect.now.outlook.now suspect.now.finding) }
+    filter: usize,
+    suspects: &Suspects<'_>,
+    answers: &[Answer],
+    states: u32,
+) -> Result<Vec<Answer>, AllocError>
+    ensures { IfOk result (λ found. spec.AreFound (filters_of trees.now) suspects.now.found.now found.items) }
 {
-    if is_without_hand_over(suspect.outlook.graph(), &suspect.finding) {
-        return Ok(Schedule::NeverHanded);
-    }
-    if suspect.outlook.is_unstarted(&suspect.finding) {
-        return Ok(Schedule::NeverStarted);
-    }
-    if let Some(unset) = suspect.outlook.unset_for(&suspect.finding) {
-        return Ok(Schedule::NeverGot(unset));
-    }
-    match sought(alloc, trees, suspect, states)? {
-        Sought::Found(broken) => Ok(Schedule::Breaks(broken)),
-        Sought::NotWithin => Ok(Schedule::NotWithin),
-        Sought::Cut => Ok(Schedule::Cut),
-    }
+    let goals = goals_for(alloc, suspects.outlook, filter, suspects.found, answers)?;
+    search(alloc, trees, goals.as_slice(), Bounds { states })
 }
 
 /// The filter of a number alone; none where it isn't there.
@@ -138,34 +186,127 @@ fn may_meet(trees: &[Tree], number: usize) -> bool
     trees.len() <= MAX_FILTERS && meets_others(trees, number) && first_repeated(trees).is_none()
 }
 
-fn is_missing(schedule: &Schedule) -> bool {
-    matches!(schedule, Schedule::NotWithin | Schedule::Cut)
+/// What runs of all filters have; nothing, where the findings' filter doesn't meet another one.
+fn searched_together(
+    alloc: Global,
+    trees: &[Tree],
+    suspects: &Suspects<'_>,
+    states: u32,
+) -> Result<Vec<Answer>, AllocError>
+    ensures { IfOk result (λ found. spec.AreTogether trees.now suspects.now.filter suspects.now.found.now found.items) }
+{
+    if !may_meet(trees, suspects.filter) {
+        return Ok(Vec::new(alloc));
+    }
+    searched(alloc, trees, suspects.filter, suspects, &[], states)
 }
 
-/// What comes of a finding of one of several filters. Where its filter meets another one on an operation, a run of all of them is looked
-/// for; where there is no such filter, or no run is found, a run of its filter alone.
+// ---- what comes of them
+
+/// What comes of a finding, by its answer.
+fn schedule_for(
+    alloc: Global,
+    outlook: &Outlook<'_>,
+    finding: &Finding,
+    answer: Option<&Answer>,
+) -> Result<Schedule, AllocError>
+    ensures { IfOk result (λ s. (p : List Filter) → spec.IsFoundBy p finding.now answer.entry → spec.IsSchedule p outlook.now finding.now s) }
+{
+    if let Some(known) = known_for(outlook, finding) {
+        return Ok(known);
+    }
+    match answer {
+        Some(Answer::Breaks(broken)) => Ok(Schedule::Breaks(broken.copy(alloc)?)),
+        Some(Answer::Cut) => Ok(Schedule::Cut),
+        Some(Answer::NotWithin) | None => Ok(Schedule::NotWithin),
+    }
+}
+
+/// What comes of a finding, by the answers of both searches.
+fn scheduled_for(
+    alloc: Global,
+    _trees: &[Tree],
+    suspects: &Suspects<'_>,
+    finding: &Finding,
+    together: Option<&Answer>,
+    alone: Option<&Answer>,
+) -> Result<Scheduled, AllocError>
+    requires together { spec.IsTogetherBy _trees.now suspects.now.filter finding.now together }
+    requires alone { spec.IsFoundBy (filters_of (spec.only _trees.now suspects.now.filter)) finding.now alone }
+    ensures { IfOk result (spec.IsScheduled _trees.now suspects.now.filter suspects.now.outlook.now finding.now) }
+{
+    match together {
+        Some(Answer::Breaks(_)) => {
+            let schedule = schedule_for(alloc, suspects.outlook, finding, together)?;
+            Ok(Scheduled::Together(schedule))
+        }
+        _ => {
+            let schedule = schedule_for(alloc, suspects.outlook, finding, alone)?;
+            Ok(Scheduled::Alone(schedule))
+        }
+    }
+}
+
+/// What comes of each finding, by the answers of both searches.
+fn outcomes_by(
+    alloc: Global,
+    trees: &[Tree],
+    suspects: &Suspects<'_>,
+    together: &[Answer],
+    alone: &[Answer],
+) -> Result<Vec<Outcome>, AllocError>
+    requires together { spec.AreTogether trees.now suspects.now.filter suspects.now.found.now together.now }
+    requires alone { spec.AreFound (filters_of (spec.only trees.now suspects.now.filter)) suspects.now.found.now alone.now }
+    ensures { IfOk result (λ all. spec.AreOutcomes trees.now suspects.now.filter suspects.now.outlook.now suspects.now.found.now all.items) }
+{
+    let mut all = Vec::new(alloc);
+    for (place, suspect) in suspects.found.iter().enumerate() {
+        let scheduled = scheduled_for(
+            alloc,
+            trees,
+            suspects,
+            &suspect.finding,
+            together.get(place),
+            alone.get(place),
+        )?;
+        all.push(Outcome {
+            number: suspect.number,
+            scheduled,
+        })?;
+    }
+    Ok(all)
+}
+
+/// What comes of each of some findings of one filter in runs of some filters, in any order, all of which are there. Where the findings' filter
+/// meets another one on an operation, runs of all filters are looked for first, with half of the bound; what they don't break is looked
+/// for in runs of the filter alone. Each of these is one search for all findings, as `flt_search::search` says; both together go on from
+/// at most so many states. A run that breaks something where a finding is comes before one that breaks it elsewhere in the callback; no
+/// clause speaks of that.
 ///
 /// # Errors
 ///
 /// Where a growth was refused, or a number or a count would reach 2^32.
-pub fn schedule_among(
+pub fn outcomes_among(
     alloc: Global,
     trees: &[Tree],
-    suspect: &Suspect<'_>,
-    states: usize,
-) -> Result<Scheduled, AllocError>
-    ensures { IfOk result (spec.IsScheduled trees.now suspect.now) }
+    suspects: &Suspects<'_>,
+    states: u32,
+) -> Result<Vec<Outcome>, AllocError>
+    ensures { IfOk result (λ all. spec.AreOutcomes trees.now suspects.now.filter suspects.now.outlook.now suspects.now.found.now all.items) }
 {
-    if may_meet(trees, suspect.filter) {
-        let together = schedule_for(alloc, trees, suspect, states)?;
-        if !is_missing(&together) {
-            return Ok(Scheduled::Together(together));
-        }
-    }
-    let own = Suspect {
-        filter: 0,
-        ..*suspect
+    let together = searched_together(alloc, trees, suspects, states / 2)?;
+    let left = if together.is_empty() {
+        states
+    } else {
+        states / 2
     };
-    let alone = schedule_for(alloc, only(trees, suspect.filter), &own, states)?;
-    Ok(Scheduled::Alone(alone))
+    let own = only(trees, suspects.filter);
+    let alone = searched(alloc, own, 0, suspects, together.as_slice(), left)?;
+    outcomes_by(
+        alloc,
+        trees,
+        suspects,
+        together.as_slice(),
+        alone.as_slice(),
+    )
 }

@@ -39,9 +39,9 @@ count_or_zero text =
     if nat_lt 0 (length ds) && list_all (λ d. nat_lt (digit_value d) 10) ds && nat_lt (digits_value 10 ds) 4294967296
     then digits_value 10 ds else 0
 
--- the number behind `--states`, 20,000 where there is none
+-- the number behind `--states`, 40,000 where there is none
 abbrev pub states_of : List Row → ℕ
-states_of rows = option_map_or count_or_zero (first_of (codes "states") rows) 20000
+states_of rows = option_map_or count_or_zero (first_of (codes "states") rows) 40000
 
 -- a flag is there
 abbrev pub is_set : Text → List Row → Bool

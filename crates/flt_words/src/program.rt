@@ -110,7 +110,7 @@ fn states_argument<'a>(alloc: Global) -> Arg<'a>
         .value_name("N")
         .value_parser(value_parser!(u32).range(1..=100_000_000))
         .help(
-            "How many states each round of the search for a run has at most; 20000 where nothing is said",
+            "How many states the search for runs of a FILE goes on from at most; 40000 where nothing is said",
         )
 }
 
@@ -150,6 +150,7 @@ fn picture_argument<'a>(alloc: Global) -> Arg<'a>
 // ---- commands
 
 /// A command with an argument more, if memory was there for both.
+#[inline(always)]
 #[tactic(auto, using(crate::proofs::Commands::with_last_argument))]
 fn with_argument<'a>(
     command: Result<Command<'a>, AllocError>,
@@ -305,6 +306,7 @@ fn bare_program<'a>(alloc: Global) -> Command<'a>
 }
 
 /// A program with a command more, if memory was there for both.
+#[inline(always)]
 fn with_command<'a>(
     program: Result<Command<'a>, AllocError>,
     command: Result<Command<'a>, AllocError>,

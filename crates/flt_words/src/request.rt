@@ -55,7 +55,7 @@ pub enum Request<'a> {
     /// Say all that is wrong with the texts of some files, and what comes of it in runs.
     Explain {
         form: Form,
-        /// How many states a round of the search for a run has at most.
+        /// How many states the search for runs of a text goes on from at most.
         states: u32,
         /// The file into which the journal of the first finding that has one is written.
         journal: Option<&'a str>,

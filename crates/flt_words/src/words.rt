@@ -19,8 +19,8 @@ use std::alloc::{AllocError, Global};
 const FEW_WORKERS: &str =
     "error: `--workers` takes 1 to 16\n\nUsage: fltstack run [--workers <N>] [--quiet] <SCRIPT> <FILE>...\n\nFor more information, try '--help'.\n";
 
-/// How many states a round of a search has where nothing is said.
-const STATES: u32 = 20_000;
+/// How many states a search goes on from where nothing is said.
+const STATES: u32 = 40_000;
 
 /// What is said where a form is asked for that there isn't.
 const NO_FORM: &str =
@@ -63,7 +63,7 @@ fn workers_of(matches: &ArgMatches) -> u8
     }
 }
 
-/// How many states a round of a search has.
+/// How many states a search goes on from.
 fn states_of(matches: &ArgMatches) -> u32
     ensures { result ≡ spec.states_of (rows_of (found_of matches.now)) }
 {

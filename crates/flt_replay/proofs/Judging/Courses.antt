@@ -17,7 +17,7 @@ use Rattle.flt_model.specs.Moves.{make}
 use Rattle.flt_model.specs.Runs.{Moment, start, after, next, broken}
 use Rattle.flt_model.specs.Steps.{Transition, Make, Local, Board, board, local, step}
 use Rattle.flt_model.specs.World.{World, activation_at, opening}
-use Rattle.flt_replay.specs.Judging.{Follows, first_of, of_holding, of_rules, with_locks, keeps_rule, is_by}
+use Rattle.flt_replay.specs.Judging.{Follows, IsJudgedBy, first_of, of_holding, of_rules, with_locks, keeps_rule, is_by}
 use Rattle.flt_replay.specs.Ledger.{Agrees}
 use Rattle.flt_replay.specs.Monitoring.{IsAt, ComesTo, GoesOn}
 use Rattle.flt_steps.specs.Unseen as several
@@ -120,7 +120,7 @@ held_after : (p : List Filter) (m : Moment) (a : ℕ) (grant : Bool) (s : Step) 
     holds_given m.trace (with_locks s.world a (activation_at m.world a).locks) a ≡ holds_given m.trace m.world a
 held_after p m a grant s e = ap (holds_visit m.trace a) (alike_after m.world a s (stepped p m.trace m.world a grant s e)).given
 
-module _ (p : List Filter) (m : Moment) (a : ℕ) (grant held : Bool) (old new : Monitor) (u : World) (es : List Event)
+module _ (p : List Filter) (m : Moment) (a : ℕ) (grant held : Bool) (old : Monitor) (u : World) (es : List Event)
     (enabled : Bool) (at : IsAt old m)
     (is_held : held ≡ holds_given m.trace m.world a)
     (h : (t : List Event) → held ≡ holds_given t old.world a → ComesOf (board p t old.world a grant) enabled u [] es) where
@@ -129,8 +129,8 @@ module _ (p : List Filter) (m : Moment) (a : ℕ) (grant held : Bool) (old new :
       subst (λ w. ComesOf (board p m.trace w a grant) enabled u [] es) at.world
       (h m.trace (subst (λ w. held ≡ holds_given m.trace w a) (sym at.world) is_held))
 
-  pub not_seen : enabled ≡ false → ComesTo code.Stops new (course p m (Board a grant ∷ []))
-  not_seen is = stops p m (Board a grant) new (not_enabled (board p m.trace m.world a grant) enabled u [] es is board_here)
+  pub not_seen : enabled ≡ false → next p m (Board a grant) ≡ None
+  not_seen is = not_enabled (board p m.trace m.world a grant) enabled u [] es is board_here
 
   -- the least broken rule, as it is read in a world after the step
   abbrev IsRule : Option Violation → World → List Event → List HeldLock → Type 0
@@ -155,16 +155,15 @@ module _ (p : List Filter) (m : Moment) (a : ℕ) (grant held : Bool) (old new :
         read_after m.trace (is_held ∙ sym (held_after p m a grant s e)) (stepped p m.trace m.world a grant s e).framed.by_actor
         ∙ sym (rules_of_step p m a grant s e exclusive)
 
-  pub seen : (c : Code) (rule : Option Violation) (locks : List HeldLock) → StayExclusive → enabled ≡ true →
-      locks ≡ (activation_at old.world a).locks → IsRule rule u es locks →
-      ((s : Step) → Follows p m (Board a grant) s u es → rule ≡ first_of of_rules p m s →
-      ComesTo c new (unless_broken (broken p m s) (Reaches (after m s)))) →
-      ComesTo c new (course p m (Board a grant ∷ []))
-  seen c rule locks stay is are rules judges =
+  pub seen : (rule : Option Violation) (locks : List HeldLock) → StayExclusive → enabled ≡ true →
+      locks ≡ (activation_at old.world a).locks → IsRule rule u es locks → IsJudgedBy p m (Board a grant) u es rule
+  seen rule locks stay is are rules =
       let t = happened (board p m.trace m.world a grant) enabled u [] es is board_here in
-      goes_to p m (Board a grant) c new t.0 t.1
-      (judges t.0 (record { is = t.1; world = sym t.2.0; events_are = sym t.2.1 })
-      (rule_is rule locks are rules t.0 t.1 (stay.steps p m.world m.trace (Board a grant) t.0 t.1 at.exclusive) t.2.0 t.2.1))
+      record {
+        step = t.0;
+        follows = record { is = t.1; world = sym t.2.0; events_are = sym t.2.1 };
+        least = rule_is rule locks are rules t.0 t.1 (stay.steps p m.world m.trace (Board a grant) t.0 t.1 at.exclusive) t.2.0 t.2.1;
+      }
 
 -- ---- steps that nobody else sees
 

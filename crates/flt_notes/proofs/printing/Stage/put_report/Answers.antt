@@ -1,17 +1,15 @@
-use Rattle.std.proofs.Common.{◌≡◌, ◌++◌, ◌∷◌, [], ◌∙◌, ap, Some, slice_get, sym}
-use Rattle.flt_notes.proofs.Outputs.{noted_of, output_more, output_noted}
-use Rattle.flt_notes.specs.Printing.{IsOutput}
+use Rattle.std.proofs.lemmas.List.Elements.{All-pop}
+use Rattle.flt_notes.proofs.Outputs.{on_ok, output_more}
+use Rattle.flt_notes.specs.Printing.{IsOutcomeIn}
 use Rattle.flt_notes.proofs.printing.Stage.put_report.Goals as goal
 
-pub returns-in_default : goal.returns-in_default
-returns-in_default c = output_more _ _ _ _ c.requires.old c.in_ok-lines.ensures.0 c.in_ok-lines.ensures.1
+pub put_note-requires-clause-old : goal.put_note-requires-clause-old
+put_note-requires-clause-old c = output_more _ _ _ _ c.requires.old c.in_ok-lines.ensures.0 c.in_ok-lines.ensures.1
 
-pub returns : goal.returns
-returns c =
-    let before : IsOutput c.args.self.now.trees.now c.lines.new.self =
-    output_more _ _ _ _ c.requires.old c.in_ok-lines.ensures.0 c.in_ok-lines.ensures.1 in
-    let at : slice_get c.args.looked.known.found.now c.args.report.now.finding ≡ Some c.in-Some.finding = sym c.finding_at.ensures ∙ c.in-Some.is in
-    output_noted _ c.lines.new.self _ c.in_ok-noted.noted c.in_ok-lines-2.lines.items before
-    (noted_of _ _ _ _ _ c.requires.looked.known at c.in_ok-noted.ensures) c.in_ok-lines-2.ensures
-    (c.in_ok-lines-3.ensures.0 ∙ ap (λ more. c.lines.new.self.bytes.items ++ more) c.as_slice-2.ensures.value)
-    (c.in_ok-push.ensures.ok ∙ ap (λ ns. ns ++ c.in_ok-noted.noted ∷ []) c.in_ok-lines-3.ensures.1)
+pub returns-in-Some-clause-outcomes : goal.returns-in-Some-clause-outcomes
+returns-in-Some-clause-outcomes c =
+    on_ok c.put_note.result _
+    (All-pop (IsOutcomeIn c.args.self.now.trees.now c.args.looked.known) _ _ c.take_outcome.result c.take_outcome.ensures c.requires.outcomes).0
+
+pub returns-in-None-clause-output : goal.returns-in-None-clause-output
+returns-in-None-clause-output c = output_more _ _ _ _ c.requires.old c.in_ok-lines.ensures.0 c.in_ok-lines.ensures.1

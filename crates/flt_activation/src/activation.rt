@@ -1,0 +1,219 @@
+//! An activation, and what it holds.
+
+use crate::locks::Locks;
+use crate::turns::Turns;
+use flt_graph::{ContextVariable, NumberVariable, OperationVariable};
+
+/// What a variable names: NULL, what is there no longer, or what stands at a place.
+#[derive(Clone, Copy)]
+pub enum Named {
+    Null,
+    Gone,
+    At(u8),
+}
+
+impl Named {
+    /// What stands at a place, if there is one.
+    fn by(place: Option<u8>) -> Named {
+        match place {
+            Some(place) => Named::At(place),
+            None => Named::Null,
+        }
+    }
+
+    /// Whether it names what stands at a place.
+    fn is(self, place: u8) -> bool {
+        match self {
+            Named::At(own) => own == place,
+            _ => false,
+        }
+    }
+}
+
+/// What a callback starts with.
+#[derive(Clone, Copy)]
+pub struct Start {
+    pub filter: u8,
+    pub callback: usize,
+    pub visit: Option<u8>,
+    pub context: Option<u8>,
+    pub is_draining: bool,
+}
+
+/// An activation that goes on. It stands at the next step that others see, or of which the system has the choice.
+#[derive(Clone, Copy)]
+pub struct Activation {
+    pub is_on: bool,
+    /// Its number in the journal.
+    pub serial: u32,
+    pub filter: u8,
+    pub callback: usize,
+    pub point: usize,
+    /// How many local steps lead there from its last step, or from its start.
+    pub steps: u32,
+    pub is_draining: bool,
+    /// Whether it holds a context that nothing names any more.
+    pub is_leaking: bool,
+    /// Whether the operation that it was given is an I/O request packet, if there is one.
+    pub is_packet: bool,
+    /// The visit that it was given.
+    pub given: Named,
+    pub(crate) numbers: [u64; 8],
+    pub(crate) contexts: [Named; 9],
+    pub(crate) operations: [Named; 5],
+    /// How often it holds each context, and each visit.
+    holds: [u8; 16],
+    visits: [u8; 8],
+    pub locks: Locks,
+    pub turns: Turns,
+}
+
+/// What is there where no activation is.
+pub const NOBODY: Activation = Activation {
+    is_on: false,
+    serial: 0,
+    filter: 0,
+    callback: 0,
+    point: 0,
+    steps: 0,
+    is_draining: false,
+    is_leaking: false,
+    is_packet: true,
+    given: Named::Null,
+    numbers: [0; 8],
+    contexts: [Named::Null; 9],
+    operations: [Named::Null; 5],
+    holds: [0; 16],
+    visits: [0; 8],
+    locks: Locks::NONE,
+    turns: Turns::NONE,
+};
+
+impl Activation {
+    /// One that has just started, of this number in the journal.
+    pub fn starting(start: Start, serial: u32, is_packet: bool) -> Activation {
+        let mut activation = Activation {
+            is_on: true,
+            serial,
+            filter: start.filter,
+            callback: start.callback,
+            is_draining: start.is_draining,
+            is_packet,
+            given: Named::by(start.visit),
+            ..NOBODY
+        };
+        activation.set_context(ContextVariable::Arg, Named::by(start.context));
+        activation.set_operation(OperationVariable::Data, Named::by(start.visit));
+        if let Some(context) = start.context {
+            activation.hold(context);
+        }
+        if let Some(visit) = start.visit {
+            activation.hold_visit(visit);
+        }
+        activation
+    }
+
+    /// What a variable names.
+    pub fn context(&self, variable: ContextVariable) -> Named {
+        self.contexts[variable.place()]
+    }
+
+    /// The visit that a variable names.
+    pub fn operation(&self, variable: OperationVariable) -> Named {
+        self.operations[variable.place()]
+    }
+
+    /// The value of a variable.
+    pub fn number(&self, variable: NumberVariable) -> u64 {
+        self.numbers[variable.place()]
+    }
+
+    pub fn set_context(&mut self, variable: ContextVariable, named: Named) {
+        self.contexts[variable.place()] = named;
+    }
+
+    pub fn set_operation(&mut self, variable: OperationVariable, named: Named) {
+        self.operations[variable.place()] = named;
+    }
+
+    pub fn set_number(&mut self, variable: NumberVariable, value: u64) {
+        self.numbers[variable.place()] = value;
+    }
+
+    /// How often it holds a context.
+    pub fn held(&self, context: u8) -> u8 {
+        match self.holds.get(usize::from(context)) {
+            Some(count) => *count,
+            None => 0,
+        }
+    }
+
+    /// How often it holds a visit.
+    pub fn held_visit(&self, visit: u8) -> u8 {
+        match self.visits.get(usize::from(visit)) {
+            Some(count) => *count,
+            None => 0,
+        }
+    }
+
+    /// Whether it holds a context, be it one that nothing names.
+    pub fn holds_contexts(&self) -> bool {
+        self.is_leaking || self.holds.iter().any(|count| *count > 0)
+    }
+
+    /// It holds a context once more.
+    pub fn hold(&mut self, context: u8) {
+        if let Some(count) = self.holds.get_mut(usize::from(context)) {
+            *count = count.saturating_add(1);
+        }
+    }
+
+    /// It holds a context once less.
+    pub fn lose(&mut self, context: u8) {
+        if let Some(count) = self.holds.get_mut(usize::from(context)) {
+            *count = count.saturating_sub(1);
+        }
+    }
+
+    /// It holds a context no more.
+    pub fn forget(&mut self, context: u8) {
+        if let Some(count) = self.holds.get_mut(usize::from(context)) {
+            *count = 0;
+        }
+    }
+
+    /// It holds a visit once more.
+    pub fn hold_visit(&mut self, visit: u8) {
+        if let Some(count) = self.visits.get_mut(usize::from(visit)) {
+            *count = count.saturating_add(1);
+        }
+    }
+
+    /// It holds a visit once less.
+    pub fn lose_visit(&mut self, visit: u8) {
+        if let Some(count) = self.visits.get_mut(usize::from(visit)) {
+            *count = count.saturating_sub(1);
+        }
+    }
+
+    /// A context is freed: what named it names nothing that is there.
+    pub fn free(&mut self, context: u8) {
+        for named in self.contexts.iter_mut() {
+            if named.is(context) {
+                *named = Named::Gone;
+            }
+        }
+    }
+
+    /// A visit is over: what named it names nothing that is there.
+    pub fn settle(&mut self, visit: u8) {
+        if self.given.is(visit) {
+            self.given = Named::Gone;
+        }
+        for named in self.operations.iter_mut() {
+            if named.is(visit) {
+                *named = Named::Gone;
+            }
+        }
+    }
+}

@@ -1,0 +1,18 @@
+//! One round of the search for runs: the exploration of small worlds.
+//!
+//! `explore` goes breadth first from the world in which nothing has come (`round_search`), by what may come next within the bounds of its
+//! round (`coming`, `rounds`), past worlds that it has met (`key`). It keeps the entries that lead to each (`paths`), and notes the breaks that
+//! stand for something that is looked for (`targets`). No clause says what it finds: safety and an end are proved, and what it finds is
+//! replayed by whoever asks.
+#![tactic(auto)]
+
+mod coming;
+mod key;
+mod paths;
+mod round_search;
+mod rounds;
+mod targets;
+
+pub use round_search::{Found, Left, Search, explore};
+pub use rounds::{ROUNDS, Round};
+pub use targets::{Firsts, Stand, Targets};

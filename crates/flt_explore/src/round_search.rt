@@ -1,0 +1,783 @@
+//! One round of the search: worlds, breadth first by the entries that lead there.
+
+use crate::key::key_of;
+use crate::paths::Paths;
+use crate::rounds::Round;
+use crate::targets::{Met, Stand, Targets};
+use flt_model::{JournalEntry, Violation};
+use flt_plan::Plan;
+use flt_small_world::{Course, NOTHING_MADE, Next, OPENING, World};
+use std::alloc::{AllocError, Global};
+use std::collections::BTreeMap;
+
+/// How many entries a journal has at most.
+const MAX_DEPTH: usize = 12_000;
+
+/// How many states wait at most, and how many of them in one callback.
+const MAX_WAITING: usize = 12_000;
+
+const MAX_OF_CALLBACK: u32 = 5_000;
+
+/// How many moves a round makes at most for each of its states.
+const MOVES: u32 = 5;
+
+/// How often all depths are gone through at most.
+const MAX_PASSES: u32 = 1_000;
+
+/// How many states of one callback are gone on from at one depth before others are, the first time that all depths are gone through, the
+/// second time, and so on.
+fn fair_share(pass: u32) -> u32 {
+    match pass {
+        0 => 16,
+        1 => 60,
+        _ => 250,
+    }
+}
+
+/// How many steps are made in a row that nobody sees.
+const MAX_CHAIN: usize = 2_000;
+
+/// What is left of the bounds of the whole search.
+#[derive(Clone, Copy)]
+pub struct Left {
+    pub states: u32,
+    pub moves: u32,
+    pub steps: u32,
+}
+
+/// A world that is gone on from.
+#[derive(Clone, Copy)]
+pub(crate) struct State {
+    node: Option<usize>,
+    depth: usize,
+    pub(crate) world: World,
+    /// The activation that is on.
+    pub(crate) runner: Option<u8>,
+    /// How often one was left that could go on.
+    switches: u8,
+    /// Whether the one that is on is left now.
+    is_left: bool,
+    /// The state that waits behind it at its depth.
+    next: Option<usize>,
+}
+
+/// A break that was found.
+#[derive(Clone, Copy)]
+pub struct Found {
+    node: usize,
+    pub depth: usize,
+    pub stand: Stand,
+    pub violation: Violation,
+}
+
+/// How many states there are of each callback, and of none.
+#[derive(Clone, Copy)]
+struct Counts {
+    counts: [u32; 17],
+}
+
+const NO_COUNTS: Counts = Counts { counts: [0; 17] };
+
+impl Counts {
+    fn get(&self, class: usize) -> u32 {
+        match self.counts.get(class) {
+            Some(count) => *count,
+            None => 0,
+        }
+    }
+
+    fn add(&mut self, class: usize) {
+        if let Some(count) = self.counts.get_mut(class) {
+            *count = count.saturating_add(1);
+        }
+    }
+
+    fn remove(&mut self, class: usize) {
+        if let Some(count) = self.counts.get_mut(class) {
+            *count = count.saturating_sub(1);
+        }
+    }
+}
+
+impl State {
+    /// The callback that is on; a number of its own where none is.
+    fn class(&self) -> usize {
+        match self.runner {
+            Some(a) if self.world.activation(a).is_on => self.world.activation(a).callback,
+            _ => 16,
+        }
+    }
+}
+
+/// A state whose activation stands within turns.
+#[derive(Clone, Copy)]
+struct Anchor {
+    node: usize,
+    /// How many turns are left of the innermost `repeat`.
+    left: u64,
+    /// How many local steps lead to its next step.
+    steps: u32,
+}
+
+/// The states that wait, by their depth.
+#[derive(Clone, Copy)]
+struct Layer {
+    first: Option<usize>,
+    last: Option<usize>,
+}
+
+const EMPTY: Layer = Layer {
+    first: None,
+    last: None,
+};
+
+/// A round.
+#[derive(Drop)]
+pub struct Search<'p> {
+    pub(crate) plan: &'p Plan,
+    pub(crate) round: Round,
+    pub targets: Targets,
+    paths: Paths,
+    states: Vec<State>,
+    layers: Vec<Layer>,
+    /// The places in the list of states that are free, and how many wait.
+    free: Option<usize>,
+    waiting: usize,
+    classes: Counts,
+    /// How many states of one callback are gone on from at one depth now.
+    share: u32,
+    /// How many moves are left of the round's.
+    moves: u32,
+    /// The kinds of operations that come.
+    pub(crate) coming: [bool; 4],
+    /// The keys that were met, and with how few switches.
+    seen: BTreeMap<u64, u8>,
+    /// The states within turns that were met last, by keys without the turns that are left.
+    anchors: BTreeMap<u64, Anchor>,
+    pub found: Vec<Found>,
+    /// The most entries of a break that stands for something.
+    longest: usize,
+    pub left: Left,
+    /// Whether something wasn't gone on from.
+    pub is_cut: bool,
+}
+
+/// How a move ends.
+#[derive(Clone, Copy)]
+pub(crate) enum Taken {
+    Stuck,
+    Broke,
+    Went,
+}
+
+impl<'p> Search<'p> {
+    /// A round that hasn't begun.
+    fn new(
+        alloc: Global,
+        plan: &'p Plan,
+        round: Round,
+        targets: Targets,
+        left: Left,
+    ) -> Search<'p> {
+        Search {
+            plan,
+            round,
+            targets,
+            paths: Paths::new(alloc),
+            states: Vec::new(alloc),
+            layers: Vec::new(alloc),
+            free: None,
+            waiting: 0,
+            classes: NO_COUNTS,
+            share: 0,
+            moves: round.states.saturating_mul(MOVES),
+            coming: [false; 4],
+            seen: BTreeMap::new(alloc),
+            anchors: BTreeMap::new(alloc),
+            found: Vec::new(alloc),
+            longest: 0,
+            left,
+            is_cut: false,
+        }
+    }
+
+    // ---- layers
+
+    fn put_last(&mut self, depth: usize, number: usize) -> Result<(), AllocError> {
+        for _ in self.layers.len()..depth.saturating_add(1) {
+            self.layers.push(EMPTY)?;
+        }
+        let Some(layer) = self.layers.get_mut(depth) else {
+            return Ok(());
+        };
+        let last = layer.last;
+        layer.last = Some(number);
+        match last {
+            Some(last) => {
+                if let Some(state) = self.states.get_mut(last) {
+                    state.next = Some(number);
+                }
+            }
+            None => layer.first = Some(number),
+        }
+        Ok(())
+    }
+
+    /// Whether a state wasn't met before with as few switches.
+    fn is_new(&mut self, state: &State) -> Result<bool, AllocError> {
+        let key = key_of(self.plan, &state.world, state.runner);
+        let key = if state.is_left { key ^ 0x5555 } else { key };
+        if let Some(switches) = self.seen.get(&key) {
+            if *switches <= state.switches {
+                return Ok(false);
+            }
+        }
+        let _ = self.seen.insert(key, state.switches)?;
+        Ok(true)
+    }
+
+    /// A state waits, if it is new.
+    fn push_state(&mut self, from: &State, state: State, first: usize) -> Result<(), AllocError> {
+        let mut state = state;
+        state.world.sweep(self.plan);
+        if !self.has_room(&state)? || !self.is_new(&state)? {
+            self.paths.forget(first);
+            return Ok(());
+        }
+        state.node = Some(self.paths.add_node(from.node, first)?);
+        if self.leap(&mut state)? {
+            self.put_state(state)?;
+        }
+        Ok(())
+    }
+
+    /// Whether there is room for a state.
+    fn has_room(&mut self, state: &State) -> Result<bool, AllocError> {
+        let class = state.class();
+        let is_full = self.waiting >= MAX_WAITING || self.classes.get(class) >= MAX_OF_CALLBACK;
+        self.is_cut = self.is_cut || is_full;
+        Ok(!is_full)
+    }
+
+    /// A state waits.
+    fn put_state(&mut self, state: State) -> Result<(), AllocError> {
+        let mut state = state;
+        state.depth = self.paths.depth(state.node);
+        state.next = None;
+        if state.depth >= MAX_DEPTH {
+            self.is_cut = true;
+            return Ok(());
+        }
+        self.classes.add(state.class());
+        self.waiting = self.waiting.saturating_add(1);
+        let depth = state.depth;
+        let number = self.place(state)?;
+        self.put_last(depth, number)
+    }
+
+    // ---- turns that come again
+
+    /// Makes the turns at once that come again where a state stands. False where the state is dropped: one like it on another path has more
+    /// turns left.
+    fn leap(&mut self, state: &mut State) -> Result<bool, AllocError> {
+        let (Some(a), Some(node)) = (state.runner, state.node) else {
+            return Ok(true);
+        };
+        if state.is_left {
+            return Ok(true);
+        }
+        let Some(left) = state.world.turns_left(a) else {
+            return Ok(true);
+        };
+        let mut other = state.world;
+        other.set_turns_left(a, 0);
+        let key = key_of(self.plan, &other, state.runner) ^ u64::from(state.switches);
+        let own = Anchor {
+            node,
+            left,
+            steps: state.world.activation(a).steps,
+        };
+        let Some(anchor) = self.anchors.get(&key) else {
+            let _ = self.anchors.insert(key, own)?;
+            return Ok(true);
+        };
+        let anchor = *anchor;
+        let _ = self.anchors.insert(key, own)?;
+        self.leap_from(state, a, anchor, own)
+    }
+
+    /// The same, where an earlier state was alike but for the turns that are left.
+    fn leap_from(
+        &mut self,
+        state: &mut State,
+        a: u8,
+        anchor: Anchor,
+        own: Anchor,
+    ) -> Result<bool, AllocError> {
+        let Some(each) = anchor.left.checked_sub(own.left) else {
+            return Ok(true);
+        };
+        let (Some(times), Some(rest)) = (own.left.checked_div(each), own.left.checked_rem(each))
+        else {
+            return Ok(true);
+        };
+        if anchor.steps != own.steps || times == 0 {
+            return Ok(true);
+        }
+        let serial = state.world.activation(a).serial;
+        let Ok(turns) = usize::try_from(times) else {
+            return Ok(true);
+        };
+        match self.paths.add_turns(anchor.node, own.node, serial, turns)? {
+            Some(node) => {
+                state.node = Some(node);
+                state.world.set_turns_left(a, rest);
+                self.is_new(state)
+            }
+            None => Ok(each <= 3),
+        }
+    }
+
+    /// The place of a state among those that wait.
+    fn place(&mut self, state: State) -> Result<usize, AllocError> {
+        if let Some(number) = self.free {
+            if let Some(place) = self.states.get_mut(number) {
+                self.free = place.next;
+                *place = state;
+                return Ok(number);
+            }
+        }
+        let number = self.states.len();
+        self.states.push(state)?;
+        Ok(number)
+    }
+
+    /// A state that was gone on from is taken out.
+    fn drop_state(&mut self, number: usize, class: usize) {
+        if let Some(place) = self.states.get_mut(number) {
+            place.next = self.free;
+            self.free = Some(number);
+        }
+        self.classes.remove(class);
+        self.waiting = self.waiting.saturating_sub(1);
+    }
+
+    // ---- breaks
+
+    /// The depth of the break of a number; great where there is none.
+    fn length_of(&self, number: Option<usize>) -> usize {
+        match number {
+            Some(number) => match self.found.get(number) {
+                Some(found) => found.depth,
+                None => usize::MAX,
+            },
+            None => usize::MAX,
+        }
+    }
+
+    /// Something is broken by the entries from one on.
+    fn meet(
+        &mut self,
+        from: &State,
+        first: usize,
+        stand: Stand,
+        violation: Violation,
+    ) -> Result<(), AllocError> {
+        let (at_point, in_callback) = self.targets.wants(stand, violation);
+        let (point, whole) = self.targets.firsts(stand);
+        let count = self.paths.len().saturating_sub(first);
+        let depth = from.depth.saturating_add(count);
+        let is_first = at_point && depth < self.length_of(point.get(violation));
+        let is_spare = in_callback && depth < self.length_of(whole.get(violation));
+        if !is_first && !is_spare {
+            return Ok(());
+        }
+        let node = self.paths.add_node(from.node, first)?;
+        let number = self.found.len();
+        self.found.push(Found {
+            node,
+            depth,
+            stand,
+            violation,
+        })?;
+        self.longest = self.longest.max(depth);
+        let met = Met {
+            stand,
+            violation,
+            number,
+        };
+        if is_first {
+            self.targets.put_at_point(met);
+        }
+        if is_spare {
+            self.targets.put_in_callback(met);
+        }
+        Ok(())
+    }
+
+    /// The entries that lead to a break, and with it.
+    ///
+    /// # Errors
+    ///
+    /// Where a growth was refused.
+    pub fn journal(&self, found: &Found) -> Result<Vec<JournalEntry>, AllocError> {
+        self.paths.journal(found.node)
+    }
+
+    // ---- moves
+
+    fn stand_of(world: &World, a: u8) -> Stand {
+        let activation = world.activation(a);
+        Stand {
+            filter: activation.filter,
+            callback: activation.callback,
+            point: activation.point,
+        }
+    }
+
+    /// An activation makes its next step.
+    fn step(&mut self, world: &mut World, a: u8, grant: bool) -> Result<Course, AllocError> {
+        let activation = world.activation(a);
+        let entry = JournalEntry::Go {
+            activation: activation.serial,
+            steps: activation.steps.saturating_add(1),
+            grant,
+        };
+        let course = world.step(self.plan, a, grant, &mut self.left.steps);
+        if matches!(course, Course::Goes | Course::Breaks(_)) {
+            self.paths.push(entry)?;
+        }
+        if matches!(course, Course::Full) {
+            self.is_cut = true;
+        }
+        Ok(course)
+    }
+
+    /// Steps are made in a row that nobody sees and that leave no choice. The state before them waits where one of them breaks something.
+    fn chain(&mut self, from: &State, state: State, first: usize) -> Result<(), AllocError> {
+        let mut after = state;
+        let between = self.paths.len();
+        for _ in 0..MAX_CHAIN {
+            let Some(a) = after.runner else {
+                return self.push_state(from, after, first);
+            };
+            if !after.world.activation(a).is_on {
+                after.runner = None;
+                return self.push_state(from, after, first);
+            }
+            if after.world.is_seen(self.plan, a) || after.world.has_choice(self.plan, a) {
+                return self.push_state(from, after, first);
+            }
+            if after.world.free_context().is_none() {
+                after.world.sweep(self.plan);
+            }
+            let stand = Search::stand_of(&after.world, a);
+            match self.step(&mut after.world, a, true)? {
+                Course::Goes => {}
+                Course::Breaks(violation) => {
+                    self.meet(from, first, stand, violation)?;
+                    return self.leave(from, state, first, between);
+                }
+                Course::Stuck | Course::Full => return Ok(()),
+            }
+        }
+        self.is_cut = true;
+        Ok(())
+    }
+
+    /// The state before a chain that broke something waits, to be left.
+    fn leave(
+        &mut self,
+        from: &State,
+        state: State,
+        first: usize,
+        between: usize,
+    ) -> Result<(), AllocError> {
+        if state.switches >= self.round.switches {
+            return Ok(());
+        }
+        let begin = self.paths.len();
+        self.paths.copy(first, between)?;
+        let mut left = state;
+        left.is_left = true;
+        self.push_state(from, left, begin)
+    }
+
+    fn go(&mut self, from: &State, a: u8, grant: bool, cost: u8) -> Result<Taken, AllocError> {
+        let mut state = *from;
+        state.runner = Some(a);
+        state.is_left = false;
+        state.switches = from.switches.saturating_add(cost);
+        if state.world.free_context().is_none() {
+            state.world.sweep(self.plan);
+        }
+        let first = self.paths.len();
+        let stand = Search::stand_of(&state.world, a);
+        match self.step(&mut state.world, a, grant)? {
+            Course::Goes => {
+                self.chain(from, state, first)?;
+                Ok(Taken::Went)
+            }
+            Course::Breaks(violation) => {
+                self.meet(from, first, stand, violation)?;
+                Ok(Taken::Broke)
+            }
+            Course::Stuck => Ok(Taken::Stuck),
+            Course::Full => Ok(Taken::Went),
+        }
+    }
+
+    fn make(&mut self, from: &State, next: Next, cost: u8) -> Result<(), AllocError> {
+        let mut state = *from;
+        state.is_left = false;
+        state.switches = from.switches.saturating_add(cost);
+        let mut made = NOTHING_MADE;
+        let left = &mut self.left.steps;
+        let Some(started) = state.world.make_move(self.plan, next, &mut made, left) else {
+            self.is_cut = self.is_cut || state.world.is_full();
+            return Ok(());
+        };
+        if started.is_some() {
+            state.runner = started;
+        }
+        let first = self.paths.len();
+        for place in 0..made.len() {
+            if let Some(entry) = made.entry(place) {
+                self.paths.push(entry)?;
+            }
+        }
+        self.chain(from, state, first)
+    }
+
+    /// Takes one off the moves that are left. False where there is none.
+    fn spend_move(&mut self) -> bool {
+        match (self.moves.checked_sub(1), self.left.moves.checked_sub(1)) {
+            (Some(own), Some(left)) => {
+                self.moves = own;
+                self.left.moves = left;
+                true
+            }
+            _ => {
+                self.is_cut = true;
+                false
+            }
+        }
+    }
+
+    pub(crate) fn take(&mut self, from: &State, next: Next, cost: u8) -> Result<Taken, AllocError> {
+        if !self.spend_move() {
+            return Ok(Taken::Went);
+        }
+        match next {
+            Next::Go(a, grant) => self.go(from, a, grant, cost),
+            _ => {
+                self.make(from, next, cost)?;
+                Ok(Taken::Went)
+            }
+        }
+    }
+
+    // ---- all states
+
+    /// The one that is on goes on. None where no other may come; else what another one costs.
+    fn take_runner(&mut self, from: &State) -> Result<Option<u8>, AllocError> {
+        let Some(a) = from.runner else {
+            return Ok(Some(0));
+        };
+        if !from.world.activation(a).is_on {
+            return Ok(Some(0));
+        }
+        if from.is_left {
+            return Ok(Some(1));
+        }
+        let is_seen = from.world.is_seen(self.plan, a);
+        let taken = self.take(from, Next::Go(a, true), 0)?;
+        if from.world.has_choice(self.plan, a) {
+            self.take(from, Next::Go(a, false), 0)?;
+        }
+        match taken {
+            Taken::Stuck => Ok(Some(0)),
+            Taken::Broke => Ok(Some(1)),
+            Taken::Went if is_seen => Ok(Some(1)),
+            Taken::Went => Ok(None),
+        }
+    }
+
+    fn expand(&mut self, from: &State) -> Result<(), AllocError> {
+        let Some(cost) = self.take_runner(from)? else {
+            return Ok(());
+        };
+        if from.switches.saturating_add(cost) > self.round.switches {
+            return Ok(());
+        }
+        self.take_operations(from, cost)?;
+        self.take_work(from, cost)?;
+        self.take_filters(from, cost)?;
+        self.take_others(from, cost)?;
+        self.take_arrivals(from, cost)
+    }
+
+    /// Whether all is found, and nothing shorter can come.
+    fn is_done(&self, depth: usize) -> bool {
+        self.targets.open == 0 && depth.saturating_add(1) >= self.longest
+    }
+
+    /// Takes one off the states that are left. False where there is none, or no move is left.
+    fn spend_state(&mut self) -> bool {
+        if self.moves == 0 || self.left.moves == 0 || self.left.steps == 0 {
+            self.is_cut = true;
+            return false;
+        }
+        match (
+            self.round.states.checked_sub(1),
+            self.left.states.checked_sub(1),
+        ) {
+            (Some(own), Some(left)) => {
+                self.round.states = own;
+                self.left.states = left;
+                true
+            }
+            _ => {
+                self.is_cut = true;
+                false
+            }
+        }
+    }
+
+    /// The first state that waits at a depth. They are taken out of it.
+    fn take_layer(&mut self, depth: usize) -> Option<usize> {
+        let layer = self.layers.get_mut(depth)?;
+        let first = layer.first;
+        *layer = EMPTY;
+        first
+    }
+
+    /// The state of a number, and those behind it, wait at their depth again.
+    fn put_back(&mut self, depth: usize, number: Option<usize>) -> Result<(), AllocError> {
+        let mut next = number;
+        for _ in 0..MAX_WAITING {
+            let Some(number) = next else {
+                return Ok(());
+            };
+            let Some(state) = self.states.get_mut(number) else {
+                return Ok(());
+            };
+            next = state.next;
+            state.next = None;
+            self.put_last(depth, number)?;
+        }
+        Ok(())
+    }
+
+    /// Goes on from a state, unless enough of its callback were gone on from at its depth: then it waits again. False where the round
+    /// is over.
+    fn take_state(
+        &mut self,
+        depth: usize,
+        number: usize,
+        counts: &mut Counts,
+    ) -> Result<bool, AllocError> {
+        let class = match self.states.get(number) {
+            Some(state) => state.class(),
+            None => return Ok(true),
+        };
+        if counts.get(class) >= self.share {
+            self.put_back_one(depth, number)?;
+            return Ok(true);
+        }
+        counts.add(class);
+        if self.is_done(depth) || !self.spend_state() {
+            return Ok(false);
+        }
+        if let Some(state) = self.states.get(number) {
+            let state = *state;
+            self.drop_state(number, class);
+            self.expand(&state)?;
+        }
+        Ok(true)
+    }
+
+    fn put_back_one(&mut self, depth: usize, number: usize) -> Result<(), AllocError> {
+        if let Some(state) = self.states.get_mut(number) {
+            state.next = None;
+        }
+        self.put_last(depth, number)
+    }
+
+    fn next_of(&self, number: usize) -> Option<usize> {
+        match self.states.get(number) {
+            Some(state) => state.next,
+            None => None,
+        }
+    }
+
+    /// Goes through the states of a depth. False where the round is over.
+    fn go_through(&mut self, depth: usize) -> Result<bool, AllocError> {
+        let mut counts = NO_COUNTS;
+        let mut next = self.take_layer(depth);
+        for _ in 0..MAX_WAITING {
+            let Some(number) = next else {
+                return Ok(true);
+            };
+            next = self.next_of(number);
+            if !self.take_state(depth, number, &mut counts)? {
+                return Ok(false);
+            }
+        }
+        self.put_back(depth, next)?;
+        Ok(true)
+    }
+
+    /// Goes through all depths. False where the round is over.
+    fn pass(&mut self) -> Result<bool, AllocError> {
+        for depth in 0..MAX_DEPTH {
+            if depth >= self.layers.len() {
+                return Ok(self.waiting > 0);
+            }
+            if !self.go_through(depth)? {
+                return Ok(false);
+            }
+        }
+        Ok(self.waiting > 0)
+    }
+
+    /// Goes through the round.
+    fn run(&mut self) -> Result<(), AllocError> {
+        let opening = State {
+            node: None,
+            depth: 0,
+            world: OPENING,
+            runner: None,
+            switches: 0,
+            is_left: false,
+            next: None,
+        };
+        self.find_coming();
+        self.push_state(&opening, opening, 0)?;
+        for number in 0..MAX_PASSES {
+            self.share = fair_share(number);
+            if !self.pass()? {
+                return Ok(());
+            }
+        }
+        self.is_cut = true;
+        Ok(())
+    }
+}
+
+/// Goes through a round, for what is looked for, with what is left of the bounds.
+///
+/// # Errors
+///
+/// Where a growth was refused.
+pub fn explore(
+    alloc: Global,
+    plan: &Plan,
+    round: Round,
+    targets: Targets,
+    left: Left,
+) -> Result<Search<'_>, AllocError> {
+    let mut search = Search::new(alloc, plan, round, targets, left);
+    search.run()?;
+    Ok(search)
+}

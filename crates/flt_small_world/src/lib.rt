@@ -1,0 +1,26 @@
+//! A small world: a bounded copy of the machine for the search for runs.
+//!
+//! A `World` is a copyable value with few places for what exists (`world`). Activations make the steps that others see (`step`,
+//! `settle`), the system makes its moves, several in a row where nobody sees what is between (`moves`), and what nothing reaches any more
+//! is taken out (`sweep`). What doesn't fit isn't followed. A step says what it breaks. No clause ties any of this to the machine: what the
+//! search finds by it is replayed.
+#![tactic(auto)]
+
+mod entries;
+mod frames;
+mod moves;
+mod settle;
+mod step;
+mod sweep;
+mod violations;
+mod world;
+
+pub use entries::{Entries, Entry};
+pub use frames::{Frame, Frames};
+pub use moves::{Made, NOTHING_MADE, Next};
+pub use step::Course;
+pub use violations::{VIOLATIONS, Violations};
+pub use world::{
+    Anchored, Context, Item, MAX_ACTIVATIONS, MAX_CONTEXTS, MAX_FILTERS, MAX_ITEMS, MAX_OPERATIONS,
+    MAX_VISITS, OPENING, Passage, Visit, Whereabouts, World,
+};
