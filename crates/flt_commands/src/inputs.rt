@@ -47,6 +47,9 @@ pub const MAX_INPUT: usize = 67_108_864;
 /// How many bytes there is room for from the start. Most texts and certificates are shorter, so that they aren't copied to grow.
 const FIRST_ROOM: usize = 65_536;
 
+/// How many bytes of a text or a certificate are read at once. To set more than these to zero takes the C library an instruction a byte.
+const AT_ONCE: usize = 2_048;
+
 /// All bytes that a reader has; none if a read fails, or if they are more than `MAX_INPUT`.
 #[tactic(auto, using(crate::proofs::Ended::all_read, crate::proofs::Ended::read_too_long))]
 pub fn read_within<R: Reader>(alloc: Global, reader: &mut R) -> Result<Option<Vec<u8>>, AllocError>
@@ -56,7 +59,7 @@ pub fn read_within<R: Reader>(alloc: Global, reader: &mut R) -> Result<Option<Ve
         ((R.failures reader.new ≢ R.failures reader.old) ⊎ system.IsTooLong (R.left reader.old))) }
 {
     let mut found = Vec::with_capacity(alloc, FIRST_ROOM)?;
-    let mut buffer = [0u8; 4096];
+    let mut buffer = [0u8; AT_ONCE];
     for _ in 0..u64::MAX {
         match reader.take(&mut buffer) {
             Err(_) => return Ok(None),
