@@ -7,6 +7,7 @@ ghost use Rattle.flt_tree.specs.declared.filter.Filter.{Filter};
 ghost use Rattle.flt_model.specs.Effects.{Step};
 ghost use Rattle.flt_model.specs.Runs.{Moment, start, after};
 ghost use Rattle.flt_model.specs.Steps.{Transition};
+ghost use Rattle.flt_replay.specs.Apart.{ends_in};
 ghost use Rattle.flt_replay.specs.Judging.{Follows, first_of, of_holding};
 ghost use Rattle.flt_model.specs.Trace.{is_held, one_if, of_actor};
 ghost use Rattle.flt_model.specs.declared.event.Event.{Event};
@@ -68,9 +69,22 @@ struct Kept {
     tight: bool,
     /// No visit was settled again.
     once: bool,
+    /// An activation ended.
+    ends: bool,
 }
 
 impl Kept {
+    /// All is kept before the first event.
+    fn all() -> Kept
+        ensures { result ≡ record { tight = true; once = true; ends = false } }
+    {
+        Kept {
+            tight: true,
+            once: true,
+            ends: false,
+        }
+    }
+
     fn broken(self) -> Option<Violation>
         ensures { result ≡ (if self.tight then (if self.once then None else Some V3) else Some V2) }
     {
@@ -82,6 +96,16 @@ impl Kept {
             None
         }
     }
+}
+
+/// Lists a visit. Room is made first: `push` would hand the number back where memory is refused, and takes longer for that.
+#[inline(always)]
+fn list_visit(touched: &mut Vec<usize>, visit: usize) -> Result<(), AllocError>
+    ensures { OnOk result (touched.new.items ≡ touched.old.items ++ visit ∷ []) }
+{
+    touched.reserve(1)?;
+    touched.push_reserved(visit);
+    Ok(())
 }
 
 /// Whether a context is the activation's own filter's.
@@ -219,7 +243,7 @@ impl Ledger {
                 Ok(())
             }
             Object::Visit(visit) => {
-                touched.push(visit)?;
+                list_visit(touched, visit)?;
                 self.gain_visit(alloc, a, visit)?;
                 Ok(())
             }
@@ -237,7 +261,7 @@ impl Ledger {
                 Ok(())
             }
             Object::Visit(visit) => {
-                touched.push(visit)?;
+                list_visit(touched, visit)?;
                 self.lose_visit(a, visit);
                 Ok(())
             }
@@ -258,85 +282,80 @@ impl Ledger {
         ensures { OnOk result ((t : List Event) → spec.Tells t self.old → spec.IsCounted self.old →
             spec.Noted t (Settle visit) self.old self.new touched.old.items touched.new.items) }
     {
-        touched.push(visit)?;
+        list_visit(touched, visit)?;
         self.settled.add(visit)?;
         Ok(())
     }
 
     /// What is kept where an activation ends.
-    fn kept_by_end(&self, a: usize, before: Kept) -> Kept
-        ensures tight { (t : List Event) → spec.Tells t self.now → result.tight ≡ (before.tight && rules.leaks_nothing t (End a)) }
-        ensures once { result.once ≡ before.once }
+    fn keep_at_end(&self, a: usize, kept: &mut Kept)
+        ensures tight { (t : List Event) → spec.Tells t self.now → kept.new.tight ≡ (kept.old.tight && rules.leaks_nothing t (End a)) }
+        ensures others { (kept.new.once ≡ kept.old.once) × (kept.new.ends ≡ true) }
     {
-        Kept {
-            tight: before.tight && self.leaks_nothing(a),
-            once: before.once,
-        }
+        kept.tight &= self.leaks_nothing(a);
+        kept.ends = true;
     }
 
     /// What is kept where a visit is settled.
-    fn kept_by_settling(&self, visit: usize, before: Kept) -> Kept
-        ensures tight { result.tight ≡ before.tight }
+    fn keep_at_settling(&self, visit: usize, kept: &mut Kept)
         ensures once { (t : List Event) → spec.Tells t self.now →
-            result.once ≡ (before.once && rules.is_first_settling t (Settle visit)) }
+            kept.new.once ≡ (kept.old.once && rules.is_first_settling t (Settle visit)) }
+        ensures others { (kept.new.tight ≡ kept.old.tight) × (kept.new.ends ≡ kept.old.ends) }
     {
-        Kept {
-            tight: before.tight,
-            once: before.once && self.is_first_settling(visit),
-        }
+        kept.once &= self.is_first_settling(visit);
     }
 
-    /// Takes in an event, lists the visit that it may name, and says what is kept with it; none where it touches something stale.
+    /// Takes in an event, lists the visit that it may name, and says what is kept with it; false where it touches something stale.
     fn take_event(
         &mut self,
         alloc: Global,
         world: &World<'_>,
         event: Event,
         touched: &mut Vec<usize>,
-        before: Kept,
-    ) -> Result<Option<Kept>, AllocError>
-        ensures stale { IfOk result (λ found. found ≡ None → (t : List Event) → spec.Tells t self.old → rules.is_fresh world.now t event ≡ false) }
-        ensures taken { IfOk result (λ found. IfSome found (λ kept. (t : List Event) → spec.Tells t self.old → spec.IsCounted self.old →
-            spec.Taken world.now t event self.old self.new touched.old.items touched.new.items before.tight before.once kept.tight kept.once)) }
+        kept: &mut Kept,
+    ) -> Result<bool, AllocError>
+        ensures stale { IfOk result (λ fresh. fresh ≡ false → (t : List Event) → spec.Tells t self.old → rules.is_fresh world.now t event ≡ false) }
+        ensures taken { IfOk result (λ fresh. fresh ≡ true → (t : List Event) → spec.Tells t self.old → spec.IsCounted self.old →
+            spec.Taken world.now t event self.old self.new touched.old.items touched.new.items
+            kept.old.tight kept.old.once kept.new.tight kept.new.once) }
+        ensures ends { IfOk result (λ fresh. kept.new.ends ≡ false → (kept.old.ends ≡ false) × ((a : ℕ) → ends_in a (event ∷ []) ≡ false)) }
     {
         match event {
-            Event::Use(a, object) => {
-                if !self.may_use(world, a, object) {
-                    return Ok(None);
-                }
-                Ok(Some(before))
-            }
+            Event::Use(a, object) => Ok(self.may_use(world, a, object)),
             Event::Lose(a, object) => {
                 if !self.may_use(world, a, object) {
-                    return Ok(None);
+                    return Ok(false);
                 }
                 self.lose(a, object, touched)?;
-                Ok(Some(before))
+                Ok(true)
             }
             Event::Gain(a, object) => {
                 if !self.may_gain(world, a, object) {
-                    return Ok(None);
+                    return Ok(false);
                 }
                 self.gain(alloc, a, object, touched)?;
-                Ok(Some(before))
+                Ok(true)
             }
-            Event::Empty(_) => Ok(None),
+            Event::Empty(_) => Ok(false),
             Event::Free(context) => {
                 self.free(context)?;
-                Ok(Some(before))
+                Ok(true)
             }
             Event::Settle(visit) => {
-                let kept = self.kept_by_settling(visit, before);
+                self.keep_at_settling(visit, kept);
                 self.settle(visit, touched)?;
-                Ok(Some(kept))
+                Ok(true)
             }
-            Event::End(a) => Ok(Some(self.kept_by_end(a, before))),
-            _ => Ok(Some(before)),
+            Event::End(a) => {
+                self.keep_at_end(a, kept);
+                Ok(true)
+            }
+            _ => Ok(true),
         }
     }
 
     /// Takes in events, up to one that touches something stale, and lists the visits that they name. The answer is the least of
-    /// the first three violations that they break.
+    /// the first three violations that they break. It also says whether an activation ended.
     #[tactic(auto, using(crate::proofs::Counting::Taking::judged_all))]
     fn take_events(
         &mut self,
@@ -344,22 +363,22 @@ impl Ledger {
         world: &World<'_>,
         events: &[Event],
         touched: &mut Vec<usize>,
+        ends: &mut bool,
     ) -> Result<Option<Violation>, AllocError>
         ensures first { IfOk result (λ found. (t : List Event) → spec.Tells t self.old → spec.IsCounted self.old →
             found ≡ spec.first_broken world.now t events.now) }
         ensures taken { IfOk result (λ found. found ≡ None → (t : List Event) → spec.Tells t self.old → spec.IsCounted self.old →
             spec.Judged world.now t events.now self.old self.new touched.old.items touched.new.items true true) }
+        ensures ends { IfOk result (λ found. found ≡ None → ends.new ≡ false → (a : ℕ) → ends_in a events.now ≡ false) }
     {
-        let mut kept = Kept {
-            tight: true,
-            once: true,
-        };
+        let mut kept = Kept::all();
         for event in events {
-            match self.take_event(alloc, world, *event, touched, kept)? {
-                Some(next) => kept = next,
-                None => return Ok(Some(Violation::V1)),
+            let fresh = self.take_event(alloc, world, *event, touched, &mut kept)?;
+            if !fresh {
+                return Ok(Some(Violation::V1));
             }
         }
+        *ends = kept.ends;
         Ok(kept.broken())
     }
 
@@ -444,6 +463,23 @@ impl Ledger {
         Ok(())
     }
 
+    /// The same, where it is known whether any ends: mostly none does.
+    fn follow_any_ends(
+        &mut self,
+        alloc: Global,
+        events: &[Event],
+        ends: bool,
+        touched: &mut Vec<usize>,
+    ) -> Result<(), AllocError>
+        ensures { (ends ≡ false → (a : ℕ) → ends_in a events.now ≡ false) →
+            OnOk result (spec.Halted events.now self.old self.new touched.old.items touched.new.items) }
+    {
+        if ends {
+            self.follow_ends(alloc, events, touched)?;
+        }
+        Ok(())
+    }
+
     /// Whether a visit has one owner while it is unsettled, and none after.
     fn owns(&self, world: &World<'_>, visit: usize) -> bool
         ensures { result ≡ spec.owns self.now world.now visit }
@@ -492,11 +528,12 @@ impl Ledger {
     {
         local_steps_are_quiet();
         touched.clear();
-        let first = self.take_events(alloc, world, events, touched)?;
+        let mut ends = false;
+        let first = self.take_events(alloc, world, events, touched, &mut ends)?;
         if first.is_some() {
             return Ok(first);
         }
-        self.follow_ends(alloc, events, touched)?;
+        self.follow_any_ends(alloc, events, ends, touched)?;
         self.follow_new(alloc, world)?;
         if self.owns_each(world, touched.as_slice()) {
             Ok(None)

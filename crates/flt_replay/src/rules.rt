@@ -295,57 +295,42 @@ impl Kept {
 impl<'b, 'a> Scene<'b, 'a> {
     /// Which rules a call keeps beside those before it. Its row is looked up once.
     #[inline(always)]
-    fn also_call(&self, call: Call, kept: Kept) -> Kept
+    fn also_call(&self, call: Call, kept: &mut Kept)
         ensures statuses { (t : List Event) →
-            result.statuses ≡ (kept.statuses && spec.is_legal self.now.stack.now (before self.now) t (Called self.now.activation call)) }
+            kept.new.statuses ≡ (kept.old.statuses && spec.is_legal self.now.stack.now (before self.now) t (Called self.now.activation call)) }
         ensures levels { (t : List Event) →
-            result.levels ≡ (kept.levels && spec.is_low_enough self.now.stack.now (before self.now) t (Called self.now.activation call)) }
-        ensures locks { result.locks ≡ kept.locks }
+            kept.new.levels ≡ (kept.old.levels && spec.is_low_enough self.now.stack.now (before self.now) t (Called self.now.activation call)) }
+        ensures locks { kept.new.locks ≡ kept.old.locks }
         ensures places { (t : List Event) →
-            result.places ≡ (kept.places && spec.is_in_place self.now.stack.now (before self.now) t (Called self.now.activation call)) }
+            kept.new.places ≡ (kept.old.places && spec.is_in_place self.now.stack.now (before self.now) t (Called self.now.activation call)) }
     {
         let row = row(call);
-        Kept {
-            statuses: kept.statuses & self.may_pend(call),
-            levels: kept.levels & self.is_low_enough(row.greatest),
-            places: kept.places & self.is_in_place(row.places, call),
-            ..kept
-        }
+        kept.statuses &= self.may_pend(call);
+        kept.levels &= self.is_low_enough(row.greatest);
+        kept.places &= self.is_in_place(row.places, call);
     }
 
     /// Which rules an event keeps beside those before it: the latest lock is released first, none is taken twice, and none is kept at the
     /// end. Of most events no rule speaks.
     #[tactic(auto, using(crate::proofs::Judging::Rules::kept_still))]
-    fn also(&self, event: Event, kept: Kept) -> Kept
+    fn also(&self, event: Event, kept: &mut Kept)
         ensures statuses { (t : List Event) → self.now.held ≡ holds_given t (before self.now) self.now.activation →
             is_by self.now.activation event ≡ true →
-            result.statuses ≡ (kept.statuses && spec.is_legal self.now.stack.now (before self.now) t event) }
+            kept.new.statuses ≡ (kept.old.statuses && spec.is_legal self.now.stack.now (before self.now) t event) }
         ensures levels { (t : List Event) → is_by self.now.activation event ≡ true →
-            result.levels ≡ (kept.levels && spec.is_low_enough self.now.stack.now (before self.now) t event) }
+            kept.new.levels ≡ (kept.old.levels && spec.is_low_enough self.now.stack.now (before self.now) t event) }
         ensures locks { (t : List Event) → is_by self.now.activation event ≡ true →
-            result.locks ≡ (kept.locks && spec.is_disciplined self.now.stack.now (before self.now) t event) }
+            kept.new.locks ≡ (kept.old.locks && spec.is_disciplined self.now.stack.now (before self.now) t event) }
         ensures places { (t : List Event) → is_by self.now.activation event ≡ true →
-            result.places ≡ (kept.places && spec.is_in_place self.now.stack.now (before self.now) t event) }
+            kept.new.places ≡ (kept.old.places && spec.is_in_place self.now.stack.now (before self.now) t event) }
     {
         match event {
             Event::Call(_, call) => self.also_call(call, kept),
-            Event::Status(_, answer) => Kept {
-                statuses: kept.statuses & self.may_answer(answer),
-                ..kept
-            },
-            Event::Lock(_, lock) => Kept {
-                locks: kept.locks & !holds_lock(lock, self.locks()),
-                ..kept
-            },
-            Event::Unlock(_, lock) => Kept {
-                locks: kept.locks & is_latest(lock, self.locks()),
-                ..kept
-            },
-            Event::End(_) => Kept {
-                locks: kept.locks & self.locks().is_empty(),
-                ..kept
-            },
-            _ => kept,
+            Event::Status(_, answer) => kept.statuses &= self.may_answer(answer),
+            Event::Lock(_, lock) => kept.locks &= !holds_lock(lock, self.locks()),
+            Event::Unlock(_, lock) => kept.locks &= is_latest(lock, self.locks()),
+            Event::End(_) => kept.locks &= self.locks().is_empty(),
+            _ => {}
         }
     }
 
@@ -363,7 +348,7 @@ impl<'b, 'a> Scene<'b, 'a> {
             places: true,
         };
         for event in events {
-            kept = self.also(*event, kept);
+            self.also(*event, &mut kept);
         }
         kept.broken()
     }

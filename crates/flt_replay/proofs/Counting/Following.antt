@@ -1,9 +1,10 @@
 -- How a ledger follows which activations go on.
-use Rattle.std.proofs.Common.{◌≡◌, ◌≢◌, ◌⊎◌, ⊎_elim, subst, ℕ, ◌<◌, ◌≤◌, Bool, true, false, List, [], ◌∷◌, ◌++◌, ap, sym, refl, ◌∙◌, arith, length, get_or}
+use Rattle.std.proofs.Common.{◌≡◌, ◌≢◌, ◌⊎◌, ⊎_elim, subst, ℕ, ◌+◌, ◌<◌, ◌≤◌, Bool, true, false, List, [], ◌∷◌, ◌++◌, ap, sym, refl, ◌∙◌, arith, length, get_or, take}
 use Rattle.std.proofs.Math.ListN.{set}
 use Rattle.std.proofs.Common.{inl, inr}
 use Rattle.std.proofs.lemmas.Bool.{both_ways, cases_eq, cases_lt, lt-ltb, le-ltb, eq-eqb, ne_eqb, eqb-true, or_cases}
 use Rattle.std.proofs.lemmas.List.{get_or-set_other, get_or-set_same, get_or_past, length-set}
+use Rattle.std.proofs.lemmas.Grind.{take_at_read}
 use Rattle.std.proofs.lemmas.List.Folds.{list_any-append}
 use Rattle.std.specs.Prelude.{not, ◌&&◌, ◌||◌, ◌==◌, if◌then◌else◌}
 use Rattle.flt_model.specs.declared.event.Event.{Event}
@@ -77,7 +78,7 @@ module _ (a : ℕ) (old new : Tally) (was now : List ℕ) (s : Stopped a old new
     flags = λ b. ap (λ ons. get_or ons b false) running_of ∙ ended_flag old.running a b;
   }
 
-never_ends : (e : Event) → ((a : ℕ) → e ≡ event.End a → ⊥) → (b : ℕ) → ends_in b (e ∷ []) ≡ false
+pub never_ends : (e : Event) → ((a : ℕ) → e ≡ event.End a → ⊥) → (b : ℕ) → ends_in b (e ∷ []) ≡ false
 never_ends (event.End a) h b = absurd (h a refl)
 never_ends (event.Gain a o) h b = refl
 never_ends (event.Lose a o) h b = refl
@@ -90,7 +91,7 @@ never_ends (event.Unlock a j) h b = refl
 never_ends (event.Use a j) h b = refl
 never_ends (event.Empty a) h b = refl
 
-still : (es : List Event) (c : Tally) (was : List ℕ) → ((b : ℕ) → ends_in b es ≡ false) → Halted es c c was was
+pub still : (es : List Event) (c : Tally) (was : List ℕ) → ((b : ℕ) → ends_in b es ≡ false) → Halted es c c was was
 still es c was h = record {
   only = refl;
   counted = λ k. k;
@@ -99,6 +100,13 @@ still es c was h = record {
   size = refl;
   flags = λ b. and_still (get_or c.running b false) (ends_in b es) (h b);
 }
+
+-- one more that isn't an end
+pub none_more : (events : List Event) (i : ℕ) (d : Event) → i < length events → ((a : ℕ) → ends_in a (take i events) ≡ false) →
+    ((a : ℕ) → ends_in a (get_or events i d ∷ []) ≡ false) → (a : ℕ) → ends_in a (take (i + 1) events) ≡ false
+none_more events i d l so_far here a =
+    ap (ends_in a) (take_at_read events i d l).1 ∙ list_any-append (is_end_of a) (take i events) (get_or events i d ∷ [])
+    ∙ rw (so_far a, here a) refl
 
 pub halted_other : (e : Event) (c : Tally) (was : List ℕ) → ((a : ℕ) → e ≡ event.End a → ⊥) → Halted (e ∷ []) c c was was
 halted_other e c was h = still (e ∷ []) c was (never_ends e h)

@@ -21,8 +21,8 @@ returns-in_ok-add-in-Context c = λ t.
 pub returns-in_ok-gain_visit-in-Visit : goal.returns-in_ok-gain_visit-in-Visit
 returns-in_ok-gain_visit-in-Visit c = λ t k counted.
     let of : Object → Type 0 = λ o. Noted t
-    (Gain c.args.a o) c.args.self.now c.gain_visit.new.self c.args.touched.now.items c.push.new.self.items in
+    (Gain c.args.a o) c.args.self.now c.gain_visit.new.self c.args.touched.now.items c.list_visit.new.touched.items in
     subst of (sym c.in-Visit.is)
-    (gained_visit t c.args.self.now c.args.touched.now.items k counted c.in-Visit.visit c.push.new.self.items
-    c.in_ok-push-in-Visit.ensures.items
+    (gained_visit t c.args.self.now c.args.touched.now.items k counted c.in-Visit.visit c.list_visit.new.touched.items
+    c.in_ok-list_visit-in-Visit.ensures
     c.args.a c.gain_visit.new.self c.in_ok-gain_visit-in-Visit.ensures.turned c.in_ok-gain_visit-in-Visit.ensures.visits)

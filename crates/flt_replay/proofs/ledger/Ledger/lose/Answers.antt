@@ -18,11 +18,11 @@ returns-in-Context c = λ t.
     subst of (sym c.in-Context.is) (subst notes c.self.view_is
     (λ k counted some. lost_context t old listed k counted c.args.a c.in-Context.context c.take.new.self (c.take.ensures some)))
 
-pub returns-in_ok-push-in-Visit : goal.returns-in_ok-push-in-Visit
-returns-in_ok-push-in-Visit c = λ t k counted.
+pub returns-in_ok-list_visit-in-Visit : goal.returns-in_ok-list_visit-in-Visit
+returns-in_ok-list_visit-in-Visit c = λ t k counted.
     let of : Object → Type 0 = λ o. 0 < held c.args.self.now c.args.a o →
-    Noted t (Lose c.args.a o) c.args.self.now c.lose_visit.new.self c.args.touched.now.items c.push.new.self.items in
+    Noted t (Lose c.args.a o) c.args.self.now c.lose_visit.new.self c.args.touched.now.items c.list_visit.new.touched.items in
     subst of (sym c.in-Visit.is)
-    (λ some. lost_visit t c.args.self.now c.args.touched.now.items k counted c.in-Visit.visit c.push.new.self.items
-    c.in_ok-push-in-Visit.ensures.items
+    (λ some. lost_visit t c.args.self.now c.args.touched.now.items k counted c.in-Visit.visit c.list_visit.new.touched.items
+    c.in_ok-list_visit-in-Visit.ensures
     c.args.a c.lose_visit.new.self (c.lose_visit.ensures.turned some counted) (c.lose_visit.ensures.visits some))

@@ -9,6 +9,6 @@ pub returns : goal.returns
 returns c = λ t.
     let old : Tally = the_view c.self.inside in
     let notes : Tally → Type 0 = λ was. Tells t was → IsCounted was →
-    Noted t (Settle c.args.visit) was (record old { settled = c.add.new.self }) c.args.touched.now.items c.push.new.self.items in
+    Noted t (Settle c.args.visit) was (record old { settled = c.add.new.self }) c.args.touched.now.items c.list_visit.new.touched.items in
     subst notes c.self.view_is (λ k counted. settled_visit t old c.args.touched.now.items k counted c.args.visit
-    c.push.new.self.items c.in_ok-push.ensures.items c.add.new.self c.in_ok-add.ensures.ok)
+    c.list_visit.new.touched.items c.in_ok-list_visit.ensures c.add.new.self c.in_ok-add.ensures.ok)

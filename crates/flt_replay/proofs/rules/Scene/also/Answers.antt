@@ -15,7 +15,7 @@ returns-in-Call-clause-levels c = λ t by.
     let own : c.in-Call.field-0 ≡ a = eqb-true c.in-Call.field-0 a (subst (λ (e : Event). is_by a e ≡ true) c.in-Call.is by) in
     let called : c.args.event ≡ Call a c.in-Call.call = c.in-Call.is ∙ ap (λ (b : ℕ). Call b c.in-Call.call) own in
     c.also_call.ensures.levels t
-    ∙ ap (λ (e : Event). c.args.kept.levels && is_low_enough c.args.self.now.stack.now (before c.args.self.now) t e) (sym called)
+    ∙ ap (λ (e : Event). c.args.kept.now.levels && is_low_enough c.args.self.now.stack.now (before c.args.self.now) t e) (sym called)
 
 pub returns-in-Call-clause-places : goal.returns-in-Call-clause-places
 returns-in-Call-clause-places c = λ t by.
@@ -23,4 +23,4 @@ returns-in-Call-clause-places c = λ t by.
     let own : c.in-Call.field-0 ≡ a = eqb-true c.in-Call.field-0 a (subst (λ (e : Event). is_by a e ≡ true) c.in-Call.is by) in
     let called : c.args.event ≡ Call a c.in-Call.call = c.in-Call.is ∙ ap (λ (b : ℕ). Call b c.in-Call.call) own in
     c.also_call.ensures.places t
-    ∙ ap (λ (e : Event). c.args.kept.places && is_in_place c.args.self.now.stack.now (before c.args.self.now) t e) (sym called)
+    ∙ ap (λ (e : Event). c.args.kept.now.places && is_in_place c.args.self.now.stack.now (before c.args.self.now) t e) (sym called)

@@ -17,8 +17,8 @@ loop-event-preserved c = λ t held own.
     let within = c.loop-event-test.true in
     let so_far = c.loop-event.invariant t held own in
     let by = holds_at (is_by c.args.self.now.activation) es i d within own in (
-      all_more (is_legal p w t) es i d within _ _ so_far.0 (c.also-kept.ensures.statuses t held by),
-      all_more (is_low_enough p w t) es i d within _ _ so_far.1 (c.also-kept.ensures.levels t by),
-      all_more (is_disciplined p w t) es i d within _ _ so_far.2 (c.also-kept.ensures.locks t by),
-      all_more (is_in_place p w t) es i d within _ _ so_far.3 (c.also-kept.ensures.places t by),
+      all_more (is_legal p w t) es i d within _ _ so_far.0 (c.also.ensures.statuses t held by),
+      all_more (is_low_enough p w t) es i d within _ _ so_far.1 (c.also.ensures.levels t by),
+      all_more (is_disciplined p w t) es i d within _ _ so_far.2 (c.also.ensures.locks t by),
+      all_more (is_in_place p w t) es i d within _ _ so_far.3 (c.also.ensures.places t by),
     )
