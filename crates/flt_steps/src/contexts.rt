@@ -9,7 +9,7 @@ ghost use Rattle.flt_model.specs.World as spec;
 ghost use Rattle.flt_world.specs.Happening.{later, Happened};
 ghost use Rattle.flt_tree.specs.declared.variable.OperationVariable.TheVariants.{Data};
 
-use crate::effects::{context, need, operation};
+use crate::effects::{context, need, need_one, operation};
 use flt_model::{Event, Key, Object};
 use flt_records::{Link, Write};
 use flt_rules::{Anchor, Call, Existing};
@@ -71,7 +71,7 @@ fn need_anchor(
     match on {
         Anchor::Stream => {
             let given = world.operation_in(a, OperationVariable::Data);
-            need(a, &[operation(given)], events)
+            need_one(a, operation(given), events)
         }
         Anchor::Instance => Ok(()),
     }
@@ -295,7 +295,7 @@ fn need_to_set(
             let given = world.operation_in(a, OperationVariable::Data);
             need(a, &[context(x), operation(given)], events)
         }
-        Anchor::Instance => need(a, &[context(x)], events),
+        Anchor::Instance => need_one(a, context(x), events),
     }
 }
 
@@ -407,7 +407,7 @@ pub(crate) fn delete(
 {
     let x = world.context_in(a, c);
     push_event(events, Event::Call(a, Call::DeleteContext))?;
-    need(a, &[context(x)], events)?;
+    need_one(a, context(x), events)?;
     deleted(world, a, x, events)
 }
 
@@ -444,7 +444,7 @@ pub(crate) fn reference(
 {
     let x = world.context_in(a, c);
     push_event(events, Event::Call(a, Call::ReferenceContext))?;
-    need(a, &[context(x)], events)?;
+    need_one(a, context(x), events)?;
     referenced(world, a, d, x, events)
 }
 
@@ -475,6 +475,6 @@ pub(crate) fn release(
 {
     let x = world.context_in(a, c);
     push_event(events, Event::Call(a, Call::ReleaseContext))?;
-    need(a, &[context(x)], events)?;
+    need_one(a, context(x), events)?;
     released(world, a, x, events)
 }

@@ -1,6 +1,6 @@
 //! The events of variables that a call asks to be held.
 
-ghost use Rattle.std.specs.Prelude.{◌≡◌, ◌∷◌, ◌++◌, OnOk};
+ghost use Rattle.std.specs.Prelude.{◌≡◌, [], ◌∷◌, ◌++◌, OnOk};
 ghost use Rattle.flt_model.specs.Effects as spec;
 
 use flt_model::{Event, Object};
@@ -69,6 +69,21 @@ pub(crate) fn need(
     push_empties(a, needs, events)
 }
 
+/// The same of one variable.
+#[inline(always)]
+pub(crate) fn need_one(
+    a: usize,
+    named: Option<Object>,
+    events: &mut Vec<Event>,
+) -> Result<(), AllocError>
+    ensures { OnOk result (events.new.items ≡ events.old.items ++ (spec.uses a (named ∷ []) ++ spec.empties a (named ∷ []))) }
+{
+    match named {
+        Some(object) => push_event(events, Event::Use(a, object)),
+        None => push_event(events, Event::Empty(a)),
+    }
+}
+
 /// What a call names: an operation, and a context that the call need not have.
 #[derive(Clone, Copy)]
 pub(crate) struct Named {
@@ -85,7 +100,7 @@ pub(crate) fn need_named(a: usize, named: Named, events: &mut Vec<Event>) -> Res
     let visit = operation(named.visit);
     match named.context {
         Some(named) => need(a, &[visit, context(named)], events),
-        None => need(a, &[visit], events),
+        None => need_one(a, visit, events),
     }
 }
 

@@ -11,7 +11,7 @@ ghost use Rattle.flt_steps.specs.Ways.{way_meant};
 ghost use Rattle.flt_world.specs.Happening.{holds_given, Happened};
 ghost use Rattle.flt_tree.specs.Filter.{named_context};
 
-use crate::effects::{context, lose_context, need};
+use crate::effects::{context, lose_context, need_one};
 use crate::settling::{Way, makes_frame, settled_by, settles_visit, way_of};
 use flt_model::{Answer, Event, Object};
 use flt_tree::{OperationVariable, Status, named_context};
@@ -73,7 +73,7 @@ fn use_context(
     ensures { OnOk result (events.new.items ≡ events.old.items ++ spec.context_used [] [] world.now a status) }
 {
     match world.named_in(a, named_context(status)) {
-        Some(x) => need(a, &[context(x)], events),
+        Some(x) => need_one(a, context(x), events),
         None => Ok(()),
     }
 }

@@ -10,7 +10,7 @@ ghost use Rattle.flt_world.specs.Happening.{later, Happened};
 ghost use Rattle.flt_tree.specs.declared.variable.OperationVariable.TheVariants.{Data};
 
 use crate::contexts::Branches;
-use crate::effects::{Named, context, gain_context, lose_context, need, need_named};
+use crate::effects::{Named, context, gain_context, lose_context, need_named, need_one};
 use flt_model::{Event, Object};
 use flt_records::{Entry, Item, Write};
 use flt_rules::Call;
@@ -28,7 +28,7 @@ fn need_optional(
         ++ (effects.uses a (effects.optional named) ++ effects.empties a (effects.optional named))) }
 {
     match named {
-        Some(named) => need(a, &[context(named)], events),
+        Some(named) => need_one(a, context(named), events),
         None => Ok(()),
     }
 }

@@ -11,7 +11,7 @@ ghost use Rattle.flt_steps.specs.Ways.{way_meant};
 ghost use Rattle.flt_world.specs.Happening.{later, Happened};
 ghost use Rattle.flt_tree.specs.Variable.{whose};
 
-use crate::effects::{Named, lose_context, need, need_named, operation};
+use crate::effects::{Named, lose_context, need_named, need_one, operation};
 use flt_model::{Answer, Event, Object};
 use flt_records::{Frame, Outcome, Position, Route, Write};
 use flt_rules::{Call, Stage};
@@ -311,6 +311,6 @@ pub(crate) fn complete_post<'a>(
     if let Some(visit) = given {
         push_event(events, Event::Status(a, Answer::CompletesPost { visit }))?;
     }
-    need(a, &[operation(given)], events)?;
+    need_one(a, operation(given), events)?;
     complete_post_by(world, stack, a, given, events)
 }
