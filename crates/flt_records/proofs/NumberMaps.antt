@@ -1,8 +1,8 @@
 -- What numbers have where there is room for more of them, and where one is set.
-use Rattle.std.proofs.Common.{◌≡◌, ◌≢◌, ⊎_elim, ℕ, ◌-◌, ◌<◌, ◌≤◌, ◌==◌, if◌then◌else◌, true, false, Bool, List, ◌++◌, Option, None, replicate, take, length, get_or, set, refl, sym, ap, ◌∙◌, arith}
+use Rattle.std.proofs.Common.{◌≡◌, ◌≢◌, ⊎_elim, ℕ, [], ◌∷◌, ◌-◌, ◌<◌, ◌≤◌, ◌==◌, if◌then◌else◌, true, false, Bool, List, ◌++◌, Option, None, replicate, take, length, get_or, set, refl, sym, ap, ◌∙◌, arith}
 use Rattle.std.proofs.lemmas.Bool.{cases_eq, cases_lt}
 use Rattle.std.proofs.lemmas.Bool.Decides.{nat_tests}
-use Rattle.std.proofs.lemmas.List.{get_or-set_other, get_or-set_same, get_or_append_left, get_or-append_right, get_or-replicate, get_or_past, length-replicate, take_all}
+use Rattle.std.proofs.lemmas.List.{get_or-set_other, get_or-set_same, get_or_append_left, get_or-append_right, get_or-replicate, get_or_past, length-append, length-replicate, get_or_push, take_all}
 
 module _ {X : Type 0} (z : X) where
   past_same : (m i : ℕ) → get_or (replicate m z) i z ≡ z
@@ -43,4 +43,19 @@ written old grown k x l same n =
     ∙ ap (λ (b : Bool). if b then x else get_or old n None) (sym (tells_equal k n (sym e))))
     (λ (ne : n ≢ k).
     get_or-set_other grown k n x None ne ∙ same n ∙ ap (λ (b : Bool). if b then x else get_or old n None) (sym (tells_other k n ne)))
+    (cases_eq n k)
+
+-- the next number is set
+pub appended : (old : List (Option ℕ)) (k : ℕ) (x : Option ℕ) → k ≡ length old → (n : ℕ) →
+    get_or (old ++ x ∷ []) n None ≡ (if k == n then x else get_or old n None)
+appended old k x e n =
+    ⊎_elim (λ (same : n ≡ k).
+    get_or_push old x None n (sym (same ∙ e)) ∙ ap (λ (b : Bool). if b then x else get_or old n None) (sym (tells_equal k n (sym same))))
+    (λ (ne : n ≢ k).
+    ⊎_elim (λ (l : n < length old). get_or_append_left old (x ∷ []) None n l)
+    (λ (l : length old ≤ n).
+    let more : length old < n = grind (arith, e, l, ne) in
+    get_or_past (old ++ x ∷ []) n None (let long = length-append old (x ∷ []) in omega (arith, long, more)) ∙ sym (get_or_past old n None l))
+    (cases_lt n (length old))
+    ∙ ap (λ (b : Bool). if b then x else get_or old n None) (sym (tells_other k n ne)))
     (cases_eq n k)

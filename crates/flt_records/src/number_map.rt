@@ -57,7 +57,7 @@ impl NumberMap {
     }
 
     /// A number has this from now on. It fails where that is 2^32 or greater.
-    #[tactic(auto, using(crate::proofs::NumberMaps::written))]
+    #[tactic(auto, using(crate::proofs::NumberMaps::written, crate::proofs::NumberMaps::appended))]
     pub(crate) fn set(&mut self, number: usize, target: usize) -> Result<(), AllocError>
         ensures ok { OnOk result ((n : ℕ) → get_or self.new n None ≡ (if number == n then Some target else get_or self.old n None)) }
         ensures err { OnErr result (self.new ≡ self.old) }
@@ -65,6 +65,11 @@ impl NumberMap {
         let Ok(target) = u32::try_from(target) else {
             return Err(AllocError);
         };
+        if number == self.targets.len() {
+            self.targets.reserve(1)?;
+            self.targets.push_reserved(Some(target));
+            return Ok(());
+        }
         self.grow(number)?;
         if let Some(place) = self.targets.get_mut(number) {
             *place = Some(target);
