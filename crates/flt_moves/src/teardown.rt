@@ -125,7 +125,7 @@ fn is_drained(world: &World<'_>, filter: usize) -> bool
     !has_frame(world, filter)
         && world.is_queue_empty(filter)
         && !has_item(world, filter)
-        && !has_link(world, filter)
+        && !world.has_link(filter)
         && !has_active(
             filter,
             world.actors.as_slice(),
@@ -145,15 +145,6 @@ fn has_item(world: &World<'_>, filter: usize) -> bool
     world.items().iter().any(|item| is_item_of(filter, item))
 }
 
-fn has_link(world: &World<'_>, filter: usize) -> bool
-    ensures { result ≡ list_any (λ (c : spec.Context). moves.is_linked_by filter c.link) world.now.store.contexts }
-{
-    world
-        .contexts()
-        .iter()
-        .any(|context| is_linked_by(filter, &context.link))
-}
-
 /// Teardown ends.
 pub(crate) fn detached(world: &mut World<'_>, filter: usize) -> bool
     ensures { (earlier : List Event) → ComesOf (moves.detached world.old filter) result world.new earlier earlier }
@@ -170,16 +161,6 @@ fn is_item_of(filter: usize, item: &Option<Item>) -> bool
 {
     match item {
         Some(item) => item.filter == filter,
-        None => false,
-    }
-}
-
-/// Whether the filter made the link.
-fn is_linked_by(filter: usize, link: &Option<Link>) -> bool
-    ensures { result ≡ moves.is_linked_by filter link.now }
-{
-    match link {
-        Some(link) => link.filter == filter,
         None => false,
     }
 }

@@ -116,7 +116,7 @@ impl<'b, 'a> Course<'b, 'a> {
 
     /// How many contexts there were.
     pub(crate) fn contexts(&self) -> usize {
-        self.world.contexts().len()
+        self.world.context_count()
     }
 
     /// How many references a context has.

@@ -1,3 +1,4 @@
+pub mod ContextLists
 pub mod Counting
 pub mod FirstPlaces
 pub mod Keys

@@ -1,5 +1,6 @@
 pub mod Activations
 pub mod Coded
+pub mod ContextLists
 pub mod Counts
 pub mod Kept
 pub mod Links

@@ -1,11 +1,13 @@
 //! Contexts, of which those of a link are found without a search.
 
 ghost use Rattle.std.specs.Prelude.{◌≡◌, ◌+◌, ◌-◌, if◌then◌else◌, List, get_or, set, length, position, None, Some, [], ◌∷◌, ◌++◌, OnOk};
-ghost use Rattle.flt_model.specs.Reads as reads;
+ghost use Rattle.std.specs.List.{list_any};
+ghost use Rattle.flt_model.specs.Moves as moves;
 ghost use Rattle.flt_model.specs.World as spec;
 ghost use Rattle.flt_records.specs.Links.{key_code};
 
-use crate::parts::{Context, Link};
+use crate::context_list::ContextList;
+use crate::parts::Link;
 use crate::place_set::Places;
 use flt_model::Key;
 use std::alloc::{AllocError, Global};
@@ -14,7 +16,7 @@ use std::marker::Model;
 /// Contexts by number. Two may have one link here, though the machine links none where another is.
 #[derive(Drop)]
 pub struct Contexts {
-    list: Vec<Context>,
+    list: ContextList,
     links: Places,
 }
 
@@ -26,9 +28,9 @@ impl Model for Contexts {
 
     ghost use Rattle.flt_records.specs.Links.{AreLinks};
 
-    ghost view = { λ c. c.list.items };
+    ghost view = { λ c. c.list };
 
-    ghost invariant = { λ c. AreLinks c.list.items c.links.set };
+    ghost invariant = { λ c. AreLinks c.list c.links.set };
 }
 
 fn key_code(key: Key) -> usize
@@ -40,13 +42,15 @@ fn key_code(key: Key) -> usize
     }
 }
 
+// ---- what is there
+
 impl Contexts {
     /// No contexts.
     pub fn new(alloc: Global) -> Contexts
         ensures { result ≡ [] }
     {
         Contexts {
-            list: Vec::new(alloc),
+            list: ContextList::new(alloc),
             links: Places::new(alloc),
         }
     }
@@ -58,24 +62,43 @@ impl Contexts {
         self.list.len()
     }
 
-    /// The contexts by number.
-    pub fn as_slice(&self) -> &[Context]
-        ensures { result.now ≡ self.now }
+    /// The filter that allocated a context; 0 where it isn't there.
+    #[inline(always)]
+    pub fn owner(&self, context: usize) -> usize
+        ensures { result ≡ (get_or self.now context spec.no_context).owner }
     {
-        self.list.as_slice()
+        self.list.owner(context)
     }
 
-    /// A new context, with the value 0 and one reference.
-    pub fn add(&mut self, owner: usize) -> Result<(), AllocError>
-        ensures { OnOk result (self.new ≡ self.old ++ record { owner = owner; references = 1; value = 0; link = None } ∷ []) }
+    /// The references of a context; 0 where it is freed or not there.
+    #[inline(always)]
+    pub fn references(&self, context: usize) -> u64
+        ensures { result ≡ (get_or self.now context spec.no_context).references }
     {
-        self.list.push(Context {
-            owner,
-            references: 1,
-            value: 0,
-            link: None,
-        })?;
-        Ok(())
+        u64::from(self.list.references(context))
+    }
+
+    /// The value of a context, which a freed one keeps; 0 where it isn't there.
+    #[inline(always)]
+    pub fn value(&self, context: usize) -> u64
+        ensures { result ≡ (get_or self.now context spec.no_context).value }
+    {
+        self.list.value(context)
+    }
+
+    /// The link of a context; none where it isn't there.
+    #[inline(always)]
+    pub fn link(&self, context: usize) -> Option<Link>
+        ensures { result ≡ (get_or self.now context spec.no_context).link }
+    {
+        self.list.link(context)
+    }
+
+    /// Whether a context has a link that the filter made.
+    pub fn is_any_linked_by(&self, filter: usize) -> bool
+        ensures { result ≡ list_any (λ (c : spec.Context). moves.is_linked_by filter c.link) self.now }
+    {
+        self.list.is_any_linked_by(filter)
     }
 
     /// The context with the least number that has a link.
@@ -85,20 +108,30 @@ impl Contexts {
     {
         self.links.first(link.filter, key_code(link.key))
     }
+}
 
-    /// A freed context keeps its value.
-    pub fn set_value(&mut self, context: usize, value: u64)
-        ensures { self.new ≡ if spec.is_freed (get_or self.old context spec.no_context) then self.old
-            else set self.old context (record (get_or self.old context spec.no_context) { value = value }) }
+// ---- changes
+
+impl Contexts {
+    /// A new context, with the value 0 and one reference. It fails where the owner is 2^32 or greater.
+    pub fn add(&mut self, owner: usize) -> Result<(), AllocError>
+        ensures { OnOk result (self.new ≡ self.old ++ record { owner = owner; references = 1; value = 0; link = None } ∷ []) }
     {
-        if let Some(context) = self.list.get_mut(context) {
-            if context.references != 0 {
-                context.value = value;
-            }
-        }
+        self.list.add(owner)
     }
 
-    /// One reference more; a freed context stays as it is. The count is a number that no journal in memory reaches the end of.
+    /// A freed context keeps its value.
+    pub fn set_value(&mut self, context: usize, value: u64) -> Result<(), AllocError>
+        ensures { OnOk result (self.new ≡ if spec.is_freed (get_or self.old context spec.no_context) then self.old
+            else set self.old context (record (get_or self.old context spec.no_context) { value = value })) }
+    {
+        if self.list.references(context) != 0 {
+            self.list.set_value(context, value)?;
+        }
+        Ok(())
+    }
+
+    /// One reference more; a freed context stays as it is. It fails where they would reach 2^32.
     pub fn add_reference(&mut self, context: usize) -> Result<(), AllocError>
         ensures { OnOk result (self.new ≡ set self.old context
             (record (get_or self.old context spec.no_context) {
@@ -107,13 +140,12 @@ impl Contexts {
                   else (get_or self.old context spec.no_context).references + 1;
             })) }
     {
-        if let Some(context) = self.list.get_mut(context) {
-            if context.references != 0 {
-                match context.references.checked_add(1) {
-                    Some(references) => context.references = references,
-                    None => return Err(AllocError),
-                }
-            }
+        match self.list.references(context) {
+            0 => self.list.set_references(context, 0),
+            references => match references.checked_add(1) {
+                Some(more) => self.list.set_references(context, more),
+                None => return Err(AllocError),
+            },
         }
         Ok(())
     }
@@ -123,36 +155,34 @@ impl Contexts {
         ensures { self.new ≡ set self.old context
             (record (get_or self.old context spec.no_context) { references = (get_or self.old context spec.no_context).references - 1 }) }
     {
-        if let Some(context) = self.list.get_mut(context) {
-            if context.references != 0 {
-                context.references -= 1;
-            }
-        }
+        let references = self.list.references(context);
+        self.list
+            .set_references(context, references.saturating_sub(1));
     }
 
     /// The context has no link from now on.
     pub fn clear_link(&mut self, context: usize)
         ensures { self.new ≡ set self.old context (record (get_or self.old context spec.no_context) { link = None }) }
     {
-        let number = context;
-        if let Some(context) = self.list.get_mut(number) {
-            if let Some(link) = context.link.take() {
-                self.links.remove(link.filter, key_code(link.key), number);
-            }
+        if let Some(link) = self.list.link(context) {
+            self.links.remove(link.filter, key_code(link.key), context);
         }
+        self.list.clear_link(context);
     }
 
     /// The context has this link from now on.
+    #[tactic(auto, using(crate::proofs::ContextLists::relinked))]
     pub fn set_link(&mut self, context: usize, link: Link) -> Result<(), AllocError>
         ensures { OnOk result (self.new ≡ set self.old context (record (get_or self.old context spec.no_context) { link = Some link })) }
     {
-        let number = context;
-        if let Some(context) = self.list.get_mut(number) {
-            if let Some(old) = context.link.take() {
-                self.links.remove(old.filter, key_code(old.key), number);
-            }
-            self.links.insert(link.filter, key_code(link.key), number)?;
-            context.link = Some(link);
+        self.clear_link(context);
+        if context >= self.list.len() {
+            return Ok(());
+        }
+        self.links.insert(link.filter, key_code(link.key), context)?;
+        if let Err(refused) = self.list.set_link(context, link) {
+            self.links.remove(link.filter, key_code(link.key), context);
+            return Err(refused);
         }
         Ok(())
     }

@@ -9,7 +9,7 @@ use std::alloc::AllocError;
 use std::marker::Model;
 
 /// A number in four bytes. It fails where it is 2^32 or greater.
-fn in_four_bytes(number: usize) -> Result<u32, AllocError>
+pub(crate) fn in_four_bytes(number: usize) -> Result<u32, AllocError>
     ensures { IfOk result (λ short. short ≡ number) }
 {
     match u32::try_from(number) {
@@ -200,23 +200,6 @@ impl Model for Link {
     ghost view = { λ l. record { filter = l.filter; key = l.key } };
 
     ghost inverse = { λ l. record { filter = l.filter; key = l.key } };
-}
-
-/// A context with the filter that allocated it; without references it is freed.
-#[derive(Drop)]
-pub struct Context {
-    pub owner: usize,
-    pub references: u64,
-    pub value: u64,
-    pub link: Option<Link>,
-}
-
-impl Model for Context {
-    ghost use Rattle.flt_model.specs.World as machine;
-
-    ghost Value = { machine.Context };
-
-    ghost view = { λ c. record { owner = c.owner; references = c.references; value = c.value; link = c.link } };
 }
 
 /// A queued work item; a routine by the number of its callback.

@@ -45,7 +45,7 @@ pub(crate) fn write_value(
     let x = world.context_in(a, c);
     need_one(a, context(x), events)?;
     if let Some(x) = x {
-        world.set_value(x, world.atom_in(a, value));
+        world.set_value(x, world.atom_in(a, value))?;
     }
     world.go_on(a, &[], Write::Nothing)
 }

@@ -10,14 +10,14 @@ ghost use Rattle.flt_model.specs.Violations.{in_queue, in_item};
 ghost use Rattle.flt_model.specs.World as spec;
 ghost use Rattle.flt_world.specs.Opening.{opened};
 ghost use Rattle.flt_records.specs.Parts.{presence_of, position_of};
-ghost use Rattle.std.specs.List.{AllByRecursion};
+ghost use Rattle.std.specs.List.{AllByRecursion, list_any};
 ghost use Rattle.flt_records.specs.Tickets.{is_of};
 ghost use Rattle.flt_records.specs.Writes.{written};
 ghost use Rattle.flt_world.specs.Happening.{later};
 
 use flt_records::{
-    Activation, Actor, Arrival, Context, Contexts, Entry, Holder, Holders, Item, Link, Position,
-    Presence, Route, Spare, Standing, Visit, Visits, Waiting, Write, same_tests_find_the_same,
+    Activation, Actor, Arrival, Contexts, Entry, Holder, Holders, Item, Link, Position, Presence,
+    Route, Spare, Standing, Visit, Visits, Waiting, Write, same_tests_find_the_same,
 };
 use flt_rules::{Access, HeldLock, LockNumber, Mode, Operation, Place, Stage};
 use flt_tree::{Atom, ContextVariable, OperationVariable, Statement};
@@ -183,11 +183,18 @@ impl<'a> World<'a> {
         }
     }
 
-    /// The contexts by number.
-    pub fn contexts(&self) -> &[Context]
-        ensures { result.now ≡ self.now.store.contexts }
+    /// How many contexts there have been; freed ones stay.
+    pub fn context_count(&self) -> usize
+        ensures { result ≡ length self.now.store.contexts }
     {
-        self.contexts.as_slice()
+        self.contexts.len()
+    }
+
+    /// Whether a context has a link that the filter made.
+    pub fn has_link(&self, filter: usize) -> bool
+        ensures { result ≡ list_any (λ (c : spec.Context). moves.is_linked_by filter c.link) self.now.store.contexts }
+    {
+        self.contexts.is_any_linked_by(filter)
     }
 
     /// The work items by number.
@@ -302,25 +309,19 @@ impl<'a> World<'a> {
     }
 
     /// The filter that allocated a context.
-    #[tactic(auto, using(crate::proofs::Reading::found, crate::proofs::Reading::missing))]
+    #[inline(always)]
     pub fn owner(&self, context: usize) -> usize
         ensures { result ≡ (spec.context_at self.now.store context).owner }
     {
-        match at(self.contexts.as_slice(), context) {
-            Some(context) => context.owner,
-            None => 0,
-        }
+        self.contexts.owner(context)
     }
 
     /// The references of a context; 0 where it is freed or not there.
-    #[tactic(auto, using(crate::proofs::Reading::found, crate::proofs::Reading::missing))]
+    #[inline(always)]
     pub fn references(&self, context: usize) -> u64
         ensures { result ≡ (spec.context_at self.now.store context).references }
     {
-        match at(self.contexts.as_slice(), context) {
-            Some(context) => context.references,
-            None => 0,
-        }
+        self.contexts.references(context)
     }
 
     /// Whether a context has no reference.
@@ -331,25 +332,17 @@ impl<'a> World<'a> {
     }
 
     /// The value of a context, which a freed one keeps; 0 where it isn't there.
-    #[tactic(auto, using(crate::proofs::Reading::found, crate::proofs::Reading::missing))]
     pub fn value(&self, context: usize) -> u64
         ensures { result ≡ (spec.context_at self.now.store context).value }
     {
-        match at(self.contexts.as_slice(), context) {
-            Some(context) => context.value,
-            None => 0,
-        }
+        self.contexts.value(context)
     }
 
     /// Whether a context has a link.
-    #[tactic(auto, using(crate::proofs::Reading::found, crate::proofs::Reading::missing))]
     pub fn is_linked(&self, context: usize) -> bool
         ensures { result ≡ is_some (spec.context_at self.now.store context).link }
     {
-        match at(self.contexts.as_slice(), context) {
-            Some(context) => context.link.is_some(),
-            None => false,
-        }
+        self.contexts.link(context).is_some()
     }
 
     /// The filter whose callback an activation runs; 0 where it isn't there.
@@ -595,7 +588,7 @@ impl<'a> World<'a> {
         }
     }
 
-    /// A new context, with the value 0 and one reference.
+    /// A new context, with the value 0 and one reference. It fails where the owner is 2^32 or greater.
     pub fn add_context(&mut self, owner: usize) -> Result<usize, AllocError>
         ensures { IfOk result (λ x. (x ≡ length self.old.store.contexts)
             × (self.new ≡ record self.old {
@@ -612,13 +605,13 @@ impl<'a> World<'a> {
     }
 
     /// A freed context keeps its value.
-    pub fn set_value(&mut self, context: usize, value: u64)
-        ensures { self.new ≡ record self.old { store = reads.put_value self.old.store context value } }
+    pub fn set_value(&mut self, context: usize, value: u64) -> Result<(), AllocError>
+        ensures { OnOk result (self.new ≡ record self.old { store = reads.put_value self.old.store context value }) }
     {
-        self.contexts.set_value(context, value);
+        self.contexts.set_value(context, value)
     }
 
-    /// One reference more; a freed context stays as it is. The count is a number that no journal in memory reaches the end of.
+    /// One reference more; a freed context stays as it is. It fails where they would reach 2^32.
     pub fn add_reference(&mut self, context: usize) -> Result<(), AllocError>
         ensures { OnOk result (self.new ≡ record self.old { store = spec.add_reference self.old.store context }) }
     {
