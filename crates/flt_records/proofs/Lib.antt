@@ -10,5 +10,6 @@ pub mod Queues
 pub mod Remaining
 pub mod Slots
 pub mod SparseCounting
+pub mod Suspended
 pub mod Turning
 pub mod VisitLinks

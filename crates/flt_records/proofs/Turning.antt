@@ -5,25 +5,11 @@ use Rattle.flt_tree.specs.declared.filter.Statement.{Statement}
 use Rattle.flt_tree.specs.declared.filter.Statement.TheViews.{outs-Repeat}
 use Rattle.flt_model.specs.LocalSteps.{local_step}
 use Rattle.flt_model.specs.World.{Activation}
-use Rattle.flt_records.specs.Kept.{TurnsLast}
+use Rattle.flt_records.specs.Behind.{TurnsLast}
 use Rattle.flt_records.specs.Rest.{statements_of, before, remaining, has_turn, turned, body_of, IsTurn}
 use Rattle.flt_records.specs.declared.rest.Part.{Part}
 use Rattle.flt_records.specs.declared.rest.Part.TheVariants.{Block, Repeat}
 use Rattle.flt_records.proofs.Remaining.{before_push, turn_left}
-
--- ---- the last one of a list
-
-before_last : (xs : List Part) (i : ℕ) (d : Part) → i + 1 ≡ length xs → xs ≡ take i xs ++ get_or xs i d ∷ []
-before_last [] i d h = absurd (omega arith)
-before_last (x ∷ []) zero d h = refl
-before_last (x ∷ y ∷ xs) zero d h = absurd (omega arith)
-before_last (x ∷ xs) (suc i) d h = ap (λ (l : List Part). x ∷ l) (before_last xs i d (omega arith))
-
-last_set : (xs : List Part) (i : ℕ) (y : Part) → i + 1 ≡ length xs → set xs i y ≡ take i xs ++ y ∷ []
-last_set [] i y h = absurd (omega arith)
-last_set (x ∷ []) zero y h = refl
-last_set (x ∷ z ∷ xs) zero y h = absurd (omega arith)
-last_set (x ∷ xs) (suc i) y h = ap (λ (l : List Part). x ∷ l) (last_set xs i y (omega arith))
 
 -- ---- a turn of it is one of what remains
 
@@ -46,14 +32,7 @@ turn_at parts old new p body was is has of =
 
 last_turned : (old new : List Part) (body : List Statement) → TurnsLast old body new → IsTurn (before [] old) (body ++ before [] new)
 unfolding TurnsLast
-last_turned [] new body h = absurd (omega (arith, h.0))
-last_turned (x ∷ xs) new body h =
-    let old = x ∷ xs in
-    let i = length old - 1 in
-    let l : i + 1 ≡ length old = omega (arith, h.0) in
-    let p = get_or old i x in
-    let is = h.1 x in
-    turn_at (take i old) old new p body (before_last old i x l) (is.1.1 ∙ last_set old i (turned p) l) is.0 is.1.0
+last_turned old new body h = turn_at h.0 old new h.1 body h.2 h.5 h.3 h.4
 
 nothing : (l : List Statement) → length l < 1 → l ≡ []
 nothing [] h = refl

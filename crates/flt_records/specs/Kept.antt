@@ -1,13 +1,12 @@
 -- What an activation keeps beside the blocks in which it stands.
-use Rattle.std.specs.Prelude.{◌≡◌, ◌<◌, ◌-◌, ℕ, Bool, true, List, [], ◌∷◌, Option, None, replicate, length, get_or, set}
-use Rattle.flt_tree.specs.declared.filter.Statement.{Statement}
+use Rattle.std.specs.Prelude.{ℕ, Bool, List, [], ◌∷◌, Option, None, replicate}
 use Rattle.flt_rules.specs.declared.held.HeldLock.{HeldLock}
 use Rattle.flt_records.specs.declared.kept.Few.{Few}
 use Rattle.flt_records.specs.declared.kept.Form.{Form}
 use Rattle.flt_records.specs.declared.kept.Form.TheVariants as form
 use Rattle.flt_records.specs.declared.kept.Kept.{Kept}
 use Rattle.flt_records.specs.declared.rest.Part.{Part}
-use Rattle.flt_records.specs.Rest.{has_turn, turned, body_of}
+use Rattle.flt_records.specs.Behind.{parts}
 
 -- what is gone on with behind two blocks, the variables, the locks, and whether it ended
 pub record Contents : Type 0 where
@@ -40,7 +39,7 @@ few_alone ended few = record {
 abbrev pub contents_of : Form → Contents
 contents_of (form.Few ended few) = few_alone ended few
 contents_of (form.All ended all) = record {
-  after = all.value.after.items;
+  after = parts all.value.after;
   numbers = all.value.numbers;
   contexts = all.value.contexts;
   operations = all.value.operations;
@@ -55,9 +54,3 @@ contents kept = contents_of kept.form
 abbrev pub IsAll : Form → Type 0
 IsAll (form.Few ended few) = ⊥
 IsAll (form.All ended all) = Unit {0}
-
--- a turn is taken of the last part, whose body this is
-unfoldable pub TurnsLast : List Part → List Statement → List Part → Type 0
-TurnsLast old body new =
-    (0 < length old) × ((d : Part) → (has_turn (get_or old (length old - 1) d) ≡ true)
-    × ((body ≡ body_of (get_or old (length old - 1) d)) × (new ≡ set old (length old - 1) (turned (get_or old (length old - 1) d)))))

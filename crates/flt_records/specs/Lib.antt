@@ -1,4 +1,5 @@
 pub mod Activations
+pub mod Behind
 pub mod Coded
 pub mod ContextLists
 pub mod Counts

@@ -2,12 +2,15 @@
 //! memory of their own, once.
 
 ghost use Rattle.std.specs.Prelude.{◌≡◌, ◌<◌, ◌++◌, ◌∷◌, [], true, false, None, length, get_or, set, remove, replicate, IfOk, IfSome, OnOk, MatchOption};
-ghost use Rattle.flt_records.specs.Kept.{contents, contents_of, few_alone, few_contexts, few_operations, IsAll, TurnsLast};
+ghost use Rattle.flt_records.specs.Kept.{contents, contents_of, few_alone, few_contexts, few_operations, IsAll};
+ghost use Rattle.flt_records.specs.Behind.{parts, TurnsLast};
+ghost use Rattle.flt_records.specs.declared.rest.Part.TheVariants.{Block, Repeat};
 
+use crate::behind::Behind;
 use crate::rest::Part;
 use crate::slot::Slot;
 use flt_rules::HeldLock;
-use flt_tree::Statement;
+use flt_tree::{Span, Statement};
 use sqlite_items::Items;
 use std::alloc::{AllocError, Global};
 
@@ -24,8 +27,8 @@ pub(crate) struct Few {
 /// All that an activation may keep.
 #[derive(Drop)]
 struct All<'a> {
-    /// What is gone on with behind two blocks; the innermost is the last.
-    after: Vec<Part<'a>>,
+    /// What is gone on with behind two blocks.
+    after: Behind<'a>,
     numbers: [u64; 8],
     contexts: [Slot; 9],
     operations: [Slot; 5],
@@ -116,11 +119,11 @@ impl Few {
 
     /// All that there is, where no more is used than these.
     fn all<'a>(&self, alloc: Global) -> All<'a>
-        ensures lists { (result.after.items ≡ []) × (result.locks ≡ []) }
+        ensures lists { (parts result.after ≡ []) × (result.locks ≡ []) }
         ensures variables { (result.numbers ≡ replicate 8 0) × ((result.contexts ≡ few_contexts self.now) × (result.operations ≡ few_operations self.now)) }
     {
         All {
-            after: Vec::new(alloc),
+            after: Behind::new(alloc),
             numbers: [0; 8],
             contexts: [
                 self.c0.copied(),
@@ -170,19 +173,6 @@ fn see_to_all(form: &mut Form<'_>, alloc: Global) -> Result<(), AllocError>
         return make(form, alloc);
     }
     Ok(())
-}
-
-/// Takes a turn of the last part, where it is a `repeat` with a turn left, and answers its body.
-#[inline(always)]
-#[tactic(auto, unfolding(crate::specs::Kept::TurnsLast))]
-fn turn_last<'a>(parts: &mut Vec<Part<'a>>) -> Option<&'a [Statement]>
-    ensures { MatchOption result (parts.new.items ≡ parts.old.items) (λ body. TurnsLast parts.old.items body.now parts.new.items) }
-{
-    let last = parts.len().checked_sub(1)?;
-    match parts.get_mut(last) {
-        Some(part) => part.turn(),
-        None => None,
-    }
 }
 
 impl<'a> Kept<'a> {
@@ -251,7 +241,7 @@ impl<'a> Kept<'a> {
         ensures { contents self.new ≡ record (contents self.old) { after = []; ended = true } }
     {
         if let Form::All(_, all) = &mut self.form {
-            all.after = Vec::new(self.alloc);
+            all.after = Behind::new(self.alloc);
         }
         match &mut self.form {
             Form::Few(ended, _) => *ended = true,
@@ -282,16 +272,35 @@ impl<'a> Kept<'a> {
         let Form::All(_, all) = &mut self.form else {
             return None;
         };
-        turn_last(&mut all.after)
+        all.after.turn()
     }
 
-    /// A part will be gone on with before the others.
-    pub(crate) fn suspend(&mut self, part: Part<'a>) -> Result<(), AllocError>
-        ensures { OnOk result (contents self.new ≡ record (contents self.old) { after = (contents self.old).after ++ part.entry ∷ [] }) }
+    /// What is left of a block will be gone on with before the others.
+    pub(crate) fn suspend_block(&mut self, block: &'a [Statement]) -> Result<(), AllocError>
+        requires { 0 < length block.now }
+        ensures { OnOk result (contents self.new ≡ record (contents self.old) { after = (contents self.old).after ++ Block block.entry ∷ [] }) }
     {
         see_to_all(&mut self.form, self.alloc)?;
         if let Form::All(_, all) = &mut self.form {
-            all.after.push(part)?;
+            all.after.push_block(block)?;
+        }
+        Ok(())
+    }
+
+    /// A `repeat` will be gone on with before the others.
+    pub(crate) fn suspend_repeat(
+        &mut self,
+        span: &'a Span,
+        turns: u64,
+        body: &'a [Statement],
+    ) -> Result<(), AllocError>
+        ensures { OnOk result (contents self.new ≡ record (contents self.old) {
+          after = (contents self.old).after ++ Repeat span.entry turns body.entry ∷ [];
+        }) }
+    {
+        see_to_all(&mut self.form, self.alloc)?;
+        if let Form::All(_, all) = &mut self.form {
+            all.after.push_repeat(span, turns, body)?;
         }
         Ok(())
     }

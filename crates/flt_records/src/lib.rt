@@ -1,14 +1,15 @@
 //! What the monitor's world is kept in: a struct for each record of the machine, and the lists of them, with indices beside them
 //! that save searches.
 //!
-//! `parts` and `route` are the records. `activation`, `going`, `rest` and `lock_list` are one run of a callback, `kept`
-//! and `slot` its variables, and `local` its steps that nobody else sees. `context_list` keeps contexts, and `linked` finds
+//! `parts` and `route` are the records. `activation`, `going`, `rest` and `lock_list` are one run of a callback, `behind` the blocks round
+//! it, `kept` and `slot` its variables, and `local` its steps that nobody else sees. `context_list` keeps contexts, and `linked` finds
 //! them by their links. `visit_list` has visits by operation, `holders` who holds a lock, and `waiting_list` queues and work items;
 //! `place_set` and `counts` are their indices, and `sparse_counts` counts what few count of. Contracts see each list as the machine's
 //! own, and mention no index.
 #![tactic(auto)]
 
 mod activation;
+mod behind;
 mod context_list;
 mod counts;
 mod going;

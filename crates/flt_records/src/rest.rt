@@ -3,7 +3,7 @@
 ghost use Rattle.std.specs.Prelude.{◌≡◌, true, false, List, [], ◌∷◌, ◌++◌, MatchOption, OnOk, IfOk};
 ghost use Rattle.flt_model.specs.LocalSteps.{turns_left};
 ghost use Rattle.flt_records.specs.Kept.{contents};
-ghost use Rattle.flt_records.specs.Rest.{statement_of, before, remains, others, has_turn, turned, body_of, IsTurn};
+ghost use Rattle.flt_records.specs.Rest.{statement_of, before, remains, others, IsTurn};
 ghost use Rattle.flt_records.specs.declared.rest.Part.{Part};
 
 use crate::kept::Kept;
@@ -17,26 +17,6 @@ pub enum Part<'a> {
     Block(&'a [Statement]),
     /// A `repeat`: where it stands, the turns that are left, and its body.
     Repeat(&'a Span, u64, &'a [Statement]),
-}
-
-impl<'a> Part<'a> {
-    /// Takes a turn of a `repeat`, if one is left, and answers its body.
-    #[inline(always)]
-    pub(crate) fn turn(&mut self) -> Option<&'a [Statement]>
-        ensures { MatchOption result ((has_turn self.old ≡ false) × (self.new ≡ self.old))
-            (λ body. (has_turn self.old ≡ true) × ((body.now ≡ body_of self.old) × (self.new ≡ turned self.old))) }
-    {
-        match self {
-            Part::Block(_) => None,
-            Part::Repeat(_, turns, body) => {
-                if *turns == 0 {
-                    return None;
-                }
-                *turns -= 1;
-                Some(*body)
-            }
-        }
-    }
 }
 
 /// A statement of the text, or a `repeat` that has gone through some of its turns.
@@ -141,7 +121,7 @@ impl<'a> Rest<'a> {
             match kept.resume() {
                 Some(Part::Block(block)) => self.block = block,
                 Some(Part::Repeat(span, turns, body)) => {
-                    kept.suspend(Part::Repeat(span, turns, body))?;
+                    kept.suspend_repeat(span, turns, body)?;
                     return Ok(Some(Upcoming::Repeat(span, turns, body)));
                 }
                 None => return Ok(None),
@@ -206,7 +186,7 @@ impl<'a> Rest<'a> {
         suspend(kept, outer)?;
         self.outer = &[];
         suspend(kept, here)?;
-        kept.suspend(Part::Repeat(span, turns - 1, body))?;
+        kept.suspend_repeat(span, turns - 1, body)?;
         self.block = body;
         Ok(())
     }
@@ -220,6 +200,6 @@ fn suspend<'a>(kept: &mut Kept<'a>, here: &'a [Statement]) -> Result<(), AllocEr
 {
     match here {
         [] => Ok(()),
-        [_, ..] => kept.suspend(Part::Block(here)),
+        [_, ..] => kept.suspend_block(here),
     }
 }
