@@ -75,7 +75,7 @@ impl Page {
     fn word(&mut self, word: &[u8]) -> Result<(), AllocError> {
         let mut at = 0;
         while at < word.len() {
-            let (count, is_shown) = character(&word[at..]);
+            let (count, is_shown) = stretch(&word[at..]);
             let end = at.saturating_add(count).min(word.len());
             if is_shown {
                 self.bytes(&word[at..end])?;
@@ -126,6 +126,28 @@ fn hidden(byte: u8) -> u8 {
     match byte {
         b'\t' => b' ',
         _ => b'?',
+    }
+}
+
+/// How many bytes from the first on are shown as they stand, each a character by itself.
+fn plain(bytes: &[u8]) -> usize {
+    let mut count: usize = 0;
+    for byte in bytes {
+        if !matches!(*byte, 32..=126) {
+            return count;
+        }
+        count = count.saturating_add(1);
+    }
+    count
+}
+
+/// How many bytes come first that are shown alike, and whether they are shown: all that are plain, or else one character.
+fn stretch(bytes: &[u8]) -> (usize, bool)
+    ensures { 0 < result.0 }
+{
+    match plain(bytes) {
+        0 => character(bytes),
+        count => (count, true),
     }
 }
 

@@ -300,6 +300,14 @@ fn put_visits(mix: &mut Mix, world: &World) {
     }
 }
 
+fn put_detaching(mix: &mut Mix, world: &World) {
+    for filter in 0..MAX_FILTERS {
+        if world.detaches(filter) {
+            mix.put(u64::from(filter));
+        }
+    }
+}
+
 /// The number of a world in which an activation is on.
 pub(crate) fn key_of(plan: &Plan, world: &World, runner: Option<u8>) -> u64 {
     let mut mix = Mix {
@@ -308,10 +316,8 @@ pub(crate) fn key_of(plan: &Plan, world: &World, runner: Option<u8>) -> u64 {
         visits: [0; 8],
         met: 0,
     };
-    for filter in 0..MAX_FILTERS {
-        if world.detaches(filter) {
-            mix.put(u64::from(filter));
-        }
+    if world.detaches_one() {
+        put_detaching(&mut mix, world);
     }
     put_operations(&mut mix, world);
     put_waiting(&mut mix, world);

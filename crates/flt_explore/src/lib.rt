@@ -7,6 +7,7 @@
 #![tactic(auto)]
 
 mod coming;
+mod counts;
 mod key;
 mod paths;
 mod round_search;

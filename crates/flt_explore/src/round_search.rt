@@ -1,5 +1,6 @@
 //! One round of the search: worlds, breadth first by the entries that lead there.
 
+use crate::counts::{Counts, NO_COUNTS};
 use crate::key::key_of;
 use crate::paths::Paths;
 use crate::rounds::Round;
@@ -8,7 +9,7 @@ use flt_model::{JournalEntry, Violation};
 use flt_plan::Plan;
 use flt_small_world::{Course, NOTHING_MADE, Next, OPENING, World};
 use std::alloc::{AllocError, Global};
-use std::collections::BTreeMap;
+use std::collections::{BTreeMap, HashMap};
 
 /// How many entries a journal has at most.
 const MAX_DEPTH: usize = 12_000;
@@ -70,35 +71,6 @@ pub struct Found {
     pub violation: Violation,
 }
 
-/// How many states there are of each callback, and of none.
-#[derive(Clone, Copy)]
-struct Counts {
-    counts: [u32; 17],
-}
-
-const NO_COUNTS: Counts = Counts { counts: [0; 17] };
-
-impl Counts {
-    fn get(&self, class: usize) -> u32 {
-        match self.counts.get(class) {
-            Some(count) => *count,
-            None => 0,
-        }
-    }
-
-    fn add(&mut self, class: usize) {
-        if let Some(count) = self.counts.get_mut(class) {
-            *count = count.saturating_add(1);
-        }
-    }
-
-    fn remove(&mut self, class: usize) {
-        if let Some(count) = self.counts.get_mut(class) {
-            *count = count.saturating_sub(1);
-        }
-    }
-}
-
 impl State {
     /// The callback that is on; a number of its own where none is.
     fn class(&self) -> usize {
@@ -151,7 +123,7 @@ pub struct Search<'p> {
     /// The kinds of operations that come.
     pub(crate) coming: [bool; 4],
     /// The keys that were met, and with how few switches.
-    seen: BTreeMap<u64, u8>,
+    seen: HashMap<u64, u8>,
     /// The states within turns that were met last, by keys without the turns that are left.
     anchors: BTreeMap<u64, Anchor>,
     pub found: Vec<Found>,
@@ -192,7 +164,7 @@ impl<'p> Search<'p> {
             share: 0,
             moves: round.states.saturating_mul(MOVES),
             coming: [false; 4],
-            seen: BTreeMap::new(alloc),
+            seen: HashMap::new(alloc),
             anchors: BTreeMap::new(alloc),
             found: Vec::new(alloc),
             longest: 0,
@@ -237,15 +209,19 @@ impl<'p> Search<'p> {
     }
 
     /// A state waits, if it is new.
-    fn push_state(&mut self, from: &State, state: State, first: usize) -> Result<(), AllocError> {
-        let mut state = state;
+    fn push_state(
+        &mut self,
+        from: &State,
+        state: &mut State,
+        first: usize,
+    ) -> Result<(), AllocError> {
         state.world.sweep(self.plan);
-        if !self.has_room(&state)? || !self.is_new(&state)? {
+        if !self.has_room(state)? || !self.is_new(state)? {
             self.paths.forget(first);
             return Ok(());
         }
         state.node = Some(self.paths.add_node(from.node, first)?);
-        if self.leap(&mut state)? {
+        if self.leap(state)? {
             self.put_state(state)?;
         }
         Ok(())
@@ -260,8 +236,7 @@ impl<'p> Search<'p> {
     }
 
     /// A state waits.
-    fn put_state(&mut self, state: State) -> Result<(), AllocError> {
-        let mut state = state;
+    fn put_state(&mut self, state: &mut State) -> Result<(), AllocError> {
         state.depth = self.paths.depth(state.node);
         state.next = None;
         if state.depth >= MAX_DEPTH {
@@ -339,16 +314,16 @@ impl<'p> Search<'p> {
     }
 
     /// The place of a state among those that wait.
-    fn place(&mut self, state: State) -> Result<usize, AllocError> {
+    fn place(&mut self, state: &State) -> Result<usize, AllocError> {
         if let Some(number) = self.free {
             if let Some(place) = self.states.get_mut(number) {
                 self.free = place.next;
-                *place = state;
+                *place = *state;
                 return Ok(number);
             }
         }
         let number = self.states.len();
-        self.states.push(state)?;
+        self.states.push(*state)?;
         Ok(number)
     }
 
@@ -453,54 +428,83 @@ impl<'p> Search<'p> {
         Ok(course)
     }
 
+    /// Whether an activation makes its next step at once: nobody sees it, and it leaves no choice.
+    fn goes_at_once(&self, world: &World, a: u8) -> bool {
+        !world.is_seen(self.plan, a) && !world.has_choice(self.plan, a)
+    }
+
+    /// The activation that is on, if it makes its next step at once.
+    fn next_at_once(&self, state: &mut State) -> Option<u8> {
+        let a = state.runner?;
+        if !state.world.activation(a).is_on {
+            state.runner = None;
+            return None;
+        }
+        if self.goes_at_once(&state.world, a) {
+            Some(a)
+        } else {
+            None
+        }
+    }
+
     /// Steps are made in a row that nobody sees and that leave no choice. The state before them waits where one of them breaks something.
-    fn chain(&mut self, from: &State, state: State, first: usize) -> Result<(), AllocError> {
-        let mut after = state;
+    fn chain(&mut self, from: &State, state: &mut State, first: usize) -> Result<(), AllocError> {
+        if self.next_at_once(state).is_none() {
+            return self.push_state(from, state, first);
+        }
+        if state.switches >= self.round.switches {
+            let _ = self.go_in_row(from, state, first)?;
+            return Ok(());
+        }
+        let mut before = *state;
         let between = self.paths.len();
+        if self.go_in_row(from, state, first)? {
+            self.leave(from, &mut before, first, between)?;
+        }
+        Ok(())
+    }
+
+    /// Makes these steps. True where one of them breaks something.
+    fn go_in_row(
+        &mut self,
+        from: &State,
+        state: &mut State,
+        first: usize,
+    ) -> Result<bool, AllocError> {
         for _ in 0..MAX_CHAIN {
-            let Some(a) = after.runner else {
-                return self.push_state(from, after, first);
+            let Some(a) = self.next_at_once(state) else {
+                self.push_state(from, state, first)?;
+                return Ok(false);
             };
-            if !after.world.activation(a).is_on {
-                after.runner = None;
-                return self.push_state(from, after, first);
+            if state.world.free_context().is_none() {
+                state.world.sweep(self.plan);
             }
-            if after.world.is_seen(self.plan, a) || after.world.has_choice(self.plan, a) {
-                return self.push_state(from, after, first);
-            }
-            if after.world.free_context().is_none() {
-                after.world.sweep(self.plan);
-            }
-            let stand = Search::stand_of(&after.world, a);
-            match self.step(&mut after.world, a, true)? {
+            let stand = Search::stand_of(&state.world, a);
+            match self.step(&mut state.world, a, true)? {
                 Course::Goes => {}
                 Course::Breaks(violation) => {
                     self.meet(from, first, stand, violation)?;
-                    return self.leave(from, state, first, between);
+                    return Ok(true);
                 }
-                Course::Stuck | Course::Full => return Ok(()),
+                Course::Stuck | Course::Full => return Ok(false),
             }
         }
         self.is_cut = true;
-        Ok(())
+        Ok(false)
     }
 
     /// The state before a chain that broke something waits, to be left.
     fn leave(
         &mut self,
         from: &State,
-        state: State,
+        state: &mut State,
         first: usize,
         between: usize,
     ) -> Result<(), AllocError> {
-        if state.switches >= self.round.switches {
-            return Ok(());
-        }
         let begin = self.paths.len();
         self.paths.copy(first, between)?;
-        let mut left = state;
-        left.is_left = true;
-        self.push_state(from, left, begin)
+        state.is_left = true;
+        self.push_state(from, state, begin)
     }
 
     fn go(&mut self, from: &State, a: u8, grant: bool, cost: u8) -> Result<Taken, AllocError> {
@@ -515,7 +519,7 @@ impl<'p> Search<'p> {
         let stand = Search::stand_of(&state.world, a);
         match self.step(&mut state.world, a, grant)? {
             Course::Goes => {
-                self.chain(from, state, first)?;
+                self.chain(from, &mut state, first)?;
                 Ok(Taken::Went)
             }
             Course::Breaks(violation) => {
@@ -546,7 +550,7 @@ impl<'p> Search<'p> {
                 self.paths.push(entry)?;
             }
         }
-        self.chain(from, state, first)
+        self.chain(from, &mut state, first)
     }
 
     /// Takes one off the moves that are left. False where there is none.
@@ -753,7 +757,8 @@ impl<'p> Search<'p> {
             next: None,
         };
         self.find_coming();
-        self.push_state(&opening, opening, 0)?;
+        let mut first = opening;
+        self.push_state(&opening, &mut first, 0)?;
         for number in 0..MAX_PASSES {
             self.share = fair_share(number);
             if !self.pass()? {

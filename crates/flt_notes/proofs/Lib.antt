@@ -1,3 +1,4 @@
 pub mod Outputs
 pub mod Printed
 pub mod Studied
+pub mod Together

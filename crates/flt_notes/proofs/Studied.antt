@@ -48,11 +48,6 @@ studied_push : (trees : List Tree) (each : List Studied) (s : Studied) → AreSt
 studied_push trees [] s are is = (is, tt)
 studied_push trees (t ∷ each) s are is = (are.0, studied_push trees each s are.1 is)
 
--- the others are what they are said to be
-pub studied_rest : (trees : List Tree) (each : List Studied) → AreStudied trees each → AreStudied trees (drop 1 each)
-studied_rest trees [] are = tt
-studied_rest trees (s ∷ each) are = are.1
-
 texts-push : (each : List Studied) (s : Studied) → texts_read (each ++ s ∷ []) ≡ texts_read each ++ s.source.text.now ∷ []
 texts-push [] s = refl
 texts-push (t ∷ each) s = ap (λ ts. t.source.text.now ∷ ts) (texts-push each s)

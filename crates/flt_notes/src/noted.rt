@@ -44,11 +44,11 @@ fn journal_of(noted: &Noted) -> Option<&Journal>
 pub fn first_journal(noted: &[Noted]) -> Option<&Journal>
     ensures { option_copied result ≡ spec.first_journal noted.now }
 {
-    match noted {
-        [] => None,
-        [first, others @ ..] => match journal_of(first) {
-            Some(journal) => Some(journal),
-            None => first_journal(others),
-        },
+    for one in noted {
+        let journal = journal_of(one);
+        if journal.is_some() {
+            return journal;
+        }
     }
+    None
 }

@@ -435,7 +435,7 @@ impl Stage<'_> {
     }
 
     /// Writes what is found of each text, and gives the greatest status.
-    #[tactic(auto, using(crate::proofs::Studied::studied_rest))]
+    #[tactic(auto, using(crate::proofs::Together::begun, crate::proofs::Together::studied_parts))]
     pub(crate) fn put_all(
         &self,
         output: &mut Output,
@@ -446,15 +446,14 @@ impl Stage<'_> {
         ensures output { OnOk result (spec.IsOutput self.now.trees.now output.new) }
         ensures reports { IfOk result (AreReportsOf (filters_of self.now.trees.now) (texts_read each.now) output.new.bytes.items) }
     {
-        match each {
-            [] => Ok(0),
-            [studied] => self.put_text(output, studied),
-            [studied, others @ ..] => {
-                let first = self.put_before(output, studied)?;
-                let rest = self.put_all(output, others)?;
-                Ok(greater(first, rest))
-            }
+        let [before @ .., last] = each else {
+            return Ok(0);
+        };
+        let mut greatest = 0;
+        for studied in before {
+            greatest = greater(greatest, self.put_before(output, studied)?);
         }
+        Ok(greater(greatest, self.put_text(output, last)?))
     }
 }
 

@@ -1,4 +1,5 @@
 pub mod Bits
+pub mod Gathering
 pub mod HeldLocks
 pub mod OnWays
 pub mod Parts

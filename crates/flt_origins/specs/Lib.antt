@@ -1,3 +1,4 @@
 pub mod Facts
+pub mod Gathering
 pub mod Grouping
 pub mod Origins

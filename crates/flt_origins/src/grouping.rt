@@ -1,15 +1,16 @@
 //! Findings that are put together: those of one callback, rule, subject and origin.
 
-ghost use Rattle.std.specs.Prelude.{◌≡◌, ◌++◌, IfOk, OnOk, filter};
+ghost use Rattle.std.specs.Prelude.{◌≡◌, ◌++◌, ◌∷◌, [], IfOk, OnOk};
 ghost use Rattle.flt_explain.specs.Subjects.{place as place_of_subject};
+ghost use Rattle.flt_origins.specs.Gathering.{common_of, joined, added, ArePlaced};
 ghost use Rattle.flt_origins.specs.Grouping as spec;
 
 use crate::origin::Cause;
 use flt_explain::{Finding, Subject};
 use flt_rules::number;
-use flt_ways::Step;
 use sqlite_items::Items;
 use std::alloc::{AllocError, Global};
+use std::collections::HashMap;
 
 /// A finding, where it stands among all, from 0, and what made it so, where that is known.
 #[derive(Clone, Copy)]
@@ -41,91 +42,81 @@ fn place(subject: Subject) -> usize
     }
 }
 
-fn is_same_step(a: Step, b: Step) -> bool
-    ensures { result ≡ spec.same_step a b }
-{
-    a.point == b.point && (if b.granted { a.granted } else { !a.granted })
+/// What findings have in common that are put together: where and what they are, and what made them so.
+#[derive(Clone, Copy, PartialEq, Eq, Hash)]
+struct Common {
+    callback: usize,
+    rule: u8,
+    subject: usize,
+    /// The point whose statement made it so; none where it is so when the callback is entered.
+    point: Option<usize>,
+    /// How that statement came out.
+    granted: bool,
 }
 
-fn is_same_cause(a: Cause, b: Cause) -> bool
-    ensures { result ≡ spec.same_cause a b }
+/// What a finding has in common with others; none where its origin isn't known.
+fn common_of(traced: &Traced) -> Option<Common>
+    ensures { result ≡ common_of traced.now }
 {
-    match (a, b) {
-        (Cause::Entry, Cause::Entry) => true,
-        (Cause::Made(a), Cause::Made(b)) => is_same_step(a, b),
-        _ => false,
-    }
-}
-
-/// Whether both are known, and one.
-fn share(a: Option<Cause>, b: Option<Cause>) -> bool
-    ensures { result ≡ spec.share a b }
-{
-    match (a, b) {
-        (Some(a), Some(b)) => is_same_cause(a, b),
-        _ => false,
-    }
-}
-
-fn is_like(a: &Traced, b: &Traced) -> bool
-    ensures { result ≡ spec.is_like a.now b.now }
-{
-    a.finding.callback == b.finding.callback
-        && number(a.finding.rule) == number(b.finding.rule)
-        && place(a.finding.subject) == place(b.finding.subject)
-        && share(a.cause, b.cause)
-}
-
-/// Adds those of some findings that are like the first one.
-fn add_like(alike: &mut Items<Traced>, first: &Traced, found: &[Traced]) -> Result<(), AllocError>
-    ensures { OnOk result (alike.new ≡ alike.old ++ filter (spec.is_like first.now) found.now) }
-{
-    if let [finding, others @ ..] = found {
-        if is_like(first, finding) {
-            alike.push(*finding)?;
-        }
-        add_like(alike, first, others)?;
-    }
-    Ok(())
-}
-
-/// Adds those that aren't.
-fn add_unlike(rest: &mut Items<Traced>, first: &Traced, found: &[Traced]) -> Result<(), AllocError>
-    ensures { OnOk result (rest.new ≡ rest.old ++ filter (spec.is_unlike first.now) found.now) }
-{
-    if let [finding, others @ ..] = found {
-        if !is_like(first, finding) {
-            rest.push(*finding)?;
-        }
-        add_unlike(rest, first, others)?;
-    }
-    Ok(())
-}
-
-/// Adds the groups of some findings, as long as turns are left: one for each finding is enough.
-fn add_groups(
-    alloc: Global,
-    groups: &mut Items<Group>,
-    turns: &[Traced],
-    found: &[Traced],
-) -> Result<(), AllocError>
-    ensures { OnOk result (groups.new ≡ groups.old ++ spec.groups_in turns.now found.now) }
-{
-    let [_, fewer @ ..] = turns else {
-        return Ok(());
+    let (point, granted) = match traced.cause? {
+        Cause::Entry => (None, true),
+        Cause::Made(step) => (Some(step.point), step.granted),
     };
-    let [first, others @ ..] = found else {
-        return Ok(());
-    };
-    let mut alike = Items::new(alloc);
-    add_like(&mut alike, first, others)?;
+    Some(Common {
+        callback: traced.finding.callback,
+        rule: number(traced.finding.rule),
+        subject: place(traced.finding.subject),
+        point,
+        granted,
+    })
+}
+
+/// Groups as they are made, and for what the findings of one have in common where it stands among them.
+#[derive(Drop)]
+struct Gathered {
+    groups: Vec<Group>,
+    places: HashMap<Common, usize>,
+}
+
+/// A finding begins a group of its own.
+fn begin(alloc: Global, groups: &mut Vec<Group>, traced: Traced) -> Result<(), AllocError>
+    ensures { OnOk result (groups.new.items ≡ groups.old.items ++ spec.group traced [] ∷ []) }
+{
     groups.push(Group {
-        first: *first,
-        others: alike,
+        first: traced,
+        others: Items::new(alloc),
     })?;
-    let mut rest = Items::new(alloc);
-    add_unlike(&mut rest, first, others)?;
-    add_groups(alloc, groups, fewer, rest.as_slice())
+    Ok(())
+}
+
+/// A finding joins the group at a place.
+fn join(groups: &mut Vec<Group>, place: usize, traced: Traced) -> Result<(), AllocError>
+    ensures { OnOk result (groups.new.items ≡ joined groups.old.items place traced) }
+{
+    match groups.get_mut(place) {
+        Some(group) => group.others.push(traced),
+        None => Ok(()),
+    }
+}
+
+impl Gathered {
+    /// The next finding joins the first group that it is like, or begins one.
+    fn add(&mut self, alloc: Global, traced: Traced) -> Result<(), AllocError>
+        requires places { ArePlaced self.old }
+        ensures places { OnOk result (ArePlaced self.new) }
+        ensures groups { OnOk result (self.new.groups.items ≡ added traced self.old.groups.items) }
+    {
+        let Some(common) = common_of(&traced) else {
+            return begin(alloc, &mut self.groups, traced);
+        };
+        if let Some(place) = self.places.get(&common) {
+            return join(&mut self.groups, *place, traced);
+        }
+        let place = self.groups.len();
+        begin(alloc, &mut self.groups, traced)?;
+        let _ = self.places.insert(common, place)?;
+        Ok(())
+    }
 }
 
 /// Findings of one callback, rule, subject and origin put together, in the order of the first of each group. A finding whose origin isn't
@@ -137,9 +128,14 @@ fn add_groups(
 pub fn groups(alloc: Global, found: &[Traced]) -> Result<Items<Group>, AllocError>
     ensures { IfOk result (λ gs. gs ≡ spec.groups_of found.now) }
 {
-    let mut groups = Items::new(alloc);
-    add_groups(alloc, &mut groups, found, found)?;
-    Ok(groups)
+    let mut gathered = Gathered {
+        groups: Vec::new(alloc),
+        places: HashMap::new(alloc),
+    };
+    for traced in found {
+        gathered.add(alloc, *traced)?;
+    }
+    Ok(Items::from_vec(gathered.groups))
 }
 
 /// Each finding stands in exactly one group, and all of a group agree. It does nothing: its clauses are the law.

@@ -44,7 +44,12 @@ pub(crate) fn next(instruction: &Instruction, granted: bool) -> Option<usize>
 fn is_kept(graph: &Graph, callback: usize, fact: Fact, point: usize, step: Step) -> bool
     ensures { result ≡ spec.is_kept graph.now callback fact point step }
 {
-    step.point == point && keeps(&graph.instruction(callback, step.point), step.granted, fact)
+    step.point == point
+        && keeps(
+            graph.instruction_ref(callback, step.point),
+            step.granted,
+            fact,
+        )
 }
 
 /// Where steps lead, if each is of the point to which the one before leads, and keeps a fact.
@@ -57,22 +62,22 @@ fn leads(
 ) -> Option<usize>
     ensures { result ≡ spec.leads graph.now callback fact from steps.now }
 {
-    let [step, later @ ..] = steps else {
-        return from;
-    };
-    let point = from?;
-    if !is_kept(graph, callback, fact, point, *step) {
-        return None;
+    let mut at = from;
+    for step in steps {
+        let point = at?;
+        if !is_kept(graph, callback, fact, point, *step) {
+            return None;
+        }
+        at = next(graph.instruction_ref(callback, step.point), step.granted);
     }
-    let next = next(&graph.instruction(callback, step.point), step.granted);
-    leads(graph, callback, fact, next, later)
+    at
 }
 
 fn is_made_by(graph: &Graph, callback: usize, fact: Fact, step: Step) -> bool
     ensures { result ≡ spec.is_made_by graph.now callback fact step }
 {
     makes(
-        &graph.instruction(callback, step.point),
+        graph.instruction_ref(callback, step.point),
         step.granted,
         step.gives,
         fact,
@@ -95,7 +100,7 @@ fn behind(graph: &Graph, callback: usize, cause: Cause) -> Option<usize>
 {
     match cause {
         Cause::Entry => Some(0),
-        Cause::Made(step) => next(&graph.instruction(callback, step.point), step.granted),
+        Cause::Made(step) => next(graph.instruction_ref(callback, step.point), step.granted),
     }
 }
 
@@ -128,39 +133,27 @@ fn is_origin(
         )
 }
 
-/// The last of these steps that makes a fact, or else the cause before them.
-fn last_cause(graph: &Graph, callback: usize, fact: Fact, before: Cause, steps: &[Step]) -> Cause
-    ensures { result ≡ spec.last_cause graph.now callback fact before steps.now }
-{
-    let [step, later @ ..] = steps else {
-        return before;
-    };
-    let cause = if is_made_by(graph, callback, fact, *step) {
-        Cause::Made(*step)
-    } else {
-        before
-    };
-    last_cause(graph, callback, fact, cause, later)
-}
-
-/// The steps since then.
-fn since<'a>(
+/// The last of these steps that makes a fact, or else the entry, and the steps since.
+fn last_made<'a>(
     graph: &Graph,
     callback: usize,
     fact: Fact,
-    later: &'a [Step],
     steps: &'a [Step],
-) -> &'a [Step]
-    ensures { result.now ≡ spec.since graph.now callback fact later.now steps.now }
+) -> (Cause, &'a [Step])
+    ensures cause { result.0 ≡ spec.last_cause graph.now callback fact Cause::Entry steps.now }
+    ensures since { result.1.now ≡ spec.since graph.now callback fact steps.now steps.now }
 {
-    let [step, rest @ ..] = steps else {
-        return later;
-    };
-    if is_made_by(graph, callback, fact, *step) {
-        since(graph, callback, fact, rest, rest)
-    } else {
-        since(graph, callback, fact, later, rest)
+    let mut cause = Cause::Entry;
+    let mut later = steps;
+    let mut rest = steps;
+    while let [step, others @ ..] = rest {
+        if is_made_by(graph, callback, fact, *step) {
+            cause = Cause::Made(*step);
+            later = others;
+        }
+        rest = others;
     }
+    (cause, later)
 }
 
 /// Whatever is so at the end of a way has an origin on it. It does nothing: its clause is the law.
@@ -186,8 +179,7 @@ pub fn origin_on(
     ensures value { IfOk result (λ o. o ≡ spec.origin_on graph.now callback fact steps.now point) }
     ensures meaning { IfOk result (λ o. IfSome o (spec.IsOrigin graph.now callback fact point)) }
 {
-    let cause = last_cause(graph, callback, fact, Cause::Entry, steps);
-    let later = since(graph, callback, fact, steps, steps);
+    let (cause, later) = last_made(graph, callback, fact, steps);
     if !is_origin(alloc, graph, callback, fact, point, cause, later) {
         return Ok(None);
     }

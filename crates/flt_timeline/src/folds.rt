@@ -78,23 +78,32 @@ fn whole_blocks(rows: usize, block: usize) -> usize
     (rows / block).saturating_mul(block).min(rows)
 }
 
-/// The shortest block at a place that comes three times, or the row alone.
+/// What is told first in the row of a number.
+fn first_told(told: &[usize], rows: &[Row], number: usize) -> Option<usize> {
+    told.get(rows.get(number)?.first).copied()
+}
+
+/// The shortest block at a place that comes three times, or the row alone. Most rows differ by what is told first, which is looked at
+/// before all else.
 fn fold_at(told: &[usize], rows: &[Row], first: usize) -> Fold
     requires { first < length rows.now }
     ensures first { result.first ≡ first }
     ensures fold { spec.IsFold told.now rows.now result }
 {
+    let own = first_told(told, rows, first);
     for block in 1..LONGEST {
         if block > rows.len() - first {
             break;
         }
-        let alike = whole_blocks(repeated(told, rows, first, block), block);
-        if alike / 2 >= block {
-            return Fold {
-                first,
-                block,
-                repeated: alike,
-            };
+        if first_told(told, rows, first + block) == own {
+            let alike = whole_blocks(repeated(told, rows, first, block), block);
+            if alike / 2 >= block {
+                return Fold {
+                    first,
+                    block,
+                    repeated: alike,
+                };
+            }
         }
     }
     Fold {

@@ -1,4 +1,5 @@
 pub mod Breaking
+pub mod Ends
 pub mod Leading
 pub mod MoreAnswers
 pub mod Nine

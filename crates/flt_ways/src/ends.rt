@@ -32,20 +32,20 @@ pub(crate) fn end_of(
 ) -> Option<Moment>
     ensures { IfSome result (λ m. spec.end_of graph.now callback clean from.point from.situation steps.now ≡ Some m) }
 {
-    let [step, later @ ..] = steps else {
-        return Some(from);
-    };
-    let next = taken(graph, callback, clean, &from, *step)?;
-    end_of(graph, callback, clean, next, later)
+    let mut moment = from;
+    for step in steps {
+        moment = taken(graph, callback, clean, &moment, *step)?;
+    }
+    Some(moment)
 }
 
 /// Whether the last step is of a point.
+#[tactic(auto, using(crate::proofs::Ends::last_of))]
 pub(crate) fn is_last(steps: &[Step], point: usize) -> bool
     ensures { result ≡ spec.is_last steps.now point }
 {
     match steps {
         [] => false,
-        [step] => step.point == point,
-        [_, later @ ..] => is_last(later, point),
+        [.., step] => step.point == point,
     }
 }

@@ -1,0 +1,13 @@
+use Rattle.std.proofs.Common.{drop, List, [], ◌∷◌, ◌++◌}
+use Rattle.flt_model.specs.Program.{filters_of}
+use Rattle.flt_notes.specs.Printing.{IsOutput}
+use Rattle.flt_notes.specs.Readings.{texts_read}
+use Rattle.flt_notes.proofs.Together.{GoesOn}
+use Rattle.flt_notes.proofs.printing.Stage.put_all.Given as goal
+
+abbrev pub invariant-loop-studied : goal.invariant-loop-studied
+invariant-loop-studied l = record {
+  output : IsOutput l.self.trees.now l.output;
+  reports : GoesOn (filters_of l.self.trees.now) (texts_read l.each)
+      (texts_read (drop l.studied-index l.before) ++ l.last.source.text.now ∷ []) l.greatest;
+}

@@ -1,5 +1,0 @@
-use Rattle.std.proofs.Common.{length}
-use Rattle.flt_origins.proofs.grouping.+add_groups.Given as goal
-
-abbrev pub decreases-add_groups : goal.decreases-add_groups
-decreases-add_groups l = length l.turns.now
