@@ -3,6 +3,7 @@
 ghost use Rattle.std.specs.Prelude.{◌≡◌, Some, IfOk, IfSome};
 ghost use Rattle.flt_graph.specs.Points.{successor};
 ghost use Rattle.flt_origins.specs.Origins as spec;
+ghost use Rattle.flt_origins.specs.declared.origin.Cause.TheVariants as cause;
 
 use crate::entered::may_be_at_entry;
 use crate::facts::{Fact, keeps, makes};
@@ -64,7 +65,9 @@ fn leads(
 {
     let mut at = from;
     for step in steps {
-        let point = at?;
+        let Some(point) = at else {
+            return None;
+        };
         if !is_kept(graph, callback, fact, point, *step) {
             return None;
         }
@@ -140,7 +143,7 @@ fn last_made<'a>(
     fact: Fact,
     steps: &'a [Step],
 ) -> (Cause, &'a [Step])
-    ensures cause { result.0 ≡ spec.last_cause graph.now callback fact Cause::Entry steps.now }
+    ensures cause { result.0 ≡ spec.last_cause graph.now callback fact cause.Entry steps.now }
     ensures since { result.1.now ≡ spec.since graph.now callback fact steps.now steps.now }
 {
     let mut cause = Cause::Entry;

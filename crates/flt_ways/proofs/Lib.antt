@@ -1,5 +1,5 @@
 pub mod Breaking
-pub mod Ends
+pub mod LastSteps
 pub mod Leading
 pub mod MoreAnswers
 pub mod Nine

@@ -40,7 +40,7 @@ pub(crate) fn end_of(
 }
 
 /// Whether the last step is of a point.
-#[tactic(auto, using(crate::proofs::Ends::last_of))]
+#[tactic(auto, using(crate::proofs::LastSteps::last_of))]
 pub(crate) fn is_last(steps: &[Step], point: usize) -> bool
     ensures { result ≡ spec.is_last steps.now point }
 {

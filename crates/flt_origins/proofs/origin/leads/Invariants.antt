@@ -4,4 +4,4 @@ use Rattle.flt_origins.proofs.origin.leads.Given as goal
 
 abbrev pub invariant-loop-step : goal.invariant-loop-step
 invariant-loop-step l =
-    spec.leads l.graph l.callback l.fact l.at (drop l.step-index l.steps) ≡ spec.leads l.graph l.callback l.fact l.from l.steps
+    spec.leads l.graph l.callback l.fact l.at (drop l.step-index l.steps) ≡ spec.leads l.graph l.callback l.fact l.fn.from l.steps
