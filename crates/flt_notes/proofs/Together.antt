@@ -1,6 +1,7 @@
 -- The reports of several files, one behind the other.
-use Rattle.std.proofs.Common.{◌≡◌, ◌<◌, ℕ, zero, suc, List, [], ◌∷◌, ◌++◌, refl, ap, sym, subst, drop, get_or, length, arith}
+use Rattle.std.proofs.Common.{◌≡◌, ◌<◌, ◌+◌, ℕ, zero, suc, List, [], ◌∷◌, ◌++◌, refl, ap, sym, subst, drop, take, get_or, length, arith, ◌∙◌}
 use Rattle.std.specs.Prelude.{max}
+use Rattle.std.proofs.lemmas.List.{drop_more}
 use Rattle.flt_tree.specs.Names.{Text}
 use Rattle.flt_tree.specs.declared.filter.Filter.{Filter}
 use Rattle.flt_tree.specs.declared.tree.Tree.{Tree}
@@ -15,7 +16,9 @@ GoesOn filters all rest greatest =
 
 -- nothing is known at first
 pub begun : (filters : List Filter) (all : List Text) → GoesOn filters all all 0
-begun filters all printed status are = are
+begun filters all printed status are =
+    let e : status ≡ max 0 status = omega arith in
+    subst (λ n. AreReportsOf filters all printed n) e are
 
 -- one more text has a status
 with_status : (filters : List Filter) (t u : Text) (ts : List Text) (printed : List ℕ) (a b : ℕ) → IsStatus filters t a →
@@ -23,8 +26,26 @@ with_status : (filters : List Filter) (t u : Text) (ts : List Text) (printed : L
 with_status filters t u [] printed a b is are = (a, b, is, are, refl)
 with_status filters t u (v ∷ ts) printed a b is are = (a, b, is, are, refl)
 
--- all texts but the last one, and the last one
-pub studied_parts : (trees : List Tree) (each : List Studied) (s : Studied) → AreStudied trees (each ++ s ∷ []) →
-    AreStudied trees each × IsStudied trees s
-studied_parts trees [] s are = (tt, are.0)
-studied_parts trees (t ∷ each) s are = let rest = studied_parts trees each s are.1 in ((are.0, rest.0), rest.1)
+-- one more file of these has a status
+pub one_more : (filters : List Filter) (all : List Text) (each : List Studied) (i : ℕ) (x : Studied) (u : Text) (g s : ℕ) →
+    i < length each → x ≡ get_or each i x → IsStatus filters x.source.text.now s →
+    GoesOn filters all (texts_read (drop i each) ++ u ∷ []) g → GoesOn filters all (texts_read (drop (i + 1) each) ++ u ∷ []) (max g s)
+one_more filters all each i x u g s h e is goes printed status are =
+    let rest = with_status filters x.source.text.now u (texts_read (drop (i + 1) each)) printed s status is are in
+    let place = ap texts_read (drop_more each i x h) ∙ ap (λ (y : Studied). texts_read (y ∷ drop (i + 1) each)) (sym e) in
+    let whole = goes printed (max s status)
+    (subst (λ ts. AreReportsOf filters (ts ++ u ∷ []) printed (max s status)) (sym place) rest) in
+    let together : max g (max s status) ≡ max (max g s) status = omega arith in
+    subst (λ n. AreReportsOf filters all printed n) together whole
+
+-- each file is what it is said to be
+pub studied_at : (trees : List Tree) (each : List Studied) (i : ℕ) (d : Studied) → AreStudied trees each → i < length each →
+    IsStudied trees (get_or each i d)
+studied_at trees [] i d are h = absurd (omega (arith, h))
+studied_at trees (s ∷ each) zero d are h = are.0
+studied_at trees (s ∷ each) (suc i) d are h = studied_at trees each i d are.1 (omega (arith, h))
+
+pub studied_taken : (trees : List Tree) (each : List Studied) (n : ℕ) → AreStudied trees each → AreStudied trees (take n each)
+studied_taken trees each zero are = tt
+studied_taken trees [] (suc n) are = tt
+studied_taken trees (s ∷ each) (suc n) are = (are.0, studied_taken trees each n are.1)

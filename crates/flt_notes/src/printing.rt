@@ -435,7 +435,7 @@ impl Stage<'_> {
     }
 
     /// Writes what is found of each text, and gives the greatest status.
-    #[tactic(auto, using(crate::proofs::Together::begun, crate::proofs::Together::studied_parts))]
+    #[tactic(auto, using(crate::proofs::Together::begun))]
     pub(crate) fn put_all(
         &self,
         output: &mut Output,

@@ -40,7 +40,6 @@ pub(crate) fn end_of(
 }
 
 /// Whether the last step is of a point.
-#[tactic(auto, using(crate::proofs::LastSteps::last_of))]
 pub(crate) fn is_last(steps: &[Step], point: usize) -> bool
     ensures { result ≡ spec.is_last steps.now point }
 {

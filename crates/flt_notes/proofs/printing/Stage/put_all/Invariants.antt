@@ -1,4 +1,4 @@
-use Rattle.std.proofs.Common.{drop, List, [], ◌∷◌, ◌++◌}
+use Rattle.std.proofs.Common.{drop, [], ◌∷◌, ◌++◌}
 use Rattle.flt_model.specs.Program.{filters_of}
 use Rattle.flt_notes.specs.Printing.{IsOutput}
 use Rattle.flt_notes.specs.Readings.{texts_read}
