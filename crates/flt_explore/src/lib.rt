@@ -1,9 +1,9 @@
 //! One round of the search for runs: the exploration of small worlds.
 //!
 //! `explore` goes breadth first from the world in which nothing has come (`round_search`), by what may come next within the bounds of its
-//! round (`coming`, `rounds`), past worlds that it has met (`key`). It keeps the entries that lead to each (`paths`), and notes the breaks that
-//! stand for something that is looked for (`targets`). No clause says what it finds: safety and an end are proved, and what it finds is
-//! replayed by whoever asks.
+//! round (`coming`, `rounds`), past worlds that it has met (`key`), and at each depth by callbacks in turn (`counts`). It keeps the entries
+//! that lead to each (`paths`), and notes the breaks that stand for something that is looked for (`targets`). No clause says what it finds:
+//! safety and an end are proved, and what it finds is replayed by whoever asks.
 #![tactic(auto)]
 
 mod coming;
