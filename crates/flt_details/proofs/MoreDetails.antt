@@ -4,6 +4,7 @@ use Rattle.std.specs.List.{AllZip}
 use Rattle.flt_explain.specs.declared.finding.Finding.{Finding}
 use Rattle.flt_graph.specs.declared.graph.Graph.{Graph}
 use Rattle.flt_tree.specs.Names.{Text}
+use Rattle.flt_tree.specs.declared.filter.Filter.{Filter}
 use Rattle.flt_details.specs.Alike.{AreLike, IsLike}
 use Rattle.flt_details.specs.Stages.{IsDetail}
 use Rattle.flt_details.specs.declared.study.Detail.{Detail}
@@ -16,12 +17,12 @@ one_more R (z ∷ xs) (w ∷ ys) zero x y less is all new = absurd all
 one_more R (z ∷ xs) [] (suc i) x y less is all new = absurd all
 one_more R (z ∷ xs) (w ∷ ys) (suc i) x y less is all new = (all.0, one_more R xs ys i x y (omega (arith, less)) is all.1 new)
 
-pub one_detail_more : (lines text : Text) (g : Graph) (found : List Finding) (i : ℕ) (f : Finding) (d : Detail) (all more : List Detail) →
-    lines ≡ text → i < length found → f ≡ get_or found i f → AllZip (IsDetail text g) (take i found) all → IsDetail lines g f d →
-    more ≡ all ++ d ∷ [] → AllZip (IsDetail text g) (take (i + 1) found) more
-one_detail_more lines text g found i f d all more same less is kept new after =
+pub one_detail_more : (lines text : Text) (f : Filter) (g : Graph) (found : List Finding) (i : ℕ) (e : Finding) (d : Detail) (all more : List Detail) →
+    lines ≡ text → i < length found → e ≡ get_or found i e → AllZip (IsDetail text f g) (take i found) all → IsDetail lines f g e d →
+    more ≡ all ++ d ∷ [] → AllZip (IsDetail text f g) (take (i + 1) found) more
+one_detail_more lines text f g found i e d all more same less is kept new after =
     let next : i + 1 ≡ suc i = omega arith in
-    rw (next, after) (one_more (IsDetail text g) found all i f d less is kept (subst (λ t. IsDetail t g f d) same new))
+    rw (next, after) (one_more (IsDetail text f g) found all i e d less is kept (subst (λ t. IsDetail t f g e d) same new))
 
 -- what stands in a list with one more
 at_push : {A : Type 0} (xs : List A) (y z : A) (k : ℕ) → slice_get (xs ++ y ∷ []) k ≡ Some z → (slice_get xs k ≡ Some z) ⊎ ((k ≡ length xs) × (y ≡ z))

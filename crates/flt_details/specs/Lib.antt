@@ -1,4 +1,5 @@
 pub mod Alike
 pub mod Closing
+pub mod Operands
 pub mod Reports
 pub mod Stages

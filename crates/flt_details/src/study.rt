@@ -7,11 +7,12 @@ use crate::advice::{tell_advice, tell_note, tell_title};
 use crate::alike::{firsts_of, like};
 use crate::branches::{step_outcome, tell_branch};
 use crate::case::Case;
+use crate::operands::Marks;
 use crate::page::Page;
 use crate::scene::Scene;
 use crate::subjects::state_word;
 use crate::tracing::{Shown, Traces};
-use flt_explain::Finding;
+use flt_explain::{Finding, Subject};
 use flt_graph::Graph;
 use flt_origins::Cause;
 use flt_places::Lines;
@@ -61,6 +62,14 @@ pub struct Words {
     pub subject: Vec<u8>,
 }
 
+/// The step that made a finding so.
+#[derive(Drop)]
+pub struct Maker {
+    pub stage: Stage,
+    /// Where its statement stands, and in it what the finding is about.
+    pub marks: Marks,
+}
+
 /// How a finding is reached.
 #[derive(Drop)]
 pub struct Route {
@@ -72,7 +81,7 @@ pub struct Route {
     /// Where ways meet with other locks, the other of them.
     pub other: Option<Items<Stage>>,
     /// What made it so, where that is known; none too where it is so when the callback is entered.
-    pub origin: Option<Stage>,
+    pub origin: Option<Maker>,
     /// What the finding is about at the end of the way, in a word, where that is told.
     pub state: Option<&'static str>,
 }
@@ -81,8 +90,8 @@ pub struct Route {
 #[derive(Drop)]
 pub struct Detail {
     pub finding: Finding,
-    /// Where its point's statement begins; of an `if` what it asks.
-    pub place: Position,
+    /// Where its point's statement stands, and in it what it is about.
+    pub marks: Marks,
     pub words: Words,
     pub route: Route,
 }
@@ -173,20 +182,36 @@ fn other_stages(
     }
 }
 
+/// A step that made a finding so, which is about this.
+fn maker_of(
+    alloc: Global,
+    scene: &Scene<'_>,
+    callback: usize,
+    subject: Subject,
+    step: Step,
+) -> Result<Maker, AllocError>
+    ensures { IfOk result (spec.IsMaker scene.now.lines.now scene.now.tree.now.filter scene.now.graph.now callback subject) }
+{
+    let stage = stage_of(alloc, scene, callback, step)?;
+    let marks = scene.marks(alloc, callback, stage.point, subject)?;
+    Ok(Maker { stage, marks })
+}
+
 /// What made what is found so.
 fn origin_of(
     alloc: Global,
     scene: &Scene<'_>,
     callback: usize,
+    subject: Subject,
     shown: &Shown,
-) -> Result<Option<Stage>, AllocError>
-    ensures { IfOk result (λ origin. IfSome origin (spec.IsPlaced scene.now.lines.now scene.now.graph.now callback)) }
+) -> Result<Option<Maker>, AllocError>
+    ensures { IfOk result (λ origin. IfSome origin (spec.IsMaker scene.now.lines.now scene.now.tree.now.filter scene.now.graph.now callback subject)) }
 {
     let Some(origin) = shown.origin.as_ref() else {
         return Ok(None);
     };
     match origin.cause {
-        Cause::Made(step) => Ok(Some(stage_of(alloc, scene, callback, step)?)),
+        Cause::Made(step) => Ok(Some(maker_of(alloc, scene, callback, subject, step)?)),
         Cause::Entry => Ok(None),
     }
 }
@@ -272,25 +297,26 @@ fn bare_route(alloc: Global, finding: &Finding, shown: &Shown, like: Option<usiz
 }
 
 impl Route {
-    /// Tells the stages of what shows a finding in a callback, unless another finding's serve.
+    /// Tells the stages of what shows a finding, unless another finding's serve.
     fn tell(
         &mut self,
         alloc: Global,
         scene: &Scene<'_>,
-        callback: usize,
+        finding: &Finding,
         shown: &Shown,
     ) -> Result<(), AllocError>
         requires stages { self.old.stages ≡ [] }
         requires other { self.old.other ≡ None }
-        ensures route { IfOk result (λ _. spec.IsRoute scene.now.lines.now scene.now.graph.now callback self.new) }
+        ensures route { IfOk result (λ _.
+            spec.IsRoute scene.now.lines.now scene.now.tree.now.filter scene.now.graph.now finding.now.callback finding.now.subject self.new) }
         ensures like { IfOk result (λ _. self.new.like ≡ self.old.like) }
     {
         if self.like.is_none() {
             let (way, other) = shown.ways();
-            self.stages = stages_on(alloc, scene, callback, way)?;
-            self.other = other_stages(alloc, scene, callback, other)?;
+            self.stages = stages_on(alloc, scene, finding.callback, way)?;
+            self.other = other_stages(alloc, scene, finding.callback, other)?;
         }
-        self.origin = origin_of(alloc, scene, callback, shown)?;
+        self.origin = origin_of(alloc, scene, finding.callback, finding.subject, shown)?;
         Ok(())
     }
 }
@@ -303,11 +329,12 @@ fn route_by(
     shown: &Shown,
     like: Option<usize>,
 ) -> Result<Route, AllocError>
-    ensures route { IfOk result (spec.IsRoute scene.now.lines.now scene.now.graph.now finding.now.callback) }
+    ensures route { IfOk result
+        (spec.IsRoute scene.now.lines.now scene.now.tree.now.filter scene.now.graph.now finding.now.callback finding.now.subject) }
     ensures like { IfOk result (λ r. r.like ≡ like) }
 {
     let mut route = bare_route(alloc, finding, shown, like);
-    route.tell(alloc, scene, finding.callback, shown)?;
+    route.tell(alloc, scene, finding, shown)?;
     Ok(route)
 }
 
@@ -319,14 +346,15 @@ fn detail_by(
     shown: &Shown,
     like: Option<usize>,
 ) -> Result<Detail, AllocError>
-    ensures detail { IfOk result (spec.IsDetail scene.now.lines.now scene.now.graph.now finding.now) }
+    ensures detail { IfOk result (spec.IsDetail scene.now.lines.now scene.now.tree.now.filter scene.now.graph.now finding.now) }
     ensures like { IfOk result (λ d. d.route.like ≡ like) }
 {
     let words = words_of(alloc, scene, finding, Some(shown))?;
     let route = route_by(alloc, scene, finding, shown, like)?;
+    let marks = scene.marks(alloc, finding.callback, finding.point, finding.subject)?;
     Ok(Detail {
         finding: *finding,
-        place: scene.place(finding.callback, finding.point),
+        marks,
         words,
         route,
     })
@@ -340,7 +368,7 @@ fn detail_of(
     shown: Option<&Shown>,
     like: Option<usize>,
 ) -> Result<Detail, AllocError>
-    ensures detail { IfOk result (spec.IsDetail scene.now.lines.now scene.now.graph.now finding.now) }
+    ensures detail { IfOk result (spec.IsDetail scene.now.lines.now scene.now.tree.now.filter scene.now.graph.now finding.now) }
     ensures like { IfOk result (λ d. d.route.like ≡ like) }
 {
     match shown {
@@ -370,7 +398,7 @@ pub fn details(
     graph: &Graph,
     found: &[Finding],
 ) -> Result<Items<Detail>, AllocError>
-    ensures { IfOk result (spec.AreDetails text.now graph.now found.now) }
+    ensures { IfOk result (spec.AreDetails text.now tree.now.filter graph.now found.now) }
 {
     let lines = Lines::of(alloc, text)?;
     let scene = Scene {

@@ -8,14 +8,13 @@ use Rattle.flt_details.specs.declared.study.Detail.{Detail}
 use Rattle.flt_details.specs.declared.study.Route.{Route}
 use Rattle.flt_details.specs.declared.study.Words.{Words}
 use Rattle.flt_explain.specs.declared.finding.Finding.{Finding}
-use Rattle.flt_forms.specs.Members.{filled_member, line_of, string_member, text_member, number_member, null_member}
-use Rattle.flt_forms.specs.Steps.{kind_name, like_member, step_member, steps, steps_member}
+use Rattle.flt_forms.specs.Members.{filled_member, line_of, marks_members, string_member, text_member, number_member, null_member}
+use Rattle.flt_forms.specs.Steps.{kind_name, like_member, maker_member, steps, steps_member}
 
 -- where a finding is
 abbrev pub place : Detail → List Token
 place d =
-    number_member (codes "callback") d.finding.callback ++ (number_member (codes "point") d.finding.point
-    ++ (number_member (codes "line") d.place.line ++ number_member (codes "column") d.place.column))
+    number_member (codes "callback") d.finding.callback ++ (number_member (codes "point") d.finding.point ++ marks_members d.marks)
 
 -- the rule that is broken
 abbrev pub rule : Finding → List Token
@@ -41,7 +40,7 @@ way r =
 
 -- where it comes from, and how it is reached
 abbrev pub route : Route → List Token
-route r = state r.state ++ (step_member (codes "origin") r.origin ++ way r)
+route r = state r.state ++ (maker_member (codes "origin") r.origin ++ way r)
 
 -- a finding of a file
 abbrev pub finding : List ℕ → Detail → List Token

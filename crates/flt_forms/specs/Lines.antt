@@ -9,19 +9,20 @@ use Rattle.flt_details.specs.declared.sources.Source.{Source}
 use Rattle.flt_details.specs.declared.study.Detail.{Detail}
 use Rattle.flt_graph.specs.declared.graph.Graph.{Graph}
 use Rattle.flt_tree.specs.Names.{Text}
+use Rattle.flt_tree.specs.declared.filter.Filter.{Filter}
 use Rattle.flt_forms.specs.Fault.{IsFaultLine}
 use Rattle.flt_forms.specs.Finding.{finding_line}
 
 -- one line for each of these findings, in their order
-pub record AreFindingLines (name : List ℕ) (text : Text) (graph : Graph) (found : List Finding) (printed : List ℕ) : Type 0 where
+pub record AreFindingLines (name : List ℕ) (text : Text) (filter : Filter) (graph : Graph) (found : List Finding) (printed : List ℕ) : Type 0 where
   pub details : List Detail
-  pub each : AreDetails text graph found details
+  pub each : AreDetails text filter graph found details
   pub lines : printed ≡ flat_map (finding_line name) details
 
 -- what is printed of a text: one line where it doesn't parse, else one for each finding
 abbrev pub IsPrinted : Source → Judged → List ℕ → Type 0
 IsPrinted s (Unread f) printed = IsFaultLine s.name.now s.text.now printed
-IsPrinted s (Known tree graph found) printed = AreFindingLines s.name.now s.text.now graph found printed
+IsPrinted s (Known tree graph found) printed = AreFindingLines s.name.now s.text.now tree.filter graph found printed
 
 -- the same, with the text's status
 pub record IsPart (s : Source) (printed : List ℕ) (status : ℕ) : Type 0 where

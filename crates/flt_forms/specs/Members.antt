@@ -1,11 +1,13 @@
 -- Members of JSON objects, as tokens (RFC 8259).
-use Rattle.std.specs.Prelude.{◌≡◌, ℕ, List, [], ◌∷◌, ◌++◌, flat_map, OnOk, Option, Some, None, Result}
+use Rattle.std.specs.Prelude.{◌≡◌, ℕ, ◌-◌, codes, List, [], ◌∷◌, ◌++◌, flat_map, OnOk, Option, Some, None, Result}
 use Rattle.std.specs.Borrow.{Bor}
 use Rattle.std.specs.Fmt.{decimal}
 use Rattle.std.specs.Str.Lossy.{utf8_lossy}
 use Rattle.json.specs.Print.{print}
 use Rattle.json.specs.Token.{Token, begin_array, begin_object, end_array, end_object, key, string, number, null}
 use Rattle.json.specs.Written.{Written}
+use Rattle.flt_places.specs.declared.places.Region.{Region}
+use Rattle.flt_details.specs.declared.operands.Marks.{Marks}
 
 -- these tokens stand behind what was
 pub record Added (old new : Written) (ts : List Token) : Type 0 where
@@ -47,6 +49,21 @@ text_items = flat_map (λ bytes. string (utf8_lossy bytes) ∷ [])
 -- a member whose value is an object with these members
 abbrev pub object_member : List ℕ → List Token → List Token
 object_member name members = key name ∷ begin_object ∷ (members ++ end_object ∷ [])
+
+-- where something stands: its first byte, and its last
+abbrev pub region_members : Region → List Token
+region_members r =
+    number_member (codes "line") r.first.line ++ (number_member (codes "column") r.first.column
+    ++ (number_member (codes "end_line") r.end.line ++ number_member (codes "end_column") (r.end.column - 1)))
+
+-- where that is which a finding names in a statement, or null
+abbrev pub operand_member : Option Region → List Token
+operand_member None = null_member (codes "operand")
+operand_member (Some r) = object_member (codes "operand") (region_members r)
+
+-- where a statement stands, and in it what a finding names
+abbrev pub marks_members : Marks → List Token
+marks_members m = region_members m.statement ++ operand_member m.operand
 
 -- a member whose value is an array of these items
 abbrev pub array_member : List ℕ → List Token → List Token

@@ -9,11 +9,14 @@ use Rattle.flt_details.specs.Stages.{AreDetails}
 use Rattle.flt_details.specs.declared.judged.Judged.{Judged}
 use Rattle.flt_details.specs.declared.judged.Judged.TheVariants.{Unread, Known}
 use Rattle.flt_details.specs.declared.sources.Source.{Source}
+use Rattle.flt_details.specs.declared.operands.Marks.{Marks}
 use Rattle.flt_details.specs.declared.study.Detail.{Detail}
+use Rattle.flt_details.specs.declared.study.Maker.{Maker}
 use Rattle.flt_details.specs.declared.study.Stage.{Stage}
 use Rattle.flt_details.specs.declared.study.WayKind.{WayKind}
 use Rattle.flt_details.specs.declared.study.WayKind.TheVariants.{Clean, Behind, Unreached, Unknown}
 use Rattle.flt_graph.specs.declared.graph.Graph.{Graph}
+use Rattle.flt_places.specs.declared.places.Region.{Region}
 use Rattle.flt_rules.specs.Rule.{text}
 use Rattle.flt_rules.specs.declared.rule.Rule.{Rule}
 use Rattle.flt_rules.specs.declared.rule.Rule.TheVariants.{R01, R02, R03, R04, R05, R06, R07, R08, R09, R10, R11, R12, R13, R14, R15}
@@ -21,6 +24,7 @@ use Rattle.flt_syntax.specs.declared.fault.FaultKind.{FaultKind}
 use Rattle.flt_syntax.specs.declared.fault.SyntaxFault.{SyntaxFault}
 use Rattle.flt_syntax.specs.declared.fault.FaultKind.TheVariants.{E01, E02, E03, E04, E05, E06, E07, E08}
 use Rattle.flt_tree.specs.Names.{Text}
+use Rattle.flt_tree.specs.declared.filter.Filter.{Filter}
 use Rattle.json.specs.Token.{Token, begin_object, end_object, key}
 use Rattle.flt_forms.specs.Members.{array_member, filled_member, line_of, number_member, object_member, string_member, text_member}
 use Rattle.flt_forms.specs.Uri.{uri_of}
@@ -49,9 +53,29 @@ physical uri line column =
 abbrev pub location : List ℕ → ℕ → ℕ → List ℕ → List Token
 location uri line column words = item (physical uri line column ++ message words)
 
+-- where something in a file begins and ends, from 1; the last column is one behind its last byte
+abbrev pub whole_region : List ℕ → Region → List Token
+whole_region name r =
+    object_member name (number_member (codes "startLine") r.first.line ++ (number_member (codes "startColumn") r.first.column
+    ++ (number_member (codes "endLine") r.end.line ++ number_member (codes "endColumn") r.end.column)))
+
+-- what is marked: what a finding names, with the statement round it, or else the statement
+abbrev pub marked_regions : Region → Option Region → List Token
+marked_regions statement None = whole_region (codes "region") statement
+marked_regions statement (Some operand) = whole_region (codes "region") operand ++ whole_region (codes "contextRegion") statement
+
+abbrev pub marked_physical : List ℕ → Marks → List Token
+marked_physical uri m =
+    object_member (codes "physicalLocation") (object_member (codes "artifactLocation") (text_member (codes "uri") uri)
+    ++ marked_regions m.statement m.operand)
+
+-- the same with words
+abbrev pub marked_location : List ℕ → Marks → List ℕ → List Token
+marked_location uri m words = begin_object ∷ (marked_physical uri m ++ (message words ++ end_object ∷ []))
+
 -- the places of a finding: one
 abbrev pub locations : List ℕ → Detail → List Token
-locations uri d = array_member (codes "locations") (location uri d.place.line d.place.column d.words.title.items)
+locations uri d = array_member (codes "locations") (marked_location uri d.marks d.words.title.items)
 
 -- ---- ways
 
@@ -69,7 +93,7 @@ flow_step uri s = flow_step_by uri s s.words.items
 
 -- the end of a way
 abbrev pub finding_place : List ℕ → Detail → List Token
-finding_place uri d = flow_location uri d.place.line d.place.column d.words.title.items
+finding_place uri d = item (key (codes "location") ∷ marked_location uri d.marks d.words.title.items)
 
 -- the places of a way to a finding, with the finding last
 abbrev pub thread_places : List ℕ → Detail → List Stage → List Token
@@ -112,12 +136,12 @@ abbrev pub level : List Token
 level = string_member (codes "level") (codes "error")
 
 -- where what is found comes from
-abbrev pub origin : List ℕ → Stage → List Token
-origin uri s = location uri s.place.line s.place.column (codes "this makes it so")
+abbrev pub origin : List ℕ → Maker → List Token
+origin uri m = marked_location uri m.marks (codes "this makes it so")
 
-abbrev pub related : List ℕ → Option Stage → List Token
+abbrev pub related : List ℕ → Option Maker → List Token
 related uri None = []
-related uri (Some s) = origin uri s
+related uri (Some m) = origin uri m
 
 -- what stays the same when lines move
 abbrev pub fingerprints : Detail → List Token
@@ -163,15 +187,15 @@ pub record IsFaultResult (name source : List ℕ) (tokens : List Token) : Type 0
   pub result : tokens ≡ fault_result (uri_of name) trouble.spot.fault words help
 
 -- one result for each of these findings, in their order
-pub record AreFindingResults (name : List ℕ) (text : Text) (graph : Graph) (found : List Finding) (tokens : List Token) : Type 0 where
+pub record AreFindingResults (name : List ℕ) (text : Text) (filter : Filter) (graph : Graph) (found : List Finding) (tokens : List Token) : Type 0 where
   pub details : List Detail
-  pub each : AreDetails text graph found details
+  pub each : AreDetails text filter graph found details
   pub results : tokens ≡ flat_map (result (uri_of name)) details
 
 -- the results of a text: one where it doesn't parse, else one for each finding
 unfoldable pub HasResults : Source → Judged → List Token → Type 0
 HasResults s (Unread f) tokens = IsFaultResult s.name.now s.text.now tokens
-HasResults s (Known tree graph found) tokens = AreFindingResults s.name.now s.text.now graph found tokens
+HasResults s (Known tree graph found) tokens = AreFindingResults s.name.now s.text.now tree.filter graph found tokens
 
 -- the same, with the text's status
 pub record IsPart (s : Source) (tokens : List Token) (status : ℕ) : Type 0 where

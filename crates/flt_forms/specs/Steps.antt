@@ -2,7 +2,8 @@
 use Rattle.std.specs.Prelude.{ℕ, List, [], ◌∷◌, ◌++◌, Bool, codes, flat_map, if◌then◌else◌}
 use Rattle.json.specs.Token.{Token, begin_object, end_object, begin_array, end_array, key}
 use Rattle.std.specs.Prelude.{Option, Some, None}
-use Rattle.flt_forms.specs.Members.{filled_member, string_member, number_member, null_member}
+use Rattle.flt_forms.specs.Members.{filled_member, marks_members, string_member, number_member, null_member}
+use Rattle.flt_details.specs.declared.study.Maker.{Maker}
 use Rattle.flt_details.specs.declared.study.Stage.{Stage}
 use Rattle.flt_details.specs.declared.study.WayKind.{WayKind}
 use Rattle.flt_details.specs.declared.study.WayKind.TheVariants.{Clean, Behind, Unreached, Unknown}
@@ -22,10 +23,16 @@ step s =
 abbrev pub steps : List Stage → List Token
 steps stages = begin_array ∷ flat_map step stages ++ end_array ∷ []
 
--- a member whose value is a step, or null
-abbrev pub step_member : List ℕ → Option Stage → List Token
-step_member name None = null_member name
-step_member name (Some s) = key name ∷ step s
+-- the step that made a finding so, with where its statement stands, and in it what the finding names
+abbrev pub maker : Maker → List Token
+maker m =
+    begin_object ∷ number_member (codes "point") m.stage.point ++ (marks_members m.marks
+    ++ (string_member (codes "side") (side m.stage.granted) ++ (filled_member (codes "words") m.stage.words.items ++ end_object ∷ [])))
+
+-- a member whose value is that, or null
+abbrev pub maker_member : List ℕ → Option Maker → List Token
+maker_member name None = null_member name
+maker_member name (Some m) = key name ∷ maker m
 
 -- a member whose value is steps, or null
 abbrev pub steps_member : List ℕ → Option (List Stage) → List Token

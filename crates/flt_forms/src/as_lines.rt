@@ -46,7 +46,8 @@ fn known(
     graph: &Graph,
     found: &[Finding],
 ) -> Result<Vec<u8>, AllocError>
-    ensures { IfOk result (λ v. (printed : List ℕ) × spec.AreFindingLines source.entry.name.now source.entry.text.now graph.now found.now printed
+    ensures { IfOk result (λ v. (printed : List ℕ) ×
+        spec.AreFindingLines source.entry.name.now source.entry.text.now tree.now.filter graph.now found.now printed
         × (v.items ≡ out.items ++ printed)) }
 {
     let details = details(alloc, source.text, tree, graph, found)?;

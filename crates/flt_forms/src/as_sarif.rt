@@ -190,7 +190,8 @@ fn put_known(
     graph: &Graph,
     found: &[Finding],
 ) -> Result<(), AllocError>
-    ensures { IfOk result (λ _. (ts : List Token) × spec.AreFindingResults source.entry.name.now source.entry.text.now graph.now found.now ts
+    ensures { IfOk result (λ _. (ts : List Token) ×
+        spec.AreFindingResults source.entry.name.now source.entry.text.now tree.now.filter graph.now found.now ts
         × Added writer.old writer.new ts) }
 {
     let details = details(alloc, source.text, tree, graph, found)?;

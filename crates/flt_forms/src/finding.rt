@@ -7,9 +7,10 @@ ghost use Rattle.flt_rules.specs.Rule.{text as rule_text};
 ghost use Rattle.flt_details.specs.Closing.{rule_name};
 
 use crate::members::{
-    close_object, open_object, put_filled, put_key, put_null, put_number, put_string, put_text,
+    close_object, open_object, put_filled, put_key, put_marks, put_null, put_number, put_string,
+    put_text,
 };
-use crate::steps::{put_kind, put_like, put_step_member, put_steps, put_steps_member};
+use crate::steps::{put_kind, put_like, put_maker_member, put_steps, put_steps_member};
 use flt_details::{Detail, Route, RuleName, Words};
 use flt_explain::Finding;
 use flt_rules::{Rule, text};
@@ -21,8 +22,7 @@ fn put_place(writer: &mut Writer, detail: &Detail) -> Result<(), AllocError>
 {
     put_number(writer, "callback", detail.finding.callback)?;
     put_number(writer, "point", detail.finding.point)?;
-    put_number(writer, "line", detail.place.line)?;
-    put_number(writer, "column", detail.place.column)
+    put_marks(writer, detail.marks)
 }
 
 /// A rule's number.
@@ -84,7 +84,7 @@ fn put_route(alloc: Global, writer: &mut Writer, route: &Route) -> Result<(), Al
     ensures { Adds result writer.old writer.new (spec.route route.now) }
 {
     put_state(writer, route.state)?;
-    put_step_member(alloc, writer, "origin", &route.origin)?;
+    put_maker_member(alloc, writer, "origin", &route.origin)?;
     put_way(alloc, writer, route)
 }
 

@@ -1,10 +1,12 @@
 //! Members of JSON objects.
 
-ghost use Rattle.std.specs.Prelude.{[], ◌∷◌, map};
+ghost use Rattle.std.specs.Prelude.{[], ◌∷◌, Some, map};
 ghost use Rattle.std.specs.Str.Lossy.{utf8_lossy};
 ghost use Rattle.json.specs.Token.{begin_array, begin_object, end_array, end_object, key, string};
 ghost use Rattle.flt_forms.specs.Members as spec;
 
+use flt_details::Marks;
+use flt_places::Region;
 use json::Writer;
 use std::alloc::{AllocError, Global};
 
@@ -71,6 +73,42 @@ pub(crate) fn put_null(writer: &mut Writer, name: &str) -> Result<(), AllocError
 {
     writer.key(name)?;
     writer.null()
+}
+
+/// The place of the first byte, and that of the last.
+fn put_region_members(writer: &mut Writer, region: Region) -> Result<(), AllocError>
+    ensures { spec.Adds result writer.old writer.new (spec.region_members region) }
+{
+    put_number(writer, "line", region.first.line)?;
+    put_number(writer, "column", region.first.column)?;
+    put_number(writer, "end_line", region.end.line)?;
+    put_number(writer, "end_column", region.end.column.saturating_sub(1))
+}
+
+fn put_operand_object(writer: &mut Writer, region: Region) -> Result<(), AllocError>
+    ensures { spec.Adds result writer.old writer.new (spec.operand_member (Some region)) }
+{
+    put_key(writer, "operand")?;
+    open_object(writer)?;
+    put_region_members(writer, region)?;
+    close_object(writer)
+}
+
+fn put_operand(writer: &mut Writer, region: Option<Region>) -> Result<(), AllocError>
+    ensures { spec.Adds result writer.old writer.new (spec.operand_member region) }
+{
+    match region {
+        None => put_null(writer, "operand"),
+        Some(region) => put_operand_object(writer, region),
+    }
+}
+
+/// Where a statement stands, and in it what a finding names.
+pub(crate) fn put_marks(writer: &mut Writer, marks: Marks) -> Result<(), AllocError>
+    ensures { spec.Adds result writer.old writer.new (spec.marks_members marks) }
+{
+    put_region_members(writer, marks.statement)?;
+    put_operand(writer, marks.operand)
 }
 
 /// Null where there is no text.

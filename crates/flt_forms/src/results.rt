@@ -9,7 +9,8 @@ use crate::members::{
     close_array, close_object, open_array, open_object, put_filled, put_key, put_number,
     put_string, put_text,
 };
-use flt_details::{Detail, RuleName, Stage, WayKind, fault_name};
+use flt_details::{Detail, Maker, Marks, RuleName, Stage, WayKind, fault_name};
+use flt_places::Region;
 use flt_rules::Rule;
 use flt_syntax::SyntaxFault;
 use json::Writer;
@@ -99,6 +100,67 @@ fn put_locations(
     close_array(writer)
 }
 
+/// Where something begins and ends.
+fn put_whole_region(writer: &mut Writer, name: &str, region: Region) -> Result<(), AllocError>
+    ensures { Adds result writer.old writer.new (spec.whole_region name.now region) }
+{
+    put_key(writer, name)?;
+    open_object(writer)?;
+    put_number(writer, "startLine", region.first.line)?;
+    put_number(writer, "startColumn", region.first.column)?;
+    put_number(writer, "endLine", region.end.line)?;
+    put_number(writer, "endColumn", region.end.column)?;
+    close_object(writer)
+}
+
+/// What is marked, and what stands round it.
+fn put_marked_regions(
+    writer: &mut Writer,
+    statement: Region,
+    operand: Option<Region>,
+) -> Result<(), AllocError>
+    ensures { Adds result writer.old writer.new (spec.marked_regions statement operand) }
+{
+    match operand {
+        None => put_whole_region(writer, "region", statement),
+        Some(operand) => {
+            put_whole_region(writer, "region", operand)?;
+            put_whole_region(writer, "contextRegion", statement)
+        }
+    }
+}
+
+fn put_marked_physical(
+    alloc: Global,
+    writer: &mut Writer,
+    uri: &Vec<u8>,
+    marks: Marks,
+) -> Result<(), AllocError>
+    ensures { Adds result writer.old writer.new (spec.marked_physical uri.now.items marks) }
+{
+    put_key(writer, "physicalLocation")?;
+    open_object(writer)?;
+    put_artifact(alloc, writer, uri)?;
+    put_marked_regions(writer, marks.statement, marks.operand)?;
+    close_object(writer)
+}
+
+/// What is marked in a file, with words.
+fn put_marked_location(
+    alloc: Global,
+    writer: &mut Writer,
+    uri: &Vec<u8>,
+    marks: Marks,
+    words: &Vec<u8>,
+) -> Result<(), AllocError>
+    ensures { Adds result writer.old writer.new (spec.marked_location uri.now.items marks words.now.items) }
+{
+    open_object(writer)?;
+    put_marked_physical(alloc, writer, uri, marks)?;
+    put_message(alloc, writer, words)?;
+    close_object(writer)
+}
+
 // ---- ways
 
 /// A place on a way.
@@ -164,14 +226,10 @@ fn put_finding_place(
 ) -> Result<(), AllocError>
     ensures { Adds result writer.old writer.new (spec.finding_place uri.now.items detail.now) }
 {
-    put_flow_location(
-        alloc,
-        writer,
-        uri,
-        detail.place.line,
-        detail.place.column,
-        &detail.words.title,
-    )
+    open_object(writer)?;
+    put_key(writer, "location")?;
+    put_marked_location(alloc, writer, uri, detail.marks, &detail.words.title)?;
+    close_object(writer)
 }
 
 /// The places of a way to a finding, with the finding last.
@@ -350,32 +408,25 @@ fn put_origin(
     alloc: Global,
     writer: &mut Writer,
     uri: &Vec<u8>,
-    stage: &Stage,
+    maker: &Maker,
 ) -> Result<(), AllocError>
-    ensures { Adds result writer.old writer.new (spec.origin uri.now.items stage.now) }
+    ensures { Adds result writer.old writer.new (spec.origin uri.now.items maker.now) }
 {
     let words = Vec::from_slice(alloc, b"this makes it so")?;
-    put_location(
-        alloc,
-        writer,
-        uri,
-        stage.place.line,
-        stage.place.column,
-        &words,
-    )
+    put_marked_location(alloc, writer, uri, maker.marks, &words)
 }
 
 fn put_related_origin(
     alloc: Global,
     writer: &mut Writer,
     uri: &Vec<u8>,
-    origin: &Option<Stage>,
+    origin: &Option<Maker>,
 ) -> Result<(), AllocError>
     ensures { Adds result writer.old writer.new (spec.related uri.now.items origin.now) }
 {
     match origin {
         None => Ok(()),
-        Some(stage) => put_origin(alloc, writer, uri, stage),
+        Some(maker) => put_origin(alloc, writer, uri, maker),
     }
 }
 
@@ -384,7 +435,7 @@ fn put_related(
     alloc: Global,
     writer: &mut Writer,
     uri: &Vec<u8>,
-    origin: &Option<Stage>,
+    origin: &Option<Maker>,
 ) -> Result<(), AllocError>
     ensures { Adds result writer.old writer.new
         (array_member (codes "relatedLocations") (spec.related uri.now.items origin.now)) }
@@ -425,14 +476,10 @@ fn put_finding_locations(
 ) -> Result<(), AllocError>
     ensures { Adds result writer.old writer.new (spec.locations uri.now.items detail.now) }
 {
-    put_locations(
-        alloc,
-        writer,
-        uri,
-        detail.place.line,
-        detail.place.column,
-        &detail.words.title,
-    )
+    put_key(writer, "locations")?;
+    open_array(writer)?;
+    put_marked_location(alloc, writer, uri, detail.marks, &detail.words.title)?;
+    close_array(writer)
 }
 
 fn put_result_members(

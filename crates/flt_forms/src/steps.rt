@@ -5,10 +5,10 @@ ghost use Rattle.flt_forms.specs.Members.{Adds, string_member};
 ghost use Rattle.flt_forms.specs.Steps as spec;
 
 use crate::members::{
-    close_array, close_object, open_array, open_object, put_filled, put_key, put_null, put_number,
-    put_string,
+    close_array, close_object, open_array, open_object, put_filled, put_key, put_marks, put_null,
+    put_number, put_string,
 };
-use flt_details::{Stage, WayKind};
+use flt_details::{Maker, Stage, WayKind};
 use json::Writer;
 use sqlite_items::Items;
 use std::alloc::{AllocError, Global};
@@ -74,19 +74,31 @@ pub(crate) fn put_steps(
     close_array(writer)
 }
 
-pub(crate) fn put_step_member(
+/// The step that made a finding so, with where it stands.
+fn put_maker(alloc: Global, writer: &mut Writer, maker: &Maker) -> Result<(), AllocError>
+    ensures { Adds result writer.old writer.new (spec.maker maker.now) }
+{
+    open_object(writer)?;
+    put_number(writer, "point", maker.stage.point)?;
+    put_marks(writer, maker.marks)?;
+    put_side(writer, maker.stage.granted)?;
+    put_filled(alloc, writer, "words", &maker.stage.words)?;
+    close_object(writer)
+}
+
+pub(crate) fn put_maker_member(
     alloc: Global,
     writer: &mut Writer,
     name: &str,
-    stage: &Option<Stage>,
+    maker: &Option<Maker>,
 ) -> Result<(), AllocError>
-    ensures { Adds result writer.old writer.new (spec.step_member name.now stage.now) }
+    ensures { Adds result writer.old writer.new (spec.maker_member name.now maker.now) }
 {
-    match stage {
+    match maker {
         None => put_null(writer, name),
-        Some(stage) => {
+        Some(maker) => {
             put_key(writer, name)?;
-            put_step(alloc, writer, stage)
+            put_maker(alloc, writer, maker)
         }
     }
 }

@@ -268,49 +268,49 @@ static SURROUNDINGS: [(&[u8], Absence); 29] = [
 ];
 
 #[tactic(auto, unfolding(crate::specs::Absences::contexts))]
-fn contexts() -> &'static [(&'static [u8], Absence)]
+pub(crate) fn contexts() -> &'static [(&'static [u8], Absence)]
     ensures { map (λ e. e.0.now) result.now ≡ spec.contexts }
 {
     &CONTEXTS
 }
 
 #[tactic(auto, unfolding(crate::specs::Absences::operations))]
-fn operations() -> &'static [(&'static [u8], Absence)]
+pub(crate) fn operations() -> &'static [(&'static [u8], Absence)]
     ensures { map (λ e. e.0.now) result.now ≡ spec.operations }
 {
     &OPERATIONS
 }
 
 #[tactic(auto, unfolding(crate::specs::Absences::waits))]
-fn waits() -> &'static [(&'static [u8], Absence)]
+pub(crate) fn waits() -> &'static [(&'static [u8], Absence)]
     ensures { map (λ e. e.0.now) result.now ≡ spec.waits }
 {
     &WAITS
 }
 
 #[tactic(auto, unfolding(crate::specs::Absences::locks))]
-fn locks() -> &'static [(&'static [u8], Absence)]
+pub(crate) fn locks() -> &'static [(&'static [u8], Absence)]
     ensures { map (λ e. e.0.now) result.now ≡ spec.locks }
 {
     &LOCKS
 }
 
 #[tactic(auto, unfolding(crate::specs::Absences::queueing))]
-fn queueing() -> &'static [(&'static [u8], Absence)]
+pub(crate) fn queueing() -> &'static [(&'static [u8], Absence)]
     ensures { map (λ e. e.0.now) result.now ≡ spec.queueing }
 {
     &QUEUEING
 }
 
 #[tactic(auto, unfolding(crate::specs::Absences::contents))]
-fn contents() -> &'static [(&'static [u8], Absence)]
+pub(crate) fn contents() -> &'static [(&'static [u8], Absence)]
     ensures { map (λ e. e.0.now) result.now ≡ spec.contents }
 {
     &CONTENTS
 }
 
 #[tactic(auto, unfolding(crate::specs::Absences::surroundings))]
-fn surroundings() -> &'static [(&'static [u8], Absence)]
+pub(crate) fn surroundings() -> &'static [(&'static [u8], Absence)]
     ensures { map (λ e. e.0.now) result.now ≡ spec.surroundings }
 {
     &SURROUNDINGS

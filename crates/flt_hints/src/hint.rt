@@ -39,6 +39,9 @@ pub enum Hint {
     Copy,
     NamelessContext,
     NamelessOld,
+    NamelessCopy,
+    NeedsContext,
+    NeedsFinalStatus,
     TakenOperand,
     CanFail,
     NeverFails,
@@ -113,6 +116,12 @@ impl Hint {
                 "a context stands behind the word `context`, as in `return WITH_CALLBACK context c0`",
             Hint::NamelessOld =>
                 "what the call gives back stands behind the word `old`, as in `old c1`",
+            Hint::NamelessCopy =>
+                "what gets the new reference stands behind the word `as`, as in `FltReferenceContext c0 as c1`",
+            Hint::NeedsContext =>
+                "a context stands behind the word `context`, and is `c0` to `c7` or `arg`, as in `return WITH_CALLBACK context c0`",
+            Hint::NeedsFinalStatus =>
+                "`COMPLETE` takes a final status, as in `return COMPLETE STATUS_ACCESS_DENIED`",
             Hint::TakenOperand =>
                 "the variable before this was read as the operand of the call before it, which lacks its own",
             Hint::CanFail => "this call can fail: write `if`, the call, and a block `{ }`",

@@ -17,6 +17,10 @@ pub(crate) struct Scene<'a> {
     pub(crate) bytes: &'a [u8],
     /// Whether a word of the language is probably meant.
     pub(crate) is_meant: bool,
+    /// Whether it is a misspelt word for what the language leaves out.
+    pub(crate) is_misspelt_absence: bool,
+    /// Whether it stands in the line of the token before it.
+    pub(crate) goes_on: bool,
     /// The text behind it.
     pub(crate) behind: &'a [u8],
     /// Whether the text declares a lock or a routine of this name.
@@ -28,6 +32,8 @@ pub(crate) struct Scene<'a> {
 pub(crate) struct KindsBefore {
     pub(crate) last: Kind,
     pub(crate) earlier: Kind,
+    /// The line of the last one, from 1.
+    pub(crate) line: usize,
 }
 
 /// The kinds of the two tokens before another.
@@ -35,6 +41,7 @@ pub(crate) fn kinds_before(tokens: &[Token], token: Token) -> KindsBefore {
     let mut before = KindsBefore {
         last: Kind::End,
         earlier: Kind::End,
+        line: 0,
     };
     for other in tokens {
         if other.start >= token.start {
@@ -43,6 +50,7 @@ pub(crate) fn kinds_before(tokens: &[Token], token: Token) -> KindsBefore {
         before = KindsBefore {
             last: other.word.kind,
             earlier: before.last,
+            line: other.position.line,
         };
     }
     before
@@ -116,10 +124,23 @@ pub(crate) fn absence_in(bytes: &[u8], choices: &Choices<'_>) -> Option<Absence>
 
 /// Of a word that names what the language leaves out.
 fn absence_hint(scene: Scene<'_>, choices: &Choices<'_>) -> Option<Hint> {
-    if !scene.is_meant && absence_in(scene.bytes, choices).is_some() {
+    let is_named = scene.is_misspelt_absence || absence_in(scene.bytes, choices).is_some();
+    if !scene.is_meant && is_named {
         Some(Hint::LeftOut)
     } else {
-        None
+        operand_hint(scene, choices)
+    }
+}
+
+/// Of a name in place of what a status takes, behind it in its line.
+fn operand_hint(scene: Scene<'_>, choices: &Choices<'_>) -> Option<Hint> {
+    match scene.before.last {
+        _ if scene.is_meant || !scene.goes_on => None,
+        Kind::WithCallback | Kind::Synchronize if choices.takes(Kind::Context) => {
+            Some(Hint::NeedsContext)
+        }
+        Kind::Complete if choices.takes(Kind::StatusSuccess) => Some(Hint::NeedsFinalStatus),
+        _ => None,
     }
 }
 
@@ -171,7 +192,11 @@ fn place_hint(scene: Scene<'_>, choices: &Choices<'_>) -> Option<Hint> {
     match scene.found {
         Kind::Lock if is_late => Some(Hint::LateLock),
         Kind::Queue if is_late => Some(Hint::LateQueue),
+        _ if matches!(scene.before.last, Kind::Complete) && choices.takes(Kind::StatusSuccess) => {
+            Some(Hint::NeedsFinalStatus)
+        }
         kind if !is_context_variable(kind) => None,
+        _ if choices.takes(Kind::As) => Some(Hint::NamelessCopy),
         _ if choices.takes(Kind::Context) => Some(Hint::NamelessContext),
         _ if choices.takes(Kind::Old) => Some(Hint::NamelessOld),
         _ => None,

@@ -7,6 +7,7 @@ mod choices;
 mod hint;
 mod hinting;
 mod kinds;
+mod misspelt;
 mod names;
 mod nearest;
 mod open_call;

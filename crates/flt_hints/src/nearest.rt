@@ -20,6 +20,13 @@ fn lowered(alloc: Global, word: &[u8]) -> Result<String, AllocError> {
     Ok(text)
 }
 
+/// How many letters of two words differ, in lower case.
+pub(crate) fn distance(alloc: Global, one: &[u8], other: &[u8]) -> Result<usize, AllocError> {
+    let from = lowered(alloc, one)?;
+    let to = lowered(alloc, other)?;
+    osa_distance(alloc, from.as_str(), to.as_str())
+}
+
 /// How many letters of a word count: those behind what all final statuses begin with.
 fn letters(word: &[u8]) -> usize {
     word.strip_prefix(b"STATUS_").unwrap_or(word).len()
@@ -37,9 +44,7 @@ fn nearer<'a>(
     nearest: Nearest<'a>,
     word: &'a [u8],
 ) -> Result<Nearest<'a>, AllocError> {
-    let from = lowered(alloc, written)?;
-    let to = lowered(alloc, word)?;
-    let distance = osa_distance(alloc, from.as_str(), to.as_str())?;
+    let distance = distance(alloc, written, word)?;
     if distance > reach(written, word) || distance > nearest.distance {
         return Ok(nearest);
     }

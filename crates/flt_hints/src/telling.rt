@@ -1,7 +1,9 @@
 //! What is said of a text that doesn't parse, in words for people.
 
+use crate::absences::Absence;
 use crate::hint::Hint;
 use crate::hinting::absence_in;
+use crate::misspelt::misspelt_absence;
 use crate::open_call::OpenCall;
 use crate::phrases::{Phrase, phrases};
 use crate::troubles::Trouble;
@@ -217,11 +219,28 @@ fn call_help(
     text(out, declaration(call, trouble))
 }
 
+/// What the language leaves out, by the word that names it, be it misspelt.
+fn absence_at(alloc: Global, trouble: &Trouble<'_>) -> Result<Option<Absence>, AllocError> {
+    let absence = absence_in(trouble.spot.bytes, &trouble.choices);
+    if absence.is_some() {
+        return Ok(absence);
+    }
+    misspelt_absence(alloc, trouble.spot.bytes)
+}
+
+/// What to write in place of what the language leaves out.
+fn absence_sentence(alloc: Global, trouble: &Trouble<'_>) -> Result<&'static str, AllocError> {
+    match absence_at(alloc, trouble)? {
+        Some(absence) => Ok(absence.sentence()),
+        None => Ok(Hint::LeftOut.sentence()),
+    }
+}
+
 /// The sentence of a hint.
-fn sentence(trouble: &Trouble<'_>, hint: Hint) -> &'static str {
-    match (hint, absence_in(trouble.spot.bytes, &trouble.choices)) {
-        (Hint::LeftOut, Some(absence)) => absence.sentence(),
-        _ => hint.sentence(),
+fn sentence(alloc: Global, trouble: &Trouble<'_>, hint: Hint) -> Result<&'static str, AllocError> {
+    match hint {
+        Hint::LeftOut => absence_sentence(alloc, trouble),
+        _ => Ok(hint.sentence()),
     }
 }
 
@@ -229,7 +248,7 @@ fn sentence(trouble: &Trouble<'_>, hint: Hint) -> &'static str {
 fn help(alloc: Global, out: &mut Vec<u8>, trouble: &Trouble<'_>) -> Result<(), AllocError> {
     match (trouble.open_call, trouble.hint) {
         (Some(call), _) => call_help(alloc, out, trouble, call),
-        (None, Some(hint)) => text(out, sentence(trouble, hint)),
+        (None, Some(hint)) => text(out, sentence(alloc, trouble, hint)?),
         (None, None) => Ok(()),
     }
 }

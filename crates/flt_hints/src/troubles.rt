@@ -12,6 +12,7 @@ use crate::absences::absence_of;
 use crate::choices::{Choices, choices_in};
 use crate::hint::Hint;
 use crate::hinting::{Scene, hint, kinds_before};
+use crate::misspelt::misspelt_absence;
 use crate::names::{declared_names, declares_name};
 use crate::nearest::nearest_word;
 use crate::open_call::{OpenCall, open_call};
@@ -65,6 +66,17 @@ fn may_be_misspelt(kind: FaultKind, found: Kind, word: &[u8]) -> bool
     }
 }
 
+/// Whether what is found is a misspelt word for what the language leaves out.
+fn is_misspelt_absence(alloc: Global, spot: &Spot<'_>, token: Token) -> Result<bool, AllocError> {
+    match (spot.fault.kind, token.word.kind) {
+        (FaultKind::E03, Kind::Name) => {
+            let absence = misspelt_absence(alloc, spot.bytes)?;
+            Ok(absence.is_some())
+        }
+        _ => Ok(false),
+    }
+}
+
 /// The word that is probably meant by what is found.
 fn meant<'a>(
     alloc: Global,
@@ -79,6 +91,9 @@ fn meant<'a>(
     if !may_be_misspelt(spot.fault.kind, token.word.kind, spot.bytes) {
         return Ok(None);
     }
+    if is_misspelt_absence(alloc, spot, token)? {
+        return Ok(None);
+    }
     let written = without_prefix(spot.bytes).unwrap_or(spot.bytes);
     let word = nearest_word(alloc, written, choices)?;
     if_it_may(alloc, gap, word)
@@ -86,25 +101,29 @@ fn meant<'a>(
 
 /// What is probably wrong in the place of a token.
 fn hint_at(
+    alloc: Global,
     text: &[u8],
     tokens: &[Token],
     spot: &Spot<'_>,
     token: Token,
     choices: &Choices<'_>,
     meant: Option<&[u8]>,
-) -> Option<Hint> {
+) -> Result<Option<Hint>, AllocError> {
     if meant.is_some() && without_prefix(spot.bytes).is_some() {
-        return Some(Hint::Prefix);
+        return Ok(Some(Hint::Prefix));
     }
+    let before = kinds_before(tokens, token);
     let scene = Scene {
-        before: kinds_before(tokens, token),
+        before,
         found: token.word.kind,
         bytes: spot.bytes,
         is_meant: meant.is_some(),
+        is_misspelt_absence: is_misspelt_absence(alloc, spot, token)?,
+        goes_on: before.line == token.position.line,
         behind: &text[token.end.min(text.len())..],
         is_declared: declares_name(text, tokens, spot.bytes),
     };
-    hint(spot.fault.kind, scene, choices)
+    Ok(hint(spot.fault.kind, scene, choices))
 }
 
 /// What is said where there is no token: the text is too large.
@@ -149,7 +168,7 @@ fn with_token<'a>(
     let gap = gap_at(spot.fault.kind, text, token);
     let meant = meant(alloc, gap, &spot, token, &choices)?;
     let open_call = open_call(spot.fault.kind, tokens, token, &choices);
-    let hint = hint_at(text, tokens, &spot, token, &choices, meant);
+    let hint = hint_at(alloc, text, tokens, &spot, token, &choices, meant)?;
     Ok(Trouble {
         spot,
         choices,

@@ -8,7 +8,19 @@ use std::alloc::{AllocError, Global};
 const ANY_ALTITUDE: &str =
     "   = note: no text that parses is named beside it, so any altitude may be detached\n";
 
-/// What is said of a script that is well-formed; with `is_alone`, where the filters of its stack aren't known.
+/// Whether a line of a script detaches a filter.
+pub(crate) fn detaches(script: &[u8]) -> bool {
+    let mut begins_line = true;
+    for at in 0..script.len() {
+        if begins_line && script[at..].starts_with(b"detach ") {
+            return true;
+        }
+        begins_line = script[at] == b'\n';
+    }
+    false
+}
+
+/// What is said of a script that is well-formed; with `is_alone`, where it detaches filters and those of its stack aren't known.
 fn script_lines(
     alloc: Global,
     is_alone: bool,

@@ -11,7 +11,7 @@ use crate::again::Again;
 use crate::also::also_broken;
 use crate::lines::{Case, note_lines};
 use crate::noted::{Noted, schedule_of};
-use crate::notices::notice_lines;
+use crate::notices::{detaches, notice_lines};
 use crate::readings::{Reading, Studied};
 use crate::setters::Setter;
 use flt_details::{Source, fault_line, findings_line};
@@ -378,7 +378,7 @@ impl Stage<'_> {
         ensures output { OnOk result (spec.IsOutput self.now.trees.now output.new) }
         ensures report { IfOk result (spec.ClosesNotice notice.now output.new.bytes.items) }
     {
-        let is_alone = self.trees.is_empty();
+        let is_alone = self.trees.is_empty() && detaches(source.text);
         let said = notice_lines(self.alloc, self.coloured, is_alone, source.name, notice)?;
         output.lines(said.as_slice())?;
         output.lines(notice.closing(self.alloc)?.as_bytes())?;

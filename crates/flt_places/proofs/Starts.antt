@@ -9,7 +9,8 @@ use Rattle.std.specs.Option.{unwrap_or}
 use Rattle.std.proofs.Math.Nat.{min-le_right}
 use Rattle.std.proofs.Math.Seq.{drop-nil}
 use Rattle.flt_tree.specs.Names.{Text}
-use Rattle.flt_places.specs.Places.{behind, place_in, rest_behind, starts_from, counted}
+use Rattle.flt_tree.specs.declared.filter.Span.{Span}
+use Rattle.flt_places.specs.Places.{behind, place_in, one_column_on, part_of, rest_behind, starts_from, counted}
 
 -- ---- places
 
@@ -48,6 +49,29 @@ by_lines text at =
     let here : 0 + min at (length text) ≡ min at (length text) = omega arith in
     ap (counted 1 0 (starts_from 0 text)) (sym here) ∙ along 1 0 0 (min at (length text)) text (omega arith) (min-le_right at (length text))
     ∙ ap (behind (record { line = 1; column = 1 })) (take_min at text)
+
+-- ---- parts of spans
+
+-- places that the end of the text doesn't part are one
+same_place : (text : Text) (s t : ℕ) → min s (length text) ≡ min t (length text) → place_in text s ≡ place_in text t
+same_place text s t same =
+    ap (behind (record { line = 1; column = 1 })) (sym (take_min s text) ∙ ap (λ k. take k text) same ∙ take_min t text)
+
+capped : (m n : ℕ) → min (min m (n + 1)) n ≡ min m n
+capped m n = grind (arith, common_steps)
+
+capped_before : (m n : ℕ) → min (min m (n + 1) - 1) n ≡ min (m - 1) n
+capped_before m n = grind (arith, common_steps)
+
+pub part_at : (text : Text) (s : Span) (from to : ℕ) →
+    record {
+      first = place_in text (min (s.start + from) (length text + 1));
+      end = one_column_on (place_in text (min (s.start + to) (length text + 1) - 1));
+    } ≡ part_of text s from to
+part_at text s from to =
+    let first = same_place text (min (s.start + from) (length text + 1)) (s.start + from) (capped (s.start + from) (length text)) in
+    let last = same_place text (min (s.start + to) (length text + 1) - 1) (s.start + to - 1) (capped_before (s.start + to) (length text)) in
+    rw (first, last) refl
 
 -- ---- the same by a search
 

@@ -3,6 +3,7 @@ use Rattle.std.specs.Prelude.{ℕ, zero, suc, List, [], ◌∷◌, ◌==◌, ◌
 use Rattle.flt_tree.specs.Names.{Text}
 use Rattle.flt_tree.specs.declared.filter.Position.{Position}
 use Rattle.flt_tree.specs.declared.filter.Span.{Span}
+use Rattle.flt_places.specs.declared.places.Region.{Region}
 use Rattle.flt_places.specs.declared.places.Site.{Site}
 
 -- ---- places
@@ -20,6 +21,22 @@ place_in text at = behind (record { line = 1; column = 1 }) (take at text)
 -- where a span begins, and how many bytes it has
 abbrev pub site_of : Text → Span → Site
 site_of text s = record { place = place_in text s.start; length = s.end - s.start }
+
+-- one column behind a place
+abbrev pub one_column_on : Position → Position
+one_column_on at = record { line = at.line; column = at.column + 1 }
+
+-- where the bytes from one up to another stand: the first of them, and one column behind the last
+abbrev pub region_in : Text → ℕ → ℕ → Region
+region_in text start end = record { first = place_in text start; end = one_column_on (place_in text (end - 1)) }
+
+-- where a span stands
+abbrev pub region_of : Text → Span → Region
+region_of text s = region_in text s.start s.end
+
+-- where a part of a span stands: its bytes from one up to another, which count from the span's first
+abbrev pub part_of : Text → Span → ℕ → ℕ → Region
+part_of text s from to = region_in text (s.start + from) (s.start + to)
 
 -- the bytes of a span; none where they aren't there
 abbrev pub bytes_of : Text → Span → Text

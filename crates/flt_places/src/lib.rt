@@ -3,4 +3,4 @@
 
 mod places;
 
-pub use places::{Lines, Site};
+pub use places::{Lines, Region, Site};

@@ -1,6 +1,6 @@
 //! Where things stand in a text.
 
-ghost use Rattle.std.specs.Prelude.{◌≡◌, ◌<◌, ◌≤◌, ◌^◌, ◌-◌, ◌∷◌, ℕ, true, false, drop, get_or, length, nat_le, IfOk};
+ghost use Rattle.std.specs.Prelude.{◌≡◌, ◌<◌, ◌≤◌, ◌^◌, ◌+◌, ◌-◌, ◌∷◌, ℕ, true, false, drop, get_or, length, min, nat_le, IfOk};
 ghost use Rattle.std.specs.List.Sorted.{IsNonDecreasingBy, IsPartitionPoint};
 ghost use Rattle.flt_places.specs.Places as spec;
 
@@ -14,6 +14,13 @@ use std::marker::Model;
 pub struct Site {
     pub place: Position,
     pub length: usize,
+}
+
+/// Where some bytes stand: the first of them, and one column behind the last.
+#[derive(Clone, Copy)]
+pub struct Region {
+    pub first: Position,
+    pub end: Position,
 }
 
 /// A text, and where its lines begin.
@@ -76,7 +83,8 @@ fn start_behind(starts: &[usize], lines: usize) -> usize
 fn counted(starts: &[usize], at: usize) -> Position
     requires at { at < 2 ^ 63 }
     requires ascending { IsNonDecreasingBy (λ (n : ℕ). n) starts.now }
-    ensures { result ≡ spec.counted 1 0 starts.now at }
+    ensures place { result ≡ spec.counted 1 0 starts.now at }
+    ensures within { result.column ≤ at + 1 }
 {
     let lines = count_until(starts, at);
     Position {
@@ -118,6 +126,47 @@ impl<'a> Lines<'a> {
         ensures { result ≡ spec.place_in self.now at }
     {
         counted(self.starts.as_slice(), at.min(self.text.len()))
+    }
+
+    /// One column behind the last of the bytes up to another.
+    #[tactic(auto, using(crate::proofs::Starts::by_lines, crate::proofs::Starts::ascending))]
+    fn end(&self, end: usize) -> Position
+        ensures { result ≡ spec.one_column_on (spec.place_in self.now (end - 1)) }
+    {
+        let last = end.saturating_sub(1).min(self.text.len());
+        let place = counted(self.starts.as_slice(), last);
+        Position {
+            line: place.line,
+            column: place.column + 1,
+        }
+    }
+
+    /// Where a span stands: its first byte, and one column behind its last.
+    pub fn region(&self, span: Span) -> Region
+        ensures { result ≡ spec.region_of self.now span }
+    {
+        Region {
+            first: self.place(span.start),
+            end: self.end(span.end),
+        }
+    }
+
+    /// A byte that stands so far behind another; what is further than that behind the end of the text isn't told from it.
+    fn behind(&self, start: usize, from: usize) -> usize
+        ensures { result ≡ min (start + from) (length self.now + 1) }
+    {
+        start.saturating_add(from).min(self.text.len() + 1)
+    }
+
+    /// Where a part of a span stands: its bytes from one up to another, which count from the span's first.
+    #[tactic(auto, using(crate::proofs::Starts::part_at))]
+    pub fn part(&self, span: Span, from: usize, to: usize) -> Region
+        ensures { result ≡ spec.part_of self.now span from to }
+    {
+        Region {
+            first: self.place(self.behind(span.start, from)),
+            end: self.end(self.behind(span.start, to)),
+        }
     }
 
     /// Where a span stands.

@@ -6,6 +6,6 @@ use Rattle.flt_details.proofs.study.details.Given as goal
 
 abbrev pub invariant-loop-finding : goal.invariant-loop-finding
 invariant-loop-finding l = record {
-  each : AllZip (IsDetail l.text l.graph) (take l.finding-index l.found) l.all;
+  each : AllZip (IsDetail l.text l.tree.filter l.graph) (take l.finding-index l.found) l.all;
   like : AreLike l.found l.all;
 }
