@@ -1,12 +1,13 @@
-// Has one call fail by which the program that it is loaded into reads or writes, for tools/fail-streams.
+// Has one call fail by which the program that it is loaded into reads, writes or puts a file in its place, for tools/fail-streams.
 //
-// STREAM is `read` or `write`; FAIL_CALL is the number of its call that fails, counted from 1, or 0 for none, and FAIL_MARK the file
-// that is made then. With ONE_BYTE each of these calls takes one byte at most. The calls are those of the C
-// library's `read` and `write`; the loader's own calls don't come here.
+// STREAM is `read`, `write`, `sync` or `rename`; FAIL_CALL is the number of its call that fails, counted from 1, or 0 for none, and
+// FAIL_MARK the file that is made then. With ONE_BYTE each of these calls takes one byte at most. The calls are those of the C
+// library's `read`, `write`, `fsync` and `rename`; the loader's own calls don't come here.
 
 #define _GNU_SOURCE
 #include <errno.h>
 #include <fcntl.h>
+#include <stdio.h>
 #include <stdlib.h>
 #include <string.h>
 #include <sys/syscall.h>
@@ -51,4 +52,12 @@ ssize_t write(int to, const void *from, size_t count) {
         return syscall(SYS_write, to, from, count);
     }
     return fails() ? -1 : syscall(SYS_write, to, from, at_most(count));
+}
+
+int fsync(int of) {
+    return is_meant("sync") && fails() ? -1 : (int)syscall(SYS_fsync, of);
+}
+
+int rename(const char *from, const char *to) {
+    return is_meant("rename") && fails() ? -1 : (int)syscall(SYS_rename, from, to);
 }

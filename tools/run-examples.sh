@@ -83,13 +83,14 @@ has_journal() {
     [ ${#each[@]} -gt 1 ] || [ "$(wc -l <"$work/found")" -le "$(wc -l <"$beside")" ] || differs "$1: its journal is longer than $beside"
 }
 
-# has_no_journal FILE: `explain` finds nothing wrong with a filter, and writes no journal.
+# has_no_journal FILE: `explain` finds nothing wrong with a filter, writes no journal, and says so.
 has_no_journal() {
     local status=0
     rm -f "$work/found"
-    "$program" explain --journal "$work/found" "$1" >"$work/out" 2>&1 || status=$?
+    "$program" explain --journal "$work/found" "$1" >"$work/out" 2>"$work/err" || status=$?
     runs=$((runs + 1))
-    [ "$status" = 0 ] && [ "$(tail -1 "$work/out")" = 'nothing found' ] && [ ! -e "$work/found" ] ||
+    [ "$status" = 0 ] && [ "$(tail -1 "$work/out")" = 'nothing found' ] && [ ! -e "$work/found" ] &&
+        [ "$(cat "$work/err")" = "no run is found: $work/found is as it was" ] ||
         differs "explain --journal $1: status $status, or a journal"
 }
 

@@ -15,12 +15,15 @@ use Rattle.flt_crew.specs.declared.running.Ran.{Ran}
 use Rattle.flt_explain.specs.declared.finding.Finding.{Finding}
 use Rattle.flt_forms.specs.Lines.{AreLines}
 use Rattle.flt_forms.specs.Sarif.{AreResults}
+use Rattle.flt_forms.specs.declared.as_lines.Style.{Style}
+use Rattle.flt_forms.specs.declared.as_lines.Style.TheVariants.{Object, Sentence}
 use Rattle.flt_notes.specs.Reported.{AreReportsOf, HasNotice, HasNoticeStatus, HasReport, HasStatus, IsText}
 use Rattle.flt_details.specs.Reports.{IsJudged, IsKnown, findings_status, status_of as status_of_judged, texts_of}
 use Rattle.flt_details.specs.declared.sources.Explained.{Explained as Told}
 use Rattle.flt_details.specs.declared.sources.Source.{Source}
+use Rattle.flt_words.specs.declared.request.Colour.{Colour}
 use Rattle.flt_words.specs.declared.request.Form.{Form}
-use Rattle.flt_words.specs.declared.request.Form.TheVariants.{Human, Lines, Sarif}
+use Rattle.flt_words.specs.declared.request.Form.TheVariants.{Human, Lines, Sarif, Short}
 use Rattle.json.specs.Token.{Token}
 use Rattle.flt_details.specs.declared.judged.Judged.{Judged as Found}
 use Rattle.flt_details.specs.declared.judged.Judged.TheVariants.{Unread, Known}
@@ -39,9 +42,9 @@ use Rattle.flt_commands.specs.Explain.{IsExplained, IsTold}
 use Rattle.flt_commands.specs.Inputs.{Giving, given, Text, unread}
 use Rattle.flt_commands.specs.Running.{IsRan}
 use Rattle.flt_commands.specs.Thin.{IsThinned, Decides as DecidesThin}
-use Rattle.flt_words.specs.Request.{Asked, Check, Analyse, Thin, Run, Replay, Show, Explain, Page}
+use Rattle.flt_words.specs.Request.{Asked, Check, Analyse, Thin, Run, Replay, Show, Explain, Pages}
 use Rattle.flt_commands.specs.declared.answer.Answer.{Answer}
-use Rattle.flt_commands.specs.declared.answer.Answer.TheVariants.{Accepted, Refused, Certificate as Written, Judged, Ran as has_run, FileRefused, Explained, Page as has_page, Shown}
+use Rattle.flt_commands.specs.declared.answer.Answer.TheVariants.{Accepted, Refused, Certificate as Written, Judged, Ran as has_run, FileRefused, Explained, Pages as has_pages, Shown}
 use Rattle.flt_commands.specs.declared.failure.Failure.{Failure}
 
 -- the laws' clauses
@@ -88,7 +91,7 @@ module _ (law : Law) (runs : LawOfRuns) (nowhere : SpelledFailsNowhere) where
   judged text certificate (FileRefused n f) said good = absurd said.decided
   judged text certificate (Explained r) said good = absurd said.decided
   judged text certificate (Shown rows v) said good = absurd said.decided
-  judged text certificate (has_page t) said good = absurd said.decided
+  judged text certificate (has_pages t) said good = absurd said.decided
 
   checked : (texts : List Text) (answer : Answer) (file : Text) (cert : Option Text) → IsChecked texts (Ok answer) →
       status_of answer ≡ 0 → IsClean (Check file cert) texts
@@ -107,7 +110,7 @@ module _ (law : Law) (runs : LawOfRuns) (nowhere : SpelledFailsNowhere) where
   left text certificate (FileRefused n f) said good = absurd said.decided
   left text certificate (Explained r) said good = absurd said.decided
   left text certificate (Shown rows v) said good = absurd said.decided
-  left text certificate (has_page t) said good = absurd said.decided
+  left text certificate (has_pages t) said good = absurd said.decided
 
   thinned : (texts : List Text) (answer : Answer) (file : Text) (cert : Option Text) → IsThinned texts (Ok answer) →
       status_of answer ≡ 0 → IsClean (Thin file cert) texts
@@ -127,7 +130,7 @@ module _ (law : Law) (runs : LawOfRuns) (nowhere : SpelledFailsNowhere) where
   analysed (text ∷ []) (FileRefused n f) file said good = absurd said
   analysed (text ∷ []) (Explained r) file said good = absurd said
   analysed (text ∷ []) (Shown rows v) file said good = absurd said
-  analysed (text ∷ []) (has_page t) file said good = absurd said
+  analysed (text ∷ []) (has_pages t) file said good = absurd said
   analysed (text ∷ more ∷ texts) answer file said good = said
 
   driven : (texts : List Text) (answer : Answer) (workers : ℕ) (quiet : Bool) (script : Text) (files : List Text) →
@@ -138,7 +141,7 @@ module _ (law : Law) (runs : LawOfRuns) (nowhere : SpelledFailsNowhere) where
   driven (bytes ∷ texts) Accepted workers quiet script files said good = absurd said
   driven (bytes ∷ texts) (Explained r) workers quiet script files said good = absurd said
   driven (bytes ∷ texts) (Shown rows v) workers quiet script files said good = absurd said
-  driven (bytes ∷ texts) (has_page t) workers quiet script files said good = absurd said
+  driven (bytes ∷ texts) (has_pages t) workers quiet script files said good = absurd said
   driven (bytes ∷ texts) (Refused f) workers quiet script files said good = absurd said
   driven (bytes ∷ texts) (Written c) workers quiet script files said good = absurd said
   driven (bytes ∷ texts) (Judged v) workers quiet script files said good = absurd said
@@ -189,12 +192,12 @@ module _ (law : Law) (runs : LawOfRuns) (nowhere : SpelledFailsNowhere) where
       let zeros = both_zero first others (sym greatest ∙ good) in
       (status_well filters t first is.is zeros.0, reported filters (u ∷ ts) printed others rest zeros.1)
 
-  in_lines : (sources : List Source) (before printed : List ℕ) (status : ℕ) → AreLines sources before printed status → status ≡ 0 →
+  in_lines : (style : Style) (sources : List Source) (before printed : List ℕ) (status : ℕ) → AreLines style sources before printed status → status ≡ 0 →
       EachBreaksNothing (texts_of sources)
-  in_lines [] before printed status said good = tt
-  in_lines (s ∷ ss) before printed status (part, first, others, own, rest, greatest) good =
+  in_lines style [] before printed status said good = tt
+  in_lines style (s ∷ ss) before printed status (part, first, others, own, rest, greatest) good =
       let zeros = both_zero first others (sym greatest ∙ good) in
-      (found_well s.text.now own.judged own.is (sym own.own ∙ zeros.0), in_lines ss (before ++ part) printed others rest zeros.1)
+      (found_well s.text.now own.judged own.is (sym own.own ∙ zeros.0), in_lines style ss (before ++ part) printed others rest zeros.1)
 
   in_results : (sources : List Source) (tokens : List Token) (status : ℕ) → AreResults sources tokens status → status ≡ 0 →
       EachBreaksNothing (texts_of sources)
@@ -205,20 +208,21 @@ module _ (law : Law) (runs : LawOfRuns) (nowhere : SpelledFailsNowhere) where
 
   told_well : (form : Form) (sources : List Source) (e : Told) → IsTold form sources e → e.status ≡ 0 → EachBreaksNothing (texts_of sources)
   told_well Human sources e told good = reported told.filters (texts_of sources) e.output.items e.status told.are good
-  told_well Lines sources e told good = in_lines sources [] e.output.items e.status told good
+  told_well Short sources e told good = in_lines Sentence sources [] e.output.items e.status told good
+  told_well Lines sources e told good = in_lines Object sources [] e.output.items e.status told good
   told_well Sarif sources e told good = in_results sources told.0 e.status told.1 good
 
-  explained : (form : Form) (states : ℕ) (journal : Option Text) (names texts : List Text) (answer : Answer) → IsExplained form journal names texts (Ok answer) → status_of answer ≡ 0 →
-      IsClean (Explain form states journal names) texts
-  explained form states journal files texts (Explained e) said good = subst EachBreaksNothing said.given (told_well form said.sources e.explained said.told good)
-  explained form states journal files texts (Shown rows v) said good = absurd said
-  explained form states journal files texts (has_page t) said good = absurd said
-  explained form states journal files texts (has_run ran) said good = absurd said
-  explained form states journal files texts (FileRefused n f) said good = absurd said
-  explained form states journal files texts Accepted said good = absurd said
-  explained form states journal files texts (Refused f) said good = absurd said
-  explained form states journal files texts (Written c) said good = absurd said
-  explained form states journal files texts (Judged v) said good = absurd said
+  explained : (form : Form) (colour : Colour) (states : ℕ) (journal : Option Text) (names texts : List Text) (answer : Answer) → IsExplained form journal names texts (Ok answer) → status_of answer ≡ 0 →
+      IsClean (Explain form colour states journal names) texts
+  explained form colour states journal files texts (Explained e) said good = subst EachBreaksNothing said.given (told_well form said.sources e.explained said.told good)
+  explained form colour states journal files texts (Shown rows v) said good = absurd said
+  explained form colour states journal files texts (has_pages t) said good = absurd said
+  explained form colour states journal files texts (has_run ran) said good = absurd said
+  explained form colour states journal files texts (FileRefused n f) said good = absurd said
+  explained form colour states journal files texts Accepted said good = absurd said
+  explained form colour states journal files texts (Refused f) said good = absurd said
+  explained form colour states journal files texts (Written c) said good = absurd said
+  explained form colour states journal files texts (Judged v) said good = absurd said
 
   said_is_clean : (request : Asked) (texts : List Text) (answer : Answer) → IsSaidOf request texts (Ok answer) →
       status_of answer ≡ 0 → IsClean request texts
@@ -228,8 +232,8 @@ module _ (law : Law) (runs : LawOfRuns) (nowhere : SpelledFailsNowhere) where
   said_is_clean (Run workers quiet script files) texts answer said good = driven texts answer workers quiet script files said good
   said_is_clean (Replay journal files) texts answer said good = tt
   said_is_clean (Show timeline picture journal files) texts answer said good = tt
-  said_is_clean (Explain form states journal files) texts answer said good = explained form states journal files texts answer said good
-  said_is_clean (Page name) texts answer said good = tt
+  said_is_clean (Explain form colour states journal files) texts answer said good = explained form colour states journal files texts answer said good
+  said_is_clean (Pages names) texts answer said good = tt
 
   -- where this is said of what the names give, and reported with the status 0, the text breaks nothing
   pub clean_of : (gives : Giving) (request : Asked) (texts : List Text) (said : Result Answer Failure) (bytes : List ℕ) (status : ℕ) →

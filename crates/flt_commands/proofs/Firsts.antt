@@ -35,6 +35,11 @@ module _ {X Y : Type 0} (f : X → Y) (xs : List X) (i : ℕ) (x d : X) (h : i <
       let front : length (take i xs) ≡ i = length-take-le i xs (omega arith) in
       sym (length-map (take i xs) f ∙ front)
 
+-- what two functions make of a list, one behind the other
+pub mapped_twice : {A B C : Type 0} (f : A → B) (g : B → C) (xs : List A) → map g (map f xs) ≡ map (λ x. g (f x)) xs
+mapped_twice f g [] = refl
+mapped_twice f g (x ∷ xs) = ap (λ ys. g (f x) ∷ ys) (mapped_twice f g xs)
+
 -- ---- the names
 
 pub and_false : (b : Bool) → b && false ≡ false

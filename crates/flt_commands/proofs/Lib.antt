@@ -1,6 +1,8 @@
+pub mod ButOne
 pub mod Covered
 pub mod Ended
 pub mod Firsts
+pub mod Lengths
 pub mod OneAnalysis
 pub mod OneAnswer
 pub mod OneCheck
@@ -9,5 +11,6 @@ pub mod OnePlace
 pub mod OneReading
 pub mod OneThin
 pub mod OneVerdict
+pub mod Paged
 pub mod Readings
 pub mod Reported

@@ -15,7 +15,7 @@ use Rattle.flt_commands.specs.Check.{HasPoints}
 use Rattle.flt_commands.specs.Inputs.{Text}
 use Rattle.flt_commands.specs.Single.{AreSame, SaysOne, seen, told}
 use Rattle.flt_commands.specs.declared.answer.Answer.{Answer}
-use Rattle.flt_commands.specs.declared.answer.Answer.TheVariants.{Accepted, Refused, Certificate as Written, Judged, Ran, FileRefused, Explained, Page, Shown}
+use Rattle.flt_commands.specs.declared.answer.Answer.TheVariants.{Accepted, Refused, Certificate as Written, Judged, Ran, FileRefused, Explained, Pages, Shown}
 use Rattle.flt_commands.specs.declared.failure.Failure.{Failure}
 use Rattle.flt_commands.specs.declared.failure.Failure.TheVariants.{Syntax, OutOfMemory}
 
@@ -50,7 +50,7 @@ module _ (graph : (text : Text) (g h : Graph) → HasPoints text g → HasPoints
   answered text (FileRefused n f) x = absurd x
   answered text (Explained r) x = absurd x
   answered text (Shown rows v) x = absurd x
-  answered text (Page t) x = absurd x
+  answered text (Pages t) x = absurd x
 
   answers_once : (text : Text) (a b : Answer) → Judges text (Ok a) → Judges text (Ok b) → seen (Ok a) ≡ seen (Ok b)
   answers_once text (Written c) (Written d) x y = let same : c.items ≡ d.items = certified_once text c.items d.items x y in cc
@@ -63,21 +63,21 @@ module _ (graph : (text : Text) (g h : Graph) → HasPoints text g → HasPoints
   answers_once text (Written c) (FileRefused n f) x y = absurd y
   answers_once text (Written c) (Explained r) x y = absurd y
   answers_once text (Written c) (Shown rows v) x y = absurd y
-  answers_once text (Written c) (Page t) x y = absurd y
+  answers_once text (Written c) (Pages t) x y = absurd y
   answers_once text (Refused f) Accepted x y = absurd y
   answers_once text (Refused f) (Judged v) x y = absurd y
   answers_once text (Refused f) (Ran ran) x y = absurd y
   answers_once text (Refused f) (FileRefused n h) x y = absurd y
   answers_once text (Refused f) (Explained r) x y = absurd y
   answers_once text (Refused f) (Shown rows v) x y = absurd y
-  answers_once text (Refused f) (Page t) x y = absurd y
+  answers_once text (Refused f) (Pages t) x y = absurd y
   answers_once text Accepted b x y = absurd x
   answers_once text (Judged v) b x y = absurd x
   answers_once text (Ran ran) b x y = absurd x
   answers_once text (FileRefused n f) b x y = absurd x
   answers_once text (Explained r) b x y = absurd x
   answers_once text (Shown rows v) b x y = absurd x
-  answers_once text (Page t) b x y = absurd x
+  answers_once text (Pages t) b x y = absurd x
 
   not_both : (text : Text) (a : Answer) (f : Failure) → Judges text (Ok a) → IsFailure text f → f ≢ OutOfMemory → ⊥
   not_both text a (Syntax e) x y told = let found = answered text a x in nowhere text found.0 e found.1 y

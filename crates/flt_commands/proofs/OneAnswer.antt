@@ -1,16 +1,17 @@
 -- A command line has one answer at most.
-use Rattle.std.proofs.Common.{◌≡◌, ◌≢◌, ℕ, List, Option, Some, None, Result, Ok, Err, refl, sym, ap, ◌∙◌}
+use Rattle.std.proofs.Common.{◌≡◌, ◌≢◌, ℕ, Bool, true, false, List, Option, Some, None, Result, Ok, Err, refl, sym, ap, unwrap_or, ◌∙◌}
+use Rattle.std.specs.Str.{bytes_eq}
 use Rattle.flt_commands.proofs.OneReading.{says_once}
 use Rattle.flt_commands.specs.Analyse.{IsAnalysed}
 use Rattle.flt_commands.specs.Answer.{output, status_of}
 use Rattle.flt_commands.specs.Check.{IsChecked}
-use Rattle.flt_commands.specs.Commands.{AnswersFor, IsReported, IsSaid, IsSaidOf}
-use Rattle.flt_commands.specs.Inputs.{Giving, Text}
+use Rattle.flt_commands.specs.Commands.{AnswersFor, IsReported, IsSaid, IsSaidOf, giving_for}
+use Rattle.flt_commands.specs.Inputs.{Giving, Text, gives_but, gives_if, gives_text, kept}
 use Rattle.flt_commands.specs.Names.{names_of}
 use Rattle.flt_commands.specs.Replay.{IsReplayed}
 use Rattle.flt_commands.specs.Single.{AreSame, AskForOne, GivesOne, HasOneAnswer, SaysOne, seen, told}
 use Rattle.flt_commands.specs.Thin.{IsThinned}
-use Rattle.flt_words.specs.Request.{Asked, Check, Analyse, Thin, Run, Replay, Show, Explain, Page}
+use Rattle.flt_words.specs.Request.{Asked, Check, Analyse, Thin, Run, Replay, Show, Explain, Pages}
 use Rattle.flt_commands.specs.declared.answer.Answer.{Answer}
 use Rattle.flt_commands.specs.declared.failure.Failure.{Failure}
 use Rattle.flt_commands.specs.declared.failure.Failure.TheVariants.{OutOfMemory}
@@ -45,6 +46,40 @@ module _ (bytes other : List ℕ) (status other_status : ℕ) where
       (sym (same (a_failure f x.0 (Err f) refl) (an_answer b))) refl refl)
   reported_once (Err f) (Err h) same x y = (x.1.0 ∙ sym y.1.0, x.1.1 ∙ sym y.1.1)
 
+-- ---- where one thing is given at most for each name, so is what is kept of it
+
+module _ (gives : Giving) (one : GivesOne gives) where
+  text_once : (name : Text) (a b : Option Text) → gives_text gives name a → gives_text gives name b → a ≡ b
+  text_once name (Some a) (Some b) (text, is, same) (other, has, alike) =
+      let both : Some text ≡ Some other = one name (Some text) (Some other) is has in
+      let inner : text ≡ other = cc in
+      let found : a ≡ b = same ∙ ap kept inner ∙ sym alike in ap Some found
+  text_once name (Some a) None (text, is, same) has =
+      let both : Some text ≡ None = one name (Some text) None is has in
+      let no : ⊥ = cc in absurd no
+  text_once name None (Some b) has (text, is, same) =
+      let both : None ≡ Some text = one name None (Some text) has is in
+      let no : ⊥ = cc in absurd no
+  text_once name None None has other = refl
+
+  if_once : (whole : Bool) (name : Text) (a b : Option Text) → gives_if whole gives name a → gives_if whole gives name b → a ≡ b
+  if_once true = one
+  if_once false = text_once
+
+  but_once : (whole : Option Text) → GivesOne (gives_but whole gives)
+  but_once None = text_once
+  but_once (Some whole) = λ name. if_once (bytes_eq name whole) name
+
+  pub gives_one : (request : Asked) → GivesOne (giving_for request gives)
+  gives_one (Check file cert) = but_once (Some (unwrap_or cert file))
+  gives_one (Analyse file) = but_once None
+  gives_one (Thin file cert) = but_once (Some (unwrap_or cert file))
+  gives_one (Run workers quiet script files) = but_once (Some script)
+  gives_one (Replay journal files) = but_once (Some journal)
+  gives_one (Show timeline picture journal files) = but_once (Some journal)
+  gives_one (Explain form colour states journal files) = one
+  gives_one (Pages names) = one
+
 module _ (checked : SaysOne IsChecked) (analysed : SaysOne IsAnalysed) (thinned : SaysOne IsThinned) (replayed : SaysOne IsReplayed) where
   of_one : (request : Asked) → HasOneAnswer request → SaysOne (IsSaidOf request)
   of_one (Check file cert) has = checked
@@ -52,8 +87,8 @@ module _ (checked : SaysOne IsChecked) (analysed : SaysOne IsAnalysed) (thinned 
   of_one (Thin file cert) has = thinned
   of_one (Run workers quiet script files) has = absurd has
   of_one (Show timeline picture journal files) has = absurd has
-  of_one (Explain form states journal files) has = absurd has
-  of_one (Page name) has = absurd has
+  of_one (Explain form colour states journal files) has = absurd has
+  of_one (Pages names) has = absurd has
   of_one (Replay journal files) has = replayed
 
   -- of what is asked for one thing is said at most
@@ -69,4 +104,5 @@ module _ (checked : SaysOne IsChecked) (analysed : SaysOne IsAnalysed) (thinned 
   printed_once gives written others None r s has one x y = (x.0 ∙ sym y.0, x.1 ∙ sym y.1)
   printed_once gives written others (Some request) r s has one x y =
       reported_once r.output.items s.output.items r.status s.status x.said y.said
-      (said_once gives request x.texts y.texts x.said y.said has one x.is y.is) x.reported y.reported
+      (said_once (giving_for request gives) request x.texts y.texts x.said y.said has (gives_one gives one request) x.is y.is)
+      x.reported y.reported

@@ -7,7 +7,7 @@ use Rattle.flt_check.specs.declared.checker.Refusal.{Refusal}
 use Rattle.flt_commands.proofs.OneDecision.{DecidesOne}
 use Rattle.flt_commands.specs.Check.{Decides}
 use Rattle.flt_commands.specs.Single.{seen}
-use Rattle.flt_commands.specs.declared.answer.Answer.TheVariants.{Accepted, Refused, Certificate as Written, Judged, Ran, FileRefused, Explained, Page, Shown}
+use Rattle.flt_commands.specs.declared.answer.Answer.TheVariants.{Accepted, Refused, Certificate as Written, Judged, Ran, FileRefused, Explained, Pages, Shown}
 
 -- the laws' clauses
 abbrev pub HasOneFault : Type 0
@@ -27,7 +27,7 @@ module _ (one : HasOneFault) (none : CoversWithoutFault) where
   checks_once g c Accepted (FileRefused n h) x y = absurd y
   checks_once g c Accepted (Explained r) x y = absurd y
   checks_once g c Accepted (Shown rows v) x y = absurd y
-  checks_once g c Accepted (Page t) x y = absurd y
+  checks_once g c Accepted (Pages t) x y = absurd y
   checks_once g c (Refused f) Accepted x y = absurd (none g c f y x)
   checks_once g c (Refused f) (Refused h) x y = ap (λ r. seen (Ok (Refused r))) (one g c f h x y)
   checks_once g c (Refused f) (Written d) x y = absurd y
@@ -36,11 +36,11 @@ module _ (one : HasOneFault) (none : CoversWithoutFault) where
   checks_once g c (Refused f) (FileRefused n h) x y = absurd y
   checks_once g c (Refused f) (Explained r) x y = absurd y
   checks_once g c (Refused f) (Shown rows v) x y = absurd y
-  checks_once g c (Refused f) (Page t) x y = absurd y
+  checks_once g c (Refused f) (Pages t) x y = absurd y
   checks_once g c (Written d) b x y = absurd x
   checks_once g c (Judged v) b x y = absurd x
   checks_once g c (Ran ran) b x y = absurd x
   checks_once g c (FileRefused n h) b x y = absurd x
   checks_once g c (Explained r) b x y = absurd x
   checks_once g c (Shown rows v) b x y = absurd x
-  checks_once g c (Page t) b x y = absurd x
+  checks_once g c (Pages t) b x y = absurd x

@@ -1,14 +1,17 @@
 -- The report on what is asked for, from what is said of it and how that is printed.
-use Rattle.std.proofs.Common.{◌≡◌, ℕ, List, [], ◌∷◌, Option, Some, Result, Ok, Err, IfOk, Vec, Global, map, ap, sym, arith}
+use Rattle.std.proofs.Common.{◌≡◌, ◌≢◌, ◌∙◌, ℕ, List, [], ◌∷◌, Option, Some, None, Result, Ok, Err, IfOk, OnOk, Vec, Global, map, ap, sym, arith}
 use Rattle.std.proofs.Math.Path.{subst}
 use Rattle.flt_syntax.specs.TextFails.{SpelledFailsNowhere}
 use Rattle.flt_commands.proofs.Covered.{Law, LawOfRuns, clean_of}
-use Rattle.flt_commands.specs.Commands.{Answers, AreThose, IsKept, IsKeptAs, IsRemarked, IsRemarkedAfter, IsReported, IsSaid, texts_in}
-use Rattle.flt_commands.specs.Explain.{IsPaged}
+use Rattle.flt_commands.specs.Commands.{Answers, AreThose, IsBefore, IsKept, IsKeptAs, IsRemarked, NamesNoJournal, IsRemarkedAfter, IsReported, IsSaid, giving_for, texts_in}
+use Rattle.flt_commands.specs.Explain.{ArePaged}
 use Rattle.flt_commands.specs.Inputs.{Giving, Says, Text, given}
+use Rattle.flt_commands.specs.Remarks.{IsFound}
 use Rattle.flt_model.specs.JournalText.{Entries}
-use Rattle.flt_words.specs.Request.{Asked}
+use Rattle.flt_words.specs.Request.{Asked, Explain}
 use Rattle.flt_words.specs.Words.{asked}
+use Rattle.flt_words.specs.declared.request.Colour.{Colour}
+use Rattle.flt_words.specs.declared.request.Form.{Form}
 use Rattle.flt_commands.specs.declared.answer.Answer.{Answer}
 use Rattle.flt_commands.specs.declared.failure.Failure.{Failure}
 use Rattle.flt_commands.specs.declared.fault.CommandFault.{CommandFault}
@@ -37,23 +40,53 @@ those_after bytes texts journal said (Err f) same kept is = tt
 
 -- ---- pages, and what stands before a line
 
--- what is said of a page is said of no input
-pub says_of_page : (gives : Giving) (name : Text) (texts : List Text) (said : Result Answer Failure) → texts ≡ [] → IsPaged name said →
-    Says gives [] (λ texts. IsPaged name) texts said
-says_of_page gives name texts said none is = given said (rw none (record { each = tt; once = omega arith })) is
+-- what is said of pages is said of no input
+pub says_of_pages : (gives : Giving) (names texts : List Text) (said : Result Answer Failure) → texts ≡ [] → ArePaged names said →
+    Says gives [] (λ texts. ArePaged names) texts said
+says_of_pages gives names texts said none is = given said (rw none (record { each = tt; once = omega arith })) is
 
-pub remarked_after : (before : List ℕ) (said : Result Answer Failure) (result : Result Report CommandFault) →
-    IfOk result (λ report. IsRemarkedAfter before said report.remark.items) →
-    IfOk result (λ report. (first : List ℕ) × IsRemarkedAfter first said report.remark.items)
-remarked_after before said (Ok report) is = (before, is)
-remarked_after before said (Err f) is = tt
+pub remarked_after : (request : Asked) (before : List ℕ) (said : Result Answer Failure) (result : Result Report CommandFault) →
+    IsBefore request said before → IfOk result (λ report. IsRemarkedAfter before said report.remark.items) →
+    IfOk result (λ report. IsRemarked request said report.remark.items)
+remarked_after request before said (Ok report) first is = (before, first, is)
+remarked_after request before said (Err f) first is = tt
+
+-- ---- with the exit status 0 or 1 nothing is remarked
+
+-- of a journal that is shown
+pub quiet_shown : (P : Type 0) (before : List ℕ) (said : Result Answer Failure) (result : Result Report CommandFault) →
+    OnOk said (before ≡ []) → IfOk result (λ report. IsReported said report.output.items report.status) →
+    IfOk result (λ report. report.status ≢ 2 → report.remark.items ≡ before) →
+    IfOk result (λ report. report.status ≢ 2 → P → report.remark.items ≡ [])
+quiet_shown P before (Ok answer) (Ok report) none reported same = λ good p. same good ∙ none
+quiet_shown P before (Err f) (Ok report) none reported same = λ good p. absurd (good reported.1.1)
+quiet_shown P before said (Err e) none reported same = tt
+
+-- of what `explain` says, where no file is named for a journal
+quiet_for : (form : Form) (colour : Colour) (states : ℕ) (journal : Option Text) (files : List Text) (before : List ℕ) (said : Result Answer Failure)
+    (result : Result Report CommandFault) → IsFound journal said before →
+    IfOk result (λ report. IsReported said report.output.items report.status) →
+    IfOk result (λ report. report.status ≢ 2 → report.remark.items ≡ before) →
+    IfOk result (λ report. report.status ≢ 2 → NamesNoJournal (Some (Explain form colour states journal files)) → report.remark.items ≡ [])
+quiet_for form colour states (Some name) files before said (Ok report) found reported same = λ good names. absurd names
+quiet_for form colour states None files before (Ok answer) (Ok report) found reported same = λ good names. same good ∙ found
+quiet_for form colour states None files before (Err f) (Ok report) found reported same = λ good names. absurd (good reported.1.1)
+quiet_for form colour states journal files before said (Err e) found reported same = tt
+
+pub quiet_explained : (words : List (List ℕ)) (form : Form) (colour : Colour) (states : ℕ) (journal : Option Text) (files : List Text) (before : List ℕ)
+    (said : Result Answer Failure) (result : Result Report CommandFault) → Some (Explain form colour states journal files) ≡ asked words →
+    IsFound journal said before → IfOk result (λ report. IsReported said report.output.items report.status) →
+    IfOk result (λ report. report.status ≢ 2 → report.remark.items ≡ before) →
+    IfOk result (λ report. report.status ≢ 2 → NamesNoJournal (asked words) → report.remark.items ≡ [])
+quiet_explained words form colour states journal files before said result asks found reported same =
+    rw (← asks) (quiet_for form colour states journal files before said result found reported same)
 
 -- ---- all of it
 
 module _ (law : Law) (runs : LawOfRuns) (nowhere : SpelledFailsNowhere) (gives : Giving) (written : Text → Text → Type 0) where
   -- what is said of what the words ask for, and reported, answers them
   pub answers_of : (words : List (List ℕ)) (request : Asked) (texts : List Text) (said : Result Answer Failure)
-      (result : Result Report CommandFault) → Some request ≡ asked words → IsSaid gives request texts said → IsKept written request said →
+      (result : Result Report CommandFault) → Some request ≡ asked words → IsSaid (giving_for request gives) request texts said → IsKept written request said →
       IfOk result (λ report. AreThose request report texts said) →
       IfOk result (λ report. IsReported said report.output.items report.status) →
       IfOk result (λ report. IsRemarked request said report.remark.items) →
@@ -66,7 +99,7 @@ module _ (law : Law) (runs : LawOfRuns) (nowhere : SpelledFailsNowhere) (gives :
         is = is;
         reported = reported;
         remarked = remarked;
-        clean = λ good. clean_of law runs nowhere gives request texts said report.output.items report.status is reported good;
+        clean = λ good. clean_of law runs nowhere (giving_for request gives) request texts said report.output.items report.status is reported good;
         kept = kept;
       })
   answers_of words request texts said (Err f) asks is kept those reported remarked = tt

@@ -1,6 +1,7 @@
 -- How the answers of commands are written. This project's own program.
 use Rattle.std.specs.Prelude.{ℕ, List, [], ◌∷◌, ◌++◌, codes, nat_lt, if◌then◌else◌}
 use Rattle.std.specs.Fmt.{decimal}
+use Rattle.std.specs.List.{join_by}
 use Rattle.flt_rules.specs.Rule.{number, text}
 use Rattle.flt_rules.specs.declared.rule.Rule.{Rule}
 use Rattle.flt_crew.specs.declared.ending.Ending.{Ending}
@@ -11,7 +12,7 @@ use Rattle.flt_model.specs.declared.verdict.Verdict.TheVariants.{Legal, NotARun,
 use Rattle.flt_model.specs.declared.verdict.Violation.{Violation}
 use Rattle.flt_model.specs.declared.verdict.Violation.TheVariants.{V1, V2, V3, V4, V5, V6, V7, V8}
 use Rattle.flt_commands.specs.declared.answer.Answer.{Answer}
-use Rattle.flt_commands.specs.declared.answer.Answer.TheVariants.{Accepted, Refused, Certificate, Judged, Explained, Page, Ran, FileRefused, Shown}
+use Rattle.flt_commands.specs.declared.answer.Answer.TheVariants.{Accepted, Refused, Certificate, Judged, Explained, Pages, Ran, FileRefused, Shown}
 
 -- `R01` to `R15`
 abbrev pub rule_name : Rule → List ℕ
@@ -50,15 +51,15 @@ verdict_line Legal = codes "legal"
 verdict_line (NotARun n) = codes "not a run at " ++ decimal n
 verdict_line (Breaks v n) = codes "breaks V" ++ decimal (violation_number v) ++ codes " at " ++ decimal n
 
--- what stands on the standard output: the certificate, reports, a page, the journal, or a line and a line feed; of a
--- journal that is shown, rows before that line
+-- what stands on the standard output: the certificate, reports, pages with an empty line between them, the journal, or a line and a line
+-- feed; of a journal that is shown, rows before that line
 abbrev pub output : Answer → List ℕ
 output Accepted = codes "accepted" ++ 10 ∷ []
 output (Refused f) = refusal_line f ++ 10 ∷ []
 output (Certificate bytes) = bytes.items
 output (Judged v) = verdict_line v ++ 10 ∷ []
 output (Explained e) = e.explained.output.items
-output (Page text) = text.now
+output (Pages pages) = join_by (λ page. page.now) (10 ∷ []) pages.items
 output (Ran ran) = ran.journal.items
 output (Shown rows v) = rows.items ++ (verdict_line v ++ 10 ∷ [])
 output (FileRefused file f) = file_refusal_line file f ++ 10 ∷ []
@@ -78,7 +79,7 @@ status_of (Certificate bytes) = 0
 status_of (Judged Legal) = 0
 status_of (Judged _) = 1
 status_of (Explained e) = e.explained.status
-status_of (Page text) = 0
+status_of (Pages pages) = 0
 status_of (Ran ran) = ended_status ran.ending
 status_of (FileRefused file f) = 1
 status_of (Shown rows Legal) = 0

@@ -8,7 +8,7 @@ use Rattle.flt_model.specs.Steps.{Transition}
 use Rattle.flt_commands.specs.Inputs.{Text}
 use Rattle.flt_commands.specs.Replay.{AreSpelled}
 use Rattle.flt_commands.specs.Split.{IsCertificateStart}
-use Rattle.flt_words.specs.Request.{Asked, Check, Analyse, Thin, Run, Replay, Show, Explain, Page}
+use Rattle.flt_words.specs.Request.{Asked, Check, Analyse, Thin, Run, Replay, Show, Explain, Pages}
 
 -- the filter that the text spells breaks nothing: whatever transitions are tried on it, in whatever order and however many
 abbrev pub BreaksNothing : Text → Type 0
@@ -36,6 +36,6 @@ IsClean (Thin file cert) (text ∷ certificate ∷ []) = BreaksNothing text
 IsClean (Run workers quiet script files) (bytes ∷ texts) = BreakNothing texts
 IsClean (Replay journal files) texts = Unit {0}
 IsClean (Show timeline picture journal files) texts = Unit {0}
-IsClean (Explain form states journal files) texts = EachBreaksNothing texts
-IsClean (Page name) texts = Unit {0}
+IsClean (Explain form colour states journal files) texts = EachBreaksNothing texts
+IsClean (Pages names) texts = Unit {0}
 IsClean _ _ = ⊥

@@ -1,19 +1,20 @@
 -- What a command line comes to: what is read, what is said of it, how that is printed, what it is worth and what is kept. This project's own
 -- program.
-use Rattle.std.specs.Prelude.{◌≡◌, ◌≢◌, ℕ, List, [], ◌∷◌, ◌++◌, Option, Some, None, Result, Ok, Err, IfOk, map}
+use Rattle.std.specs.Prelude.{◌≡◌, ◌≢◌, ℕ, List, [], ◌∷◌, ◌++◌, Option, Some, None, Result, Ok, Err, IfOk, OnOk, map, unwrap_or}
 use Rattle.flt_commands.specs.Analyse.{IsAnalysed}
 use Rattle.flt_commands.specs.Answer.{ending_of, output, remark, status_of}
 use Rattle.flt_commands.specs.Check.{IsChecked}
 use Rattle.flt_commands.specs.Clean.{IsClean}
-use Rattle.flt_commands.specs.Explain.{IsExplained, IsPaged, IsWritten}
+use Rattle.flt_commands.specs.Explain.{ArePaged, IsExplained, IsWritten}
 use Rattle.flt_commands.specs.Failure.{failure_line}
-use Rattle.flt_commands.specs.Inputs.{Giving, Says, Text}
+use Rattle.flt_commands.specs.Inputs.{Giving, Says, Text, gives_but}
 use Rattle.flt_commands.specs.Names.{names_of}
+use Rattle.flt_commands.specs.Remarks.{IsFound}
 use Rattle.flt_commands.specs.Replay.{IsReplayed, IsShown}
 use Rattle.flt_commands.specs.Running.{IsRan}
 use Rattle.flt_commands.specs.Thin.{IsThinned}
 use Rattle.flt_model.specs.JournalText.{Entries, spelling}
-use Rattle.flt_words.specs.Request.{Asked, Check, Analyse, Thin, Run, Replay, Show, Explain, Page}
+use Rattle.flt_words.specs.Request.{Asked, Check, Analyse, Thin, Run, Replay, Show, Explain, Pages}
 use Rattle.flt_words.specs.Words.{asked}
 use Rattle.flt_commands.specs.declared.answer.Answer.{Answer}
 use Rattle.flt_commands.specs.declared.failure.Failure.{Failure}
@@ -30,8 +31,19 @@ IsSaidOf (Thin file cert) = IsThinned
 IsSaidOf (Run workers quiet script files) = IsRan
 IsSaidOf (Replay journal files) = IsReplayed
 IsSaidOf (Show timeline picture journal files) = IsShown timeline picture
-IsSaidOf (Explain form states journal files) = IsExplained form journal files
-IsSaidOf (Page name) = λ texts. IsPaged name
+IsSaidOf (Explain form colour states journal files) = IsExplained form journal files
+IsSaidOf (Pages names) = λ texts. ArePaged names
+
+-- what the names may give: all their bytes, and of a name that is a text alone what is kept of them. `explain` reads all, since a FILE may
+-- be a journal; so does `check` of a text and its certificate in one input
+abbrev pub giving_for : Asked → Giving → Giving
+giving_for (Check file cert) = gives_but (Some (unwrap_or cert file))
+giving_for (Analyse file) = gives_but None
+giving_for (Thin file cert) = gives_but (Some (unwrap_or cert file))
+giving_for (Run workers quiet script files) = gives_but (Some script)
+giving_for (Replay journal files) = gives_but (Some journal)
+giving_for (Show timeline picture journal files) = gives_but (Some journal)
+giving_for request = λ gives. gives
 
 -- what is said of what is asked for, an answer or why there is none, where the names give these texts
 abbrev pub IsSaid : Giving → Asked → List Text → Result Answer Failure → Type 0
@@ -48,16 +60,26 @@ abbrev pub IsReported : Result Answer Failure → List ℕ → ℕ → Type 0
 IsReported (Ok answer) bytes status = (bytes ≡ output answer) × (status ≡ status_of answer)
 IsReported (Err f) bytes status = (f ≢ OutOfMemory) × IsNothing bytes status
 
--- what stands on the standard error: with a journal, how its run ended, where it didn't end with its script; with no answer, the line that
--- says why, after these bytes
+-- what stands on the standard error after these bytes: with a journal, how its run ended, where it didn't end with its script; with no
+-- answer, the line that says why
 abbrev pub IsRemarkedAfter : List ℕ → Result Answer Failure → List ℕ → Type 0
-IsRemarkedAfter before (Ok answer) bytes = bytes ≡ remark (ending_of answer)
+IsRemarkedAfter before (Ok answer) bytes = bytes ≡ before ++ remark (ending_of answer)
 IsRemarkedAfter before (Err f) bytes = bytes ≡ before ++ (failure_line f ++ 10 ∷ [])
 
--- what may stand before that line: `explain` says there why a file isn't read
+-- what may stand before it: why a file isn't read, which `explain` says, or isn't written; and that no run is found
+abbrev pub IsBefore : Asked → Result Answer Failure → List ℕ → Type 0
+IsBefore (Explain form colour states journal files) said bytes = IsFound journal said bytes
+IsBefore (Show timeline picture journal files) said bytes = OnOk said (bytes ≡ [])
+IsBefore request said bytes = bytes ≡ []
+
+-- all that stands on the standard error
 abbrev pub IsRemarked : Asked → Result Answer Failure → List ℕ → Type 0
-IsRemarked (Explain form states journal files) said bytes = (before : List ℕ) × IsRemarkedAfter before said bytes
-IsRemarked request said bytes = IsRemarkedAfter [] said bytes
+IsRemarked request said bytes = (before : List ℕ) × IsBefore request said before × IsRemarkedAfter before said bytes
+
+-- no file is named for the journal of a finding
+abbrev pub NamesNoJournal : Option Asked → Type 0
+NamesNoJournal (Some (Explain form colour states (Some journal) files)) = ⊥
+NamesNoJournal request = Unit {0}
 
 -- ---- all of it
 
@@ -81,7 +103,7 @@ AreThose request report texts said = texts ≡ texts_in report
 
 -- where a file is named for it, the journal of the first finding that has one is written there
 abbrev pub IsKept : (Text → Text → Type 0) → Asked → Result Answer Failure → Type 0
-IsKept written (Explain form states journal files) said = IfOk said (IsWritten written journal)
+IsKept written (Explain form colour states journal files) said = IfOk said (IsWritten written journal)
 IsKept written request said = Unit {0}
 
 -- the report on what is asked for. All of it speaks of the same texts, which are the report's: they are what the names give; this is said of
@@ -91,7 +113,7 @@ pub record IsAnswered (gives : Giving) (written : Text → Text → Type 0) (req
   pub said : Result Answer Failure
   pub texts : List Text
   pub those : AreThose request report texts said
-  pub is : IsSaid gives request texts said
+  pub is : IsSaid (giving_for request gives) request texts said
   pub reported : IsReported said report.output.items report.status
   pub remarked : IsRemarked request said report.remark.items
   pub clean : report.status ≡ 0 → IsClean request texts

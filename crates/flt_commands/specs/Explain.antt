@@ -1,9 +1,11 @@
 -- What `explain` says. This project's own program.
 use Rattle.std.specs.Io.{StartsWith}
-use Rattle.std.specs.Prelude.{◌≡◌, List, [], map, false, Option, Some, None, Result, Ok, Err}
-use Rattle.flt_pages.specs.Pages.{has_page}
+use Rattle.std.specs.List.{AllZip, list_all}
+use Rattle.std.specs.Prelude.{◌≡◌, List, [], ◌∷◌, ◌++◌, map, true, false, Option, Some, None, Result, Ok, Err}
+use Rattle.flt_pages.specs.Pages.{has_page, title}
 use Rattle.flt_forms.specs.Lines.{AreLines}
 use Rattle.flt_forms.specs.Sarif.{IsSarif}
+use Rattle.flt_forms.specs.declared.as_lines.Style.TheVariants.{Object, Sentence}
 use Rattle.flt_model.specs.JournalText.{Entries, spelling}
 use Rattle.flt_notes.specs.Noted.{first_journal}
 use Rattle.flt_notes.specs.Reported.{AreReports}
@@ -13,10 +15,11 @@ use Rattle.flt_details.specs.Reports.{texts_of}
 use Rattle.flt_details.specs.declared.sources.Explained.{Explained as Reported}
 use Rattle.flt_details.specs.declared.sources.Source.{Source}
 use Rattle.flt_words.specs.declared.request.Form.{Form}
-use Rattle.flt_words.specs.declared.request.Form.TheVariants.{Human, Lines, Sarif}
+use Rattle.flt_words.specs.Shown.{visible}
+use Rattle.flt_words.specs.declared.request.Form.TheVariants.{Human, Lines, Sarif, Short}
 use Rattle.flt_commands.specs.Inputs.{Text}
 use Rattle.flt_commands.specs.declared.answer.Answer.{Answer}
-use Rattle.flt_commands.specs.declared.answer.Answer.TheVariants.{Explained, Page}
+use Rattle.flt_commands.specs.declared.answer.Answer.TheVariants.{Explained, Pages}
 use Rattle.flt_commands.specs.declared.failure.Failure.{Failure}
 use Rattle.flt_commands.specs.declared.failure.Failure.TheVariants.{CannotRead, CannotWrite, OutOfMemory}
 
@@ -24,10 +27,16 @@ use Rattle.flt_commands.specs.declared.failure.Failure.TheVariants.{CannotRead, 
 abbrev pub names_in : List Source → List Text
 names_in sources = map (λ (s : Source). s.name.now) sources
 
--- what is told in a form: reports, a line for each finding, or a SARIF document
+-- a file's name, as a form tells it
+abbrev pub told_name : Form → Text → Text
+told_name Short name = visible name
+told_name form name = name
+
+-- what is told in a form: reports, a sentence or a JSON object for each finding, or a SARIF document
 abbrev pub IsTold : Form → List Source → Reported → Type 0
 IsTold Human sources e = AreReports (texts_of sources) e.output.items e.status
-IsTold Lines sources e = AreLines sources [] e.output.items e.status
+IsTold Short sources e = AreLines Sentence sources [] e.output.items e.status
+IsTold Lines sources e = AreLines Object sources [] e.output.items e.status
 IsTold Sarif sources e = IsSarif sources e.output.items e.status
 
 -- for people it is also told what came of findings in runs
@@ -38,7 +47,7 @@ IsNoteTold _ e = Unit {0}
 -- the same of names and what they give, with what came of the findings of these texts
 pub record IsToldOf (form : Form) (names texts : List Text) (e : Told) : Type 0 where
   pub sources : List Source
-  pub named : names_in sources ≡ names
+  pub named : names_in sources ≡ map (told_name form) names
   pub given : texts_of sources ≡ texts
   pub told : IsTold form sources e.explained
   pub noted : AreNoted texts e.noted
@@ -48,7 +57,7 @@ pub record IsToldOf (form : Form) (names texts : List Text) (e : Told) : Type 0 
 abbrev pub IsExplained : Form → Option Text → List Text → List Text → Result Answer Failure → Type 0
 IsExplained form journal names texts (Ok (Explained e)) = IsToldOf form names texts e
 IsExplained form journal names texts (Ok _) = ⊥
-IsExplained form journal names texts (Err (CannotWrite name)) = journal ≡ Some name.now
+IsExplained form journal names texts (Err (CannotWrite name why)) = journal ≡ Some name.now
 IsExplained form journal names texts (Err OutOfMemory) = Unit {0}
 IsExplained form journal names texts (Err _) = ⊥
 
@@ -66,8 +75,18 @@ IsWritten written _ answer = Unit {0}
 
 -- ---- pages
 
--- what is said of a name that a page has: a text that begins with it. A name that no page has can't be read
-abbrev pub IsPaged : Text → Result Answer Failure → Type 0
-IsPaged name (Ok (Page text)) = StartsWith text.now name
-IsPaged name (Err (CannotRead unread)) = (unread.now ≡ name) × (has_page name ≡ false)
-IsPaged name _ = ⊥
+-- the first name that no page has
+pub record IsUnpaged (names : List Text) (name : Text) : Type 0 where
+  pub before : List Text
+  pub after : List Text
+  pub parts : names ≡ before ++ name ∷ after
+  pub paged : list_all has_page before ≡ true
+  pub none : has_page name ≡ false
+
+-- what is said of names that have pages: for each a text that begins with it, in order; memory may run out. The first name that no page has
+-- can't be read
+abbrev pub ArePaged : List Text → Result Answer Failure → Type 0
+ArePaged names (Ok (Pages pages)) = AllZip (λ name page. StartsWith page.now (title name)) names pages.items
+ArePaged names (Err (CannotRead unread)) = IsUnpaged names unread.now
+ArePaged names (Err OutOfMemory) = Unit {0}
+ArePaged names _ = ⊥

@@ -1,5 +1,5 @@
 -- What is read for the names of a command line. This project's own program.
-use Rattle.std.specs.Prelude.{◌≡◌, ◌⊎◌, ℕ, ◌≤◌, Bool, ◌&&◌, true, List, ◌∷◌, ◌++◌, codes, count_by, Option, Some, None, Result, Err}
+use Rattle.std.specs.Prelude.{◌≡◌, ◌⊎◌, ℕ, ◌≤◌, Bool, ◌&&◌, true, false, List, ◌∷◌, ◌++◌, codes, count_by, take, Option, Some, None, Result, Err}
 use Rattle.std.specs.List.{AllZip, list_any}
 use Rattle.std.specs.Str.{bytes_eq}
 use Rattle.flt_commands.specs.declared.answer.Answer.{Answer}
@@ -13,6 +13,25 @@ Text = List ℕ
 -- what may be given for a name: its bytes, or none
 abbrev pub Giving : Type 1
 Giving = Text → Option Text → Type 0
+
+-- what is kept of a text: as many bytes as one may have, and one more, by which it is too long
+abbrev pub kept : Text → Text
+kept text = take 65537 text
+
+-- what may be given for the name of a text: what is kept of its bytes, or none
+abbrev pub gives_text : Giving → Giving
+gives_text gives name (Some found) = (text : Text) × gives name (Some text) × (found ≡ kept text)
+gives_text gives name None = gives name None
+
+-- the same where a name isn't read to its end
+abbrev pub gives_if : Bool → Giving → Giving
+gives_if true gives = gives
+gives_if false gives = gives_text gives
+
+-- the same for all names but one, if there is one, which is read to its end
+abbrev pub gives_but : Option Text → Giving → Giving
+gives_but None gives = gives_text gives
+gives_but (Some whole) gives = λ name. gives_if (bytes_eq name whole) gives name
 
 abbrev pub is_standard : Text → Bool
 is_standard name = bytes_eq name (codes "-")

@@ -7,6 +7,7 @@ pub mod Explain
 pub mod Failure
 pub mod Inputs
 pub mod Names
+pub mod Remarks
 pub mod Replay
 pub mod Running
 pub mod Single

@@ -84,7 +84,7 @@ Judges journal texts (Err f) = IsFailure journal texts f
 abbrev pub IsShownOf : Bool → Option Text → Verdict → Result Answer Failure → Type 0
 IsShownOf timeline picture verdict (Ok (Shown rows v)) = (v ≡ verdict) × (timeline ≡ false → rows.items ≡ [])
 IsShownOf timeline picture verdict (Ok _) = ⊥
-IsShownOf timeline picture verdict (Err (CannotWrite name)) = picture ≡ Some name.now
+IsShownOf timeline picture verdict (Err (CannotWrite name why)) = picture ≡ Some name.now
 IsShownOf timeline picture verdict (Err OutOfMemory) = Unit {0}
 IsShownOf timeline picture verdict (Err _) = ⊥
 
@@ -92,7 +92,7 @@ IsShownOf timeline picture verdict (Err _) = ⊥
 abbrev pub ShownJudges : Bool → Option Text → Text → List Text → Result Answer Failure → Type 0
 ShownJudges timeline picture journal texts (Ok (Shown rows v)) = IsVerdict journal texts v × (timeline ≡ false → rows.items ≡ [])
 ShownJudges timeline picture journal texts (Ok _) = ⊥
-ShownJudges timeline picture journal texts (Err (CannotWrite name)) = picture ≡ Some name.now
+ShownJudges timeline picture journal texts (Err (CannotWrite name why)) = picture ≡ Some name.now
 ShownJudges timeline picture journal texts (Err f) = IsFailure journal texts f
 
 -- what is said of the bytes of JOURNAL and of each FILE, where the journal is shown

@@ -1,6 +1,6 @@
 -- What is one at most, where the inputs give one thing for each name. This project's own program.
 use Rattle.std.specs.Prelude.{◌≡◌, ◌≢◌, ℕ, List, Option, Some, None, Result, Ok, Err}
-use Rattle.flt_words.specs.Request.{Asked, Run, Show, Explain, Page}
+use Rattle.flt_words.specs.Request.{Asked, Run, Show, Explain, Pages}
 use Rattle.flt_commands.specs.Answer.{output, status_of}
 use Rattle.flt_commands.specs.Inputs.{Giving, Text}
 use Rattle.flt_commands.specs.declared.answer.Answer.{Answer}
@@ -31,8 +31,8 @@ AreSame a b = a ≢ Err OutOfMemory → b ≢ Err OutOfMemory → seen a ≡ see
 abbrev pub HasOneAnswer : Asked → Type 0
 HasOneAnswer (Run workers quiet script files) = ⊥
 HasOneAnswer (Show timeline picture journal files) = ⊥
-HasOneAnswer (Explain form states journal files) = ⊥
-HasOneAnswer (Page name) = ⊥
+HasOneAnswer (Explain form colour states journal files) = ⊥
+HasOneAnswer (Pages names) = ⊥
 HasOneAnswer _ = Unit {0}
 
 -- the same of words; those that ask for nothing print nothing

@@ -1,7 +1,8 @@
 -- What a system gives under a name, and what it keeps there. This project's own program.
-use Rattle.std.specs.Prelude.{◌≡◌, ◌≢◌, ◌<◌, ⊤, ℕ, Option, Some, None, length}
+use Rattle.std.specs.Fmt.{decimal}
+use Rattle.std.specs.Prelude.{◌≡◌, ◌≢◌, ◌<◌, ◌++◌, ⊤, ℕ, Option, Some, None, codes, length}
 use Rattle.std.specs.Io.KnownBytes.{Appends}
-use Rattle.flt_commands.specs.Inputs.{Giving, Text}
+use Rattle.flt_commands.specs.Inputs.{Giving, Text, kept}
 
 -- what a reader has left that is opened under a name, where that is known; or what a writer holds that is made under it
 abbrev pub Holding : Type 1
@@ -15,10 +16,19 @@ Unknown name known = known ≡ None
 abbrev pub Unsaid : Text → Type 0
 Unsaid name = ⊤
 
+-- nor what stands where
+abbrev pub Unseen : Text → Text → Type 0
+Unseen made name = ⊤
+
 -- all that a reader had left, where that is known
 abbrev pub AreAll : Option Text → Text → Type 0
 AreAll None bytes = ⊤
 AreAll (Some known) bytes = known ≡ bytes
+
+-- what is kept of all that a reader had left, where that is known
+abbrev pub AreKept : Option Text → Text → Type 0
+AreKept None bytes = bytes ≡ kept bytes
+AreKept (Some known) bytes = bytes ≡ kept known
 
 -- a reader was opened under this name, and these are all the bytes that it had
 pub record IsHeld (holds : Holding) (name bytes : Text) : Type 0 where
@@ -47,11 +57,22 @@ IsGiven holds lacks fails name (Some bytes) = IsHeld holds name bytes
 IsGiven holds lacks fails name None = IsLost holds lacks fails name
 
 -- a writer was made under this name, and took these bytes and no others
-pub record IsWritten (makes : Holding) (name bytes : Text) : Type 0 where
+pub record IsFilled (makes : Holding) (name bytes : Text) : Type 0 where
   pub begun : Option Text
   pub made : makes name begun
   pub ended : Option Text
   pub grown : Appends begun ended bytes
+
+-- the name of a new file beside that of another name, of a number
+abbrev pub part_name : Text → ℕ → Text
+part_name name number = name ++ (codes ".part" ++ decimal number)
+
+-- these bytes are written under a name: all of them into what stands there, or into a new file, which then took the place of what stood
+-- there
+pub data IsWritten (makes : Holding) (puts : Text → Text → Type 0) (name bytes : Text) : Type 0 where
+  poured : IsFilled makes name bytes → IsWritten makes puts name bytes
+  replaced : (number : ℕ) → IsFilled makes (part_name name number) bytes → puts (part_name name number) name →
+      IsWritten makes puts name bytes
 
 -- ---- the system that the program runs on
 
@@ -59,6 +80,6 @@ pub record IsWritten (makes : Holding) (name bytes : Text) : Type 0 where
 abbrev pub given_by_host : Giving
 given_by_host = IsGiven Unknown Unsaid ⊤
 
--- what is written there under a name: these bytes, by some writer
+-- what is written there under a name: these bytes, by some writer, maybe under another name first
 abbrev pub written_by_host : Text → Text → Type 0
-written_by_host = IsWritten Unknown
+written_by_host = IsWritten Unknown Unseen

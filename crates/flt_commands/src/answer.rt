@@ -24,8 +24,8 @@ pub enum Answer {
     Judged(Verdict),
     /// Reports of texts, with what came of the findings in runs.
     Explained(Told),
-    /// The page of a rule, of a violation or of a fault of a text.
-    Page(&'static str),
+    /// The pages of rules, violations, faults of a text, calls or statuses.
+    Pages(Vec<&'static str>),
     /// What a script came to.
     Ran(Ran),
     /// What a journal is, behind the rows in which it is shown.
@@ -41,7 +41,7 @@ impl Answer {
     {
         match self {
             Answer::Accepted | Answer::Certificate(_) | Answer::Judged(Verdict::Legal) => 0,
-            Answer::Page(_) | Answer::Shown(_, Verdict::Legal) => 0,
+            Answer::Pages(_) | Answer::Shown(_, Verdict::Legal) => 0,
             Answer::Explained(told) => told.explained.status,
             Answer::Refused(_) | Answer::FileRefused(_, _) | Answer::Judged(_) => 1,
             Answer::Shown(_, _) => 1,
@@ -57,7 +57,7 @@ impl Answer {
         match self {
             Answer::Ran(ran) => ran.ending,
             Answer::Accepted | Answer::Refused(_) | Answer::Certificate(_) => Ending::Whole,
-            Answer::Judged(_) | Answer::Explained(_) | Answer::Page(_) => Ending::Whole,
+            Answer::Judged(_) | Answer::Explained(_) | Answer::Pages(_) => Ending::Whole,
             Answer::FileRefused(_, _) | Answer::Shown(_, _) => Ending::Whole,
         }
     }
@@ -71,7 +71,7 @@ impl Answer {
             Answer::Explained(told) => return Ok(told.explained.output),
             Answer::Ran(ran) => return Ok(ran.journal),
             Answer::Shown(rows, verdict) => return shown(alloc, rows, verdict),
-            Answer::Page(text) => String::from_str(alloc, text)?,
+            Answer::Pages(pages) => pages.as_slice().join(alloc, "\n")?,
             Answer::Accepted => String::from_str(alloc, "accepted\n")?,
             Answer::Refused(refusal) => {
                 let line = RefusalLine(refusal);

@@ -1,41 +1,63 @@
 //! The commands, over inputs and writers.
 
 ghost use Rattle.std.specs.Io.KnownBytes.{Appends};
-ghost use Rattle.std.specs.Prelude.{◌≡◌, ◌≢◌, ◌⊎◌, [], OnOk, IfOk, IfErr, map, string_bytes};
+ghost use Rattle.std.specs.Prelude.{◌≡◌, ◌≢◌, ◌⊎◌, [], OnOk, IfOk, IfErr, map, option_map, string_bytes, unwrap_or};
 ghost use Rattle.flt_commands.specs.Commands as spec;
+ghost use Rattle.flt_words.specs.Words.{asked};
 
 use crate::analyse::analyse_file;
 use crate::check::check_files;
 use crate::clean::{covered_texts_break_nothing, driven_texts_break_nothing};
-use crate::explain::{Asked, explain_files, page_of};
+use crate::explain::{Asked, explain_files, pages_of};
 use crate::fault::CommandFault;
 use crate::inputs::{Inputs, Pictures};
+use crate::remarks::{explain_remark, show_remark};
 use crate::replay::replay_files;
 use crate::report::{Contents, Report, report_on};
 use crate::running::run_files;
 use crate::showing::show_files;
+use crate::texts::Texts;
 use crate::thin::thin_files;
-use crate::unread::why_unread;
 use flt_crew::{Unwatched, Watch};
 use flt_model::{Sink, put_all};
 use flt_syntax::fails_exactly_where_nothing_is_spelled;
-use flt_words::{Request, read_words};
+use flt_words::{Colour, Request, read_words};
 use std::alloc::Global;
 use std::sync::Wait;
 use std::thread::Threads;
 
+/// The name of the certificate, or of the text that has it.
+fn last_of<'a>(file: &'a str, cert: Option<&'a str>) -> &'a str
+    ensures { result.now ≡ unwrap_or (option_map (λ name. name.now) cert.entry) file.entry.now }
+{
+    match cert {
+        Some(cert) => cert,
+        None => file,
+    }
+}
+
+/// Whether reports have colours, where a terminal that shows them would have them or not.
+fn is_coloured(colour: Colour, shown: bool) -> bool {
+    match colour {
+        Colour::Auto => shown,
+        Colour::Always => true,
+        Colour::Never => false,
+    }
+}
+
 /// The report on a program's words, its own name left out.
-fn report_of<R: Threads + Wait + Sync, I: Inputs, P: Pictures, W: Watch>(
+fn report_of<'a, R: Threads + Wait + Sync, I: Inputs, P: Pictures, W: Watch>(
     rt: &R,
     alloc: Global,
-    words: &[String],
-    inputs: &I,
+    words: &'a [String],
+    inputs: &'a I,
     pictures: &mut P,
     coloured: bool,
     watch: &mut W,
 ) -> Result<Report, CommandFault>
     ensures answers { IfOk result (spec.Answers (I.gives inputs.now) (P.written pictures.new) (map string_bytes words.now)) }
-    ensures quiet { IfOk result (λ report. report.status ≢ 2 → report.remark.items ≡ []) }
+    ensures quiet { IfOk result (λ report. report.status ≢ 2 → spec.NamesNoJournal (asked (map string_bytes words.now)) →
+        report.remark.items ≡ []) }
     ensures err { IfErr result (λ e. e ≡ CommandFault.OutOfMemory) }
 {
     covered_texts_break_nothing();
@@ -45,15 +67,18 @@ fn report_of<R: Threads + Wait + Sync, I: Inputs, P: Pictures, W: Watch>(
     match read_words(alloc, words)? {
         Request::Usage(text) => Ok(Report::on_usage(alloc, text)),
         Request::Check { file, cert } => {
-            let said = check_files(alloc, inputs, file, cert, &mut contents);
+            let whole = Some(last_of(file, cert));
+            let said = check_files(alloc, &Texts { inputs, whole }, file, cert, &mut contents);
             report_on(alloc, Vec::new(alloc), said, contents)
         }
         Request::Analyse { file } => {
-            let said = analyse_file(alloc, inputs, file, &mut contents);
+            let whole = None;
+            let said = analyse_file(alloc, &Texts { inputs, whole }, file, &mut contents);
             report_on(alloc, Vec::new(alloc), said, contents)
         }
         Request::Thin { file, cert } => {
-            let said = thin_files(alloc, inputs, file, cert, &mut contents);
+            let whole = Some(last_of(file, cert));
+            let said = thin_files(alloc, &Texts { inputs, whole }, file, cert, &mut contents);
             report_on(alloc, Vec::new(alloc), said, contents)
         }
         Request::Run {
@@ -63,11 +88,12 @@ fn report_of<R: Threads + Wait + Sync, I: Inputs, P: Pictures, W: Watch>(
             files,
         } => {
             let files = files.as_slice();
+            let whole = Some(script);
             let said = run_files(
                 rt,
                 alloc,
                 workers,
-                inputs,
+                &Texts { inputs, whole },
                 script,
                 files,
                 &mut Unwatched,
@@ -81,11 +107,12 @@ fn report_of<R: Threads + Wait + Sync, I: Inputs, P: Pictures, W: Watch>(
             files,
             ..
         } => {
+            let whole = Some(script);
             let said = run_files(
                 rt,
                 alloc,
                 workers,
-                inputs,
+                &Texts { inputs, whole },
                 script,
                 files.as_slice(),
                 watch,
@@ -94,7 +121,10 @@ fn report_of<R: Threads + Wait + Sync, I: Inputs, P: Pictures, W: Watch>(
             report_on(alloc, Vec::new(alloc), said, contents)
         }
         Request::Replay { journal, files } => {
-            let said = replay_files(alloc, inputs, journal, files.as_slice(), &mut contents);
+            let files = files.as_slice();
+            let whole = Some(journal);
+            let inputs = Texts { inputs, whole };
+            let said = replay_files(alloc, &inputs, journal, files, &mut contents);
             report_on(alloc, Vec::new(alloc), said, contents)
         }
         Request::Show {
@@ -104,9 +134,10 @@ fn report_of<R: Threads + Wait + Sync, I: Inputs, P: Pictures, W: Watch>(
             files,
         } => {
             let files = files.as_slice();
+            let whole = Some(journal);
             let said = show_files(
                 alloc,
-                inputs,
+                &Texts { inputs, whole },
                 timeline,
                 picture,
                 journal,
@@ -114,10 +145,12 @@ fn report_of<R: Threads + Wait + Sync, I: Inputs, P: Pictures, W: Watch>(
                 pictures,
                 &mut contents,
             );
-            report_on(alloc, Vec::new(alloc), said, contents)
+            let before = show_remark(alloc, &said)?;
+            report_on(alloc, before, said, contents)
         }
         Request::Explain {
             form,
+            colour,
             states,
             journal,
             files,
@@ -126,7 +159,7 @@ fn report_of<R: Threads + Wait + Sync, I: Inputs, P: Pictures, W: Watch>(
             let files = files.as_slice();
             let said = explain_files(
                 alloc,
-                coloured,
+                is_coloured(colour, coloured),
                 form,
                 asked,
                 inputs,
@@ -134,11 +167,11 @@ fn report_of<R: Threads + Wait + Sync, I: Inputs, P: Pictures, W: Watch>(
                 pictures,
                 &mut contents,
             );
-            let before = why_unread(alloc, inputs, files, &said)?;
+            let before = explain_remark(alloc, inputs, files, journal, &said)?;
             report_on(alloc, before, said, contents)
         }
-        Request::Page { name } => {
-            let said = page_of(name);
+        Request::Pages { names } => {
+            let said = pages_of(alloc, names.as_slice());
             report_on(alloc, Vec::new(alloc), said, contents)
         }
     }
@@ -166,18 +199,19 @@ fn write_report<O: Sink, E: Sink>(
 }
 
 /// Runs the command of a program's words, its own name left out, and hands out the report on it once it is written: what answers goes to
-/// `out`, why there is no answer, `full` or `receipts differ` to `err`; a picture or a journal goes to `pictures`. Reports of `explain` have
-/// the colours of a terminal where it is `coloured`. Where it drives filters, `watch` hears of each line of the script, unless the words ask
+/// `out`, why there is no answer, `full` or `receipts differ` to `err`, and that no run is found for a journal that is asked for; a
+/// picture or a journal goes to `pictures`. Reports of `explain` have
+/// the colours of a terminal where it is `coloured`, unless the words say when. Where it drives filters, `watch` hears of each line of the script, unless the words ask
 /// for quiet. Threads are started by `run` alone, where it has more than one worker.
 ///
 /// # Errors
 ///
 /// A growth was refused, and nothing is written; or a write failed.
-pub fn command<R: Threads + Wait + Sync, I: Inputs, P: Pictures, O: Sink, E: Sink, W: Watch>(
+pub fn command<'a, R: Threads + Wait + Sync, I: Inputs, P: Pictures, O: Sink, E: Sink, W: Watch>(
     rt: &R,
     alloc: Global,
-    words: &[String],
-    inputs: &I,
+    words: &'a [String],
+    inputs: &'a I,
     pictures: &mut P,
     coloured: bool,
     out: &mut O,
@@ -191,7 +225,8 @@ pub fn command<R: Threads + Wait + Sync, I: Inputs, P: Pictures, O: Sink, E: Sin
         ⊎ (E.failures err.new ≢ E.failures err.old)) }
     ensures fine { OnOk result ((O.failures out.new ≡ O.failures out.old) × (E.failures err.new ≡ E.failures err.old)) }
     ensures memory { IfErr result (λ e. e ≡ CommandFault.OutOfMemory → (out.new ≡ out.old) × (err.new ≡ err.old)) }
-    ensures quiet { IfOk result (λ report. report.status ≢ 2 → err.new ≡ err.old) }
+    ensures quiet { IfOk result (λ report. report.status ≢ 2 → spec.NamesNoJournal (asked (map string_bytes words.now)) →
+        err.new ≡ err.old) }
 {
     let report = report_of(rt, alloc, words, inputs, pictures, coloured, watch)?;
     write_report(&report, out, err)?;

@@ -1,6 +1,6 @@
 //! What `explain` says of the names that it is given: reports of files, or a page.
 
-ghost use Rattle.std.specs.Prelude.{◌≡◌, IfOk, IsTrue, length, map, option_map};
+ghost use Rattle.std.specs.Prelude.{◌≡◌, IfOk, OnOk, length, map, option_map, string_bytes};
 ghost use Rattle.flt_commands.specs.Explain as spec;
 ghost use Rattle.flt_commands.specs.Inputs.{Says};
 ghost use Rattle.flt_notes.specs.Noted.{first_journal};
@@ -11,28 +11,51 @@ use crate::answer::Answer;
 use crate::failure::Failure;
 use crate::inputs::{Inputs, Pictures, read_all};
 use crate::report::Contents;
+use crate::unwritten::Unwritten;
 use flt_details::Source;
 use flt_driven::journal_bytes;
-use flt_forms::{lines, sarif};
+use flt_forms::{Style, lines, sarif};
 use flt_notes::{Noted, Told, explain, first_journal};
 use flt_pages::page;
-use flt_words::Form;
+use flt_words::{Form, visible};
 use sqlite_items::Items;
 use std::alloc::{AllocError, Global};
 
+/// A file's name, as a form tells it: a line of the short one is for a terminal.
+fn told_name(alloc: Global, form: Form, name: &str) -> Result<String, AllocError>
+    ensures { IfOk result (λ told. string_bytes told ≡ spec.told_name form name.now) }
+{
+    match form {
+        Form::Short => visible(alloc, name),
+        _ => String::from_str(alloc, name),
+    }
+}
+
+/// The names of files, as a form tells them.
+fn told_names(alloc: Global, form: Form, names: &[&str]) -> Result<Vec<String>, AllocError>
+    ensures { IfOk result (λ told. map string_bytes told.items ≡ map (λ name. spec.told_name form name.now) names.now) }
+{
+    let mut told = Vec::new(alloc);
+    for name in names {
+        let name = told_name(alloc, form, name)?;
+        told.push(name)?;
+    }
+    Ok(told)
+}
+
 /// The texts, each under its name.
-fn sources<'s, 'a: 's>(
+fn sources<'s>(
     alloc: Global,
-    names: &[&'a str],
+    names: &'s [String],
     texts: &'s [Vec<u8>],
 ) -> Result<Vec<Source<'s>>, AllocError>
     requires { length texts.now ≡ length names.now }
     ensures texts { IfOk result (λ found. texts_of found.items ≡ map (λ text. text.items) texts.now) }
-    ensures names { IfOk result (λ found. spec.names_in found.items ≡ map (λ name. name.now) names.now) }
+    ensures names { IfOk result (λ found. spec.names_in found.items ≡ map string_bytes names.now) }
 {
     let mut found = Vec::new(alloc);
     for (number, text) in texts.iter().enumerate() {
-        let name: &'s str = names[number];
+        let name = names[number].as_str();
         found.push(Source {
             name,
             text: text.as_slice(),
@@ -79,28 +102,31 @@ fn told(
 {
     let explained = match form {
         Form::Human => return explain(alloc, coloured, sources, asked.states),
-        Form::Lines => lines(alloc, sources)?,
+        Form::Short => lines(alloc, Style::Sentence, sources)?,
+        Form::Lines => lines(alloc, Style::Object, sources)?,
         Form::Sarif => sarif(alloc, sources)?,
     };
     let noted = noted(alloc, asked, sources)?;
     Ok(Told { explained, noted })
 }
 
-/// Writes the journal of the first finding that has one, if there is one. Whether that could be done.
+/// Writes the journal of the first finding that has one, if there is one, into a file that is none of the inputs. Why that couldn't be
+/// done.
 fn write_journal<P: Pictures>(
     alloc: Global,
+    inputs: &[&str],
     name: &str,
     noted: &[Noted],
     pictures: &mut P,
-) -> Result<bool, AllocError>
-    ensures { IfOk result (λ done. IsTrue done → spec.IsSpelledAs (P.written pictures.new) name.now (first_journal noted.now)) }
+) -> Result<Result<(), Unwritten>, AllocError>
+    ensures { IfOk result (λ done. OnOk done (spec.IsSpelledAs (P.written pictures.new) name.now (first_journal noted.now))) }
 {
     match first_journal(noted) {
         Some(journal) => {
             let bytes = journal_bytes(alloc, journal)?;
-            Ok(pictures.write(name, bytes.as_slice()))
+            pictures.write(alloc, inputs, name, bytes.as_slice())
         }
-        None => Ok(true),
+        None => Ok(Ok(())),
     }
 }
 
@@ -122,22 +148,28 @@ pub fn explain_files<'a, I: Inputs, P: Pictures>(
     ensures written { IfOk result (spec.IsWritten (P.written pictures.new) (option_map (λ name. name.now) asked.entry.journal)) }
 {
     contents.texts = read_all(alloc, inputs, files)?;
-    let sources = sources(alloc, files, contents.texts.as_slice())?;
+    let names = told_names(alloc, form, files)?;
+    let sources = sources(alloc, names.as_slice(), contents.texts.as_slice())?;
     let told = told(alloc, coloured, form, asked, sources.as_slice())?;
     if let Some(name) = asked.journal {
-        if !write_journal(alloc, name, told.noted.as_slice(), pictures)? {
-            return Err(Failure::CannotWrite(name));
+        let noted = told.noted.as_slice();
+        if let Err(why) = write_journal(alloc, files, name, noted, pictures)? {
+            return Err(Failure::CannotWrite(name, why));
         }
     }
     Ok(Answer::Explained(told))
 }
 
-/// The page of a name.
-pub fn page_of<'a>(name: &'a str) -> Result<Answer, Failure<'a>>
-    ensures { spec.IsPaged name.entry.now result }
+/// The pages of some names, in order.
+pub fn pages_of<'a>(alloc: Global, names: &[&'a str]) -> Result<Answer, Failure<'a>>
+    ensures { spec.ArePaged (map (λ name. name.now) names.now) result }
 {
-    match page(name) {
-        Some(text) => Ok(Answer::Page(text)),
-        None => Err(Failure::CannotRead(name)),
+    let mut pages = Vec::new(alloc);
+    for name in names {
+        match page(name) {
+            Some(text) => pages.push(text)?,
+            None => return Err(Failure::CannotRead(name)),
+        }
     }
+    Ok(Answer::Pages(pages))
 }

@@ -1,19 +1,21 @@
 //! Why a command has no answer.
 
-ghost use Rattle.std.specs.Prelude.{◌≡◌, Some};
+ghost use Rattle.std.specs.Prelude.{◌≡◌, IfOk, Some, string_bytes};
 ghost use Rattle.flt_commands.specs.Failure as spec;
 
+use crate::unwritten::Unwritten;
 use flt_cert::CertFault;
 use flt_details::SyntaxLine;
 use flt_syntax::{ParseError, SyntaxFault};
-use std::alloc::{AllocError, AllocFailed};
+use flt_words::visible;
+use std::alloc::{AllocError, AllocFailed, Global};
 use std::fmt;
 
 /// Why there is no answer.
 #[derive(Debug, Drop)]
 pub enum Failure<'a> {
     CannotRead(&'a str),
-    CannotWrite(&'a str),
+    CannotWrite(&'a str, Unwritten),
     /// A run without a file.
     NoFile,
     /// More than `MAX_FILTERS` files.
@@ -32,28 +34,49 @@ pub enum Failure<'a> {
     OutOfMemory,
 }
 
-impl fmt::Display for Failure<'_> {
-    ghost output = { λ f. Some (spec.failure_line f) };
+/// The first fault of the text of a file of several.
+#[derive(Drop)]
+struct FileSyntaxLine(usize, SyntaxFault);
+
+impl fmt::Display for FileSyntaxLine {
+    ghost output = { λ l. Some (spec.file_syntax_line l.0 l.1) };
 
     fn fmt<W: fmt::Write>(&self, f: &mut fmt::Formatter<W>) -> fmt::Result {
+        let file = self.0;
+        let line = SyntaxLine(self.1);
+        write!(f, "file {file} {line}")
+    }
+}
+
+impl Failure<'_> {
+    /// The line that says it, without its end.
+    pub(crate) fn line(&self, alloc: Global) -> Result<String, AllocError>
+        ensures { IfOk result (λ line. string_bytes line ≡ spec.failure_line self.now) }
+    {
         match self {
-            Failure::CannotRead(name) => write!(f, "cannot read {name}"),
-            Failure::CannotWrite(name) => write!(f, "cannot write {name}"),
-            Failure::NoFile => write!(f, "no file"),
-            Failure::TooManyFiles => write!(f, "too many files"),
+            Failure::CannotRead(name) => {
+                let name = visible(alloc, name)?;
+                format!(in alloc; "cannot read {name}")
+            }
+            Failure::CannotWrite(name, _) => {
+                let name = visible(alloc, name)?;
+                format!(in alloc; "cannot write {name}")
+            }
+            Failure::NoFile => String::from_str(alloc, "no file"),
+            Failure::TooManyFiles => String::from_str(alloc, "too many files"),
             Failure::Syntax(fault) => {
                 let line = SyntaxLine(*fault);
-                write!(f, "{line}")
+                format!(in alloc; "{line}")
             }
             Failure::FileSyntax(file, fault) => {
-                let line = SyntaxLine(*fault);
-                write!(f, "file {file} {line}")
+                let line = FileSyntaxLine(*file, *fault);
+                format!(in alloc; "{line}")
             }
-            Failure::Certificate(line) => write!(f, "certificate line {line}"),
-            Failure::JournalLine(line) => write!(f, "journal line {line}"),
-            Failure::ScriptLine(line) => write!(f, "script line {line}"),
-            Failure::Altitude(file) => write!(f, "altitude file {file}"),
-            Failure::OutOfMemory => write!(f, "out of memory"),
+            Failure::Certificate(line) => format!(in alloc; "certificate line {line}"),
+            Failure::JournalLine(line) => format!(in alloc; "journal line {line}"),
+            Failure::ScriptLine(line) => format!(in alloc; "script line {line}"),
+            Failure::Altitude(file) => format!(in alloc; "altitude file {file}"),
+            Failure::OutOfMemory => String::from_str(alloc, "out of memory"),
         }
     }
 }

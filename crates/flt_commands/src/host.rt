@@ -6,33 +6,44 @@ ghost use Rattle.flt_commands.specs.System.{given_by_host, written_by_host};
 
 use crate::commands::command;
 use crate::fault::CommandFault;
-use crate::inputs::MAX_INPUT;
+use crate::folders::with_folders;
+use crate::inputs::is_standard;
 use crate::named::Named;
 use crate::report::Report;
-use crate::system::{Reader, System};
+use crate::system::{Place, Reader, System};
+use crate::unread::Unread;
+use crate::unwritten::Unwritten;
 use flt_crew::Watch;
 use flt_model::{ReadFault, Writing};
-use flt_reasons::Unread;
 use std::alloc::AllocError;
-use std::fs::{self, File};
-use std::io::{IsTerminal, Read, Stdin};
+use std::cell::Cell;
+use std::env::{self, VarError};
+use std::fs::{self, File, Metadata, OpenOptions};
+use std::io;
+use std::io::{IsTerminal, Read, Stdin, Stdout, Write};
+use std::os::unix::fs::MetadataExt;
 use std::sync::Wait;
 use std::thread::Threads;
-use std::{env, io};
 
-/// A file or a stream of the system that is read, with a count of its failures.
+/// A file or a stream of the system that is read, with a count of its failures and the reason of the last one.
 #[derive(Drop)]
 struct Counted<R: Read + Drop> {
     inner: R,
     failures: u64,
+    fault: Option<io::Error>,
 }
 
 impl<R: Read + Drop> Counted<R> {
+    /// Nothing of it failed yet.
     fn new(inner: R) -> Counted<R>
         ensures inner { result.inner ≡ inner }
         ensures fine { result.failures ≡ 0 }
     {
-        Counted { inner, failures: 0 }
+        Counted {
+            inner,
+            failures: 0,
+            fault: None,
+        }
     }
 }
 
@@ -44,10 +55,18 @@ impl<R: Read + Drop> Reader for Counted<R> {
     fn take(&mut self, buffer: &mut [u8]) -> Result<usize, ReadFault> {
         match self.inner.read(buffer) {
             Ok(n) => Ok(n),
-            Err(_) => {
+            Err(fault) => {
+                self.fault = Some(fault);
                 self.failures = self.failures.wrapping_add(1);
                 Err(ReadFault)
             }
+        }
+    }
+
+    fn why(&self) -> Option<Unread> {
+        match &self.fault {
+            Some(fault) => Some(Unread::of(fault)),
+            None => None,
         }
     }
 }
@@ -56,6 +75,8 @@ impl<R: Read + Drop> Reader for Counted<R> {
 #[derive(Drop)]
 struct Host<'a> {
     rt: &'a HostRuntime,
+    /// Why what was asked for last couldn't be opened, where that is so.
+    fault: Cell<Option<io::Error>>,
 }
 
 impl System for Host<'_> {
@@ -66,7 +87,7 @@ impl System for Host<'_> {
     type Made = File;
 
     ghost use Rattle.std.specs.Prelude.{⊤};
-    ghost use Rattle.flt_commands.specs.System.{Unknown, Unsaid};
+    ghost use Rattle.flt_commands.specs.System.{Unknown, Unsaid, Unseen};
 
     // Nothing is known of what its files hold, of which there are, and of when a read fails.
     ghost holds = { λ _. Unknown };
@@ -77,49 +98,140 @@ impl System for Host<'_> {
 
     ghost makes = { λ _. Unknown };
 
+    ghost puts = { λ _. Unseen };
+
     fn open(&self, name: &str) -> Option<Counted<File>> {
         match fs::open(self.rt, name) {
-            Ok(file) => Some(Counted::new(file)),
-            Err(_) => None,
+            Ok(file) => {
+                self.fault.set(None);
+                Some(Counted::new(file))
+            }
+            Err(fault) => {
+                self.fault.set(Some(fault));
+                None
+            }
         }
     }
 
     fn input(&self) -> Counted<Stdin> {
+        self.fault.set(None);
         Counted::new(self.rt.stdin())
     }
 
-    fn create(&self, name: &str) -> Option<File> {
-        fs::create(self.rt, name).ok()
+    fn place(&self, name: &str, inputs: &[&str]) -> Result<Place, Unwritten> {
+        match fs::symlink_metadata(self.rt, name) {
+            Ok(found) if found.is_symlink() => self.place_led_to(name),
+            Ok(found) if found.is_dir() => Err(Unwritten::Folder),
+            Ok(found) if !found.is_file() => Ok(Place::Stream),
+            Ok(found) if self.is_among(&found, inputs) => Err(Unwritten::Input),
+            Ok(_) => self.place_of_file(name),
+            Err(fault) if fault.kind() == io::ErrorKind::NotFound => Ok(Place::File),
+            Err(fault) => Err(Unwritten::Refused(fault)),
+        }
+    }
+
+    fn stream(&self, name: &str) -> Result<File, Unwritten> {
+        self.open_to_write(name)
+    }
+
+    fn create(&self, name: &str) -> Result<Option<File>, Unwritten> {
+        match OpenOptions::new()
+            .write(true)
+            .create_new(true)
+            .open(self.rt, name)
+        {
+            Ok(file) => Ok(Some(file)),
+            Err(fault) if fault.kind() == io::ErrorKind::AlreadyExists => Ok(None),
+            Err(fault) => Err(Unwritten::Refused(fault)),
+        }
+    }
+
+    fn put(&self, file: File, made: &str, name: &str) -> Result<(), Unwritten> {
+        match self.try_put(&file, made, name) {
+            Ok(()) => Ok(()),
+            Err(fault) => Err(Unwritten::Refused(fault)),
+        }
+    }
+
+    fn discard(&self, made: &str) {
+        let _ = fs::remove_file(self.rt, made);
     }
 
     fn why(&self, name: &str) -> Unread {
-        if name == "-" {
-            return Unread::Failed;
+        match self.fault.get() {
+            Some(fault) => Unread::of(&fault),
+            None => self.why_long(name),
         }
+    }
+}
+
+impl Host<'_> {
+    /// Why the file of a name isn't read, of which no call failed.
+    fn why_long(&self, name: &str) -> Unread {
+        match fs::metadata(self.rt, path_of(name)) {
+            Ok(found) if found.is_file() => Unread::TooLong,
+            _ => Unread::Endless,
+        }
+    }
+
+    /// What a symbolic link leads to, where that isn't a file or a folder. A process names its own streams by such links.
+    fn place_led_to(&self, name: &str) -> Result<Place, Unwritten> {
         match fs::metadata(self.rt, name) {
-            Ok(found) => why_not(&found),
-            Err(fault) => why_missing(fault.kind()),
+            Ok(found) if !found.is_file() && !found.is_dir() => Ok(Place::Stream),
+            _ => Err(Unwritten::Link),
         }
     }
+
+    /// The place of a regular file, where it may be written.
+    fn place_of_file(&self, name: &str) -> Result<Place, Unwritten> {
+        self.open_to_write(name)?;
+        Ok(Place::File)
+    }
+
+    /// What stands under a name, to be written as it is.
+    fn open_to_write(&self, name: &str) -> Result<File, Unwritten> {
+        match OpenOptions::new().write(true).open(self.rt, name) {
+            Ok(file) => Ok(file),
+            Err(fault) => Err(Unwritten::Refused(fault)),
+        }
+    }
+
+    /// Whether a file is one of those of these names.
+    fn is_among(&self, found: &Metadata, names: &[&str]) -> bool {
+        for name in names {
+            if self.is_of(found, name) {
+                return true;
+            }
+        }
+        false
+    }
+
+    /// Whether a file is that of a name, or what the standard input is.
+    fn is_of(&self, found: &Metadata, name: &str) -> bool {
+        match fs::metadata(self.rt, path_of(name)) {
+            Ok(other) => found.dev() == other.dev() && found.ino() == other.ino(),
+            Err(_) => false,
+        }
+    }
+
+    /// Puts a file that was made under one name in the place of another, with the rights of what stood there.
+    fn try_put(&self, file: &File, made: &str, name: &str) -> io::Result<()> {
+        if let Ok(found) = fs::symlink_metadata(self.rt, name) {
+            if found.is_file() {
+                file.set_permissions(found.permissions())?;
+            }
+        }
+        file.sync_all()?;
+        fs::rename(self.rt, made, name)
+    }
 }
 
-/// Why a file that is there isn't read.
-fn why_not(found: &fs::Metadata) -> Unread {
-    if found.is_dir() {
-        return Unread::Folder;
-    }
-    if found.len() > MAX_INPUT as u64 {
-        return Unread::TooLong;
-    }
-    Unread::Denied
-}
-
-/// Why nothing is found under a name.
-fn why_missing(kind: io::ErrorKind) -> Unread {
-    match kind {
-        io::ErrorKind::NotFound | io::ErrorKind::NotADirectory => Unread::Missing,
-        io::ErrorKind::PermissionDenied => Unread::Denied,
-        _ => Unread::Failed,
+/// The path of an input. The standard input is a file by this one.
+fn path_of(name: &str) -> &str {
+    if is_standard(name) {
+        "/dev/stdin"
+    } else {
+        name
     }
 }
 
@@ -144,7 +256,43 @@ impl Watch for Progress<'_> {
     }
 }
 
-/// The words of the command line, the program's own name left out; none if one of them isn't UTF-8.
+/// A stream of the system that is written, with the reason of its last failure.
+#[derive(Drop)]
+struct Told<W: Write + Drop> {
+    inner: W,
+    fault: Option<io::Error>,
+}
+
+impl<W: Write + Drop> Told<W> {
+    fn new(inner: W) -> Told<W> {
+        Told { inner, fault: None }
+    }
+}
+
+impl<W: Write + Drop> Write for Told<W> {
+    ghost contents = { λ told. W.contents told.inner };
+
+    fn write(&mut self, buf: &[u8]) -> io::Result<usize> {
+        match self.inner.write(buf) {
+            Ok(0) => {
+                self.fault = Some(io::Error::from(io::ErrorKind::WriteZero));
+                Ok(0)
+            }
+            Ok(count) => Ok(count),
+            Err(fault) => {
+                self.fault = Some(fault);
+                Err(fault)
+            }
+        }
+    }
+
+    fn flush(&mut self) -> io::Result<()> {
+        self.inner.flush()
+    }
+}
+
+/// The words of the command line, the program's own name left out, with the texts of each folder that `explain` is given in its place; none
+/// if one of them isn't UTF-8.
 fn arguments(rt: &HostRuntime) -> Result<Option<Vec<String>>, AllocError> {
     let given = match env::args(rt) {
         Ok(given) => given,
@@ -156,12 +304,19 @@ fn arguments(rt: &HostRuntime) -> Result<Option<Vec<String>>, AllocError> {
     for word in given.skip(1) {
         words.push(word)?;
     }
-    Ok(Some(words))
+    Ok(Some(with_folders(rt, words)?))
 }
 
 /// Says on the standard error that memory ran out.
 fn say_out_of_memory(rt: &HostRuntime) {
     let _ = eprintln!(rt; "out of memory");
+}
+
+/// Says on the standard error why the standard output didn't take the answer, where it didn't.
+fn say_unwritten(rt: &HostRuntime, out: &Told<Stdout>) {
+    if let Some(fault) = out.fault {
+        let _ = eprintln!(rt; "error: cannot write: {fault}");
+    }
 }
 
 /// The words of the command line; none if one of them isn't UTF-8, or if memory ran out, which the standard error then says.
@@ -182,7 +337,7 @@ fn words_of(rt: &HostRuntime) -> Option<Vec<String>> {
 /// The program's own words, and what they came to.
 #[derive(Drop)]
 pub struct Execution {
-    /// The words, the program's own name left out.
+    /// The words, the program's own name left out, with the texts of each folder that `explain` is given in its place.
     pub words: Vec<String>,
     /// What they came to; none where a word isn't UTF-8, memory ran out or a write failed.
     pub report: Option<Report>,
@@ -201,7 +356,34 @@ impl Execution {
     }
 }
 
-/// Runs the command of some words on the system.
+/// Whether the environment refuses colours: `NO_COLOR` is there, and isn't empty (no-color.org).
+fn refuses_colours(rt: &HostRuntime) -> Result<bool, AllocError> {
+    match env::var(rt, "NO_COLOR") {
+        Ok(value) => Ok(!value.is_empty()),
+        Err(VarError::NotUnicode) => Ok(true),
+        Err(VarError::NotPresent) => Ok(false),
+        Err(VarError::OutOfMemory) => Err(AllocError),
+    }
+}
+
+/// Whether the terminal shows none: `TERM` is `dumb`.
+fn is_dumb(rt: &HostRuntime) -> Result<bool, AllocError> {
+    match env::var(rt, "TERM") {
+        Ok(value) => Ok(value.as_str() == "dumb"),
+        Err(VarError::OutOfMemory) => Err(AllocError),
+        Err(_) => Ok(false),
+    }
+}
+
+/// Whether the standard output is a terminal that shows colours, and the environment doesn't refuse them.
+fn shows_colours(rt: &HostRuntime) -> Result<bool, AllocError> {
+    if !rt.stdout().is_terminal() || refuses_colours(rt)? {
+        return Ok(false);
+    }
+    Ok(!is_dumb(rt)?)
+}
+
+/// Runs the command of some words on the system. Why the answer isn't written stands on the standard error.
 fn execute<R: Threads + Wait + Sync>(
     rt: &HostRuntime,
     threads: &R,
@@ -209,23 +391,30 @@ fn execute<R: Threads + Wait + Sync>(
 ) -> Result<Report, CommandFault>
     ensures { IfOk result (Answers given_by_host written_by_host (map string_bytes words.now)) }
 {
-    let host = Host { rt };
+    let fault = Cell::new(None);
+    let host = Host { rt, fault };
     let mut watch = Progress {
         rt,
         is_shown: rt.stderr().is_terminal(),
         lines: 0,
     };
-    command(
+    let coloured = shows_colours(rt)?;
+    let mut out = Writing::new(Told::new(rt.stdout()));
+    let result = command(
         threads,
         rt.alloc(),
         words,
-        &Named { system: &host },
-        &mut Named { system: &host },
-        rt.stdout().is_terminal(),
-        &mut Writing::new(rt.stdout()),
+        &Named::new(&host),
+        &mut Named::new(&host),
+        coloured,
+        &mut out,
         &mut Writing::new(rt.stderr()),
         &mut watch,
-    )
+    );
+    if let Err(CommandFault::Write) = result {
+        say_unwritten(rt, &out.into_inner());
+    }
+    result
 }
 
 /// Runs the command of the program's own words on the system, and hands out the words with what they came to. `threads` is the same runtime

@@ -1,14 +1,16 @@
 //! What a command reads.
 
 ghost use Rattle.std.specs.Io.KnownBytes.{Consumes, IsAtEnd};
-ghost use Rattle.std.specs.Prelude.{◌≡◌, ◌≢◌, ◌⊎◌, ◌≤◌, ◌<◌, ◌∷◌, ℕ, List, Option, IfOk, IfErr, IfNone, IfSome, IsTrue, length, map, option_map};
+ghost use Rattle.std.specs.Prelude.{◌≡◌, ◌≢◌, ◌⊎◌, ◌≤◌, ◌<◌, ◌∷◌, ℕ, List, Option, IfOk, IfErr, IfNone, IfSome, OnOk, length, map, option_map};
+ghost use Rattle.std.specs.Prelude;
 ghost use Rattle.flt_commands.specs.Inputs as spec;
 ghost use Rattle.flt_commands.specs.System as system;
 
 use crate::failure::Failure;
 use crate::pieces::Pieces;
 use crate::system::Reader;
-use flt_reasons::Unread;
+use crate::unread::Unread;
+use crate::unwritten::Unwritten;
 use std::alloc::{AllocError, Global};
 use std::cmp::min;
 
@@ -21,7 +23,21 @@ pub trait Inputs {
     fn read(&self, alloc: Global, name: &str) -> Result<Option<Vec<u8>>, AllocError>
         ensures { IfOk result (λ found. gives self.now name.now (option_map (λ v. v.items) found)) };
 
-    /// The same in pieces, which can be given back one by one.
+    /// What is kept of the bytes of a name, where these are a text: no more than it may have, and a byte more; none as before.
+    fn read_text(&self, alloc: Global, name: &str) -> Result<Option<Vec<u8>>, AllocError>
+        ensures { IfOk result (λ found. spec.gives_text (gives self.now) name.now (option_map (λ v. v.items) found)) }
+    {
+        match self.read(alloc, name)? {
+            Some(text) => {
+                let mut text = text;
+                text.truncate(KEPT);
+                Ok(Some(text))
+            }
+            None => Ok(None),
+        }
+    }
+
+    /// The same as `read` in pieces, which can be given back one by one.
     fn read_pieces(&self, alloc: Global, name: &str) -> Result<Option<Pieces>, AllocError>
         ensures { IfOk result (λ found. gives self.now name.now found) };
 
@@ -36,13 +52,23 @@ pub trait Pictures {
     // What holds once these bytes are written under a name.
     ghost written: { Self → List ℕ → List ℕ → Type 0 };
 
-    /// Writes these bytes as the file of this name. Whether that could be done.
-    fn write(&mut self, name: &str, bytes: &[u8]) -> bool
-        ensures { IsTrue result → written self.new name.now bytes.now };
+    /// Writes these bytes as the file of this name, unless it is one of the inputs. Why that couldn't be done; a regular file is as it was
+    /// then.
+    fn write(
+        &mut self,
+        alloc: Global,
+        inputs: &[&str],
+        name: &str,
+        bytes: &[u8],
+    ) -> Result<Result<(), Unwritten>, AllocError>
+        ensures { IfOk result (λ done. OnOk done (written self.new name.now bytes.now)) };
 }
 
 /// How many bytes an input has at most.
 pub const MAX_INPUT: usize = 67_108_864;
+
+/// How many bytes of a text are kept: as many as it may have, and one by which it is too long.
+const KEPT: usize = 65_537;
 
 /// How many bytes there is room for from the start. Most texts and certificates are shorter, so that they aren't copied to grow.
 const FIRST_ROOM: usize = 65_536;
@@ -69,6 +95,41 @@ pub fn read_within<R: Reader>(alloc: Global, reader: &mut R) -> Result<Option<Ve
         if MAX_INPUT < found.len() {
             return Ok(None);
         }
+    }
+    Ok(None)
+}
+
+fn smaller(a: usize, b: usize) -> usize
+    ensures { result ≡ Prelude.min a b }
+{
+    if a < b { a } else { b }
+}
+
+/// What is kept of all bytes that a reader has; none if a read fails, or if they are more than `MAX_INPUT`.
+#[tactic(auto, using(crate::proofs::Ended::all_read, crate::proofs::Ended::read_too_long))]
+pub fn read_text_within<R: Reader>(
+    alloc: Global,
+    reader: &mut R,
+) -> Result<Option<Vec<u8>>, AllocError>
+    ensures all { IfOk result (λ found. IfSome found (λ v. system.AreKept (R.left reader.old) v.items)) }
+    ensures none { IfOk result (λ found. IfNone found
+        ((R.failures reader.new ≢ R.failures reader.old) ⊎ system.IsTooLong (R.left reader.old))) }
+{
+    let mut kept = Vec::with_capacity(alloc, KEPT)?;
+    let mut buffer = [0u8; 4096];
+    let mut total = 0;
+    for _ in 0..u64::MAX {
+        let count = match reader.take(&mut buffer) {
+            Err(_) => return Ok(None),
+            Ok(0) => return Ok(Some(kept)),
+            Ok(n) => n,
+        };
+        total += count;
+        if MAX_INPUT < total {
+            return Ok(None);
+        }
+        let room = smaller(KEPT - kept.len(), count);
+        kept.extend_from_slice(&buffer[..room])?;
     }
     Ok(None)
 }

@@ -1,42 +1,166 @@
 //! The files of a system by their names.
 
-ghost use Rattle.std.specs.Prelude.{◌≡◌, ◌⊎◌, IfNone, IfOk, IfSome};
+ghost use Rattle.std.specs.Prelude.{◌≡◌, ◌⊎◌, IfNone, IfOk, IfSome, IsNone, IsTrue, OnOk, string_bytes};
+ghost use Rattle.std.specs.Io.KnownBytes.{Appends};
 ghost use Rattle.flt_commands.specs.System as spec;
 
-use crate::inputs::{Inputs, Pictures, read_pieces_within, read_within};
+use crate::inputs::{Inputs, Pictures, read_pieces_within, read_text_within, read_within};
 use crate::pieces::Pieces;
-use crate::system::{Reader, System};
-use flt_reasons::Unread;
+use crate::system::{Place, Reader, System};
+use crate::unread::Unread;
+use crate::unwritten::Unwritten;
 use std::alloc::{AllocError, Global};
-use std::io::Write;
+use std::cell::Cell;
+use std::io::{self, Write};
 
-/// All bytes of a reader that has just been opened; none if a read fails, or if they are too many.
-fn read_opened<R: Reader + Drop>(alloc: Global, reader: R) -> Result<Option<Vec<u8>>, AllocError>
+/// All bytes of a reader that has just been opened; none if a read fails, or if they are too many. Why one failed is kept.
+fn read_opened<R: Reader + Drop>(
+    alloc: Global,
+    reader: R,
+    fault: &Cell<Option<Unread>>,
+) -> Result<Option<Vec<u8>>, AllocError>
     requires { R.failures reader ≡ 0 }
     ensures all { IfOk result (λ found. IfSome found (λ v. spec.AreAll (R.left reader) v.items)) }
     ensures none { IfOk result (λ found. IfNone found (spec.CanFail R.failures ⊎ spec.IsTooLong (R.left reader))) }
 {
     let mut reader = reader;
-    read_within(alloc, &mut reader)
+    let found = read_within(alloc, &mut reader)?;
+    fault.set(reader.why());
+    Ok(found)
 }
 
-/// The same in pieces.
+/// What is kept of them, where they are a text.
+fn read_opened_text<R: Reader + Drop>(
+    alloc: Global,
+    reader: R,
+    fault: &Cell<Option<Unread>>,
+) -> Result<Option<Vec<u8>>, AllocError>
+    requires { R.failures reader ≡ 0 }
+    ensures all { IfOk result (λ found. IfSome found (λ v. spec.AreKept (R.left reader) v.items)) }
+    ensures none { IfOk result (λ found. IfNone found (spec.CanFail R.failures ⊎ spec.IsTooLong (R.left reader))) }
+{
+    let mut reader = reader;
+    let found = read_text_within(alloc, &mut reader)?;
+    fault.set(reader.why());
+    Ok(found)
+}
+
+/// All bytes in pieces.
 fn read_opened_pieces<R: Reader + Drop>(
     alloc: Global,
     reader: R,
+    fault: &Cell<Option<Unread>>,
 ) -> Result<Option<Pieces>, AllocError>
     requires { R.failures reader ≡ 0 }
     ensures all { IfOk result (λ found. IfSome found (λ p. spec.AreAll (R.left reader) p)) }
     ensures none { IfOk result (λ found. IfNone found (spec.CanFail R.failures ⊎ spec.IsTooLong (R.left reader))) }
 {
     let mut reader = reader;
-    read_pieces_within(alloc, &mut reader)
+    let found = read_pieces_within(alloc, &mut reader)?;
+    fault.set(reader.why());
+    Ok(found)
+}
+
+/// Has a writer take all of these bytes.
+fn fill<M: Write>(file: &mut M, bytes: &[u8]) -> Result<(), Unwritten>
+    ensures { OnOk result (Appends (M.contents file.old) (M.contents file.new) bytes.now) }
+{
+    match file.write_all(bytes) {
+        Ok(()) => match file.flush() {
+            Ok(()) => Ok(()),
+            Err(fault) => Err(Unwritten::Refused(fault)),
+        },
+        Err(fault) => Err(Unwritten::Refused(fault)),
+    }
+}
+
+/// Writes these bytes into the pipe or the device of a name.
+fn pour<S: System>(system: &S, name: &str, bytes: &[u8]) -> Result<(), Unwritten>
+    ensures { OnOk result (spec.IsFilled (S.makes system.now) name.now bytes.now) }
+{
+    let mut file = system.stream(name)?;
+    fill(&mut file, bytes)
+}
+
+/// How many names are tried for a new file.
+const PARTS: u32 = 100;
+
+/// The name of a new file beside another one, of a number.
+fn part_of(alloc: Global, name: &str, number: u32) -> Result<String, AllocError>
+    ensures { IfOk result (λ part. string_bytes part ≡ spec.part_name name.now number) }
+{
+    format!(in alloc; "{name}.part{number}")
+}
+
+/// Writes these bytes into a new file of a name, and puts it in the place of another; or leaves no such file. False where something stands
+/// under its own name.
+fn put_part<S: System>(system: &S, part: &str, name: &str, bytes: &[u8]) -> Result<bool, Unwritten>
+    ensures { IfOk result (λ done. IsTrue done →
+        spec.IsFilled (S.makes system.now) part.now bytes.now × S.puts system.now part.now name.now) }
+{
+    let Some(file) = system.create(part)? else {
+        return Ok(false);
+    };
+    let mut file = file;
+    let done = match fill(&mut file, bytes) {
+        Ok(()) => system.put(file, part, name),
+        Err(why) => Err(why),
+    };
+    match done {
+        Ok(()) => Ok(true),
+        Err(why) => {
+            system.discard(part);
+            Err(why)
+        }
+    }
+}
+
+/// Writes these bytes into a new file beside that of a name, and puts it in its place. Where that can't be done, no such file is left, and
+/// what stands under the name is as it was.
+fn replace<S: System>(
+    alloc: Global,
+    system: &S,
+    name: &str,
+    bytes: &[u8],
+) -> Result<Result<(), Unwritten>, AllocError>
+    ensures { IfOk result (λ done. OnOk done (spec.IsWritten (S.makes system.now) (S.puts system.now) name.now bytes.now)) }
+{
+    for number in 1..=PARTS {
+        let part = part_of(alloc, name, number)?;
+        match put_part(system, part.as_str(), name, bytes) {
+            Ok(true) => return Ok(Ok(())),
+            Ok(false) => {}
+            Err(why) => return Ok(Err(why)),
+        }
+    }
+    let fault = io::Error::from(io::ErrorKind::AlreadyExists);
+    Ok(Err(Unwritten::Refused(fault)))
 }
 
 /// The files of a system by their names, and its standard input as `-`.
 #[derive(Drop)]
 pub struct Named<'a, S: System> {
     pub system: &'a S,
+    /// Why a read failed of what was opened last, where one did.
+    fault: Cell<Option<Unread>>,
+}
+
+impl<'a, S: System> Named<'a, S> {
+    /// Those of this system.
+    pub fn new(system: &'a S) -> Named<'a, S>
+        ensures { result.system.now ≡ system.now }
+    {
+        let fault = Cell::new(None);
+        Named { system, fault }
+    }
+
+    /// Nothing could be opened.
+    fn unopened<V>(&self) -> Result<Option<V>, AllocError>
+        ensures { IfOk result IsNone }
+    {
+        self.fault.set(None);
+        Ok(None)
+    }
 }
 
 impl<S: System> Inputs for Named<'_, S> {
@@ -46,41 +170,58 @@ impl<S: System> Inputs for Named<'_, S> {
 
     fn read(&self, alloc: Global, name: &str) -> Result<Option<Vec<u8>>, AllocError> {
         if name == "-" {
-            return read_opened(alloc, self.system.input());
+            return read_opened(alloc, self.system.input(), &self.fault);
         }
         match self.system.open(name) {
-            Some(file) => read_opened(alloc, file),
-            None => Ok(None),
+            Some(file) => read_opened(alloc, file, &self.fault),
+            None => self.unopened(),
+        }
+    }
+
+    fn read_text(&self, alloc: Global, name: &str) -> Result<Option<Vec<u8>>, AllocError> {
+        if name == "-" {
+            return read_opened_text(alloc, self.system.input(), &self.fault);
+        }
+        match self.system.open(name) {
+            Some(file) => read_opened_text(alloc, file, &self.fault),
+            None => self.unopened(),
         }
     }
 
     fn read_pieces(&self, alloc: Global, name: &str) -> Result<Option<Pieces>, AllocError> {
         if name == "-" {
-            return read_opened_pieces(alloc, self.system.input());
+            return read_opened_pieces(alloc, self.system.input(), &self.fault);
         }
         match self.system.open(name) {
-            Some(file) => read_opened_pieces(alloc, file),
-            None => Ok(None),
+            Some(file) => read_opened_pieces(alloc, file, &self.fault),
+            None => self.unopened(),
         }
     }
 
     fn why(&self, name: &str) -> Unread {
-        self.system.why(name)
+        match self.fault.get() {
+            Some(why) => why,
+            None => self.system.why(name),
+        }
     }
 }
 
 impl<S: System> Pictures for Named<'_, S> {
     ghost use Rattle.flt_commands.specs.System.{IsWritten};
 
-    ghost written = { λ named. IsWritten (S.makes named.system.now) };
+    ghost written = { λ named. IsWritten (S.makes named.system.now) (S.puts named.system.now) };
 
-    fn write(&mut self, name: &str, bytes: &[u8]) -> bool {
-        match self.system.create(name) {
-            Some(file) => {
-                let mut file = file;
-                file.write_all(bytes).is_ok() && file.flush().is_ok()
-            }
-            None => false,
+    fn write(
+        &mut self,
+        alloc: Global,
+        inputs: &[&str],
+        name: &str,
+        bytes: &[u8],
+    ) -> Result<Result<(), Unwritten>, AllocError> {
+        match self.system.place(name, inputs) {
+            Ok(Place::Stream) => Ok(pour(self.system, name, bytes)),
+            Ok(Place::File) => replace(alloc, self.system, name, bytes),
+            Err(why) => Ok(Err(why)),
         }
     }
 }

@@ -95,9 +95,10 @@ fn remark_on(alloc: Global, ending: Ending) -> Result<Vec<u8>, AllocError>
     Ok(bytes)
 }
 
-/// The report on an answer.
+/// The report on an answer, with these lines on the standard error before what it remarks.
 fn report_on_answer(
     alloc: Global,
+    before: Vec<u8>,
     answer: Answer,
     contents: Contents,
 ) -> Result<Report, CommandFault>
@@ -105,12 +106,14 @@ fn report_on_answer(
     ensures journal { IfOk result (λ report. report.journal ≡ contents.journal) }
     ensures output { IfOk result (λ report. report.output.items ≡ output answer) }
     ensures status { IfOk result (λ report. report.status ≡ status_of answer) }
-    ensures remark { IfOk result (λ report. report.remark.items ≡ remark (ending_of answer)) }
-    ensures quiet { IfOk result (λ report. report.status ≢ 2 → report.remark.items ≡ []) }
+    ensures remark { IfOk result (λ report. report.remark.items ≡ before.items ++ remark (ending_of answer)) }
+    ensures quiet { IfOk result (λ report. report.status ≢ 2 → report.remark.items ≡ before.items) }
     ensures err { IfErr result (λ e. e ≡ CommandFault.OutOfMemory) }
 {
     let status = answer.status();
-    let remark = remark_on(alloc, answer.ending())?;
+    let mut remark = before;
+    let ending = remark_on(alloc, answer.ending())?;
+    remark.extend_from_slice(ending.as_slice())?;
     let output = answer.output(alloc)?;
     Ok(Report::on(contents, output, remark, status))
 }
@@ -129,13 +132,15 @@ fn report_on_failure(
     ensures remark { IfOk result (λ report. report.remark.items ≡ before.items ++ (failure_line failure.now ++ 10 ∷ [])) }
     ensures err { IfErr result (λ e. e ≡ CommandFault.OutOfMemory) }
 {
-    let line = format!(in alloc; "{failure}\n")?;
+    let line = failure.line(alloc)?;
     let mut remark = before;
     remark.extend_from_slice(line.as_bytes())?;
+    remark.push(b'\n')?;
     Ok(Report::on(contents, Vec::new(alloc), remark, 2))
 }
 
-/// The report on what is said of what was read; where there is no answer, with these lines before the one that says why.
+/// The report on what is said of what was read, with these lines on the standard error before what it remarks, or before the line that says
+/// why there is no answer.
 pub(crate) fn report_on(
     alloc: Global,
     before: Vec<u8>,
@@ -146,11 +151,11 @@ pub(crate) fn report_on(
     ensures journal { IfOk result (λ report. report.journal ≡ contents.journal) }
     ensures reported { IfOk result (λ report. spec.IsReported said.entry report.output.items report.status) }
     ensures remarked { IfOk result (λ report. spec.IsRemarkedAfter before.items said.entry report.remark.items) }
-    ensures quiet { IfOk result (λ report. report.status ≢ 2 → report.remark.items ≡ []) }
+    ensures quiet { IfOk result (λ report. report.status ≢ 2 → report.remark.items ≡ before.items) }
     ensures err { IfErr result (λ e. e ≡ CommandFault.OutOfMemory) }
 {
     match said {
-        Ok(answer) => report_on_answer(alloc, answer, contents),
+        Ok(answer) => report_on_answer(alloc, before, answer, contents),
         Err(Failure::OutOfMemory) => Err(CommandFault::OutOfMemory),
         Err(failure) => report_on_failure(alloc, before, &failure, contents),
     }

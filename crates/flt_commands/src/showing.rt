@@ -11,6 +11,7 @@ use crate::inputs::{Inputs, Pictures, read_with_journal};
 use crate::pieces::Pieces;
 use crate::replay::{Replayed, replay_all};
 use crate::report::Contents;
+use crate::unwritten::Unwritten;
 use flt_model::{Journal, Verdict};
 use flt_picture::picture;
 use flt_timeline::Timeline;
@@ -27,23 +28,25 @@ fn rows_of(alloc: Global, is_asked: bool, timeline: &Timeline<'_>) -> Result<Vec
     Ok(timeline.text(alloc, 0)?.into_bytes())
 }
 
-/// Draws a journal into a file. Whether that could be written.
+/// Draws a journal into a file that is none of the inputs. Why that couldn't be written.
 fn draw<P: Pictures>(
     alloc: Global,
+    inputs: &[&str],
     name: &str,
     trees: &[Tree],
     journal: &Journal,
     timeline: &Timeline<'_>,
     pictures: &mut P,
-) -> Result<bool, AllocError> {
+) -> Result<Result<(), Unwritten>, AllocError> {
     let drawn = picture(alloc, trees, journal, timeline)?;
-    Ok(pictures.write(name, drawn.as_bytes()))
+    pictures.write(alloc, inputs, name, drawn.as_bytes())
 }
 
 /// Shows a journal on some filters, of which the monitor says this.
 fn show<'a, P: Pictures>(
     alloc: Global,
     is_asked: bool,
+    inputs: &[&str],
     name: Option<&'a str>,
     replayed: &Replayed,
     pictures: &mut P,
@@ -53,8 +56,9 @@ fn show<'a, P: Pictures>(
     let trees = replayed.trees.as_slice();
     let timeline = Timeline::of(alloc, trees, &replayed.journal, replayed.verdict)?;
     if let Some(name) = name {
-        if !draw(alloc, name, trees, &replayed.journal, &timeline, pictures)? {
-            return Err(Failure::CannotWrite(name));
+        let journal = &replayed.journal;
+        if let Err(why) = draw(alloc, inputs, name, trees, journal, &timeline, pictures)? {
+            return Err(Failure::CannotWrite(name, why));
         }
     }
     let rows = rows_of(alloc, is_asked, &timeline)?;
@@ -65,6 +69,7 @@ fn show<'a, P: Pictures>(
 fn show_texts<'a, P: Pictures>(
     alloc: Global,
     is_asked: bool,
+    inputs: &[&str],
     name: Option<&'a str>,
     written: Pieces,
     texts: &[Vec<u8>],
@@ -76,7 +81,7 @@ fn show_texts<'a, P: Pictures>(
     ensures kept { journal.old ≡ None → IsKeptAs journal.new written result }
 {
     let replayed = replay_all(alloc, written, texts)?;
-    let answer = show(alloc, is_asked, name, &replayed, pictures)?;
+    let answer = show(alloc, is_asked, inputs, name, &replayed, pictures)?;
     *journal = Some(replayed.journal);
     Ok(answer)
 }
@@ -98,9 +103,19 @@ pub fn show_files<'a, I: Inputs, P: Pictures>(
         × IsKeptAs contents.new.journal bytes result }
 {
     contents.journal = None;
+    let mut names = Vec::new(alloc);
+    names.push(journal)?;
+    names.extend_from_slice(files)?;
     let (written, texts) = read_with_journal(alloc, inputs, journal, files)?;
     contents.texts = texts;
-    let texts = contents.texts.as_slice();
-    let entries = &mut contents.journal;
-    show_texts(alloc, is_asked, name, written, texts, pictures, entries)
+    show_texts(
+        alloc,
+        is_asked,
+        names.as_slice(),
+        name,
+        written,
+        contents.texts.as_slice(),
+        pictures,
+        &mut contents.journal,
+    )
 }

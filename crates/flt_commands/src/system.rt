@@ -1,12 +1,13 @@
-//! What the program asks of its system: to open a file or the standard input, and to make a file.
+//! What the program asks of its system: to open a file or the standard input, and to put a file in its place.
 
 ghost use Rattle.std.specs.Io.{ReadsAtMost};
 ghost use Rattle.std.specs.Io.KnownBytes.{ReadConsumes};
-ghost use Rattle.std.specs.Prelude.{◌≡◌, ◌≢◌, ℕ, List, Option, IfNone, IfSome, OnErr, OnOk, codes};
+ghost use Rattle.std.specs.Prelude.{◌≡◌, ◌≢◌, ℕ, List, Option, IfNone, IfSome, OnErr, OnOk, IfOk, codes};
 ghost use Rattle.flt_commands.specs.System.{CanFail};
 
+use crate::unread::Unread;
+use crate::unwritten::Unwritten;
 use flt_model::ReadFault;
-use flt_reasons::Unread;
 use std::io::Write;
 
 /// An open file or stream, with a count of its failures.
@@ -23,6 +24,20 @@ pub trait Reader {
         ensures bytes { ReadConsumes (left self.old) (left self.new) result buffer.new }
         ensures fine { OnOk result (failures self.new ≡ failures self.old) }
         ensures failed { OnErr result (failures self.new ≢ failures self.old) };
+
+    /// Why `take` failed last, as far as can be said; none where it didn't.
+    fn why(&self) -> Option<Unread> {
+        None
+    }
+}
+
+/// What stands under a name that is to be written.
+#[derive(Clone, Copy, Debug, PartialEq, Eq)]
+pub enum Place {
+    /// Nothing, or a regular file, whose place a new one takes.
+    File,
+    /// A pipe or a device, which takes bytes as it is.
+    Stream,
 }
 
 /// Files by their names, and one standard input, whose name is `-`.
@@ -48,6 +63,9 @@ pub trait System {
     // A writer that is made under this name holds these bytes, where they are known.
     ghost makes: { Self → List ℕ → Option (List ℕ) → Type 0 };
 
+    // What was made under the first of these names stands under the second, in place of what stood there.
+    ghost puts: { Self → List ℕ → List ℕ → Type 0 };
+
     /// The file of a name; none where it can't be opened.
     fn open(&self, name: &str) -> Option<Self::File>
         ensures opened { IfSome result (λ file. holds self.now name.now (Self.File.left file)) }
@@ -61,11 +79,25 @@ pub trait System {
         ensures fine { Self.Input.failures result ≡ 0 }
         ensures failing { CanFail Self.Input.failures → fails self.now };
 
-    /// An empty file of a name, in place of one that is there; none where it can't be made.
-    fn create(&self, name: &str) -> Option<Self::Made>
-        ensures { IfSome result (λ file. makes self.now name.now (Self.Made.contents file)) };
+    /// What stands under a name, where it may be written: no symbolic link, no folder, and none of the inputs of these names.
+    fn place(&self, name: &str, inputs: &[&str]) -> Result<Place, Unwritten>;
 
-    /// Why a file isn't read, as far as can be said.
+    /// The pipe or the device of a name.
+    fn stream(&self, name: &str) -> Result<Self::Made, Unwritten>
+        ensures { IfOk result (λ file. makes self.now name.now (Self.Made.contents file)) };
+
+    /// A new and empty file of a name; none where something stands there.
+    fn create(&self, name: &str) -> Result<Option<Self::Made>, Unwritten>
+        ensures { IfOk result (λ made. IfSome made (λ file. makes self.now name.now (Self.Made.contents file))) };
+
+    /// Puts a file that was made under one name in the place of another, once the system keeps its bytes.
+    fn put(&self, file: Self::Made, made: &str, name: &str) -> Result<(), Unwritten>
+        ensures { OnOk result (puts self.now made.now name.now) };
+
+    /// Removes a file that was made under a name.
+    fn discard(&self, made: &str);
+
+    /// Why the file of a name wasn't read, which was opened last and of which no read failed, as far as can be said.
     fn why(&self, _name: &str) -> Unread {
         Unread::Failed
     }

@@ -1,46 +1,121 @@
-//! Why a file isn't read, as `explain` says it.
+//! Why a file isn't read.
 
-use crate::answer::Answer;
-use crate::failure::Failure;
-use crate::inputs::{Inputs, is_standard};
-use flt_reasons::Unread;
+use flt_pages::page;
+use flt_words::visible;
 use std::alloc::{AllocError, Global};
+use std::io;
 
-/// Whether the standard input is named more than once.
-fn is_named_again(files: &[&str]) -> bool {
-    let mut is_named = false;
-    for name in files {
-        if is_standard(name) {
-            if is_named {
-                return true;
-            }
-            is_named = true;
+/// Why nothing is read for a name.
+#[derive(Clone, Copy, Debug)]
+pub enum Unread {
+    /// There is no such file.
+    Missing,
+    Folder,
+    Denied,
+    /// Its name is longer than that of a file may be.
+    LongName,
+    /// The symbolic links of its path lead in a circle.
+    Circle,
+    /// It has more bytes than an input may have.
+    TooLong,
+    /// The same of what is no regular file, and may have no end.
+    Endless,
+    /// It is the standard input, which another name before it is, too.
+    Again,
+    /// The system refuses it for another reason, and says why.
+    Refused(io::Error),
+    /// Anything else.
+    Failed,
+}
+
+/// What is said of names that look like those of pages.
+const RULES: &str = "there is no such file, and rules are R01 to R15";
+
+const VIOLATIONS: &str = "there is no such file, and violations are V1 to V8";
+
+const FAULTS: &str = "there is no such file, and faults of a text are E01 to E08";
+
+/// What is said of the name of a page.
+const ALONE: &str = "there is no such file; pages are for people, and have no file beside them";
+
+/// Whether there are digits and nothing else.
+fn are_digits(bytes: &[u8]) -> bool {
+    !bytes.is_empty() && bytes.iter().all(|byte| byte.is_ascii_digit())
+}
+
+/// What is said of a letter with digits behind it.
+fn numbered_words(letter: u8) -> &'static str {
+    match letter {
+        b'R' | b'r' => RULES,
+        b'V' | b'v' => VIOLATIONS,
+        b'E' | b'e' => FAULTS,
+        _ => "there is no such file",
+    }
+}
+
+/// Why there is no file of a name, in words; with the names of pages, where it looks like one.
+fn missing_words(name: &str) -> &'static str {
+    if page(name).is_some() {
+        return ALONE;
+    }
+    match name.as_bytes() {
+        [letter, digits @ ..] if are_digits(digits) => numbered_words(*letter),
+        _ => "there is no such file",
+    }
+}
+
+impl Unread {
+    /// What the system says of a call that failed.
+    pub fn of(fault: &io::Error) -> Unread {
+        match fault.kind() {
+            io::ErrorKind::NotFound | io::ErrorKind::NotADirectory => Unread::Missing,
+            io::ErrorKind::IsADirectory => Unread::Folder,
+            io::ErrorKind::PermissionDenied => Unread::Denied,
+            io::ErrorKind::InvalidFilename => Unread::LongName,
+            io::ErrorKind::FilesystemLoop => Unread::Circle,
+            _ => Unread::Refused(*fault),
         }
     }
-    false
-}
 
-/// Why nothing is read for a name among others.
-fn why<I: Inputs>(inputs: &I, files: &[&str], name: &str) -> Unread {
-    if is_standard(name) && is_named_again(files) {
-        return Unread::Again;
+    /// Why nothing is read for a name, in words.
+    fn words(self, alloc: Global, name: &str) -> Result<String, AllocError> {
+        let words = match self {
+            Unread::Missing => missing_words(name),
+            Unread::Folder => "this is a folder, and no `*.flt` in it is read",
+            Unread::Denied => "reading it isn't permitted",
+            Unread::LongName => "its name is too long",
+            Unread::Circle => "its symbolic links lead in a circle",
+            Unread::TooLong => "it has more than 67,108,864 bytes",
+            Unread::Endless => "it has no end within 67,108,864 bytes",
+            Unread::Again => "the standard input is read once, for the first `-`",
+            Unread::Refused(fault) => return format!(in alloc; "reading it failed: {fault}"),
+            Unread::Failed => "reading it failed",
+        };
+        String::from_str(alloc, words)
     }
-    inputs.why(name)
+
+    /// What to do about it.
+    fn help(self) -> &'static str {
+        match self {
+            Unread::Missing =>
+                "a name is a path from the current folder, or `-` for the standard input; R01 to R15, V1 to V8, E01 to E08, calls and statuses alone are pages",
+            Unread::Folder => "name a file in it, or a folder that has texts",
+            Unread::Denied => "see who may read it",
+            Unread::LongName => "a part of a path has at most 255 bytes",
+            Unread::Circle => "name the file that is meant",
+            Unread::TooLong | Unread::Endless =>
+                "a text has at most 65,536 bytes, a journal 1,000,000 entries",
+            Unread::Again => "name each input once",
+            Unread::Refused(_) | Unread::Failed => "copy it into a file first",
+        }
+    }
 }
 
-/// Whole lines that say why a file among others isn't read, where that is what is said of them; else nothing.
-pub(crate) fn why_unread<I: Inputs>(
-    alloc: Global,
-    inputs: &I,
-    files: &[&str],
-    said: &Result<Answer, Failure<'_>>,
-) -> Result<Vec<u8>, AllocError> {
-    let Err(Failure::CannotRead(name)) = said else {
-        return Ok(Vec::new(alloc));
-    };
-    let why = why(inputs, files, name);
-    let words = why.words();
+/// Whole lines that say why nothing is read for a name.
+pub(crate) fn unread_lines(alloc: Global, name: &str, why: Unread) -> Result<Vec<u8>, AllocError> {
+    let words = why.words(alloc, name)?;
     let help = why.help();
+    let name = visible(alloc, name)?;
     let lines = format!(in alloc; "error: `{name}` isn't read: {words}\n   = help: {help}\n")?;
     Ok(lines.into_bytes())
 }

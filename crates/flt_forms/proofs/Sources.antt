@@ -5,6 +5,7 @@ use Rattle.json.specs.Token.{Token}
 use Rattle.flt_details.specs.declared.sources.Source.{Source}
 use Rattle.flt_forms.specs.Lines as lines
 use Rattle.flt_forms.specs.Sarif as sarif
+use Rattle.flt_forms.specs.declared.as_lines.Style.{Style}
 
 max_assoc : (a b c : ℕ) → max (max a b) c ≡ max a (max b c)
 max_assoc a b c = omega arith
@@ -14,16 +15,16 @@ none_or : (n a : ℕ) → a ≡ 0 → max a n ≡ max n 0
 none_or n a none = omega (arith, none)
 
 -- the lines of one text more
-lines_push : (ss : List Source) (s : Source) (before printed part : List ℕ) (status own : ℕ) → lines.AreLines ss before printed status →
-    lines.IsPart s part own → lines.AreLines (ss ++ s ∷ []) before (printed ++ part) (max status own)
-lines_push [] s before printed part status own (same, none) is =
+lines_push : (style : Style) (ss : List Source) (s : Source) (before printed part : List ℕ) (status own : ℕ) → lines.AreLines style ss before printed status →
+    lines.IsPart style s part own → lines.AreLines style (ss ++ s ∷ []) before (printed ++ part) (max status own)
+lines_push style [] s before printed part status own (same, none) is =
     (part, own, 0, is, (ap (λ bytes. bytes ++ part) same, refl), none_or own _ none)
-lines_push (t ∷ ss) s before printed part status own (first, one, others, is_first, are, greatest) is = (
+lines_push style (t ∷ ss) s before printed part status own (first, one, others, is_first, are, greatest) is = (
   first,
   one,
   max others own,
   is_first,
-  lines_push ss s (before ++ first) printed part others own are is,
+  lines_push style ss s (before ++ first) printed part others own are is,
   ap (λ n. max n own) greatest ∙ max_assoc one others own,
 )
 
@@ -59,11 +60,11 @@ module _ (all : List Source) (i : ℕ) (d : Source) (within : i < length all) wh
       rw (same, next) refl
 
   -- the lines of the texts so far and of the next one
-  pub one_more_told : (before printed part after : List ℕ) (status own greatest : ℕ) → lines.AreLines (take i all) before printed status →
-      lines.IsPart (get_or all i d) part own → after ≡ printed ++ part → greatest ≡ max status own →
-      lines.AreLines (take (i + 1) all) before after greatest
-  one_more_told before printed part after status own greatest are part_is added most =
-      rw (one_source_more, added, most) (lines_push (take i all) (get_or all i d) before printed part status own are part_is)
+  pub one_more_told : (style : Style) (before printed part after : List ℕ) (status own greatest : ℕ) → lines.AreLines style (take i all) before printed status →
+      lines.IsPart style (get_or all i d) part own → after ≡ printed ++ part → greatest ≡ max status own →
+      lines.AreLines style (take (i + 1) all) before after greatest
+  one_more_told style before printed part after status own greatest are part_is added most =
+      rw (one_source_more, added, most) (lines_push style (take i all) (get_or all i d) before printed part status own are part_is)
 
   -- the results of the texts so far and of the next one
   pub one_more_shown : (tokens part : List Token) (status own greatest : ℕ) → sarif.AreResults (take i all) tokens status →

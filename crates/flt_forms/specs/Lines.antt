@@ -1,4 +1,4 @@
--- What is found of texts, a JSON object a line. This project's own format.
+-- What is found of texts, line by line. This project's own formats.
 use Rattle.std.specs.Prelude.{◌≡◌, ℕ, List, [], ◌∷◌, ◌++◌, flat_map, max}
 use Rattle.flt_explain.specs.declared.finding.Finding.{Finding}
 use Rattle.flt_details.specs.Reports.{IsJudged, status_of}
@@ -12,28 +12,39 @@ use Rattle.flt_tree.specs.Names.{Text}
 use Rattle.flt_tree.specs.declared.filter.Filter.{Filter}
 use Rattle.flt_forms.specs.Fault.{IsFaultLine}
 use Rattle.flt_forms.specs.Finding.{finding_line}
+use Rattle.flt_forms.specs.Short as short
+use Rattle.flt_forms.specs.declared.as_lines.Style.{Style}
+use Rattle.flt_forms.specs.declared.as_lines.Style.TheVariants.{Object, Sentence}
 
--- one line for each of these findings, in their order
+-- one JSON object for each of these findings, in their order
 pub record AreFindingLines (name : List ℕ) (text : Text) (filter : Filter) (graph : Graph) (found : List Finding) (printed : List ℕ) : Type 0 where
   pub details : List Detail
   pub each : AreDetails text filter graph found details
   pub lines : printed ≡ flat_map (finding_line name) details
 
+-- one sentence for each of these findings, in their order
+pub record AreShortLines (name : List ℕ) (text : Text) (filter : Filter) (graph : Graph) (found : List Finding) (printed : List ℕ) : Type 0 where
+  pub details : List Detail
+  pub each : AreDetails text filter graph found details
+  pub lines : printed ≡ flat_map (short.finding_line name) details
+
 -- what is printed of a text: one line where it doesn't parse, else one for each finding
-abbrev pub IsPrinted : Source → Judged → List ℕ → Type 0
-IsPrinted s (Unread f) printed = IsFaultLine s.name.now s.text.now printed
-IsPrinted s (Known tree graph found) printed = AreFindingLines s.name.now s.text.now tree.filter graph found printed
+abbrev pub IsPrinted : Style → Source → Judged → List ℕ → Type 0
+IsPrinted Object s (Unread f) printed = IsFaultLine s.name.now s.text.now printed
+IsPrinted Object s (Known tree graph found) printed = AreFindingLines s.name.now s.text.now tree.filter graph found printed
+IsPrinted Sentence s (Unread f) printed = short.IsFaultLine s.name.now s.text.now printed
+IsPrinted Sentence s (Known tree graph found) printed = AreShortLines s.name.now s.text.now tree.filter graph found printed
 
 -- the same, with the text's status
-pub record IsPart (s : Source) (printed : List ℕ) (status : ℕ) : Type 0 where
+pub record IsPart (style : Style) (s : Source) (printed : List ℕ) (status : ℕ) : Type 0 where
   pub judged : Judged
   pub is : IsJudged s.text.now judged
   pub own : status ≡ status_of judged
-  pub lines : IsPrinted s judged printed
+  pub lines : IsPrinted style s judged printed
 
 -- the lines of several texts behind what is there, one text's behind the other's; the status is the greatest of theirs
-abbrev pub AreLines : List Source → List ℕ → List ℕ → ℕ → Type 0
-AreLines [] before printed status = (printed ≡ before) × (status ≡ 0)
-AreLines (s ∷ ss) before printed status =
-    (part : List ℕ) × (first : ℕ) × (others : ℕ) × IsPart s part first × AreLines ss (before ++ part) printed others
+abbrev pub AreLines : Style → List Source → List ℕ → List ℕ → ℕ → Type 0
+AreLines style [] before printed status = (printed ≡ before) × (status ≡ 0)
+AreLines style (s ∷ ss) before printed status =
+    (part : List ℕ) × (first : ℕ) × (others : ℕ) × IsPart style s part first × AreLines style ss (before ++ part) printed others
     × (status ≡ max first others)

@@ -1,4 +1,4 @@
-//! What is found of texts, a JSON object a line.
+//! What is found of texts, line by line.
 
 ghost use Rattle.std.specs.Prelude.{◌≡◌, ◌++◌, [], IfOk, List, ℕ, max};
 ghost use Rattle.flt_forms.specs.Fault.{IsFaultLine};
@@ -9,12 +9,22 @@ ghost use Rattle.flt_syntax.specs.TextFails.{Fails};
 
 use crate::fault::{help_of, put_fault_line};
 use crate::finding::put_lines;
+use crate::short::{put_short_fault, put_short_lines};
 use flt_details::{Explained, Judged, Source, details, judge};
 use flt_explain::Finding;
 use flt_graph::Graph;
 use flt_hints::{describe, tell};
 use flt_syntax::{SyntaxFault, Tree, fails_exactly_where_nothing_is_spelled};
 use std::alloc::{AllocError, Global};
+
+/// What a line is.
+#[derive(Clone, Copy, Debug)]
+pub enum Style {
+    /// A JSON object.
+    Object,
+    /// A sentence behind the file's name, its line and its column, as compilers say it.
+    Sentence,
+}
 
 /// The line of a text that doesn't parse, behind what is there.
 fn unread(
@@ -57,28 +67,38 @@ fn known(
 fn put_judged(
     alloc: Global,
     out: Vec<u8>,
+    style: Style,
     source: Source<'_>,
     judged: &Judged,
 ) -> Result<Vec<u8>, AllocError>
     requires { IsJudged source.text.now judged.now }
-    ensures { IfOk result (λ v. (printed : List ℕ) × spec.IsPrinted source.entry judged.now printed
+    ensures { IfOk result (λ v. (printed : List ℕ) × spec.IsPrinted style source.entry judged.now printed
         × (v.items ≡ out.items ++ printed)) }
 {
-    match judged {
-        Judged::Unread(fault) => unread(alloc, out, source, *fault),
-        Judged::Known(tree, graph, found) => {
+    match (style, judged) {
+        (Style::Object, Judged::Unread(fault)) => unread(alloc, out, source, *fault),
+        (Style::Object, Judged::Known(tree, graph, found)) => {
             known(alloc, out, source, tree, graph, found.as_slice())
+        }
+        (Style::Sentence, Judged::Unread(fault)) => put_short_fault(alloc, out, source, *fault),
+        (Style::Sentence, Judged::Known(tree, graph, found)) => {
+            put_short_lines(alloc, out, source, tree, graph, found.as_slice())
         }
     }
 }
 
 /// The lines of a text, behind what is there, and its status.
-fn put_source(alloc: Global, out: Vec<u8>, source: Source<'_>) -> Result<Explained, AllocError>
-    ensures { IfOk result (λ e. (printed : List ℕ) × spec.IsPart source.entry printed e.status
+fn put_source(
+    alloc: Global,
+    out: Vec<u8>,
+    style: Style,
+    source: Source<'_>,
+) -> Result<Explained, AllocError>
+    ensures { IfOk result (λ e. (printed : List ℕ) × spec.IsPart style source.entry printed e.status
         × (e.output.items ≡ out.items ++ printed)) }
 {
     let judged = judge(alloc, source.text)?;
-    let output = put_judged(alloc, out, source, &judged)?;
+    let output = put_judged(alloc, out, style, source, &judged)?;
     Ok(Explained {
         output,
         status: judged.status(),
@@ -92,8 +112,13 @@ pub(crate) fn greater(a: u8, b: u8) -> u8
 }
 
 /// The lines of several texts, behind what is there, and the greatest status.
-fn put_sources(alloc: Global, out: Vec<u8>, sources: &[Source<'_>]) -> Result<Explained, AllocError>
-    ensures { IfOk result (λ e. spec.AreLines sources.now out.items e.output.items e.status) }
+fn put_sources(
+    alloc: Global,
+    out: Vec<u8>,
+    style: Style,
+    sources: &[Source<'_>],
+) -> Result<Explained, AllocError>
+    ensures { IfOk result (λ e. spec.AreLines style sources.now out.items e.output.items e.status) }
 {
     let mut told = Explained {
         output: out,
@@ -101,7 +126,7 @@ fn put_sources(alloc: Global, out: Vec<u8>, sources: &[Source<'_>]) -> Result<Ex
     };
     for source in sources {
         let before = told.status;
-        let one = put_source(alloc, told.output, *source)?;
+        let one = put_source(alloc, told.output, style, *source)?;
         told = Explained {
             output: one.output,
             status: greater(before, one.status),
@@ -110,15 +135,15 @@ fn put_sources(alloc: Global, out: Vec<u8>, sources: &[Source<'_>]) -> Result<Ex
     Ok(told)
 }
 
-/// What is wrong with some texts, a JSON object a line: one for each finding of a text that parses, in their order, and one for a text
-/// that doesn't. docs/FORMATS.md has their members. The status is that of `explain`: 0 where nothing is found, 1 where something is, 2
+/// What is wrong with some texts, line by line: one for each finding of a text that parses, in their order, and one for a text
+/// that doesn't. docs/FORMATS.md says how they are written. The status is that of `explain`: 0 where nothing is found, 1 where something is, 2
 /// where a text doesn't parse.
 ///
 /// # Errors
 ///
 /// Where a growth was refused.
-pub fn lines(alloc: Global, sources: &[Source<'_>]) -> Result<Explained, AllocError>
-    ensures { IfOk result (λ e. spec.AreLines sources.now [] e.output.items e.status) }
+pub fn lines(alloc: Global, style: Style, sources: &[Source<'_>]) -> Result<Explained, AllocError>
+    ensures { IfOk result (λ e. spec.AreLines style sources.now [] e.output.items e.status) }
 {
-    put_sources(alloc, Vec::new(alloc), sources)
+    put_sources(alloc, Vec::new(alloc), style, sources)
 }

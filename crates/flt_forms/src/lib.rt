@@ -1,4 +1,4 @@
-//! What `explain` finds, for machines: a JSON object a line, or SARIF. It exports `lines` and `sarif`.
+//! What `explain` finds, for other programs: line by line, or as SARIF. It exports `lines` and `sarif`.
 #![tactic(auto)]
 
 mod as_lines;
@@ -7,8 +7,9 @@ mod fault;
 mod finding;
 mod members;
 mod results;
+mod short;
 mod steps;
 mod uri;
 
-pub use as_lines::lines;
+pub use as_lines::{Style, lines};
 pub use as_sarif::sarif;

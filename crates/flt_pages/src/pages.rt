@@ -1,7 +1,7 @@
 //! The pages, by their names.
 
 ghost use Rattle.std.specs.Io.{StartsWith};
-ghost use Rattle.std.specs.Prelude.{◌≡◌, IfSome, is_some};
+ghost use Rattle.std.specs.Prelude.{◌≡◌, ◌||◌, IfSome, is_some};
 ghost use Rattle.flt_pages.specs.Pages as spec;
 
 use crate::{calls, faults, rules, statuses, violations};
@@ -156,15 +156,101 @@ fn code_page(name: &str) -> Option<&'static str>
     fault_page(name)
 }
 
-/// The page of `R01` to `R15` (a rule), `V1` to `V8` (a violation), `E01` to `E08` (a fault of a text), a call or a status: lines of text
-/// for people, which begin with that name. No other name has one.
-#[tactic(auto, unfolding(crate::specs::Pages::has_page))]
-pub fn page(name: &str) -> Option<&'static str>
-    ensures known { is_some result ≡ spec.has_page name.now }
+/// The page of a rule, with a small letter.
+fn small_rule_page(name: &str) -> Option<&'static str>
+    ensures known { is_some result ≡ spec.is_among spec.small_rules name.now }
+    ensures begins { IfSome result (λ found. StartsWith found.now (spec.capital name.now)) }
+{
+    match name {
+        "r01" => Some(rules::R01),
+        "r02" => Some(rules::R02),
+        "r03" => Some(rules::R03),
+        "r04" => Some(rules::R04),
+        "r05" => Some(rules::R05),
+        "r06" => Some(rules::R06),
+        "r07" => Some(rules::R07),
+        "r08" => Some(rules::R08),
+        "r09" => Some(rules::R09),
+        "r10" => Some(rules::R10),
+        "r11" => Some(rules::R11),
+        "r12" => Some(rules::R12),
+        "r13" => Some(rules::R13),
+        "r14" => Some(rules::R14),
+        "r15" => Some(rules::R15),
+        _ => None,
+    }
+}
+
+/// The page of a violation, with a small letter.
+fn small_violation_page(name: &str) -> Option<&'static str>
+    ensures known { is_some result ≡ spec.is_among spec.small_violations name.now }
+    ensures begins { IfSome result (λ found. StartsWith found.now (spec.capital name.now)) }
+{
+    match name {
+        "v1" => Some(violations::V1),
+        "v2" => Some(violations::V2),
+        "v3" => Some(violations::V3),
+        "v4" => Some(violations::V4),
+        "v5" => Some(violations::V5),
+        "v6" => Some(violations::V6),
+        "v7" => Some(violations::V7),
+        "v8" => Some(violations::V8),
+        _ => None,
+    }
+}
+
+/// The page of a fault of a text, with a small letter.
+fn small_fault_page(name: &str) -> Option<&'static str>
+    ensures known { is_some result ≡ spec.is_among spec.small_faults name.now }
+    ensures begins { IfSome result (λ found. StartsWith found.now (spec.capital name.now)) }
+{
+    match name {
+        "e01" => Some(faults::E01),
+        "e02" => Some(faults::E02),
+        "e03" => Some(faults::E03),
+        "e04" => Some(faults::E04),
+        "e05" => Some(faults::E05),
+        "e06" => Some(faults::E06),
+        "e07" => Some(faults::E07),
+        "e08" => Some(faults::E08),
+        _ => None,
+    }
+}
+
+/// The page of a rule, a violation or a fault, with a small letter.
+fn small_page(name: &str) -> Option<&'static str>
+    ensures known { is_some result ≡ spec.is_small_code name.now }
+    ensures begins { IfSome result (λ found. StartsWith found.now (spec.capital name.now)) }
+{
+    if let Some(found) = small_rule_page(name) {
+        return Some(found);
+    }
+    if let Some(found) = small_violation_page(name) {
+        return Some(found);
+    }
+    small_fault_page(name)
+}
+
+/// The page of a name as it stands.
+fn named_page(name: &str) -> Option<&'static str>
+    ensures known { is_some result ≡ spec.is_code name.now || spec.is_word name.now }
     ensures begins { IfSome result (λ found. StartsWith found.now name.now) }
 {
     match code_page(name) {
         Some(found) => Some(found),
         None => word_page(name),
+    }
+}
+
+/// The page of `R01` to `R15` (a rule), `V1` to `V8` (a violation), `E01` to `E08` (a fault of a text), a call or a status: lines of text
+/// for people, which begin with that name. The letter before a number may be a small one. No other name has a page.
+#[tactic(auto, unfolding(crate::specs::Pages::has_page))]
+pub fn page(name: &str) -> Option<&'static str>
+    ensures known { is_some result ≡ spec.has_page name.now }
+    ensures begins { IfSome result (λ found. StartsWith found.now (spec.title name.now)) }
+{
+    match small_page(name) {
+        Some(found) => Some(found),
+        None => named_page(name),
     }
 }

@@ -1,6 +1,5 @@
 //! Why an input isn't read: what is wrong in the first malformed line of a certificate, of a journal or of a script. Which line that is comes
-//! from the readers of these three; the words about it come from small readers beside
-//! them. It exports `kind_of`, `describe`, and `Unread`: why nothing is given for a name.
+//! from the readers of these three; the words about it come from small readers beside them. It exports `kind_of` and `describe`.
 #![tactic(auto)]
 
 mod certificates;
@@ -15,5 +14,5 @@ mod telling;
 mod trouble;
 mod wanted;
 
-pub use notice::{Kind, Notice, Reason, Unread};
+pub use notice::{Kind, Notice, Reason};
 pub use reading::{describe, kind_of};

@@ -13,21 +13,6 @@ pub enum Kind {
     Script,
 }
 
-/// Why nothing is read for a name.
-#[derive(Clone, Copy, Debug, PartialEq, Eq)]
-pub enum Unread {
-    /// There is no such file.
-    Missing,
-    Folder,
-    Denied,
-    /// It has more bytes than an input may have.
-    TooLong,
-    /// It is the standard input, which another name before it is, too.
-    Again,
-    /// Anything else.
-    Failed,
-}
-
 /// What is wrong in a line. Lines and columns count from 1.
 #[derive(Drop)]
 pub struct Reason<'a> {
@@ -100,33 +85,6 @@ impl Kind {
             Kind::Certificate => "certificate",
             Kind::Journal => "journal",
             Kind::Script => "script",
-        }
-    }
-}
-
-impl Unread {
-    /// Why nothing is read, in words.
-    pub fn words(self) -> &'static str {
-        match self {
-            Unread::Missing => "there is no such file",
-            Unread::Folder => "this is a folder",
-            Unread::Denied => "reading it isn't permitted",
-            Unread::TooLong => "it has more than 67,108,864 bytes",
-            Unread::Again => "the standard input is read once, for the first `-`",
-            Unread::Failed => "reading it failed",
-        }
-    }
-
-    /// What to do about it.
-    pub fn help(self) -> &'static str {
-        match self {
-            Unread::Missing =>
-                "a name is a path from the current folder, or `-` for the standard input; R01 to R15, V1 to V8, E01 to E08, calls and statuses alone are pages",
-            Unread::Folder => "name the files in it",
-            Unread::Denied => "see who may read it",
-            Unread::TooLong => "a text has at most 65,536 bytes, a journal 1,000,000 entries",
-            Unread::Again => "name each input once",
-            Unread::Failed => "copy it into a file first",
         }
     }
 }

@@ -36,13 +36,15 @@ fn tell_head(
     page: &mut Page,
     coloured: bool,
     name: &str,
+    scene: &Scene<'_>,
     finding: &Finding,
     words: &Words,
 ) -> Result<(), AllocError> {
     let code = Some(code(finding.rule));
+    let place = scene.site(finding.callback, finding.point).place;
     let places = [finding.callback, finding.point];
     tell_heading(page, coloured, code, words.title.as_slice(), name)?;
-    page.numbers(&[":", ", `"], &[finding.line])?;
+    page.numbers(&[":", ":", ", `"], &[place.line, place.column])?;
     page.words(&[words.head.as_slice()])?;
     page.numbers(&["` (callback ", " point ", ")\n"], &places)
 }
@@ -122,7 +124,7 @@ pub(crate) fn report_finding(
     shown: Option<&Shown>,
     others: &[Traced],
 ) -> Result<(), AllocError> {
-    tell_head(page, coloured, name, finding, words)?;
+    tell_head(page, coloured, name, scene, finding, words)?;
     if let Some(shown) = shown {
         draw_shown(alloc, page, coloured, scene, finding, words, shown)?;
         tell_ways(page, scene, finding.callback, shown)?;

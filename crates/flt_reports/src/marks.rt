@@ -11,7 +11,20 @@ struct Frame {
     behind_number: &'static str,
     bar: &'static str,
     mark: &'static str,
+    /// What stands before marks that show what led there.
+    other_mark: &'static str,
     behind_mark: &'static str,
+}
+
+impl Frame {
+    /// What stands before marks of a sign.
+    fn before(self, sign: u8) -> &'static str {
+        if sign == b'^' {
+            self.mark
+        } else {
+            self.other_mark
+        }
+    }
 }
 
 const COLOURED: Frame = Frame {
@@ -19,6 +32,7 @@ const COLOURED: Frame = Frame {
     behind_number: " | \x1b[0m",
     bar: "\x1b[1;34m | \x1b[0m",
     mark: "\x1b[1;31m",
+    other_mark: "\x1b[1;34m",
     behind_mark: "\x1b[0m",
 };
 
@@ -27,6 +41,7 @@ const PLAIN: Frame = Frame {
     behind_number: " | ",
     bar: " | ",
     mark: "",
+    other_mark: "",
     behind_mark: "",
 };
 
@@ -100,7 +115,8 @@ impl Drawing {
         sign: u8,
     ) -> Result<(), AllocError> {
         page.run(b' ', self.margin, self.frame.bar)?;
-        page.run(b' ', site.place.column.saturating_sub(1), self.frame.mark)?;
+        let mark = self.frame.before(sign);
+        page.run(b' ', site.place.column.saturating_sub(1), mark)?;
         page.run(sign, marks(line, site), self.frame.behind_mark)
     }
 

@@ -1,3 +1,5 @@
 pub mod Commands
 pub mod Counts
 pub mod Requests
+pub mod Letters
+pub mod PagedNames

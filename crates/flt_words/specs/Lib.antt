@@ -1,4 +1,5 @@
 pub mod Program
 pub mod Request
+pub mod Shown
 pub mod Words
 pub mod Workers

@@ -1,5 +1,5 @@
 -- The program's commands and their arguments, as `clap` takes them. This project's own program.
-use Rattle.std.specs.Prelude.{◌≡◌, Bool, true, false, Some, codes, pos}
+use Rattle.std.specs.Prelude.{◌≡◌, true, false, Some, codes, pos}
 use Rattle.clap.specs.Lexer.{usize_max}
 use Rattle.clap.specs.Simple.{App, app_of, new_app, new_rule, with_rule, with_subcommand}
 use Rattle.clap.specs.Walk.{Rule}
@@ -47,6 +47,10 @@ quiet_rule = record (new_rule (codes "quiet")) { long = Some (codes "quiet"); ac
 -- `--form FORM`
 abbrev pub form_rule : Rule
 form_rule = record (new_rule (codes "form")) { long = Some (codes "form"); value_names = 1 }
+
+-- `--color WHEN`
+abbrev pub colour_rule : Rule
+colour_rule = record (new_rule (codes "color")) { long = Some (codes "color"); value_names = 1 }
 
 -- `--states N`, a number from 1 to 100,000,000
 abbrev pub states_rule : Rule
@@ -105,9 +109,10 @@ replay_app = with_rule (with_rule (with_rule (with_rule bare_replay_app timeline
 abbrev pub bare_explain_app : App
 bare_explain_app = new_app (codes "explain")
 
--- `explain [--form FORM] [--states N] [--journal FILE] FILE..`
+-- `explain [--form FORM] [--color WHEN] [--states N] [--journal FILE] FILE..`
 abbrev pub explain_app : App
-explain_app = with_rule (with_rule (with_rule (with_rule bare_explain_app form_rule) states_rule) written_rule) texts_rule
+explain_app =
+    with_rule (with_rule (with_rule (with_rule (with_rule bare_explain_app form_rule) colour_rule) states_rule) written_rule) texts_rule
 
 -- the program without its commands: one is asked for, the program's own name is left out, and `--version` answers
 abbrev pub bare_app : App

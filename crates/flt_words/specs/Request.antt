@@ -1,6 +1,7 @@
 -- What is asked of the program. This project's own program.
 use Rattle.std.specs.Prelude.{ℕ, List, Bool, Option, Some, None, option_map, map}
 use Rattle.clap.specs.Walk.{Text}
+use Rattle.flt_words.specs.declared.request.Colour.{Colour}
 use Rattle.flt_words.specs.declared.request.Form.{Form}
 use Rattle.flt_words.specs.declared.request.Request.{Request}
 use Rattle.flt_words.specs.declared.request.Request.TheVariants as request
@@ -13,8 +14,8 @@ pub data Asked : Type 0 where
   Run : (workers : ℕ) (quiet : Bool) (script : Text) (files : List Text) → Asked
   Replay : (journal : Text) (files : List Text) → Asked
   Show : (timeline : Bool) (picture : Option Text) (journal : Text) (files : List Text) → Asked
-  Explain : (form : Form) (states : ℕ) (journal : Option Text) (files : List Text) → Asked
-  Page : (name : Text) → Asked
+  Explain : (form : Form) (colour : Colour) (states : ℕ) (journal : Option Text) (files : List Text) → Asked
+  Pages : (names : List Text) → Asked
 
 -- what a request asks for, none where it is for a text of the program's own: its use, or its version
 abbrev pub asked_of : Request → Option Asked
@@ -25,7 +26,7 @@ asked_of (request.Run workers quiet script files) = Some (Run workers.count quie
 asked_of (request.Replay journal files) = Some (Replay journal.now (map (λ name. name.now) files.items))
 asked_of (request.Show timeline picture journal files) =
     Some (Show timeline (option_map (λ name. name.now) picture) journal.now (map (λ name. name.now) files.items))
-asked_of (request.Explain form states journal files) =
-    Some (Explain form states (option_map (λ name. name.now) journal) (map (λ name. name.now) files.items))
-asked_of (request.Page name) = Some (Page name.now)
+asked_of (request.Explain form colour states journal files) =
+    Some (Explain form colour states (option_map (λ name. name.now) journal) (map (λ name. name.now) files.items))
+asked_of (request.Pages names) = Some (Pages (map (λ name. name.now) names.items))
 asked_of (request.Usage text) = None

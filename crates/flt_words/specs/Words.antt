@@ -14,9 +14,11 @@ use Rattle.clap.specs.declared.error.kind.ErrorKind.TheVariants.{OutOfMemory}
 use Rattle.flt_words.specs.Program.{program_app}
 use Rattle.flt_pages.specs.Pages.{has_page}
 use Rattle.flt_words.specs.declared.request.Form.{Form}
-use Rattle.flt_words.specs.declared.request.Form.TheVariants.{Human, Lines, Sarif}
+use Rattle.flt_words.specs.declared.request.Form.TheVariants.{Human, Lines, Sarif, Short}
+use Rattle.flt_words.specs.declared.request.Colour.{Colour}
+use Rattle.flt_words.specs.declared.request.Colour.TheVariants.{Auto, Always, Never}
 use Rattle.flt_words.specs.Workers.{within}
-use Rattle.flt_words.specs.Request.{Asked, Check, Analyse, Thin, Run, Replay, Show, Explain, Page}
+use Rattle.flt_words.specs.Request.{Asked, Check, Analyse, Thin, Run, Replay, Show, Explain, Pages}
 
 -- ---- values
 
@@ -52,11 +54,23 @@ abbrev pub form_named : Text → Option Form
 form_named name =
     if bytes_eq name (codes "human") then Some Human
     else (if bytes_eq name (codes "lines") then Some Lines
-    else (if bytes_eq name (codes "sarif") then Some Sarif else None))
+    else (if bytes_eq name (codes "sarif") then Some Sarif
+    else (if bytes_eq name (codes "short") then Some Short else None)))
 
 -- the form behind `--form`, that for people where there is none
 abbrev pub form_of : List Row → Option Form
 form_of rows = option_map_or form_named (first_of (codes "form") rows) (Some Human)
+
+-- when there are colours, by its name
+abbrev pub colour_named : Text → Option Colour
+colour_named name =
+    if bytes_eq name (codes "auto") then Some Auto
+    else (if bytes_eq name (codes "always") then Some Always
+    else (if bytes_eq name (codes "never") then Some Never else None))
+
+-- the time behind `--color`, that of a terminal where there is none
+abbrev pub colour_of : List Row → Option Colour
+colour_of rows = option_map_or colour_named (first_of (codes "color") rows) (Some Auto)
 
 -- the file that is written, if one is named for it; none at all where `-` is
 abbrev pub written_by : Option Text → Option (Option Text)
@@ -95,19 +109,28 @@ replay_of rows =
     option_map (λ picture. replay_by (is_set (codes "timeline") rows) picture (text_of (codes "JOURNAL") rows) (files_of rows))
     (written_of (codes "svg") rows)
 
--- for people one name that a page has asks for the page, all else for reports
-abbrev pub explain_of : Form → ℕ → Option Text → List Text → Asked
-explain_of Human states journal (name ∷ []) = if has_page name then Page name else Explain Human states journal (name ∷ [])
-explain_of form states journal files = Explain form states journal files
+-- there are names, and each has a page
+abbrev pub have_pages : List Text → Bool
+have_pages [] = false
+have_pages names = list_all has_page names
 
--- in a form, with the file into which a journal is written; `-` isn't one, and asks for nothing
-abbrev pub explain_in : List Row → Form → Option Asked
-explain_in rows form =
-    option_map (λ journal. explain_of form (states_of rows) journal (files_of rows)) (written_of (codes "journal") rows)
+-- for people names that have pages ask for these, all else for reports
+abbrev pub explain_of : Form → Colour → ℕ → Option Text → List Text → Asked
+explain_of Human colour states journal files = if have_pages files then Pages files else Explain Human colour states journal files
+explain_of form colour states journal files = Explain form colour states journal files
+
+-- in a form and with colours at some time, with the file into which a journal is written; `-` isn't one, and asks for nothing
+abbrev pub explain_in : List Row → Form → Colour → Option Asked
+explain_in rows form colour =
+    option_map (λ journal. explain_of form colour (states_of rows) journal (files_of rows)) (written_of (codes "journal") rows)
+
+-- in a form; a time that there isn't asks for nothing
+unfoldable pub explain_as : List Row → Form → Option Asked
+explain_as rows form = option_and_then (explain_in rows form) (colour_of rows)
 
 -- a form that there isn't asks for nothing
 abbrev pub explain_by : List Row → Option Asked
-explain_by rows = option_and_then (explain_in rows) (form_of rows)
+explain_by rows = option_and_then (explain_as rows) (form_of rows)
 
 -- what a subcommand with its arguments asks for
 abbrev pub asked_by : Text × List Row → Option Asked

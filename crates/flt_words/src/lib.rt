@@ -3,9 +3,11 @@
 
 mod program;
 mod request;
+mod shown;
 mod words;
 mod workers;
 
-pub use request::{Form, Request};
+pub use request::{Colour, Form, Request};
+pub use shown::visible;
 pub use words::read_words;
 pub use workers::Workers;

@@ -96,8 +96,21 @@ fn form_argument<'a>(alloc: Global) -> Arg<'a>
     ensures own { result.global ≡ false }
 {
     Arg::new(alloc, "form").long("form").value_name("FORM").help(
-        "How it is told: `human`, or `lines` (JSON) or `sarif` for other programs",
+        "How it is told: `human`, `short` (a line a finding), or `lines` (JSON) or `sarif` for other programs",
     )
+}
+
+/// The option `--color`.
+fn colour_argument<'a>(alloc: Global) -> Arg<'a>
+    ensures rule { rule_of result ≡ spec.colour_rule }
+    ensures own { result.global ≡ false }
+{
+    Arg::new(alloc, "color")
+        .long("color")
+        .value_name("WHEN")
+        .help(
+            "When reports have colours: `auto` (on a terminal, without `NO_COLOR`), `always` or `never`",
+        )
 }
 
 /// The option `--states`.
@@ -170,7 +183,7 @@ fn bare_check<'a>(alloc: Global) -> Command<'a>
         .about("Says whether a certificate covers a filter's text")
         .override_usage("fltstack check <FILE> [CERT]")
         .after_help(
-            "Prints `accepted` (exit 0), or the first point and rule that refuse it (exit 1).\nErrors go to the standard error with exit 2.\n\nExample: fltstack check examples/pass_through.flt examples/pass_through.cert",
+            "Prints `accepted` (exit 0), or the first point and rule that refuse it (exit 1).\nErrors go to the standard error with exit 2.\n\n`fltstack analyse <FILE>` makes a certificate, and `fltstack explain <FILE>` says why there is none.\n\nExample: fltstack check examples/pass_through.flt examples/pass_through.cert",
         )
 }
 
@@ -188,7 +201,7 @@ fn analyse_command<'a>(alloc: Global) -> Result<Command<'a>, AllocError>
         .about("Finds the least certificate that covers a filter's text")
         .override_usage("fltstack analyse <FILE>")
         .after_help(
-            "Prints the certificate, thinned (exit 0), or the point and rule for which there is none (exit 1).\nErrors go to the standard error with exit 2.\n\nExample: fltstack analyse examples/pending_reads.flt",
+            "Prints the certificate, thinned (exit 0), or the point and rule for which there is none (exit 1).\nErrors go to the standard error with exit 2.\n\n`fltstack explain <FILE>` says where that comes from, how to get there and how to mend it.\n\nExample: fltstack analyse examples/pending_reads.flt",
         )
         .arg(text_argument(alloc))
 }
@@ -222,7 +235,7 @@ fn bare_run<'a>(alloc: Global) -> Command<'a>
         .about("Drives filters by a script and prints the journal of what happened")
         .override_usage("fltstack run [--workers <N>] [--quiet] <SCRIPT> <FILE>...")
         .after_help(
-            "Prints the journal (exit 0), or the file, the point and the rule for which it has no certificate (exit 1).\nErrors go to the standard error with exit 2. Where the journal is full, it is printed up to there, with exit 2.\n\nExample: fltstack run examples/pending_reads.script examples/pending_reads.flt",
+            "Prints the journal (exit 0), or the file, the point and the rule for which it has no certificate (exit 1).\nErrors go to the standard error with exit 2. Where the journal is full, it is printed up to there, with exit 2.\n\n`fltstack explain <FILE>...` says why a filter has no certificate, or a line of a script is malformed.\n\nExample: fltstack run examples/pending_reads.script examples/pending_reads.flt",
         )
 }
 
@@ -243,7 +256,7 @@ fn bare_replay<'a>(alloc: Global) -> Command<'a>
         .about("Says whether a journal is a run of the machine on some filters that breaks nothing")
         .override_usage("fltstack replay [--timeline] [--svg <PICTURE>] <JOURNAL> <FILE>...")
         .after_help(
-            "Prints `legal` (exit 0), or `not a run at N` or `breaks Vk at N` for the first such entry (exit 1),\nbehind the rows where they are asked for. Errors go to the standard error with exit 2.\n\nExample: fltstack replay examples/pending_reads.journal examples/pending_reads.flt",
+            "Prints `legal` (exit 0), or `not a run at N` or `breaks Vk at N` for the first such entry (exit 1),\nbehind the rows where they are asked for. Errors go to the standard error with exit 2.\n\n`--timeline` says why an entry isn't enabled, and `fltstack explain <JOURNAL>` why a line is malformed.\n\nExample: fltstack replay examples/pending_reads.journal examples/pending_reads.flt",
         )
 }
 
@@ -265,10 +278,10 @@ fn bare_explain<'a>(alloc: Global) -> Command<'a>
             "Says all that is wrong with filters' texts, where it comes from, how to get there and how to mend it",
         )
         .override_usage(
-            "fltstack explain [--form <FORM>] [--states <N>] [--journal <JOURNAL>] <FILE>...\n       fltstack explain <R01 to R15, V1 to V8, E01 to E08, a call or a status>",
+            "fltstack explain [--form <FORM>] [--color <WHEN>] [--states <N>] [--journal <JOURNAL>] <FILE>...\n       fltstack explain <R01 to R15, V1 to V8, E01 to E08, a call or a status>...",
         )
         .after_help(
-            "Prints a report for each finding, with a run that breaks something because of it, and last what `analyse`\nsays (exit 1), or `nothing found` (exit 0). Where a text doesn't parse, it says where and why (exit 2).\n`--form lines` prints a JSON object for each finding, `--form sarif` a SARIF document. Of a rule, a violation,\na fault of a text, a call or a status it prints the page (exit 0); `./R02` is a file of that name. Errors\ngo to the standard error with exit 2.\n\nExample: fltstack explain examples/leaked_context.flt",
+            "Prints a report for each finding, with a run that breaks something because of it, and last what `analyse`\nsays (exit 1), or `nothing found` (exit 0). Where a text doesn't parse, it says where and why (exit 2).\n`--form short` prints a line for each finding, `--form lines` a JSON object, `--form sarif` a SARIF document. Of\nrules, violations, faults of a text, calls or statuses it prints the pages (exit 0); `./R02` is a file of that\nname. Errors go to the standard error with exit 2.\n\nExample: fltstack explain examples/leaked_context.flt",
         )
 }
 
@@ -276,13 +289,14 @@ fn explain_command<'a>(alloc: Global) -> Result<Command<'a>, AllocError>
     ensures { IfOk result (λ c. spec.IsCommand c spec.explain_app) }
 {
     let command = with_argument(Ok(bare_explain(alloc)), form_argument(alloc));
+    let command = with_argument(command, colour_argument(alloc));
     let command = with_argument(command, states_argument(alloc));
     let command = with_argument(command, written_argument(alloc));
     with_argument(
         command,
         texts_argument(
             alloc,
-            "The filters' texts; or the number of a rule, a violation or a fault of a text, alone",
+            "The filters' texts; or, without a file among them, the names of pages, as `R02`",
         ),
     )
 }
@@ -299,7 +313,7 @@ fn bare_program<'a>(alloc: Global) -> Command<'a>
             "A static verifier for Windows file-system minifilters, and the stack that runs what it accepts",
         )
         .after_help(
-            "With no words it acts as `check -`.\n\nExit status: 0 for `accepted`, a certificate, a journal, `legal` or nothing found; 1 for any other answer;\n2 where there is none, and the standard error says why.\n\nExample: fltstack analyse examples/pending_reads.flt",
+            "With no words it acts as `check -`. `fltstack <COMMAND> --help` says more of a command.\n\nExit status: 0 for `accepted`, a certificate, a journal, `legal` or nothing found; 1 for any other answer;\n2 where there is none, and the standard error says why.\n\nExample: fltstack analyse examples/pending_reads.flt",
         )
         .subcommand_required(true)
         .no_binary_name(true)

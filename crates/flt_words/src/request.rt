@@ -11,6 +11,17 @@ pub enum Form {
     Lines,
     /// SARIF 2.1.0.
     Sarif,
+    /// A line a finding, as compilers say it.
+    Short,
+}
+
+/// When reports for people have the colours of a terminal.
+#[derive(Clone, Copy, Debug)]
+pub enum Colour {
+    /// Where the standard output is a terminal that shows them.
+    Auto,
+    Always,
+    Never,
 }
 
 /// What the words ask for.
@@ -55,15 +66,16 @@ pub enum Request<'a> {
     /// Say all that is wrong with the texts of some files, and what comes of it in runs.
     Explain {
         form: Form,
+        colour: Colour,
         /// How many states the search for runs of a text goes on from at most.
         states: u32,
         /// The file into which the journal of the first finding that has one is written.
         journal: Option<&'a str>,
         files: Vec<&'a str>,
     },
-    /// Print the page of a rule, of a violation or of a fault of a text.
-    Page {
-        name: &'a str,
+    /// Print the pages of some names: of rules, violations, faults of a text, calls or statuses.
+    Pages {
+        names: Vec<&'a str>,
     },
     /// They can't be taken, or ask for help or the version: the text that says so.
     Usage(String),

@@ -1,14 +1,17 @@
 //! What the words of a command line ask for.
 
 ghost use Rattle.std.specs.Prelude.{◌≡◌, Some, IfOk, map, option_and_then, option_map, string_bytes};
+ghost use Rattle.std.specs.List.{list_all};
 ghost use Rattle.clap.specs.Matches.{found_of};
 ghost use Rattle.clap.specs.Simple.{subcommand_rows_of};
 ghost use Rattle.clap.specs.Walk.{rows_of};
+ghost use Rattle.flt_pages.specs.Pages.{has_page};
 ghost use Rattle.flt_words.specs.Request.{asked_of};
 ghost use Rattle.flt_words.specs.Words as spec;
 
 use crate::program::program;
-use crate::request::{Form, Request};
+use crate::request::{Colour, Form, Request};
+use crate::shown::visible;
 use crate::workers::Workers;
 use clap::ArgMatches;
 use clap::error::ErrorKind;
@@ -24,15 +27,22 @@ const STATES: u32 = 40_000;
 
 /// What is said where a form is asked for that there isn't.
 const NO_FORM: &str =
-    "error: `--form` takes `human`, `lines` or `sarif`\n\nUsage: fltstack explain [--form <FORM>] [--states <N>] [--journal <JOURNAL>] <FILE>...\n\nFor more information, try '--help'.\n";
+    "error: `--form` takes `human`, `short`, `lines` or `sarif`\n\nUsage: fltstack explain [--form <FORM>] [--color <WHEN>] [--states <N>] [--journal <JOURNAL>] <FILE>...\n\nFor more information, try '--help'.\n";
+
+/// The same of when there are colours.
+const NO_COLOUR: &str =
+    "error: `--color` takes `auto`, `always` or `never`\n\nUsage: fltstack explain [--form <FORM>] [--color <WHEN>] [--states <N>] [--journal <JOURNAL>] <FILE>...\n\nFor more information, try '--help'.\n";
 
 /// What is said where the standard input is named for a journal that is written.
 const NO_JOURNAL: &str =
-    "error: `--journal` takes the name of a file\n\nUsage: fltstack explain [--form <FORM>] [--states <N>] [--journal <JOURNAL>] <FILE>...\n\nFor more information, try '--help'.\n";
+    "error: `--journal` takes the name of a file\n\nUsage: fltstack explain [--form <FORM>] [--color <WHEN>] [--states <N>] [--journal <JOURNAL>] <FILE>...\n\nFor more information, try '--help'.\n";
 
 /// The same of a picture.
 const NO_PICTURE: &str =
     "error: `--svg` takes the name of a file\n\nUsage: fltstack replay [--timeline] [--svg <PICTURE>] <JOURNAL> <FILE>...\n\nFor more information, try '--help'.\n";
+
+/// What is said of words that can't be taken, where nothing else is.
+const NO_WORDS: &str = "error: these words can't be taken\n\nFor more information, try '--help'.\n";
 
 // ---- values
 
@@ -91,6 +101,7 @@ fn form_named(name: &str) -> Option<Form>
         "human" => Some(Form::Human),
         "lines" => Some(Form::Lines),
         "sarif" => Some(Form::Sarif),
+        "short" => Some(Form::Short),
         _ => None,
     }
 }
@@ -102,6 +113,28 @@ fn form_of(matches: &ArgMatches) -> Option<Form>
     match matches.get_str("form") {
         Some(name) => form_named(name),
         None => Some(Form::Human),
+    }
+}
+
+/// When there are colours, by its name.
+fn colour_named(name: &str) -> Option<Colour>
+    ensures { result ≡ spec.colour_named name.now }
+{
+    match name {
+        "auto" => Some(Colour::Auto),
+        "always" => Some(Colour::Always),
+        "never" => Some(Colour::Never),
+        _ => None,
+    }
+}
+
+/// When there are colours, if such a time is named; on a terminal where nothing is said.
+fn colour_of(matches: &ArgMatches) -> Option<Colour>
+    ensures { result ≡ spec.colour_of (rows_of (found_of matches.now)) }
+{
+    match matches.get_str("color") {
+        Some(name) => colour_named(name),
+        None => Some(Colour::Auto),
     }
 }
 
@@ -153,20 +186,39 @@ fn asked_thin<'a>(thin: &ArgMatches<'a>) -> Request<'a>
     }
 }
 
+/// Whether each of some names has a page.
+fn all_have_pages(names: &[&str]) -> bool
+    ensures { result ≡ list_all (λ name. has_page name.now) names.now }
+{
+    names.iter().all(|name| page(name).is_some())
+}
+
+/// Whether there are names, and each has a page.
+fn have_pages(names: &[&str]) -> bool
+    ensures { result ≡ spec.have_pages (map (λ name. name.now) names.now) }
+{
+    match names {
+        [] => false,
+        [_, ..] => all_have_pages(names),
+    }
+}
+
 /// What `explain` of some names asks for.
 fn explain_of<'a>(
     form: Form,
+    colour: Colour,
     states: u32,
     journal: Option<&'a str>,
     files: Vec<&'a str>,
 ) -> Request<'a>
-    ensures { asked_of result ≡ Some (spec.explain_of form states (option_map (λ name. name.now) journal.entry)
+    ensures { asked_of result ≡ Some (spec.explain_of form colour states (option_map (λ name. name.now) journal.entry)
         (map (λ name. name.now) files.entry.items)) }
 {
-    match (form, files.as_slice()) {
-        (Form::Human, [name]) if page(name).is_some() => Request::Page { name },
+    match form {
+        Form::Human if have_pages(files.as_slice()) => Request::Pages { names: files },
         _ => Request::Explain {
             form,
+            colour,
             states,
             journal,
             files,
@@ -174,19 +226,35 @@ fn explain_of<'a>(
     }
 }
 
-/// What the matches of `explain` ask for, in a form.
+/// What the matches of `explain` ask for, in a form, with colours at some time.
 fn explain_in<'a>(
     alloc: Global,
     explain: &ArgMatches<'a>,
     form: Form,
+    colour: Colour,
 ) -> Result<Request<'a>, AllocError>
-    ensures { IfOk result (λ r. asked_of r ≡ spec.explain_in (rows_of (found_of explain.now)) form) }
+    ensures { IfOk result (λ r. asked_of r ≡ spec.explain_in (rows_of (found_of explain.now)) form colour) }
 {
     let Some(journal) = written_of(explain, "journal") else {
         return Ok(Request::Usage(String::from_str(alloc, NO_JOURNAL)?));
     };
     let files = files_of(alloc, explain)?;
-    Ok(explain_of(form, states_of(explain), journal, files))
+    Ok(explain_of(form, colour, states_of(explain), journal, files))
+}
+
+/// What the matches of `explain` ask for, in a form.
+#[tactic(auto, unfolding(crate::specs::Words::explain_as))]
+fn explain_as<'a>(
+    alloc: Global,
+    explain: &ArgMatches<'a>,
+    form: Form,
+) -> Result<Request<'a>, AllocError>
+    ensures { IfOk result (λ r. asked_of r ≡ spec.explain_as (rows_of (found_of explain.now)) form) }
+{
+    let Some(colour) = colour_of(explain) else {
+        return Ok(Request::Usage(String::from_str(alloc, NO_COLOUR)?));
+    };
+    explain_in(alloc, explain, form, colour)
 }
 
 /// What the matches of `explain` ask for.
@@ -196,7 +264,7 @@ fn asked_explain<'a>(alloc: Global, explain: &ArgMatches<'a>) -> Result<Request<
     let Some(form) = form_of(explain) else {
         return Ok(Request::Usage(String::from_str(alloc, NO_FORM)?));
     };
-    explain_in(alloc, explain, form)
+    explain_as(alloc, explain, form)
 }
 
 /// What the matches of `run` ask for.
@@ -294,7 +362,26 @@ fn take_words<'a>(alloc: Global, words: &'a [String]) -> Result<Request<'a>, All
             if is_memory(error.kind()) {
                 return Err(AllocError);
             }
-            Ok(Request::Usage(format!(in alloc; "{error}")?))
+            Ok(Request::Usage(usage(alloc, words)?))
+        }
+    }
+}
+
+/// What is said of words that can't be taken, or ask for help or the version. `clap` says it of the words as they are shown, so that a
+/// terminal acts on none of them.
+fn usage(alloc: Global, words: &[String]) -> Result<String, AllocError> {
+    let mut shown = Vec::new(alloc);
+    for word in words {
+        let word = visible(alloc, word.as_str())?;
+        shown.push(word)?;
+    }
+    match program(alloc)?.try_get_matches_from(shown.as_slice()) {
+        Ok(_) => String::from_str(alloc, NO_WORDS),
+        Err(error) => {
+            if is_memory(error.kind()) {
+                return Err(AllocError);
+            }
+            format!(in alloc; "{error}")
         }
     }
 }

@@ -1,5 +1,3 @@
-use Rattle.clap.specs.Simple.{App}
-use Rattle.flt_words.specs.Program.{IsCommand}
 use Rattle.flt_words.proofs.Commands.{with_about, with_after_help, with_no_binary_name, with_subcommand_required, with_version}
 use Rattle.flt_words.proofs.program.bare_program.Goals as goal
 

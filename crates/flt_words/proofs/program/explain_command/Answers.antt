@@ -3,6 +3,7 @@ use Rattle.flt_words.proofs.program.explain_command.Goals as goal
 pub returns : goal.returns
 returns c =
     let one = c.with_argument-command.ensures _ _ c.bare_explain.ensures c.form_argument.ensures.rule c.form_argument.ensures.own in
-    let two = c.with_argument-command-2.ensures _ _ one c.states_argument.ensures.rule c.states_argument.ensures.own in
-    let three = c.with_argument-command-3.ensures _ _ two c.written_argument.ensures.rule c.written_argument.ensures.own in
-    c.with_argument.ensures _ _ three c.texts_argument.ensures.rule c.texts_argument.ensures.own
+    let two = c.with_argument-command-2.ensures _ _ one c.colour_argument.ensures.rule c.colour_argument.ensures.own in
+    let three = c.with_argument-command-3.ensures _ _ two c.states_argument.ensures.rule c.states_argument.ensures.own in
+    let four = c.with_argument-command-4.ensures _ _ three c.written_argument.ensures.rule c.written_argument.ensures.own in
+    c.with_argument.ensures _ _ four c.texts_argument.ensures.rule c.texts_argument.ensures.own

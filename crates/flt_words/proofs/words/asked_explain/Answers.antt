@@ -3,11 +3,11 @@ use Rattle.std.proofs.Math.Path.{subst}
 use Rattle.clap.specs.Walk.{rows_of}
 use Rattle.clap.specs.Matches.{found_of}
 use Rattle.flt_words.specs.Request.{asked_of}
-use Rattle.flt_words.specs.Words.{explain_in, form_of}
+use Rattle.flt_words.specs.Words.{explain_as, form_of}
 use Rattle.flt_words.proofs.words.asked_explain.Goals as goal
 
 pub returns : goal.returns
 returns c =
     let rows = rows_of (found_of c.args.explain.now) in
     let form : Some c.in-Some.form ≡ form_of rows = sym c.in-Some.is ∙ c.form_of.ensures in
-    subst (λ o. IfOk c.explain_in.result (λ r. asked_of r ≡ option_and_then (explain_in rows) o)) form c.explain_in.ensures
+    subst (λ o. IfOk c.explain_as.result (λ r. asked_of r ≡ option_and_then (explain_as rows) o)) form c.explain_as.ensures

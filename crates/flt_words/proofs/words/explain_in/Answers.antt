@@ -10,4 +10,4 @@ returns c =
     let journal : Some (option_map (λ s. s.now) c.in-Some.journal) ≡ written_of (codes "journal") rows =
     sym (ap (option_map (λ file. option_map (λ s. s.now) file)) c.in-Some.is) ∙ c.written_of.ensures in
     rw (c.explain_of.ensures, c.states_of.ensures, c.in_ok-files.ensures)
-    (ap (option_map (λ file. explain_of c.args.form (states_of rows) file (files_of rows))) journal)
+    (ap (option_map (λ file. explain_of c.args.form c.args.colour (states_of rows) file (files_of rows))) journal)

@@ -1,6 +1,5 @@
-use Rattle.std.proofs.Common.{◌≡◌, codes, ◌∙◌, Option, Some, option_map}
+use Rattle.std.proofs.Common.{codes, ◌∙◌, Some}
 use Rattle.clap.proofs.WalkLemmas.{first_value-rows}
-use Rattle.clap.specs.Walk.{rows_of, first_of}
 use Rattle.clap.specs.Matches.{found_of}
 use Rattle.flt_words.specs.Words.{form_named}
 use Rattle.flt_words.specs.declared.request.Form.TheVariants.{Human}

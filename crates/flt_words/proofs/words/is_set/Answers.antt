@@ -1,7 +1,6 @@
-use Rattle.std.proofs.Common.{◌≡◌, codes, false, ◌∙◌, option_map}
+use Rattle.std.proofs.Common.{codes, false, ◌∙◌}
 use Rattle.std.specs.Str.{bytes_eq}
 use Rattle.clap.proofs.WalkLemmas.{first_value-rows}
-use Rattle.clap.specs.Walk.{rows_of, first_of}
 use Rattle.clap.specs.Matches.{found_of}
 use Rattle.flt_words.proofs.Requests.{value_or, no_value_or}
 use Rattle.flt_words.proofs.words.is_set.Goals as goal

@@ -1,6 +1,5 @@
-use Rattle.std.proofs.Common.{◌≡◌, codes, ◌∙◌, option_map}
+use Rattle.std.proofs.Common.{codes, ◌∙◌}
 use Rattle.clap.proofs.WalkLemmas.{first_value-rows}
-use Rattle.clap.specs.Walk.{rows_of, first_of}
 use Rattle.clap.specs.Matches.{found_of}
 use Rattle.flt_words.specs.Words.{count_or_zero}
 use Rattle.flt_words.proofs.Counts.{count_read}

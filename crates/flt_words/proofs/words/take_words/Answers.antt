@@ -6,5 +6,5 @@ pub returns-in-Ok : goal.returns-in-Ok
 returns-in-Ok c = all_taken _ _ c.in_ok-program.ensures c.in-Ok.matches c.in-Ok.ensures.matches c.in-Ok.ensures.kinds
     c.matched.result c.matched.ensures
 
-pub returns-in_ok-format-in-Err : goal.returns-in_ok-format-in-Err
-returns-in_ok-format-in-Err c = not_taken _ _ c.in_ok-program.ensures c.in-Err.error c.in-Err.ensures.kinds (search rules)
+pub returns-in_ok-usage-in-Err : goal.returns-in_ok-usage-in-Err
+returns-in_ok-usage-in-Err c = not_taken _ _ c.in_ok-program.ensures c.in-Err.error c.in-Err.ensures.kinds (search rules)

@@ -1,6 +1,6 @@
-use Rattle.std.proofs.Common.{◌≡◌, codes, ◌∙◌, option_map}
+use Rattle.std.proofs.Common.{codes, ◌∙◌}
 use Rattle.clap.proofs.WalkLemmas.{byte_read, first_value-rows}
-use Rattle.clap.specs.Walk.{byte_or_zero, rows_of, first_of}
+use Rattle.clap.specs.Walk.{byte_or_zero}
 use Rattle.clap.specs.Matches.{found_of}
 use Rattle.flt_words.proofs.Requests.{value_or, no_value_or}
 use Rattle.flt_words.proofs.words.workers_of.Goals as goal

@@ -1,0 +1,53 @@
+//! Why a file isn't written.
+
+use flt_words::visible;
+use std::alloc::{AllocError, Global};
+use std::io;
+
+/// Why a file isn't written.
+#[derive(Clone, Copy, Debug)]
+pub enum Unwritten {
+    /// Its name is that of a symbolic link, and what that leads to may be another's.
+    Link,
+    /// It is one of the inputs, whatever its name.
+    Input,
+    Folder,
+    /// The system refuses it, and says why.
+    Refused(io::Error),
+}
+
+impl Unwritten {
+    /// What to do about it.
+    fn help(self) -> &'static str {
+        match self {
+            Unwritten::Link => "name the file that it leads to",
+            Unwritten::Input => "name another file",
+            Unwritten::Folder => "name a file in it",
+            Unwritten::Refused(_) =>
+                "it takes a folder with room for a new file, and the right to write there",
+        }
+    }
+
+    /// Why it isn't written, in words.
+    fn words(self, alloc: Global) -> Result<String, AllocError> {
+        match self {
+            Unwritten::Link => String::from_str(alloc, "it is a symbolic link"),
+            Unwritten::Input => String::from_str(alloc, "it is one of the inputs"),
+            Unwritten::Folder => String::from_str(alloc, "this is a folder"),
+            Unwritten::Refused(fault) => format!(in alloc; "{fault}"),
+        }
+    }
+}
+
+/// Whole lines that say why a file isn't written.
+pub(crate) fn unwritten_lines(
+    alloc: Global,
+    name: &str,
+    why: Unwritten,
+) -> Result<Vec<u8>, AllocError> {
+    let words = why.words(alloc)?;
+    let help = why.help();
+    let name = visible(alloc, name)?;
+    let lines = format!(in alloc; "error: `{name}` isn't written: {words}\n   = help: {help}\n")?;
+    Ok(lines.into_bytes())
+}

@@ -1,0 +1,31 @@
+-- What is found of texts, a sentence a line, as compilers say it. This project's own format.
+use Rattle.std.specs.Prelude.{◌≡◌, ℕ, List, [], ◌∷◌, ◌++◌, codes}
+use Rattle.std.specs.Fmt.{decimal}
+use Rattle.flt_details.specs.Closing.{fault_name, rule_name}
+use Rattle.flt_details.specs.declared.study.Detail.{Detail}
+use Rattle.flt_syntax.specs.TextFails.{Fails}
+use Rattle.flt_syntax.specs.declared.fault.SyntaxFault.{SyntaxFault}
+
+-- words behind a head, and a line feed
+abbrev pub sentence : List ℕ → List ℕ → List ℕ
+sentence head words = head ++ words ++ 10 ∷ []
+
+-- `FILE:LINE:COLUMN: error[RULE]: `
+abbrev pub head : List ℕ → ℕ → ℕ → List ℕ → List ℕ
+head name line column rule =
+    name ++ codes ":" ++ decimal line ++ codes ":" ++ decimal column ++ codes ": error[" ++ rule ++ codes "]: "
+
+-- the line of a finding: where it stands, its rule, and its title
+abbrev pub finding_line : List ℕ → Detail → List ℕ
+finding_line name d = sentence (head name d.marks.statement.first.line d.marks.statement.first.column (rule_name d.finding.rule)) d.words.title.items
+
+-- the line of a fault
+abbrev pub fault_line : List ℕ → SyntaxFault → List ℕ → List ℕ
+fault_line name f words = sentence (head name f.line f.column (fault_name f.kind)) words
+
+-- the line of a text that doesn't parse: its first fault; which words stand in it is in no definition
+pub record IsFaultLine (name text printed : List ℕ) : Type 0 where
+  pub fault : SyntaxFault
+  pub first : Fails text fault
+  pub words : List ℕ
+  pub line : printed ≡ fault_line name fault words

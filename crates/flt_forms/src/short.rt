@@ -1,0 +1,138 @@
+//! What is found of texts, a sentence a line, as compilers say it.
+
+ghost use Rattle.std.specs.Prelude.{◌≡◌, ◌++◌, List, ℕ, IfOk, Some, flat_map, string_bytes};
+ghost use Rattle.flt_forms.specs.Lines.{AreShortLines};
+ghost use Rattle.flt_forms.specs.Short as spec;
+ghost use Rattle.flt_syntax.specs.TextFails.{Fails};
+
+use flt_details::{Detail, RuleName, Source, details, fault_name};
+use flt_explain::Finding;
+use flt_graph::Graph;
+use flt_hints::{describe, tell};
+use flt_syntax::{SyntaxFault, Tree, fails_exactly_where_nothing_is_spelled};
+use flt_tree::Position;
+use std::alloc::{AllocError, Global};
+use std::fmt;
+
+/// What stands before the words: the file's name, the place and the rule.
+#[derive(Drop)]
+struct Head<'a> {
+    name: &'a str,
+    place: Position,
+    rule: &'a str,
+}
+
+impl fmt::Display for Head<'_> {
+    ghost output = { λ h. Some (spec.head h.name.now h.place.line h.place.column h.rule.now) };
+
+    fn fmt<W: fmt::Write>(&self, f: &mut fmt::Formatter<W>) -> fmt::Result {
+        let name = self.name;
+        let line = self.place.line;
+        let column = self.place.column;
+        let rule = self.rule;
+        write!(f, "{name}:{line}:{column}: error[{rule}]: ")
+    }
+}
+
+fn head_of(alloc: Global, name: &str, place: Position, rule: &str) -> Result<String, AllocError>
+    ensures { IfOk result (λ head. string_bytes head ≡ spec.head name.now place.line place.column rule.now) }
+{
+    let head = Head { name, place, rule };
+    format!(in alloc; "{head}")
+}
+
+/// Words and a line feed behind a head, behind what is there.
+fn put_sentence(out: Vec<u8>, head: &str, words: &[u8]) -> Result<Vec<u8>, AllocError>
+    ensures { IfOk result (λ v. v.items ≡ out.items ++ spec.sentence head.now words.now) }
+{
+    let mut out = out;
+    out.extend_from_slice(head.as_bytes())?;
+    out.extend_from_slice(words)?;
+    out.push(b'\n')?;
+    Ok(out)
+}
+
+/// The line of a finding, behind what is there.
+fn put_finding(
+    alloc: Global,
+    out: Vec<u8>,
+    name: &str,
+    detail: &Detail,
+) -> Result<Vec<u8>, AllocError>
+    ensures { IfOk result (λ v. v.items ≡ out.items ++ spec.finding_line name.now detail.now) }
+{
+    let rule = RuleName(detail.finding.rule);
+    let rule = format!(in alloc; "{rule}")?;
+    let head = head_of(alloc, name, detail.marks.statement.first, rule.as_str())?;
+    put_sentence(out, head.as_str(), detail.words.title.as_slice())
+}
+
+/// A line for each finding, behind what is there.
+fn put_findings(
+    alloc: Global,
+    out: Vec<u8>,
+    name: &str,
+    details: &[Detail],
+) -> Result<Vec<u8>, AllocError>
+    ensures { IfOk result (λ v. v.items ≡ out.items ++ flat_map (spec.finding_line name.now) details.now) }
+{
+    let mut out = out;
+    for detail in details {
+        out = put_finding(alloc, out, name, detail)?;
+    }
+    Ok(out)
+}
+
+/// The lines of what is found of a text that parses, behind what is there.
+pub(crate) fn put_short_lines(
+    alloc: Global,
+    out: Vec<u8>,
+    source: Source<'_>,
+    tree: &Tree,
+    graph: &Graph,
+    found: &[Finding],
+) -> Result<Vec<u8>, AllocError>
+    ensures { IfOk result (λ v. (printed : List ℕ)
+        × AreShortLines source.entry.name.now source.entry.text.now tree.now.filter graph.now found.now printed × (v.items ≡ out.items ++ printed)) }
+{
+    let details = details(alloc, source.text, tree, graph, found)?;
+    put_findings(alloc, out, source.name, details.as_slice())
+}
+
+/// The line of a fault, behind what is there.
+fn put_fault(
+    alloc: Global,
+    out: Vec<u8>,
+    name: &str,
+    fault: SyntaxFault,
+    words: &[u8],
+) -> Result<Vec<u8>, AllocError>
+    ensures { IfOk result (λ v. v.items ≡ out.items ++ spec.fault_line name.now fault words.now) }
+{
+    let place = Position {
+        line: fault.line,
+        column: fault.column,
+    };
+    let head = head_of(alloc, name, place, fault_name(fault.kind))?;
+    put_sentence(out, head.as_str(), words)
+}
+
+/// The line of a text that doesn't parse, behind what is there.
+pub(crate) fn put_short_fault(
+    alloc: Global,
+    out: Vec<u8>,
+    source: Source<'_>,
+    fault: SyntaxFault,
+) -> Result<Vec<u8>, AllocError>
+    requires { Fails source.text.now fault }
+    ensures { IfOk result (λ v. (printed : List ℕ) × spec.IsFaultLine source.entry.name.now source.entry.text.now printed
+        × (v.items ≡ out.items ++ printed)) }
+{
+    fails_exactly_where_nothing_is_spelled();
+    let Some(trouble) = describe(alloc, source.text)? else {
+        return Ok(out);
+    };
+    let told = tell(alloc, &trouble)?;
+    let written = put_fault(alloc, out, source.name, fault, told.title.as_slice())?;
+    Ok(written)
+}
