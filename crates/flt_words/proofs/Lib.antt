@@ -2,4 +2,5 @@ pub mod Commands
 pub mod Counts
 pub mod Requests
 pub mod Letters
+pub mod Needed
 pub mod PagedNames

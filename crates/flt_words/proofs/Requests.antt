@@ -2,7 +2,6 @@
 use Rattle.std.proofs.Common.{◌≡◌, inl, inr, List, [], ◌∷◌, true, false, Option, Some, None, Bor, Vec, Global, Result, Ok, Err, IfOk, refl, sym, ◌∙◌, ap, option_map, option_and_then, unwrap_or, map}
 use Rattle.std.specs.Option.{IsSomeAnd, option_map_or}
 use Rattle.std.specs.declared.alloc.AllocError.{AllocError}
-use Rattle.clap.proofs.OnLiterals.{clap_on_literals}
 use Rattle.clap.specs.Built.{AddsSubcommand}
 use Rattle.clap.specs.Faults.{fault_of, is_simple_and_free}
 use Rattle.clap.specs.Kinds.{Kinds, HasKind}
@@ -19,6 +18,7 @@ use Rattle.clap.specs.declared.parser.matches.ArgMatches.{ArgMatches}
 use Rattle.clap.specs.declared.parser.matches.ArgMatches.TheViews.{out-ArgMatches}
 use Rattle.flt_words.specs.declared.request.Request.{Request}
 use Rattle.flt_words.specs.Program.{IsCommand, program_app}
+use Rattle.flt_words.proofs.Needed.{Serves}
 use Rattle.flt_words.specs.Request.{asked_of}
 use Rattle.flt_words.specs.Words.{asked_by, asked_words, is_memory, is_none}
 
@@ -41,23 +41,16 @@ has_kinds [] e (inl memory) other = absurd (cc (rw memory at other))
 has_kinds [] e (inr among) other = absurd among
 has_kinds (k ∷ kinds) e h other = refl
 
-is_plain : is_simple program_app ≡ true
-unfolding clap_on_literals
-is_plain = refl
-
-is_free : is_simple_and_free program_app ≡ true
-unfolding clap_on_literals
-is_free = refl
-
-module _ (c : Command) (words : List Text) (is : IsCommand c program_app) where
+module _ (c : Command) (a : App) (words : List Text) (is : IsCommand c a) (serves : Serves a words) where
   -- words that are taken ask for what was matched
   pub taken : (m : ArgMatches) → HasMatchesOf (app_of c) words m → (is_simple_and_free (app_of c) ≡ true → fault_of (app_of c) words ≡ []) →
       option_and_then asked_by (subcommand_rows_of m) ≡ asked_words words
   taken m matches kinds =
-      let plain : is_simple (app_of c) ≡ true = ap is_simple is.0 ∙ is_plain in
-      let free : is_simple_and_free (app_of c) ≡ true = ap is_simple_and_free is.0 ∙ is_free in
-      let none : fault_of program_app words ≡ [] = ap (λ a. fault_of a words) (sym is.0) ∙ kinds free in
-      let same : subcommand_rows_of m ≡ subcommand_of program_app words = (matches plain).1 ∙ ap (λ a. subcommand_of a words) is.0 in
+      let plain : is_simple (app_of c) ≡ true = ap is_simple is.0 ∙ serves.plain in
+      let free : is_simple_and_free (app_of c) ≡ true = ap is_simple_and_free is.0 ∙ serves.free in
+      let none : fault_of program_app words ≡ [] = sym serves.faults ∙ ap (λ a. fault_of a words) (sym is.0) ∙ kinds free in
+      let same : subcommand_rows_of m ≡ subcommand_of program_app words =
+      (matches plain).1 ∙ ap (λ a. subcommand_of a words) is.0 ∙ serves.subcommands in
       rw (same, none) refl
 
   -- the same of a request, unless memory ran out
@@ -73,9 +66,10 @@ module _ (c : Command) (words : List Text) (is : IsCommand c program_app) where
       is_memory (kind_of e) ≡ false →
       None ≡ asked_words words
   not_taken e kinds other =
-      let free : is_simple_and_free (app_of c) ≡ true = ap is_simple_and_free is.0 ∙ is_free in
+      let free : is_simple_and_free (app_of c) ≡ true = ap is_simple_and_free is.0 ∙ serves.free in
       let some : is_none (fault_of (app_of c) words) ≡ false = has_kinds (fault_of (app_of c) words) e (kinds free) other in
-      let none : is_none (fault_of program_app words) ≡ false = ap (λ a. is_none (fault_of a words)) (sym is.0) ∙ some in
+      let none : is_none (fault_of program_app words) ≡ false =
+      ap is_none (sym serves.faults) ∙ ap (λ a. is_none (fault_of a words)) (sym is.0) ∙ some in
       rw none refl
 
 -- the matches of a subcommand ask for what its name and its own matches ask for

@@ -1,8 +1,9 @@
 -- The program's commands and their arguments, as `clap` takes them. This project's own program.
-use Rattle.std.specs.Prelude.{◌≡◌, true, false, Some, codes, pos}
+use Rattle.std.specs.Prelude.{◌≡◌, true, false, Some, codes, if◌then◌else◌, pos}
+use Rattle.std.specs.Str.{bytes_eq}
 use Rattle.clap.specs.Lexer.{usize_max}
 use Rattle.clap.specs.Simple.{App, app_of, new_app, new_rule, with_rule, with_subcommand}
-use Rattle.clap.specs.Walk.{Rule}
+use Rattle.clap.specs.Walk.{Rule, Text}
 use Rattle.clap.specs.declared.builder.action.ArgAction.TheVariants.{SetTrue}
 use Rattle.clap.specs.declared.builder.command.Command.{Command}
 use Rattle.clap.specs.declared.builder.command.Command.TheViews.{out-Command as fields_of}
@@ -124,3 +125,19 @@ abbrev pub program_app : App
 program_app =
     with_subcommand (with_subcommand (with_subcommand (with_subcommand (with_subcommand (with_subcommand bare_app check_app.top)
     analyse_app.top) thin_app.top) explain_app.top) run_app.top) replay_app.top
+
+-- ---- what of it words need
+
+-- the program with one of its commands alone
+abbrev pub program_with : App → App
+program_with command = with_subcommand bare_app command.top
+
+-- what words need that begin with this one: the command that it names, or all of them where it names none
+abbrev pub app_for : Text → App
+app_for word =
+    if bytes_eq word (codes "check") then program_with check_app
+    else (if bytes_eq word (codes "analyse") then program_with analyse_app
+    else (if bytes_eq word (codes "thin") then program_with thin_app
+    else (if bytes_eq word (codes "explain") then program_with explain_app
+    else (if bytes_eq word (codes "run") then program_with run_app
+    else (if bytes_eq word (codes "replay") then program_with replay_app else program_app)))))

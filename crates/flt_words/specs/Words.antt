@@ -1,7 +1,7 @@
 -- What the words of a command line ask for. This project's own program.
 use Rattle.std.specs.Char.{digit_value}
 use Rattle.std.specs.List.{list_all}
-use Rattle.std.specs.Prelude.{ℕ, ◌&&◌, List, [], ◌∷◌, Bool, true, false, Option, Some, None, codes, if◌then◌else◌, length, nat_lt, unwrap_or, option_and_then, option_map}
+use Rattle.std.specs.Prelude.{ℕ, ◌≡◌, ◌&&◌, List, [], ◌∷◌, Bool, true, false, Option, Some, None, codes, if◌then◌else◌, length, nat_lt, unwrap_or, option_and_then, option_map}
 use Rattle.std.specs.Option.{option_map_or}
 use Rattle.std.specs.Str.{bytes_eq}
 use Rattle.std.specs.Str.Parse.{digits_value, without_leading_plus}
@@ -153,6 +153,11 @@ is_memory _ = false
 abbrev pub is_none : Kinds → Bool
 is_none [] = true
 is_none (k ∷ kinds) = false
+
+-- the first of some words
+abbrev pub IsFirst : Text → List Text → Type 0
+IsFirst word [] = ⊥
+IsFirst word (first ∷ rest) = first ≡ word
 
 -- what words ask for, none where they can't be taken, or ask for help or the version
 abbrev pub asked_words : List Text → Option Asked

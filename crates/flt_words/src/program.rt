@@ -342,3 +342,31 @@ pub(crate) fn program<'a>(alloc: Global) -> Result<Command<'a>, AllocError>
     let program = with_command(program, run_command(alloc));
     with_command(program, replay_command(alloc))
 }
+
+/// The program with one of its commands alone.
+#[inline(always)]
+fn program_with<'a>(
+    alloc: Global,
+    command: Result<Command<'a>, AllocError>,
+) -> Result<Command<'a>, AllocError>
+    ensures { (c : App) → IfOk command.entry (λ command. spec.IsCommand command c) → IfOk result (λ p. spec.IsCommand p (spec.program_with c)) }
+{
+    with_command(Ok(bare_program(alloc)), command)
+}
+
+/// The program as far as words need it that begin with this one: with the command that it names alone, since each that is built takes some
+/// 10,000 instructions, or whole where it names none.
+#[inline(always)]
+pub(crate) fn program_for<'a>(alloc: Global, word: &str) -> Result<Command<'a>, AllocError>
+    ensures { IfOk result (λ c. spec.IsCommand c (spec.app_for word.now)) }
+{
+    match word {
+        "check" => program_with(alloc, check_command(alloc)),
+        "analyse" => program_with(alloc, analyse_command(alloc)),
+        "thin" => program_with(alloc, thin_command(alloc)),
+        "explain" => program_with(alloc, explain_command(alloc)),
+        "run" => program_with(alloc, run_command(alloc)),
+        "replay" => program_with(alloc, replay_command(alloc)),
+        _ => program(alloc),
+    }
+}

@@ -9,7 +9,7 @@ ghost use Rattle.flt_pages.specs.Pages.{has_page};
 ghost use Rattle.flt_words.specs.Request.{asked_of};
 ghost use Rattle.flt_words.specs.Words as spec;
 
-use crate::program::program;
+use crate::program::{program, program_for};
 use crate::request::{Colour, Form, Request};
 use crate::shown::visible;
 use crate::workers::Workers;
@@ -352,11 +352,16 @@ fn is_memory(kind: ErrorKind) -> bool
     matches!(kind, ErrorKind::OutOfMemory)
 }
 
-/// What words ask for, where there are some.
-fn take_words<'a>(alloc: Global, words: &'a [String]) -> Result<Request<'a>, AllocError>
+/// What words ask for, of which this one is the first.
+fn take_words<'a>(
+    alloc: Global,
+    first: &str,
+    words: &'a [String],
+) -> Result<Request<'a>, AllocError>
+    requires first { spec.IsFirst first.now (map string_bytes words.now) }
     ensures { IfOk result (λ r. asked_of r ≡ spec.asked_words (map string_bytes words.entry.now)) }
 {
-    match program(alloc)?.try_get_matches_from(words) {
+    match program_for(alloc, first)?.try_get_matches_from(words) {
         Ok(matches) => matched(alloc, &matches),
         Err(error) => {
             if is_memory(error.kind()) {
@@ -399,6 +404,6 @@ pub fn read_words<'a>(alloc: Global, words: &'a [String]) -> Result<Request<'a>,
             file: "-",
             cert: None,
         }),
-        [_, ..] => take_words(alloc, words),
+        [first, ..] => take_words(alloc, first.as_str(), words),
     }
 }

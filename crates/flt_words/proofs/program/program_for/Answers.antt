@@ -1,0 +1,19 @@
+use Rattle.flt_words.proofs.program.program_for.Goals as goal
+
+pub returns-in-check : goal.returns-in-check
+returns-in-check c = rw c.in-check.is (c.program_with.ensures _ c.check_command.ensures)
+
+pub returns-in-analyse : goal.returns-in-analyse
+returns-in-analyse c = rw c.in-analyse.is (c.program_with-in-analyse.ensures _ c.analyse_command.ensures)
+
+pub returns-in-thin : goal.returns-in-thin
+returns-in-thin c = rw c.in-thin.is (c.program_with-in-thin.ensures _ c.thin_command.ensures)
+
+pub returns-in-explain : goal.returns-in-explain
+returns-in-explain c = rw c.in-explain.is (c.program_with-in-explain.ensures _ c.explain_command.ensures)
+
+pub returns-in-run : goal.returns-in-run
+returns-in-run c = rw c.in-run.is (c.program_with-in-run.ensures _ c.run_command.ensures)
+
+pub returns-in-replay : goal.returns-in-replay
+returns-in-replay c = rw c.in-replay.is (c.program_with-in-replay.ensures _ c.replay_command.ensures)
