@@ -116,7 +116,7 @@ pub fn read_text_within<R: Reader>(
         ((R.failures reader.new ≢ R.failures reader.old) ⊎ system.IsTooLong (R.left reader.old))) }
 {
     let mut kept = Vec::with_capacity(alloc, KEPT)?;
-    let mut buffer = [0u8; 4096];
+    let mut buffer = [0u8; AT_ONCE];
     let mut total = 0;
     for _ in 0..u64::MAX {
         let count = match reader.take(&mut buffer) {

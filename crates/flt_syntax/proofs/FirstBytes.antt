@@ -9,11 +9,16 @@ use Rattle.flt_syntax.specs.Vocabulary.{vocabulary}
 use Rattle.flt_syntax.specs.declared.token.Kind.{Kind}
 use Rattle.flt_tree.specs.Names.{Text, is_word}
 
--- a table that has all words of the vocabulary with a first byte has those of each text that begins with it
-pub found_by_first : (table : List (Text × Kind)) (b : ℕ) (name : Text) → 0 < length name → b ≡ slice_index name 0 →
-    ((rest : Text) → lookup table (b ∷ rest) ≡ lookup vocabulary (b ∷ rest)) → lookup table name ≡ lookup vocabulary name
-found_by_first table b [] some first all = absurd (omega arith)
-found_by_first table b (x ∷ name) some first all = subst (λ y. lookup table (y ∷ name) ≡ lookup vocabulary (y ∷ name)) first (all name)
+-- a table that has all words of the vocabulary with these four bytes in front has those of each text that begins with them
+pub found_by_four : (table : List (Text × Kind)) (d : ℕ) (name : Text) → 4 ≤ length name → slice_index name 0 ≡ 70 → slice_index name 1 ≡ 108 →
+    slice_index name 2 ≡ 116 → d ≡ slice_index name 3 →
+    ((rest : Text) → lookup table (70 ∷ 108 ∷ 116 ∷ d ∷ rest) ≡ lookup vocabulary (70 ∷ 108 ∷ 116 ∷ d ∷ rest)) →
+    lookup table name ≡ lookup vocabulary name
+found_by_four table d [] four f l t letter all = absurd (omega arith)
+found_by_four table d (a ∷ []) four f l t letter all = absurd (omega arith)
+found_by_four table d (a ∷ (b ∷ [])) four f l t letter all = absurd (omega arith)
+found_by_four table d (a ∷ (b ∷ (c ∷ []))) four f l t letter all = absurd (omega arith)
+found_by_four table d (a ∷ (b ∷ (c ∷ (e ∷ name)))) four f l t letter all = rw (f, l, t, ← letter) (all name)
 
 -- texts of two lengths differ
 pub as_long : (a b : Text) → length a ≢ length b → bytes_eq a b ≡ false

@@ -10,7 +10,7 @@ ghost use Rattle.flt_syntax.specs.Written.{ReadsBackWords};
 ghost use Rattle.flt_tree.specs.Names as names;
 
 use crate::token::{Kind, Token, Word};
-use crate::words::{variable, words_from};
+use crate::words::{variable, words_like};
 use flt_tree::Position;
 use sqlite_items::Items;
 use std::alloc::{AllocError, Global};
@@ -146,14 +146,10 @@ fn lookup(mut table: &[(&[u8], Kind)], name: &[u8]) -> Kind
 
 /// The kind of a word, looked for among those that begin as it does.
 #[inline(always)]
-#[tactic(auto, using(crate::proofs::FirstBytes::found_by_first))]
 fn kind_of(name: &[u8]) -> Kind
     ensures { result ≡ spec.lookup vocabulary name.now }
 {
-    match name {
-        [first, ..] => lookup(words_from(*first), name),
-        [] => Kind::Name,
-    }
+    lookup(words_like(name), name)
 }
 
 fn value(mut digits: &[u8]) -> Option<u64>

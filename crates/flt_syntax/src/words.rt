@@ -156,9 +156,40 @@ const LOWER_N: [(&[u8], Kind); 8] = [
     (b"n7", Kind::N7),
 ];
 
+const CALLS_A: [(&[u8], Kind); 3] = [
+    (b"FltAllocateContext", Kind::AllocateContext),
+    (b"FltAcquirePushLockExclusive", Kind::AcquirePushLock),
+    (b"FltAcquirePushLockShared", Kind::AcquirePushLockShared),
+];
+
+const CALLS_G: [(&[u8], Kind); 2] = [
+    (b"FltGetStreamContext", Kind::GetStreamContext),
+    (b"FltGetInstanceContext", Kind::GetInstanceContext),
+];
+
+const CALLS_R: [(&[u8], Kind); 3] = [
+    (b"FltReferenceContext", Kind::ReferenceContext),
+    (b"FltReleaseContext", Kind::ReleaseContext),
+    (b"FltReleasePushLock", Kind::ReleasePushLock),
+];
+
+/// The words that begin with `Flt` and a letter, in the order of `keywords`; all that begin with `F` where few calls or none have that letter.
+#[inline(always)]
+fn calls_from(letter: u8) -> &'static [(&'static [u8], Kind)]
+    ensures { (rest : Text) → lookup (map (λ e. (e.0.now, e.1)) result.now) (70 ∷ 108 ∷ 116 ∷ letter ∷ rest)
+        ≡ lookup vocabulary (70 ∷ 108 ∷ 116 ∷ letter ∷ rest) }
+{
+    match letter {
+        b'A' => &CALLS_A,
+        b'G' => &CALLS_G,
+        b'R' => &CALLS_R,
+        _ => &UPPER_F,
+    }
+}
+
 /// The words that begin with a byte, in the order of `keywords`; all of them where none begins so.
 #[inline(always)]
-pub(crate) fn words_from(first: u8) -> &'static [(&'static [u8], Kind)]
+fn words_beginning(first: u8) -> &'static [(&'static [u8], Kind)]
     ensures { (rest : Text) → lookup (map (λ e. (e.0.now, e.1)) result.now) (first ∷ rest) ≡ lookup vocabulary (first ∷ rest) }
 {
     match first {
@@ -190,6 +221,18 @@ pub(crate) fn words_from(first: u8) -> &'static [(&'static [u8], Kind)]
         b'E' => &UPPER_E,
         b'n' => &LOWER_N,
         _ => keywords(),
+    }
+}
+
+/// Words among which a name is, if it is a word: few of those of `keywords`, in the same order.
+#[inline(always)]
+pub(crate) fn words_like(name: &[u8]) -> &'static [(&'static [u8], Kind)]
+    ensures { lookup (map (λ e. (e.0.now, e.1)) result.now) name.now ≡ lookup vocabulary name.now }
+{
+    match name {
+        [b'F', b'l', b't', letter, ..] => calls_from(*letter),
+        [first, ..] => words_beginning(*first),
+        [] => &LOWER_L,
     }
 }
 

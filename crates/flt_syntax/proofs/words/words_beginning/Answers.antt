@@ -1,5 +1,5 @@
 use Rattle.std.proofs.Common.{refl}
-use Rattle.flt_syntax.proofs.words.words_from.Goals as goal
+use Rattle.flt_syntax.proofs.words.words_beginning.Goals as goal
 
 pub returns-in-83 : goal.returns-in-83
 returns-in-83 c rest = rw c.in-83.is refl
