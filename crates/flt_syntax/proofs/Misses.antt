@@ -1,5 +1,5 @@
 -- Where a body first names a routine that is missing: by the relation, and by the search.
-use Rattle.std.proofs.Common.{◌≡◌, ℕ, Bool, true, false, List, [], ◌∷◌, map, refl, sym, ap, subst, ◌∙◌}
+use Rattle.std.proofs.Common.{◌≡◌, Bool, true, false, List, [], ◌∷◌, map, refl, sym, ap, subst, ◌∙◌}
 use Rattle.std.specs.Prelude.{Option, Some, None, ◌&&◌}
 use Rattle.flt_tree.specs.Declarations.{has_deferred, has_generic, finds_routine, test_finds, statement_finds}
 use Rattle.flt_syntax.specs.Whole.{first_of, unless, missing_in, missing_by, missing_step, missing_of, missing}

@@ -1,5 +1,5 @@
 -- Where the tokens stand that were read.
-use Rattle.std.proofs.Common.{◌≡◌, ◌-◌, ◌<◌, ◌≤◌, ℕ, [], ◌∷◌, length, slice_index_or, refl, ap, ◌∙◌, arith}
+use Rattle.std.proofs.Common.{◌≡◌, ◌-◌, ◌≤◌, [], ◌∷◌, length, slice_index_or, ap, ◌∙◌, arith}
 use Rattle.std.proofs.lemmas.Grind.{get_or_head, get_or_tail}
 use Rattle.flt_syntax.specs.Cursor.{Input, last}
 use Rattle.flt_syntax.specs.declared.token.Token.{Token}

@@ -7,7 +7,6 @@ use Rattle.flt_syntax.specs.declared.fault.FaultKind.TheVariants.{E06}
 use Rattle.flt_syntax.specs.declared.fault.SyntaxFault.{SyntaxFault}
 use Rattle.flt_tree.specs.declared.filter.Statement.{Statement}
 use Rattle.flt_tree.specs.declared.variable.NumberVariable.{NumberVariable}
-use Rattle.flt_syntax.specs.Grammar.{line}
 use Rattle.flt_syntax.specs.Words.{Next}
 use Rattle.flt_syntax.specs.Operand.{context_variable, operation_variable, number_variable_of, atom_by, atom, leading_atom}
 use Rattle.flt_syntax.specs.Scope.{Scope}

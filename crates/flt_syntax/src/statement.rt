@@ -16,16 +16,26 @@ use crate::token::Kind;
 use flt_tree::{Span, Statement};
 use sqlite_items::Items;
 use std::alloc::{AllocError, Global};
+use std::mem::replace;
 
 const MAX_TURNS: u64 = 1000;
 
-/// The statements from a place on, which leave the stack.
-fn taken_from(stack: &mut Vec<Statement>, start: usize) -> Result<Items<Statement>, AllocError>
+/// The statements from a place on, which leave the stack. All of it is handed over as it is, and one with as much room takes its place.
+fn taken_from(
+    alloc: Global,
+    stack: &mut Vec<Statement>,
+    start: usize,
+) -> Result<Items<Statement>, AllocError>
     requires { start ≤ vec_len stack.old }
     ensures taken { IfOk result (λ ss. ss ≡ drop start stack.old.items) }
     ensures stack { IfOk result (λ _. stack.new.items ≡ take start stack.old.items) }
 {
-    let taken = stack.split_off(start)?;
+    let taken = if start == 0 {
+        let empty = Vec::with_capacity(alloc, stack.capacity())?;
+        replace(stack, empty)
+    } else {
+        stack.split_off(start)?
+    };
     Ok(Items::from_vec(taken))
 }
 
@@ -143,7 +153,7 @@ pub fn statements(
     let start = stack.len();
     for _turn in 0..tokens.left() {
         if tokens.sees(Kind::CloseBrace) {
-            return Ok(taken_from(stack, start)?);
+            return Ok(taken_from(alloc, stack, start)?);
         }
         statement(alloc, scope, tokens, depth, repeats, stack)?;
     }
