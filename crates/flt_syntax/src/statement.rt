@@ -1,5 +1,5 @@
 //! Reads statements and blocks. The statements of the blocks that are being read stand on a stack, from which each block takes its
-//! own at its end, in as much memory as they need.
+//! own at its end: one in another block in as much memory as they need, that of a callback as they stand there.
 
 ghost use Rattle.flt_syntax.specs.Cursor.{Reads, ReadsOnto, onto};
 ghost use Rattle.flt_syntax.specs.Scope.{scope_of};
