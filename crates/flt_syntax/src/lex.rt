@@ -354,8 +354,11 @@ fn after_spaces(mut rest: &[u8]) -> &[u8]
 fn after_comment(mut rest: &[u8]) -> &[u8]
     ensures { result.now ≡ spec.after_comment rest.entry.now }
 {
-    while let [a, b, c, d, after @ ..] = rest {
+    while let [a, b, c, d, e, f, g, h, after @ ..] = rest {
         if *a == b'\n' || *b == b'\n' || *c == b'\n' || *d == b'\n' {
+            break;
+        }
+        if *e == b'\n' || *f == b'\n' || *g == b'\n' || *h == b'\n' {
             break;
         }
         rest = after;

@@ -71,8 +71,14 @@ fn missing(callbacks: &[Callback], from: &Head, body: &[Statement]) -> Option<Po
     ensures { result ≡ spec.missing callbacks.now from.now body.now }
 {
     for statement in body {
-        if let Some(at) = missing_of(callbacks, from, statement) {
-            return Some(at);
+        // The others have neither a condition, which may name a routine, nor a block.
+        if matches!(
+            statement,
+            Statement::If(_, _, _, _) | Statement::Repeat(_, _, _)
+        ) {
+            if let Some(at) = missing_of(callbacks, from, statement) {
+                return Some(at);
+            }
         }
     }
     None
