@@ -1,7 +1,7 @@
 //! Calls on contexts, and what each comes to where it is used wrongly: a variable that is NULL where an object is needed leaves all as
 //! it is, and a call that can fail then fails.
 
-ghost use Rattle.std.specs.Prelude.{◌≡◌, ◌∷◌, ◌++◌, ◌||◌, ℕ, true, false, if◌then◌else◌, is_some, length, Some, List, IfOk, OnOk, get_or, option_map};
+ghost use Rattle.std.specs.Prelude.{◌≡◌, ◌≢◌, ◌∷◌, ◌++◌, ◌||◌, ℕ, true, false, if◌then◌else◌, is_some, length, Some, List, IfOk, OnOk, get_or, option_map, OnErr};
 ghost use Rattle.flt_model.specs.Calls as calls;
 ghost use Rattle.flt_model.specs.Effects as effects;
 ghost use Rattle.flt_model.specs.World as machine;
@@ -13,11 +13,12 @@ ghost use Rattle.flt_tree.specs.declared.filter.Statement.{Statement};
 use crate::caller::Caller;
 use crate::effects::{context as context_object, need, operation as operation_object};
 use crate::plans::{Plan, Write, made_plan};
+use counted_heap::Heap;
 use flt_model::{Event, Key, Object};
 use flt_rules::{Anchor, Call, Existing};
 use flt_store::{Change, Store};
 use flt_tree::{ContextVariable, OperationVariable};
-use std::alloc::{AllocError, Global};
+use std::alloc::AllocError;
 
 /// Where a call works: its activation and the filter of that, and the key of the link; none where the call is on the stream of
 /// `data`, which is NULL.
@@ -45,46 +46,59 @@ fn key_of(store: &Store, on: Anchor, given: Option<usize>) -> Option<Key>
 
 /// A call on the stream works on the file of `data`.
 fn need_anchor(
+    heap: &mut Heap,
     a: usize,
     on: Anchor,
     given: Option<usize>,
     events: &mut Vec<Event>,
 ) -> Result<(), AllocError>
-    ensures { OnOk result (events.new.items ≡ events.old.items
+    ensures told { OnOk result (events.new.items ≡ events.old.items
         ++ (effects.uses a (calls.needs_of on given) ++ effects.empties a (calls.needs_of on given))) }
+    ensures granted { OnOk result (heap.new ≡ heap.old) }
+    ensures memory { OnErr result (heap.new ≢ heap.old) }
 {
     match on {
-        Anchor::Stream => need(a, &[operation_object(given)], events),
+        Anchor::Stream => need(heap, a, &[operation_object(given)], events),
         Anchor::Instance => Ok(()),
     }
 }
 
 /// The context is freed where its last reference is dropped.
-fn tell_drop(store: &Store, x: usize, events: &mut Vec<Event>) -> Result<(), AllocError>
-    ensures { OnOk result (events.new.items ≡ events.old.items ++ effects.freed_by_drop store.now x) }
+fn tell_drop(
+    heap: &mut Heap,
+    store: &Store,
+    x: usize,
+    events: &mut Vec<Event>,
+) -> Result<(), AllocError>
+    ensures told { OnOk result (events.new.items ≡ events.old.items ++ effects.freed_by_drop store.now x) }
+    ensures granted { OnOk result (heap.new ≡ heap.old) }
+    ensures memory { OnErr result (heap.new ≢ heap.old) }
 {
     if store.is_last(x) {
-        events.push(Event::Free(x))?;
+        heap.push(events, Event::Free(x))?;
     }
     Ok(())
 }
 
 /// The link's reference goes to the variable that receives it, or is dropped.
 fn tell_unlink(
+    heap: &mut Heap,
     store: &Store,
     a: usize,
     x: usize,
     old: Option<ContextVariable>,
     events: &mut Vec<Event>,
 ) -> Result<(), AllocError>
-    ensures { OnOk result (events.new.items ≡ events.old.items ++ effects.events_of_unlink a store.now x old) }
+    ensures told { OnOk result (events.new.items ≡ events.old.items ++ effects.events_of_unlink a store.now x old) }
+    ensures granted { OnOk result (heap.new ≡ heap.old) }
+    ensures memory { OnErr result (heap.new ≢ heap.old) }
 {
     match old {
         Some(_) => {
-            events.push(Event::Gain(a, Object::Context(x)))?;
+            heap.push(events, Event::Gain(a, Object::Context(x)))?;
             Ok(())
         }
-        None => tell_drop(store, x, events),
+        None => tell_drop(heap, store, x, events),
     }
 }
 
@@ -92,6 +106,7 @@ fn tell_unlink(
 
 /// A new context, unless the system refuses.
 fn allocated(
+    heap: &mut Heap,
     store: &Store,
     caller: &Caller,
     output: ContextVariable,
@@ -106,10 +121,15 @@ fn allocated(
         else effects.gives_nothing (world_of store.now actors acts) caller.now.activation (Some output) refused)) }
     ensures possible { IfOk result (λ plan. AreCounted store.now → IsPossible store.now plan.change) }
     ensures few { IfOk result (λ plan. cancels_entries plan.change ≡ false) }
+    ensures granted { OnOk result (heap.new ≡ heap.old) }
+    ensures memory { OnErr result (heap.new ≢ heap.old) }
 {
     if grant {
         let number = store.contexts();
-        events.push(Event::Gain(caller.activation, Object::Context(number)))?;
+        heap.push(
+            &mut events,
+            Event::Gain(caller.activation, Object::Context(number)),
+        )?;
         Ok(made_plan(
             events,
             true,
@@ -128,7 +148,7 @@ fn allocated(
 
 /// FltAllocateContext: a new context, unless the system refuses.
 pub(crate) fn allocate(
-    alloc: Global,
+    heap: &mut Heap,
     store: &Store,
     caller: &Caller,
     output: ContextVariable,
@@ -139,16 +159,22 @@ pub(crate) fn allocate(
     ensures own { IfOk result (λ plan. AreOwn caller.now.activation plan.events) }
     ensures possible { IfOk result (λ plan. AreCounted store.now → IsPossible store.now plan.change) }
     ensures few { IfOk result (λ plan. cancels_entries plan.change ≡ false) }
+    ensures granted { OnOk result (heap.new ≡ heap.old) }
+    ensures memory { OnErr result (heap.new ≢ heap.old) }
 {
-    let mut events = Vec::new(alloc);
-    events.push(Event::Call(caller.activation, Call::AllocateContext))?;
-    allocated(store, caller, output, grant, events)
+    let mut events = Vec::new(heap.alloc());
+    heap.push(
+        &mut events,
+        Event::Call(caller.activation, Call::AllocateContext),
+    )?;
+    allocated(heap, store, caller, output, grant, events)
 }
 
 // ---- the context that is there
 
 /// The context is given, with one reference more; none where nothing is there.
 fn got(
+    heap: &mut Heap,
     store: &Store,
     a: usize,
     output: ContextVariable,
@@ -161,6 +187,8 @@ fn got(
         (calls.got (world_of store.now actors acts) a output granted refused there)) }
     ensures possible { IfOk result (λ plan. AreCounted store.now → IsPossible store.now plan.change) }
     ensures few { IfOk result (λ plan. cancels_entries plan.change ≡ false) }
+    ensures granted { OnOk result (heap.new ≡ heap.old) }
+    ensures memory { OnErr result (heap.new ≢ heap.old) }
 {
     match there {
         None => Ok(made_plan(
@@ -170,7 +198,7 @@ fn got(
             Change::Nothing,
         )),
         Some(x) => {
-            events.push(Event::Gain(a, Object::Context(x)))?;
+            heap.push(&mut events, Event::Gain(a, Object::Context(x)))?;
             Ok(made_plan(
                 events,
                 true,
@@ -183,6 +211,7 @@ fn got(
 
 /// Nothing is given where `data` was needed and is NULL.
 fn get_by(
+    heap: &mut Heap,
     store: &Store,
     at: At,
     output: ContextVariable,
@@ -195,19 +224,21 @@ fn get_by(
         (option_map (λ k. record { filter = at.filter; key = k }) at.key))) }
     ensures possible { IfOk result (λ plan. AreCounted store.now → IsPossible store.now plan.change) }
     ensures few { IfOk result (λ plan. cancels_entries plan.change ≡ false) }
+    ensures granted { OnOk result (heap.new ≡ heap.old) }
+    ensures memory { OnErr result (heap.new ≢ heap.old) }
 {
     match at.key {
         None => Ok(made_plan(events, false, Write::Nothing, Change::Nothing)),
         Some(key) => {
             let there = store.linked_at(at.filter, key);
-            got(store, at.activation, output, there, events)
+            got(heap, store, at.activation, output, there, events)
         }
     }
 }
 
 /// FltGetStreamContext, FltGetInstanceContext.
 pub(crate) fn get(
-    alloc: Global,
+    heap: &mut Heap,
     store: &Store,
     caller: &Caller,
     on: Anchor,
@@ -218,18 +249,20 @@ pub(crate) fn get(
     ensures own { IfOk result (λ plan. AreOwn caller.now.activation plan.events) }
     ensures possible { IfOk result (λ plan. AreCounted store.now → IsPossible store.now plan.change) }
     ensures few { IfOk result (λ plan. cancels_entries plan.change ≡ false) }
+    ensures granted { OnOk result (heap.new ≡ heap.old) }
+    ensures memory { OnErr result (heap.new ≢ heap.old) }
 {
     let a = caller.activation;
     let given = caller.standing.operation(OperationVariable::Data);
-    let mut events = Vec::new(alloc);
-    events.push(Event::Call(a, Call::GetContext(on)))?;
-    need_anchor(a, on, given, &mut events)?;
+    let mut events = Vec::new(heap.alloc());
+    heap.push(&mut events, Event::Call(a, Call::GetContext(on)))?;
+    need_anchor(heap, a, on, given, &mut events)?;
     let at = At {
         activation: a,
         filter: caller.filter,
         key: key_of(store, on, given),
     };
-    get_by(store, at, output, events)
+    get_by(heap, store, at, output, events)
 }
 
 // ---- a context is linked
@@ -251,6 +284,7 @@ struct Linking {
 
 /// A context that is there stays, and is given where a variable receives it.
 fn kept(
+    heap: &mut Heap,
     store: &Store,
     a: usize,
     old: Option<ContextVariable>,
@@ -263,11 +297,13 @@ fn kept(
         (calls.kept (world_of store.now actors acts) a old refused y)) }
     ensures possible { IfOk result (λ plan. AreCounted store.now → IsPossible store.now plan.change) }
     ensures few { IfOk result (λ plan. cancels_entries plan.change ≡ false) }
+    ensures granted { OnOk result (heap.new ≡ heap.old) }
+    ensures memory { OnErr result (heap.new ≢ heap.old) }
 {
     match old {
         None => Ok(made_plan(events, false, Write::Nothing, Change::Nothing)),
         Some(_) => {
-            events.push(Event::Gain(a, Object::Context(y)))?;
+            heap.push(&mut events, Event::Gain(a, Object::Context(y)))?;
             Ok(made_plan(
                 events,
                 false,
@@ -280,6 +316,7 @@ fn kept(
 
 /// The context is linked where the link is free, or by what is wanted where it isn't.
 fn set_there(
+    heap: &mut Heap,
     store: &Store,
     a: usize,
     set: Setting,
@@ -296,6 +333,8 @@ fn set_there(
         (is_some (machine.context_at store.now link.context).link || machine.is_freed (machine.context_at store.now link.context)) ≡ false →
         AreCounted store.now → IsPossible store.now plan.change) }
     ensures few { IfOk result (λ plan. cancels_entries plan.change ≡ false) }
+    ensures granted { OnOk result (heap.new ≡ heap.old) }
+    ensures memory { OnErr result (heap.new ≢ heap.old) }
 {
     match store.linked_at(link.filter, link.key) {
         None => Ok(made_plan(
@@ -305,9 +344,9 @@ fn set_there(
             Change::Link(link.context, link.filter, link.key, None, set.old),
         )),
         Some(y) => match set.existing {
-            Existing::Keep => kept(store, a, set.old, y, events),
+            Existing::Keep => kept(heap, store, a, set.old, y, events),
             Existing::Replace => {
-                tell_unlink(store, a, y, set.old, &mut events)?;
+                tell_unlink(heap, store, a, y, set.old, &mut events)?;
                 Ok(made_plan(
                     events,
                     true,
@@ -321,6 +360,7 @@ fn set_there(
 
 /// Nothing is set where the context or `data` is NULL.
 fn set_by(
+    heap: &mut Heap,
     store: &Store,
     at: At,
     set: Setting,
@@ -334,6 +374,8 @@ fn set_by(
         (option_map (λ k. record { filter = at.filter; key = k }) at.key))) }
     ensures possible { IfOk result (λ plan. AreCounted store.now → IsPossible store.now plan.change) }
     ensures few { IfOk result (λ plan. cancels_entries plan.change ≡ false) }
+    ensures granted { OnOk result (heap.new ≡ heap.old) }
+    ensures memory { OnErr result (heap.new ≢ heap.old) }
 {
     match (named, at.key) {
         (Some(context), Some(key)) => {
@@ -345,7 +387,7 @@ fn set_by(
                     filter: at.filter,
                     key,
                 };
-                set_there(store, at.activation, set, link, events)
+                set_there(heap, store, at.activation, set, link, events)
             }
         }
         _ => Ok(made_plan(events, false, Write::Nothing, Change::Nothing)),
@@ -354,25 +396,33 @@ fn set_by(
 
 /// The context, and the operation where the call is on its stream.
 fn need_to_set(
+    heap: &mut Heap,
     a: usize,
     on: Anchor,
     named: Option<usize>,
     given: Option<usize>,
     events: &mut Vec<Event>,
 ) -> Result<(), AllocError>
-    ensures { OnOk result (events.new.items ≡ events.old.items
+    ensures told { OnOk result (events.new.items ≡ events.old.items
         ++ (effects.uses a (effects.context named ∷ calls.needs_of on given) ++ effects.empties a
         (effects.context named ∷ calls.needs_of on given))) }
+    ensures granted { OnOk result (heap.new ≡ heap.old) }
+    ensures memory { OnErr result (heap.new ≢ heap.old) }
 {
     match on {
-        Anchor::Stream => need(a, &[context_object(named), operation_object(given)], events),
-        Anchor::Instance => need(a, &[context_object(named)], events),
+        Anchor::Stream => need(
+            heap,
+            a,
+            &[context_object(named), operation_object(given)],
+            events,
+        ),
+        Anchor::Instance => need(heap, a, &[context_object(named)], events),
     }
 }
 
 /// FltSetStreamContext, FltSetInstanceContext.
 pub(crate) fn set_context(
-    alloc: Global,
+    heap: &mut Heap,
     store: &Store,
     caller: &Caller,
     on: Anchor,
@@ -385,26 +435,29 @@ pub(crate) fn set_context(
     ensures own { IfOk result (λ plan. AreOwn caller.now.activation plan.events) }
     ensures possible { IfOk result (λ plan. AreCounted store.now → IsPossible store.now plan.change) }
     ensures few { IfOk result (λ plan. cancels_entries plan.change ≡ false) }
+    ensures granted { OnOk result (heap.new ≡ heap.old) }
+    ensures memory { OnErr result (heap.new ≢ heap.old) }
 {
     let a = caller.activation;
     let named = caller.standing.context(context);
     let given = caller.standing.operation(OperationVariable::Data);
     let set = Setting { existing, old };
-    let mut events = Vec::new(alloc);
-    events.push(Event::Call(a, Call::SetContext(on, existing)))?;
-    need_to_set(a, on, named, given, &mut events)?;
+    let mut events = Vec::new(heap.alloc());
+    heap.push(&mut events, Event::Call(a, Call::SetContext(on, existing)))?;
+    need_to_set(heap, a, on, named, given, &mut events)?;
     let at = At {
         activation: a,
         filter: caller.filter,
         key: key_of(store, on, given),
     };
-    set_by(store, at, set, named, events)
+    set_by(heap, store, at, set, named, events)
 }
 
 // ---- a link goes
 
 /// The link's reference is given, or dropped.
 fn unlinked(
+    heap: &mut Heap,
     store: &Store,
     a: usize,
     old: Option<ContextVariable>,
@@ -417,11 +470,13 @@ fn unlinked(
         (calls.unlinked (world_of store.now actors acts) a old granted refused there)) }
     ensures possible { IfOk result (λ plan. AreCounted store.now → IsPossible store.now plan.change) }
     ensures few { IfOk result (λ plan. cancels_entries plan.change ≡ false) }
+    ensures granted { OnOk result (heap.new ≡ heap.old) }
+    ensures memory { OnErr result (heap.new ≢ heap.old) }
 {
     match there {
         None => Ok(made_plan(events, false, Write::Output(old, None), Change::Nothing)),
         Some(y) => {
-            tell_unlink(store, a, y, old, &mut events)?;
+            tell_unlink(heap, store, a, y, old, &mut events)?;
             Ok(made_plan(
                 events,
                 true,
@@ -434,6 +489,7 @@ fn unlinked(
 
 /// Nothing is deleted where `data` was needed and is NULL.
 fn delete_by(
+    heap: &mut Heap,
     store: &Store,
     at: At,
     old: Option<ContextVariable>,
@@ -446,19 +502,21 @@ fn delete_by(
         (option_map (λ k. record { filter = at.filter; key = k }) at.key))) }
     ensures possible { IfOk result (λ plan. AreCounted store.now → IsPossible store.now plan.change) }
     ensures few { IfOk result (λ plan. cancels_entries plan.change ≡ false) }
+    ensures granted { OnOk result (heap.new ≡ heap.old) }
+    ensures memory { OnErr result (heap.new ≢ heap.old) }
 {
     match at.key {
         None => Ok(made_plan(events, false, Write::Nothing, Change::Nothing)),
         Some(key) => {
             let there = store.linked_at(at.filter, key);
-            unlinked(store, at.activation, old, there, events)
+            unlinked(heap, store, at.activation, old, there, events)
         }
     }
 }
 
 /// FltDeleteStreamContext, FltDeleteInstanceContext.
 pub(crate) fn delete_at(
-    alloc: Global,
+    heap: &mut Heap,
     store: &Store,
     caller: &Caller,
     on: Anchor,
@@ -469,22 +527,25 @@ pub(crate) fn delete_at(
     ensures own { IfOk result (λ plan. AreOwn caller.now.activation plan.events) }
     ensures possible { IfOk result (λ plan. AreCounted store.now → IsPossible store.now plan.change) }
     ensures few { IfOk result (λ plan. cancels_entries plan.change ≡ false) }
+    ensures granted { OnOk result (heap.new ≡ heap.old) }
+    ensures memory { OnErr result (heap.new ≢ heap.old) }
 {
     let a = caller.activation;
     let given = caller.standing.operation(OperationVariable::Data);
-    let mut events = Vec::new(alloc);
-    events.push(Event::Call(a, Call::DeleteContextOf(on)))?;
-    need_anchor(a, on, given, &mut events)?;
+    let mut events = Vec::new(heap.alloc());
+    heap.push(&mut events, Event::Call(a, Call::DeleteContextOf(on)))?;
+    need_anchor(heap, a, on, given, &mut events)?;
     let at = At {
         activation: a,
         filter: caller.filter,
         key: key_of(store, on, given),
     };
-    delete_by(store, at, old, events)
+    delete_by(heap, store, at, old, events)
 }
 
 /// Unlinked where it is linked; the link's reference is dropped.
 fn deleted(
+    heap: &mut Heap,
     store: &Store,
     a: usize,
     named: Option<usize>,
@@ -496,10 +557,12 @@ fn deleted(
         (calls.deleted (world_of store.now actors acts) a granted named)) }
     ensures possible { IfOk result (λ plan. AreCounted store.now → IsPossible store.now plan.change) }
     ensures few { IfOk result (λ plan. cancels_entries plan.change ≡ false) }
+    ensures granted { OnOk result (heap.new ≡ heap.old) }
+    ensures memory { OnErr result (heap.new ≢ heap.old) }
 {
     match named {
         Some(x) if store.is_linked(x) => {
-            tell_drop(store, x, &mut events)?;
+            tell_drop(heap, store, x, &mut events)?;
             Ok(made_plan(events, true, Write::Nothing, Change::Unlink(x, None)))
         }
         _ => Ok(made_plan(events, true, Write::Nothing, Change::Nothing)),
@@ -508,7 +571,7 @@ fn deleted(
 
 /// FltDeleteContext.
 pub(crate) fn delete(
-    alloc: Global,
+    heap: &mut Heap,
     store: &Store,
     caller: &Caller,
     context: ContextVariable,
@@ -518,19 +581,22 @@ pub(crate) fn delete(
     ensures own { IfOk result (λ plan. AreOwn caller.now.activation plan.events) }
     ensures possible { IfOk result (λ plan. AreCounted store.now → IsPossible store.now plan.change) }
     ensures few { IfOk result (λ plan. cancels_entries plan.change ≡ false) }
+    ensures granted { OnOk result (heap.new ≡ heap.old) }
+    ensures memory { OnErr result (heap.new ≢ heap.old) }
 {
     let a = caller.activation;
     let named = caller.standing.context(context);
-    let mut events = Vec::new(alloc);
-    events.push(Event::Call(a, Call::DeleteContext))?;
-    need(a, &[context_object(named)], &mut events)?;
-    deleted(store, a, named, events)
+    let mut events = Vec::new(heap.alloc());
+    heap.push(&mut events, Event::Call(a, Call::DeleteContext))?;
+    need(heap, a, &[context_object(named)], &mut events)?;
+    deleted(heap, store, a, named, events)
 }
 
 // ---- references
 
 /// One reference more, and the second variable names the context too.
 fn referenced(
+    heap: &mut Heap,
     store: &Store,
     a: usize,
     output: ContextVariable,
@@ -543,11 +609,13 @@ fn referenced(
         (calls.referenced (world_of store.now actors acts) a output granted named)) }
     ensures possible { IfOk result (λ plan. AreCounted store.now → IsPossible store.now plan.change) }
     ensures few { IfOk result (λ plan. cancels_entries plan.change ≡ false) }
+    ensures granted { OnOk result (heap.new ≡ heap.old) }
+    ensures memory { OnErr result (heap.new ≢ heap.old) }
 {
     match named {
         None => Ok(made_plan(events, true, Write::Nothing, Change::Nothing)),
         Some(x) => {
-            events.push(Event::Gain(a, Object::Context(x)))?;
+            heap.push(&mut events, Event::Gain(a, Object::Context(x)))?;
             Ok(made_plan(
                 events,
                 true,
@@ -560,7 +628,7 @@ fn referenced(
 
 /// FltReferenceContext.
 pub(crate) fn reference(
-    alloc: Global,
+    heap: &mut Heap,
     store: &Store,
     caller: &Caller,
     context: ContextVariable,
@@ -571,17 +639,20 @@ pub(crate) fn reference(
     ensures own { IfOk result (λ plan. AreOwn caller.now.activation plan.events) }
     ensures possible { IfOk result (λ plan. AreCounted store.now → IsPossible store.now plan.change) }
     ensures few { IfOk result (λ plan. cancels_entries plan.change ≡ false) }
+    ensures granted { OnOk result (heap.new ≡ heap.old) }
+    ensures memory { OnErr result (heap.new ≢ heap.old) }
 {
     let a = caller.activation;
     let named = caller.standing.context(context);
-    let mut events = Vec::new(alloc);
-    events.push(Event::Call(a, Call::ReferenceContext))?;
-    need(a, &[context_object(named)], &mut events)?;
-    referenced(store, a, output, named, events)
+    let mut events = Vec::new(heap.alloc());
+    heap.push(&mut events, Event::Call(a, Call::ReferenceContext))?;
+    need(heap, a, &[context_object(named)], &mut events)?;
+    referenced(heap, store, a, output, named, events)
 }
 
 /// A reference is dropped, held or not.
 fn released(
+    heap: &mut Heap,
     store: &Store,
     a: usize,
     named: Option<usize>,
@@ -593,12 +664,14 @@ fn released(
         (calls.released (world_of store.now actors acts) a granted named)) }
     ensures possible { IfOk result (λ plan. AreCounted store.now → IsPossible store.now plan.change) }
     ensures few { IfOk result (λ plan. cancels_entries plan.change ≡ false) }
+    ensures granted { OnOk result (heap.new ≡ heap.old) }
+    ensures memory { OnErr result (heap.new ≢ heap.old) }
 {
     match named {
         None => Ok(made_plan(events, true, Write::Nothing, Change::Nothing)),
         Some(x) => {
-            events.push(Event::Lose(a, Object::Context(x)))?;
-            tell_drop(store, x, &mut events)?;
+            heap.push(&mut events, Event::Lose(a, Object::Context(x)))?;
+            tell_drop(heap, store, x, &mut events)?;
             Ok(made_plan(events, true, Write::Nothing, Change::DropReference(x)))
         }
     }
@@ -606,7 +679,7 @@ fn released(
 
 /// FltReleaseContext.
 pub(crate) fn release(
-    alloc: Global,
+    heap: &mut Heap,
     store: &Store,
     caller: &Caller,
     context: ContextVariable,
@@ -616,11 +689,13 @@ pub(crate) fn release(
     ensures own { IfOk result (λ plan. AreOwn caller.now.activation plan.events) }
     ensures possible { IfOk result (λ plan. AreCounted store.now → IsPossible store.now plan.change) }
     ensures few { IfOk result (λ plan. cancels_entries plan.change ≡ false) }
+    ensures granted { OnOk result (heap.new ≡ heap.old) }
+    ensures memory { OnErr result (heap.new ≢ heap.old) }
 {
     let a = caller.activation;
     let named = caller.standing.context(context);
-    let mut events = Vec::new(alloc);
-    events.push(Event::Call(a, Call::ReleaseContext))?;
-    need(a, &[context_object(named)], &mut events)?;
-    released(store, a, named, events)
+    let mut events = Vec::new(heap.alloc());
+    heap.push(&mut events, Event::Call(a, Call::ReleaseContext))?;
+    need(heap, a, &[context_object(named)], &mut events)?;
+    released(heap, store, a, named, events)
 }

@@ -1,8 +1,9 @@
 //! The events of variables that a call asks to be held.
 
-ghost use Rattle.std.specs.Prelude.{◌≡◌, ◌∷◌, ◌++◌, OnOk};
+ghost use Rattle.std.specs.Prelude.{◌≡◌, ◌≢◌, ◌∷◌, ◌++◌, OnOk, OnErr};
 ghost use Rattle.flt_model.specs.Effects as spec;
 
+use counted_heap::Heap;
 use flt_model::{Event, Object};
 use std::alloc::AllocError;
 
@@ -26,46 +27,59 @@ pub(crate) fn operation(variable: Option<usize>) -> Option<Object>
     }
 }
 
-fn push_uses(a: usize, needs: &[Option<Object>], events: &mut Vec<Event>) -> Result<(), AllocError>
-    ensures { OnOk result (events.new.items ≡ events.old.items ++ spec.uses a needs.now) }
+fn push_uses(
+    heap: &mut Heap,
+    a: usize,
+    needs: &[Option<Object>],
+    events: &mut Vec<Event>,
+) -> Result<(), AllocError>
+    ensures told { OnOk result (events.new.items ≡ events.old.items ++ spec.uses a needs.now) }
+    ensures granted { OnOk result (heap.new ≡ heap.old) }
+    ensures memory { OnErr result (heap.new ≢ heap.old) }
 {
     match needs {
         [] => Ok(()),
-        [None, others @ ..] => push_uses(a, others, events),
+        [None, others @ ..] => push_uses(heap, a, others, events),
         [Some(object), others @ ..] => {
-            events.push(Event::Use(a, *object))?;
-            push_uses(a, others, events)
+            heap.push(events, Event::Use(a, *object))?;
+            push_uses(heap, a, others, events)
         }
     }
 }
 
 fn push_empties(
+    heap: &mut Heap,
     a: usize,
     needs: &[Option<Object>],
     events: &mut Vec<Event>,
 ) -> Result<(), AllocError>
-    ensures { OnOk result (events.new.items ≡ events.old.items ++ spec.empties a needs.now) }
+    ensures told { OnOk result (events.new.items ≡ events.old.items ++ spec.empties a needs.now) }
+    ensures granted { OnOk result (heap.new ≡ heap.old) }
+    ensures memory { OnErr result (heap.new ≢ heap.old) }
 {
     match needs {
         [] => Ok(()),
         [None, others @ ..] => {
-            events.push(Event::Empty(a))?;
-            push_empties(a, others, events)
+            heap.push(events, Event::Empty(a))?;
+            push_empties(heap, a, others, events)
         }
-        [Some(_), others @ ..] => push_empties(a, others, events),
+        [Some(_), others @ ..] => push_empties(heap, a, others, events),
     }
 }
 
 /// Each variable that names something is used, and then each that is NULL is reported.
 pub(crate) fn need(
+    heap: &mut Heap,
     a: usize,
     needs: &[Option<Object>],
     events: &mut Vec<Event>,
 ) -> Result<(), AllocError>
-    ensures { OnOk result (events.new.items ≡ events.old.items ++ (spec.uses a needs.now ++ spec.empties a needs.now)) }
+    ensures told { OnOk result (events.new.items ≡ events.old.items ++ (spec.uses a needs.now ++ spec.empties a needs.now)) }
+    ensures granted { OnOk result (heap.new ≡ heap.old) }
+    ensures memory { OnErr result (heap.new ≢ heap.old) }
 {
-    push_uses(a, needs, events)?;
-    push_empties(a, needs, events)
+    push_uses(heap, a, needs, events)?;
+    push_empties(heap, a, needs, events)
 }
 
 /// What a call names: an operation, and a context that the call need not have.
@@ -76,42 +90,55 @@ pub(crate) struct Named {
 }
 
 /// Both are used, or reported where they are NULL.
-pub(crate) fn need_named(a: usize, named: Named, events: &mut Vec<Event>) -> Result<(), AllocError>
-    ensures { OnOk result (events.new.items ≡ events.old.items
+pub(crate) fn need_named(
+    heap: &mut Heap,
+    a: usize,
+    named: Named,
+    events: &mut Vec<Event>,
+) -> Result<(), AllocError>
+    ensures told { OnOk result (events.new.items ≡ events.old.items
         ++ (spec.uses a (spec.operation named.visit ∷ spec.optional named.context)
         ++ spec.empties a (spec.operation named.visit ∷ spec.optional named.context))) }
+    ensures granted { OnOk result (heap.new ≡ heap.old) }
+    ensures memory { OnErr result (heap.new ≢ heap.old) }
 {
     let visit = operation(named.visit);
     match named.context {
-        Some(named) => need(a, &[visit, context(named)], events),
-        None => need(a, &[visit], events),
+        Some(named) => need(heap, a, &[visit, context(named)], events),
+        None => need(heap, a, &[visit], events),
     }
 }
 
 /// A context that may be there is gained.
 pub(crate) fn gain_context(
+    heap: &mut Heap,
     a: usize,
     context: Option<usize>,
     events: &mut Vec<Event>,
 ) -> Result<(), AllocError>
-    ensures { OnOk result (events.new.items ≡ events.old.items ++ spec.gains_context a context) }
+    ensures told { OnOk result (events.new.items ≡ events.old.items ++ spec.gains_context a context) }
+    ensures granted { OnOk result (heap.new ≡ heap.old) }
+    ensures memory { OnErr result (heap.new ≢ heap.old) }
 {
     if let Some(context) = context {
-        events.push(Event::Gain(a, Object::Context(context)))?;
+        heap.push(events, Event::Gain(a, Object::Context(context)))?;
     }
     Ok(())
 }
 
 /// A context that may be there is lost.
 pub(crate) fn lose_context(
+    heap: &mut Heap,
     a: usize,
     context: Option<usize>,
     events: &mut Vec<Event>,
 ) -> Result<(), AllocError>
-    ensures { OnOk result (events.new.items ≡ events.old.items ++ spec.loses_context a context) }
+    ensures told { OnOk result (events.new.items ≡ events.old.items ++ spec.loses_context a context) }
+    ensures granted { OnOk result (heap.new ≡ heap.old) }
+    ensures memory { OnErr result (heap.new ≢ heap.old) }
 {
     if let Some(context) = context {
-        events.push(Event::Lose(a, Object::Context(context)))?;
+        heap.push(events, Event::Lose(a, Object::Context(context)))?;
     }
     Ok(())
 }

@@ -1,6 +1,6 @@
 //! Calls on locks.
 
-ghost use Rattle.std.specs.Prelude.{◌≡◌, List, IfOk, false};
+ghost use Rattle.std.specs.Prelude.{◌≡◌, ◌≢◌, List, IfOk, false, OnOk, OnErr};
 ghost use Rattle.flt_model.specs.Calls as calls;
 ghost use Rattle.flt_model.specs.World as machine;
 ghost use Rattle.flt_rules.specs.Held as rules;
@@ -11,11 +11,12 @@ ghost use Rattle.flt_store.specs.Changes.{AreCounted, IsPossible, cancels_entrie
 
 use crate::caller::Caller;
 use crate::plans::{Plan, Write, made_plan};
+use counted_heap::Heap;
 use flt_frame::HeldLocks;
 use flt_model::Event;
 use flt_rules::{Access, Call, LockKind, LockNumber};
 use flt_store::{Change, Store};
-use std::alloc::{AllocError, Global};
+use std::alloc::AllocError;
 
 fn holds_lock(lock: LockNumber, locks: &HeldLocks) -> bool
     ensures { result ≡ rules.holds_lock lock locks.now }
@@ -67,7 +68,7 @@ fn given_up(caller: &Caller, lock: LockNumber, events: Vec<Event>) -> Plan
 
 /// KeAcquireSpinLock, ExAcquireFastMutex, FltAcquirePushLockExclusive: a lock that the activation holds already isn't taken again.
 pub(crate) fn acquire(
-    alloc: Global,
+    heap: &mut Heap,
     store: &Store,
     caller: &Caller,
     kind: LockKind,
@@ -78,18 +79,20 @@ pub(crate) fn acquire(
     ensures own { IfOk result (λ plan. AreOwn caller.now.activation plan.events) }
     ensures possible { IfOk result (λ plan. AreCounted store.now → IsPossible store.now plan.change) }
     ensures few { IfOk result (λ plan. cancels_entries plan.change ≡ false) }
+    ensures granted { OnOk result (heap.new ≡ heap.old) }
+    ensures memory { OnErr result (heap.new ≢ heap.old) }
 {
     let _ = store;
     let a = caller.activation;
-    let mut events = Vec::new(alloc);
-    events.push(Event::Call(a, Call::AcquireLock(kind)))?;
-    events.push(Event::Lock(a, lock))?;
+    let mut events = Vec::new(heap.alloc());
+    heap.push(&mut events, Event::Call(a, Call::AcquireLock(kind)))?;
+    heap.push(&mut events, Event::Lock(a, lock))?;
     Ok(taken(caller, lock, Access::Exclusive, events))
 }
 
 /// FltAcquirePushLockShared.
 pub(crate) fn acquire_shared(
-    alloc: Global,
+    heap: &mut Heap,
     store: &Store,
     caller: &Caller,
     lock: LockNumber,
@@ -99,18 +102,20 @@ pub(crate) fn acquire_shared(
     ensures own { IfOk result (λ plan. AreOwn caller.now.activation plan.events) }
     ensures possible { IfOk result (λ plan. AreCounted store.now → IsPossible store.now plan.change) }
     ensures few { IfOk result (λ plan. cancels_entries plan.change ≡ false) }
+    ensures granted { OnOk result (heap.new ≡ heap.old) }
+    ensures memory { OnErr result (heap.new ≢ heap.old) }
 {
     let _ = store;
     let a = caller.activation;
-    let mut events = Vec::new(alloc);
-    events.push(Event::Call(a, Call::AcquirePushLockShared))?;
-    events.push(Event::Lock(a, lock))?;
+    let mut events = Vec::new(heap.alloc());
+    heap.push(&mut events, Event::Call(a, Call::AcquirePushLockShared))?;
+    heap.push(&mut events, Event::Lock(a, lock))?;
     Ok(taken(caller, lock, Access::Shared, events))
 }
 
 /// KeReleaseSpinLock, ExReleaseFastMutex, FltReleasePushLock: a lock that the activation doesn't hold isn't released.
 pub(crate) fn release_lock(
-    alloc: Global,
+    heap: &mut Heap,
     store: &Store,
     caller: &Caller,
     kind: LockKind,
@@ -121,11 +126,13 @@ pub(crate) fn release_lock(
     ensures own { IfOk result (λ plan. AreOwn caller.now.activation plan.events) }
     ensures possible { IfOk result (λ plan. AreCounted store.now → IsPossible store.now plan.change) }
     ensures few { IfOk result (λ plan. cancels_entries plan.change ≡ false) }
+    ensures granted { OnOk result (heap.new ≡ heap.old) }
+    ensures memory { OnErr result (heap.new ≢ heap.old) }
 {
     let _ = store;
     let a = caller.activation;
-    let mut events = Vec::new(alloc);
-    events.push(Event::Call(a, Call::ReleaseLock(kind)))?;
-    events.push(Event::Unlock(a, lock))?;
+    let mut events = Vec::new(heap.alloc());
+    heap.push(&mut events, Event::Call(a, Call::ReleaseLock(kind)))?;
+    heap.push(&mut events, Event::Unlock(a, lock))?;
     Ok(given_up(caller, lock, events))
 }

@@ -1,6 +1,6 @@
 //! The plan of the instruction at which an activation stands.
 
-ghost use Rattle.std.specs.Prelude.{◌≡◌, [], List, Bool, true, false, Some, IfOk, get_or};
+ghost use Rattle.std.specs.Prelude.{◌≡◌, ◌≢◌, [], List, Bool, true, false, Some, IfOk, get_or, OnOk, OnErr};
 ghost use Rattle.flt_calls.specs.Decoding as spec;
 ghost use Rattle.flt_calls.specs.Own.{AreOwn};
 ghost use Rattle.flt_calls.specs.Plans.{IsCaller, IsCounted, IsPlanned, Plans, TakesNone, choice_at, is_end, remaining_by, world_of};
@@ -24,6 +24,7 @@ use crate::caller::Caller;
 use crate::decoding::{Asked, asked_by, callbacks, plain_by};
 use crate::plans::{Plan, Write, made_plan};
 use crate::{contexts, locking, queueing, reads, settling};
+use counted_heap::Heap;
 use flt_frame::{Loaded, standings_have_points};
 use flt_graph::{Instruction, Invocation};
 use flt_store::{Change, Store};
@@ -42,7 +43,7 @@ fn nothing(alloc: Global) -> Plan
 
 /// The plan of an action that others see.
 fn plan_action(
-    alloc: Global,
+    heap: &mut Heap,
     store: &Store,
     caller: &Caller,
     action: Action,
@@ -56,23 +57,30 @@ fn plan_action(
     ensures own { IfOk result (λ plan. AreOwn caller.now.activation plan.events) }
     ensures possible { IfOk result (λ plan. AreCounted store.now → IsPossible store.now plan.change) }
     ensures few { IfOk result (λ plan. cancels_entries plan.change ≡ false) }
+    ensures granted { OnOk result (heap.new ≡ heap.old) }
+    ensures memory { OnErr result (heap.new ≢ heap.old) }
 {
     match action {
         Action::ReadValue(number, context) => {
-            reads::read_value(alloc, store, caller, number, context)
+            reads::read_value(heap, store, caller, number, context)
         }
         Action::ReadFile(number, operation) => {
-            reads::read_file(alloc, store, caller, number, operation)
+            reads::read_file(heap, store, caller, number, operation)
         }
         Action::WriteValue(context, value) => {
-            reads::write_value(alloc, store, caller, context, value)
+            reads::write_value(heap, store, caller, context, value)
         }
-        _ => Ok(nothing(alloc)),
+        _ => Ok(nothing(heap.alloc())),
     }
 }
 
 /// The plan of a test that others see.
-fn plan_test(alloc: Global, store: &Store, caller: &Caller, test: Test) -> Result<Plan, AllocError>
+fn plan_test(
+    heap: &mut Heap,
+    store: &Store,
+    caller: &Caller,
+    test: Test,
+) -> Result<Plan, AllocError>
     ensures planned { (p : List Filter) (t : List Event) (actors : List machine.Actor) (acts : List machine.Activation)
         (granted refused : List Statement) (step : Step) →
         IsCaller actors acts caller.now → steps.test_step p t (world_of store.now actors acts) caller.now.activation granted refused test ≡ Some step →
@@ -82,16 +90,18 @@ fn plan_test(alloc: Global, store: &Store, caller: &Caller, test: Test) -> Resul
     ensures own { IfOk result (λ plan. AreOwn caller.now.activation plan.events) }
     ensures possible { IfOk result (λ plan. AreCounted store.now → IsPossible store.now plan.change) }
     ensures few { IfOk result (λ plan. cancels_entries plan.change ≡ false) }
+    ensures granted { OnOk result (heap.new ≡ heap.old) }
+    ensures memory { OnErr result (heap.new ≢ heap.old) }
 {
     match test {
-        Test::IsIrp => reads::test_irp(alloc, store, caller),
-        _ => Ok(nothing(alloc)),
+        Test::IsIrp => reads::test_irp(heap, store, caller),
+        _ => Ok(nothing(heap.alloc())),
     }
 }
 
 /// The plan of a call that always succeeds.
 fn plan_plain(
-    alloc: Global,
+    heap: &mut Heap,
     loaded: &Loaded,
     store: &Store,
     caller: &Caller,
@@ -103,32 +113,34 @@ fn plan_plain(
     ensures own { IfOk result (λ plan. AreOwn caller.now.activation plan.events) }
     ensures possible { IfOk result (λ plan. AreCounted store.now → IsPossible store.now plan.change) }
     ensures few { IfOk result (λ plan. cancels_entries plan.change ≡ false) }
+    ensures granted { OnOk result (heap.new ≡ heap.old) }
+    ensures memory { OnErr result (heap.new ≢ heap.old) }
 {
     match call {
-        PlainCall::DeleteContext(context) => contexts::delete(alloc, store, caller, context),
+        PlainCall::DeleteContext(context) => contexts::delete(heap, store, caller, context),
         PlainCall::ReferenceContext(context, output) => {
-            contexts::reference(alloc, store, caller, context, output)
+            contexts::reference(heap, store, caller, context, output)
         }
-        PlainCall::ReleaseContext(context) => contexts::release(alloc, store, caller, context),
-        PlainCall::AcquireLock(kind, lock) => locking::acquire(alloc, store, caller, kind, lock),
+        PlainCall::ReleaseContext(context) => contexts::release(heap, store, caller, context),
+        PlainCall::AcquireLock(kind, lock) => locking::acquire(heap, store, caller, kind, lock),
         PlainCall::AcquirePushLockShared(lock) => {
-            locking::acquire_shared(alloc, store, caller, lock)
+            locking::acquire_shared(heap, store, caller, lock)
         }
         PlainCall::ReleaseLock(kind, lock) => {
-            locking::release_lock(alloc, store, caller, kind, lock)
+            locking::release_lock(heap, store, caller, kind, lock)
         }
         PlainCall::CompletePendedPreOperation(operation, status) => {
-            settling::complete_pre(alloc, loaded, store, caller, operation, status)
+            settling::complete_pre(heap, loaded, store, caller, operation, status)
         }
         PlainCall::CompletePendedPostOperation => {
-            settling::complete_post(alloc, loaded, store, caller)
+            settling::complete_post(heap, loaded, store, caller)
         }
     }
 }
 
 /// The plan of a call that can fail.
 fn plan_asked(
-    alloc: Global,
+    heap: &mut Heap,
     store: &Store,
     caller: &Caller,
     asked: Asked,
@@ -138,30 +150,32 @@ fn plan_asked(
     ensures own { IfOk result (λ plan. AreOwn caller.now.activation plan.events) }
     ensures possible { IfOk result (λ plan. AreCounted store.now → IsPossible store.now plan.change) }
     ensures few { IfOk result (λ plan. cancels_entries plan.change ≡ false) }
+    ensures granted { OnOk result (heap.new ≡ heap.old) }
+    ensures memory { OnErr result (heap.new ≢ heap.old) }
 {
     match asked {
-        Asked::Allocate(output) => contexts::allocate(alloc, store, caller, output, grant),
-        Asked::Get(on, output) => contexts::get(alloc, store, caller, on, output),
+        Asked::Allocate(output) => contexts::allocate(heap, store, caller, output, grant),
+        Asked::Get(on, output) => contexts::get(heap, store, caller, on, output),
         Asked::Set(on, existing, context, old) => {
-            contexts::set_context(alloc, store, caller, on, existing, context, old)
+            contexts::set_context(heap, store, caller, on, existing, context, old)
         }
-        Asked::DeleteAt(on, old) => contexts::delete_at(alloc, store, caller, on, old),
-        Asked::Insert(context) => queueing::insert(alloc, store, caller, context),
+        Asked::DeleteAt(on, old) => contexts::delete_at(heap, store, caller, on, old),
+        Asked::Insert(context) => queueing::insert(heap, store, caller, context),
         Asked::RemoveNext(operation, output) => {
-            queueing::remove_next(alloc, store, caller, operation, output)
+            queueing::remove_next(heap, store, caller, operation, output)
         }
         Asked::Defer(routine, context) => {
-            queueing::queue_deferred(alloc, store, caller, routine, context, grant)
+            queueing::queue_deferred(heap, store, caller, routine, context, grant)
         }
         Asked::Queue(routine, context) => {
-            queueing::queue_generic(alloc, store, caller, routine, context, grant)
+            queueing::queue_generic(heap, store, caller, routine, context, grant)
         }
     }
 }
 
 /// The plan of a call, of either kind.
 fn plan_call(
-    alloc: Global,
+    heap: &mut Heap,
     loaded: &Loaded,
     store: &Store,
     caller: &Caller,
@@ -178,19 +192,21 @@ fn plan_call(
     ensures own { IfOk result (λ plan. AreOwn caller.now.activation plan.events) }
     ensures possible { IfOk result (λ plan. AreCounted store.now → IsPossible store.now plan.change) }
     ensures few { IfOk result (λ plan. cancels_entries plan.change ≡ false) }
+    ensures granted { OnOk result (heap.new ≡ heap.old) }
+    ensures memory { OnErr result (heap.new ≢ heap.old) }
 {
     if let Some(call) = plain_by(made) {
-        return plan_plain(alloc, loaded, store, caller, call);
+        return plan_plain(heap, loaded, store, caller, call);
     }
     match asked_by(made, callbacks(loaded, caller.filter)) {
-        Some(asked) => plan_asked(alloc, store, caller, asked, grant),
-        None => Ok(nothing(alloc)),
+        Some(asked) => plan_asked(heap, store, caller, asked, grant),
+        None => Ok(nothing(heap.alloc())),
     }
 }
 
 /// The plan of the step at which the caller stands. `grant` is the system's choice, where the step leaves one. The store isn't changed.
 pub fn plan_step(
-    alloc: Global,
+    heap: &mut Heap,
     loaded: &Loaded,
     store: &Store,
     caller: &Caller,
@@ -211,15 +227,17 @@ pub fn plan_step(
     ensures own { IfOk result (λ plan. AreOwn caller.now.activation plan.events) }
     ensures possible { IfOk result (λ plan. AreCounted store.now → IsPossible store.now plan.change) }
     ensures few { IfOk result (λ plan. cancels_entries plan.change ≡ false) }
+    ensures granted { OnOk result (heap.new ≡ heap.old) }
+    ensures memory { OnErr result (heap.new ≢ heap.old) }
 {
     standings_have_points();
     let standing = &caller.standing;
     match loaded.instruction(caller.filter, standing.callback, standing.point) {
-        Instruction::Act(action, _) => plan_action(alloc, store, caller, action),
-        Instruction::Call(made, _, _) => plan_call(alloc, loaded, store, caller, made, grant),
-        Instruction::Test(test, _, _) => plan_test(alloc, store, caller, test),
-        Instruction::Repeat(_, _, _) => Ok(nothing(alloc)),
-        Instruction::Return(status) => settling::returns(alloc, loaded, store, caller, status),
-        Instruction::End => settling::returns(alloc, loaded, store, caller, None),
+        Instruction::Act(action, _) => plan_action(heap, store, caller, action),
+        Instruction::Call(made, _, _) => plan_call(heap, loaded, store, caller, made, grant),
+        Instruction::Test(test, _, _) => plan_test(heap, store, caller, test),
+        Instruction::Repeat(_, _, _) => Ok(nothing(heap.alloc())),
+        Instruction::Return(status) => settling::returns(heap, loaded, store, caller, status),
+        Instruction::End => settling::returns(heap, loaded, store, caller, None),
     }
 }

@@ -1,6 +1,6 @@
 //! Calls on the cancel-safe queue and on work items: what is handed over is no longer held, whether it was held or not.
 
-ghost use Rattle.std.specs.Prelude.{◌≡◌, ◌++◌, [], List, IfOk, OnOk, if◌then◌else◌, false};
+ghost use Rattle.std.specs.Prelude.{◌≡◌, ◌≢◌, ◌++◌, [], List, IfOk, OnOk, if◌then◌else◌, false, OnErr};
 ghost use Rattle.flt_model.specs.Calls as calls;
 ghost use Rattle.flt_model.specs.Effects as effects;
 ghost use Rattle.flt_model.specs.Variables as variables;
@@ -15,12 +15,13 @@ ghost use Rattle.flt_tree.specs.declared.variable.OperationVariable.TheVariants.
 use crate::caller::Caller;
 use crate::effects::{Named, context, gain_context, lose_context, need, need_named};
 use crate::plans::{Plan, Write, made_plan};
+use counted_heap::Heap;
 use flt_frame::Standing;
 use flt_model::{Event, Object};
 use flt_rules::Call;
 use flt_store::{Change, Store};
 use flt_tree::{ContextVariable, OperationVariable, RemovedVariable};
-use std::alloc::{AllocError, Global};
+use std::alloc::AllocError;
 
 /// What a call need not have names.
 fn named(standing: &Standing, variable: Option<ContextVariable>) -> Option<Option<usize>>
@@ -45,15 +46,18 @@ fn handed(standing: &Standing, variable: Option<ContextVariable>) -> Named
 
 /// A context that a call need not have.
 fn need_optional(
+    heap: &mut Heap,
     a: usize,
     named: Option<Option<usize>>,
     events: &mut Vec<Event>,
 ) -> Result<(), AllocError>
-    ensures { OnOk result (events.new.items ≡ events.old.items
+    ensures told { OnOk result (events.new.items ≡ events.old.items
         ++ (effects.uses a (effects.optional named) ++ effects.empties a (effects.optional named))) }
+    ensures granted { OnOk result (heap.new ≡ heap.old) }
+    ensures memory { OnErr result (heap.new ≢ heap.old) }
 {
     match named {
-        Some(named) => need(a, &[context(named)], events),
+        Some(named) => need(heap, a, &[context(named)], events),
         None => Ok(()),
     }
 }
@@ -62,6 +66,7 @@ fn need_optional(
 
 /// The entry takes the visit and the context over. A queue of a filter that is being detached is disabled.
 fn enqueued(
+    heap: &mut Heap,
     store: &Store,
     caller: &Caller,
     visit: usize,
@@ -72,10 +77,15 @@ fn enqueued(
         (λ w granted refused. calls.enqueued w caller.now.activation granted refused visit context)) }
     ensures possible { IfOk result (λ plan. IsPossible store.now plan.change) }
     ensures few { IfOk result (λ plan. cancels_entries plan.change ≡ false) }
+    ensures granted { OnOk result (heap.new ≡ heap.old) }
+    ensures memory { OnErr result (heap.new ≢ heap.old) }
 {
     if store.is_attached(caller.filter) {
-        events.push(Event::Lose(caller.activation, Object::Visit(visit)))?;
-        lose_context(caller.activation, context, &mut events)?;
+        heap.push(
+            &mut events,
+            Event::Lose(caller.activation, Object::Visit(visit)),
+        )?;
+        lose_context(heap, caller.activation, context, &mut events)?;
         Ok(made_plan(
             events,
             true,
@@ -89,6 +99,7 @@ fn enqueued(
 
 /// Nothing is queued where the operation or the named context is NULL.
 fn insert_by(
+    heap: &mut Heap,
     store: &Store,
     caller: &Caller,
     handed: Named,
@@ -98,20 +109,23 @@ fn insert_by(
         (λ w granted refused. calls.insert_by w caller.now.activation granted refused handed.visit handed.context)) }
     ensures possible { IfOk result (λ plan. IsPossible store.now plan.change) }
     ensures few { IfOk result (λ plan. cancels_entries plan.change ≡ false) }
+    ensures granted { OnOk result (heap.new ≡ heap.old) }
+    ensures memory { OnErr result (heap.new ≢ heap.old) }
 {
     match (handed.visit, handed.context) {
         (None, _) | (Some(_), Some(None)) => {
             Ok(made_plan(events, false, Write::Nothing, Change::Nothing))
         }
         (Some(visit), Some(Some(context))) => {
-            enqueued(store, caller, visit, Some(context), events)
+            enqueued(heap, store, caller, visit, Some(context), events)
         }
-        (Some(visit), None) => enqueued(store, caller, visit, None, events),
+        (Some(visit), None) => enqueued(heap, store, caller, visit, None, events),
     }
 }
 
 /// The front entry's visit and context.
 fn removed(
+    heap: &mut Heap,
     store: &Store,
     caller: &Caller,
     operation: RemovedVariable,
@@ -123,6 +137,8 @@ fn removed(
         (machine.queue_at store.now caller.now.filter))) }
     ensures possible { IfOk result (λ plan. IsPossible store.now plan.change) }
     ensures few { IfOk result (λ plan. cancels_entries plan.change ≡ false) }
+    ensures granted { OnOk result (heap.new ≡ heap.old) }
+    ensures memory { OnErr result (heap.new ≢ heap.old) }
 {
     match store.front(caller.filter) {
         None => Ok(made_plan(
@@ -132,8 +148,11 @@ fn removed(
             Change::Nothing,
         )),
         Some(entry) => {
-            events.push(Event::Gain(caller.activation, Object::Visit(entry.visit)))?;
-            gain_context(caller.activation, entry.context, &mut events)?;
+            heap.push(
+                &mut events,
+                Event::Gain(caller.activation, Object::Visit(entry.visit)),
+            )?;
+            gain_context(heap, caller.activation, entry.context, &mut events)?;
             Ok(made_plan(
                 events,
                 true,
@@ -155,6 +174,7 @@ struct Asked {
 
 /// The item takes the visit and the context over, unless the system refuses.
 fn deferred(
+    heap: &mut Heap,
     caller: &Caller,
     asked: Asked,
     visit: usize,
@@ -166,10 +186,15 @@ fn deferred(
         else effects.unchanged w caller.now.activation refused)) }
     ensures possible { IfOk result (λ plan. (s : machine.Store) → IsPossible s plan.change) }
     ensures few { IfOk result (λ plan. cancels_entries plan.change ≡ false) }
+    ensures granted { OnOk result (heap.new ≡ heap.old) }
+    ensures memory { OnErr result (heap.new ≢ heap.old) }
 {
     if asked.grant {
-        events.push(Event::Lose(caller.activation, Object::Visit(visit)))?;
-        lose_context(caller.activation, context, &mut events)?;
+        heap.push(
+            &mut events,
+            Event::Lose(caller.activation, Object::Visit(visit)),
+        )?;
+        lose_context(heap, caller.activation, context, &mut events)?;
         let change = Change::Queue(caller.filter, asked.routine, Some(visit), context);
         Ok(made_plan(events, true, Write::Nothing, change))
     } else {
@@ -179,6 +204,7 @@ fn deferred(
 
 /// Nothing is queued where the operation or the named context is NULL, or the system refuses.
 fn defer_by(
+    heap: &mut Heap,
     caller: &Caller,
     asked: Asked,
     handed: Named,
@@ -189,20 +215,23 @@ fn defer_by(
         handed.visit handed.context)) }
     ensures possible { IfOk result (λ plan. (s : machine.Store) → IsPossible s plan.change) }
     ensures few { IfOk result (λ plan. cancels_entries plan.change ≡ false) }
+    ensures granted { OnOk result (heap.new ≡ heap.old) }
+    ensures memory { OnErr result (heap.new ≢ heap.old) }
 {
     match (handed.visit, handed.context) {
         (None, _) | (Some(_), Some(None)) => {
             Ok(made_plan(events, false, Write::Nothing, Change::Nothing))
         }
         (Some(visit), Some(Some(context))) => {
-            deferred(caller, asked, visit, Some(context), events)
+            deferred(heap, caller, asked, visit, Some(context), events)
         }
-        (Some(visit), None) => deferred(caller, asked, visit, None, events),
+        (Some(visit), None) => deferred(heap, caller, asked, visit, None, events),
     }
 }
 
 /// The item takes the context over, unless the system refuses.
 fn queued(
+    heap: &mut Heap,
     caller: &Caller,
     asked: Asked,
     context: Option<usize>,
@@ -213,9 +242,11 @@ fn queued(
         else effects.unchanged w caller.now.activation refused)) }
     ensures possible { IfOk result (λ plan. (s : machine.Store) → IsPossible s plan.change) }
     ensures few { IfOk result (λ plan. cancels_entries plan.change ≡ false) }
+    ensures granted { OnOk result (heap.new ≡ heap.old) }
+    ensures memory { OnErr result (heap.new ≢ heap.old) }
 {
     if asked.grant {
-        lose_context(caller.activation, context, &mut events)?;
+        lose_context(heap, caller.activation, context, &mut events)?;
         let change = Change::Queue(caller.filter, asked.routine, None, context);
         Ok(made_plan(events, true, Write::Nothing, change))
     } else {
@@ -225,6 +256,7 @@ fn queued(
 
 /// Nothing is queued where the named context is NULL, or the system refuses.
 fn queue_by(
+    heap: &mut Heap,
     caller: &Caller,
     asked: Asked,
     named: Option<Option<usize>>,
@@ -234,11 +266,13 @@ fn queue_by(
         (λ w granted refused. calls.queue_by w caller.now.activation asked.routine asked.grant granted refused named)) }
     ensures possible { IfOk result (λ plan. (s : machine.Store) → IsPossible s plan.change) }
     ensures few { IfOk result (λ plan. cancels_entries plan.change ≡ false) }
+    ensures granted { OnOk result (heap.new ≡ heap.old) }
+    ensures memory { OnErr result (heap.new ≢ heap.old) }
 {
     match named {
         Some(None) => Ok(made_plan(events, false, Write::Nothing, Change::Nothing)),
-        Some(Some(context)) => queued(caller, asked, Some(context), events),
-        None => queued(caller, asked, None, events),
+        Some(Some(context)) => queued(heap, caller, asked, Some(context), events),
+        None => queued(heap, caller, asked, None, events),
     }
 }
 
@@ -246,7 +280,7 @@ fn queue_by(
 
 /// FltCbdqInsertIo.
 pub(crate) fn insert(
-    alloc: Global,
+    heap: &mut Heap,
     store: &Store,
     caller: &Caller,
     context: Option<ContextVariable>,
@@ -256,17 +290,19 @@ pub(crate) fn insert(
     ensures own { IfOk result (λ plan. AreOwn caller.now.activation plan.events) }
     ensures possible { IfOk result (λ plan. AreCounted store.now → IsPossible store.now plan.change) }
     ensures few { IfOk result (λ plan. cancels_entries plan.change ≡ false) }
+    ensures granted { OnOk result (heap.new ≡ heap.old) }
+    ensures memory { OnErr result (heap.new ≢ heap.old) }
 {
     let handed = handed(&caller.standing, context);
-    let mut events = Vec::new(alloc);
-    events.push(Event::Call(caller.activation, Call::InsertIo))?;
-    need_named(caller.activation, handed, &mut events)?;
-    insert_by(store, caller, handed, events)
+    let mut events = Vec::new(heap.alloc());
+    heap.push(&mut events, Event::Call(caller.activation, Call::InsertIo))?;
+    need_named(heap, caller.activation, handed, &mut events)?;
+    insert_by(heap, store, caller, handed, events)
 }
 
 /// FltCbdqRemoveNextIo.
 pub(crate) fn remove_next(
-    alloc: Global,
+    heap: &mut Heap,
     store: &Store,
     caller: &Caller,
     operation: RemovedVariable,
@@ -277,15 +313,20 @@ pub(crate) fn remove_next(
     ensures own { IfOk result (λ plan. AreOwn caller.now.activation plan.events) }
     ensures possible { IfOk result (λ plan. AreCounted store.now → IsPossible store.now plan.change) }
     ensures few { IfOk result (λ plan. cancels_entries plan.change ≡ false) }
+    ensures granted { OnOk result (heap.new ≡ heap.old) }
+    ensures memory { OnErr result (heap.new ≢ heap.old) }
 {
-    let mut events = Vec::new(alloc);
-    events.push(Event::Call(caller.activation, Call::RemoveNextIo))?;
-    removed(store, caller, operation, output, events)
+    let mut events = Vec::new(heap.alloc());
+    heap.push(
+        &mut events,
+        Event::Call(caller.activation, Call::RemoveNextIo),
+    )?;
+    removed(heap, store, caller, operation, output, events)
 }
 
 /// FltQueueDeferredIoWorkItem, of the routine of a number.
 pub(crate) fn queue_deferred(
-    alloc: Global,
+    heap: &mut Heap,
     store: &Store,
     caller: &Caller,
     routine: usize,
@@ -297,18 +338,23 @@ pub(crate) fn queue_deferred(
     ensures own { IfOk result (λ plan. AreOwn caller.now.activation plan.events) }
     ensures possible { IfOk result (λ plan. AreCounted store.now → IsPossible store.now plan.change) }
     ensures few { IfOk result (λ plan. cancels_entries plan.change ≡ false) }
+    ensures granted { OnOk result (heap.new ≡ heap.old) }
+    ensures memory { OnErr result (heap.new ≢ heap.old) }
 {
     let _ = store;
     let handed = handed(&caller.standing, context);
-    let mut events = Vec::new(alloc);
-    events.push(Event::Call(caller.activation, Call::QueueDeferredIoWorkItem))?;
-    need_named(caller.activation, handed, &mut events)?;
-    defer_by(caller, Asked { routine, grant }, handed, events)
+    let mut events = Vec::new(heap.alloc());
+    heap.push(
+        &mut events,
+        Event::Call(caller.activation, Call::QueueDeferredIoWorkItem),
+    )?;
+    need_named(heap, caller.activation, handed, &mut events)?;
+    defer_by(heap, caller, Asked { routine, grant }, handed, events)
 }
 
 /// FltQueueGenericWorkItem, of the routine of a number.
 pub(crate) fn queue_generic(
-    alloc: Global,
+    heap: &mut Heap,
     store: &Store,
     caller: &Caller,
     routine: usize,
@@ -320,11 +366,16 @@ pub(crate) fn queue_generic(
     ensures own { IfOk result (λ plan. AreOwn caller.now.activation plan.events) }
     ensures possible { IfOk result (λ plan. AreCounted store.now → IsPossible store.now plan.change) }
     ensures few { IfOk result (λ plan. cancels_entries plan.change ≡ false) }
+    ensures granted { OnOk result (heap.new ≡ heap.old) }
+    ensures memory { OnErr result (heap.new ≢ heap.old) }
 {
     let _ = store;
     let named = named(&caller.standing, context);
-    let mut events = Vec::new(alloc);
-    events.push(Event::Call(caller.activation, Call::QueueGenericWorkItem))?;
-    need_optional(caller.activation, named, &mut events)?;
-    queue_by(caller, Asked { routine, grant }, named, events)
+    let mut events = Vec::new(heap.alloc());
+    heap.push(
+        &mut events,
+        Event::Call(caller.activation, Call::QueueGenericWorkItem),
+    )?;
+    need_optional(heap, caller.activation, named, &mut events)?;
+    queue_by(heap, caller, Asked { routine, grant }, named, events)
 }

@@ -1,7 +1,7 @@
 //! Reads and writes that others see and that are no calls: the value of a context, the file of an operation, and whether it is an I/O
 //! request packet. A variable that is NULL leaves all as it is, and the test then fails.
 
-ghost use Rattle.std.specs.Prelude.{◌≡◌, List, IfOk, get_or, false};
+ghost use Rattle.std.specs.Prelude.{◌≡◌, ◌≢◌, List, IfOk, get_or, false, OnOk, OnErr};
 ghost use Rattle.flt_model.specs.Reads as reads;
 ghost use Rattle.flt_model.specs.Variables.{atom_value};
 ghost use Rattle.flt_model.specs.World as machine;
@@ -13,10 +13,11 @@ ghost use Rattle.flt_tree.specs.declared.filter.Statement.{Statement};
 use crate::caller::Caller;
 use crate::effects::{context as context_object, need, operation as operation_object};
 use crate::plans::{Plan, Write, made_plan};
+use counted_heap::Heap;
 use flt_model::Event;
 use flt_store::{Change, Store};
 use flt_tree::{Atom, ContextVariable, NumberVariable, OperationVariable};
-use std::alloc::{AllocError, Global};
+use std::alloc::AllocError;
 
 /// The context's value goes to the variable.
 fn value_read(
@@ -41,7 +42,7 @@ fn value_read(
 
 /// The value of a context, freed or not.
 pub(crate) fn read_value(
-    alloc: Global,
+    heap: &mut Heap,
     store: &Store,
     caller: &Caller,
     number: NumberVariable,
@@ -52,11 +53,13 @@ pub(crate) fn read_value(
     ensures own { IfOk result (λ plan. AreOwn caller.now.activation plan.events) }
     ensures possible { IfOk result (λ plan. AreCounted store.now → IsPossible store.now plan.change) }
     ensures few { IfOk result (λ plan. cancels_entries plan.change ≡ false) }
+    ensures granted { OnOk result (heap.new ≡ heap.old) }
+    ensures memory { OnErr result (heap.new ≢ heap.old) }
 {
     let a = caller.activation;
     let named = caller.standing.context(context);
-    let mut events = Vec::new(alloc);
-    need(a, &[context_object(named)], &mut events)?;
+    let mut events = Vec::new(heap.alloc());
+    need(heap, a, &[context_object(named)], &mut events)?;
     Ok(value_read(store, a, number, named, events))
 }
 
@@ -83,7 +86,7 @@ fn file_read(
 
 /// The file of an operation.
 pub(crate) fn read_file(
-    alloc: Global,
+    heap: &mut Heap,
     store: &Store,
     caller: &Caller,
     number: NumberVariable,
@@ -94,11 +97,13 @@ pub(crate) fn read_file(
     ensures own { IfOk result (λ plan. AreOwn caller.now.activation plan.events) }
     ensures possible { IfOk result (λ plan. AreCounted store.now → IsPossible store.now plan.change) }
     ensures few { IfOk result (λ plan. cancels_entries plan.change ≡ false) }
+    ensures granted { OnOk result (heap.new ≡ heap.old) }
+    ensures memory { OnErr result (heap.new ≢ heap.old) }
 {
     let a = caller.activation;
     let visit = caller.standing.operation(operation);
-    let mut events = Vec::new(alloc);
-    need(a, &[operation_object(visit)], &mut events)?;
+    let mut events = Vec::new(heap.alloc());
+    need(heap, a, &[operation_object(visit)], &mut events)?;
     Ok(file_read(store, a, number, visit, events))
 }
 
@@ -133,7 +138,7 @@ fn value_written(
 
 /// A value is written to a context.
 pub(crate) fn write_value(
-    alloc: Global,
+    heap: &mut Heap,
     store: &Store,
     caller: &Caller,
     context: ContextVariable,
@@ -144,6 +149,8 @@ pub(crate) fn write_value(
     ensures own { IfOk result (λ plan. AreOwn caller.now.activation plan.events) }
     ensures possible { IfOk result (λ plan. AreCounted store.now → IsPossible store.now plan.change) }
     ensures few { IfOk result (λ plan. cancels_entries plan.change ≡ false) }
+    ensures granted { OnOk result (heap.new ≡ heap.old) }
+    ensures memory { OnErr result (heap.new ≢ heap.old) }
 {
     let a = caller.activation;
     let named = caller.standing.context(context);
@@ -151,8 +158,8 @@ pub(crate) fn write_value(
         atom: value,
         value: caller.standing.atom(value),
     };
-    let mut events = Vec::new(alloc);
-    need(a, &[context_object(named)], &mut events)?;
+    let mut events = Vec::new(heap.alloc());
+    need(heap, a, &[context_object(named)], &mut events)?;
     Ok(value_written(store, a, written, named, events))
 }
 
@@ -172,16 +179,18 @@ fn irp_tested(store: &Store, a: usize, visit: Option<usize>, events: Vec<Event>)
 }
 
 /// Whether the operation is an I/O request packet.
-pub(crate) fn test_irp(alloc: Global, store: &Store, caller: &Caller) -> Result<Plan, AllocError>
+pub(crate) fn test_irp(heap: &mut Heap, store: &Store, caller: &Caller) -> Result<Plan, AllocError>
     ensures planned { IfOk result (λ plan. Plans store.now caller.now plan
         (λ w granted refused. reads.test_irp w caller.now.activation granted refused)) }
     ensures own { IfOk result (λ plan. AreOwn caller.now.activation plan.events) }
     ensures possible { IfOk result (λ plan. AreCounted store.now → IsPossible store.now plan.change) }
     ensures few { IfOk result (λ plan. cancels_entries plan.change ≡ false) }
+    ensures granted { OnOk result (heap.new ≡ heap.old) }
+    ensures memory { OnErr result (heap.new ≢ heap.old) }
 {
     let a = caller.activation;
     let visit = caller.standing.operation(OperationVariable::Data);
-    let mut events = Vec::new(alloc);
-    need(a, &[operation_object(visit)], &mut events)?;
+    let mut events = Vec::new(heap.alloc());
+    need(heap, a, &[operation_object(visit)], &mut events)?;
     Ok(irp_tested(store, a, visit, events))
 }

@@ -1,6 +1,6 @@
 //! Calls that complete an operation, and the end of a callback.
 
-ghost use Rattle.std.specs.Prelude.{◌≡◌, true, ◌++◌, [], List, Some, IfOk, OnOk, nat_lt, option_map, false};
+ghost use Rattle.std.specs.Prelude.{◌≡◌, ◌≢◌, true, ◌++◌, [], List, Some, IfOk, OnOk, nat_lt, option_map, false, OnErr};
 ghost use Rattle.flt_rules.specs.Place.{answers};
 ghost use Rattle.flt_rules.specs.declared.held.HeldLock.{HeldLock};
 ghost use Rattle.flt_model.specs.Calls as calls;
@@ -30,12 +30,13 @@ use crate::caller::Caller;
 use crate::effects::{Named, context, lose_context, need, need_named};
 use crate::plans::{Plan, Write, made_plan};
 use crate::ways::{settles_visit, way_of};
+use counted_heap::Heap;
 use flt_frame::{Loaded, Standing};
 use flt_model::{Answer, Event, Object};
 use flt_rules::Call;
 use flt_store::{Change, Store, Way};
 use flt_tree::{ContextVariable, OperationVariable, Status, named_context};
-use std::alloc::{AllocError, Global};
+use std::alloc::AllocError;
 
 /// What a variable names that a call need not have; none where the call hasn't it.
 fn named_in(standing: &Standing, variable: Option<ContextVariable>) -> Option<Option<usize>>
@@ -78,39 +79,45 @@ struct Completion {
 
 /// The visit is given back and settled; a frame takes the context over.
 fn tell_settled(
+    heap: &mut Heap,
     store: &Store,
     a: usize,
     settled: Settled,
     events: &mut Vec<Event>,
 ) -> Result<(), AllocError>
-    ensures { OnOk result (events.new.items ≡ events.old.items ++ settled_told store.now a settled) }
+    ensures told { OnOk result (events.new.items ≡ events.old.items ++ settled_told store.now a settled) }
+    ensures granted { OnOk result (heap.new ≡ heap.old) }
+    ensures memory { OnErr result (heap.new ≢ heap.old) }
 {
-    events.push(Event::Lose(a, Object::Visit(settled.visit)))?;
+    heap.push(events, Event::Lose(a, Object::Visit(settled.visit)))?;
     if store.makes_frame(settled.visit, settled.way) {
-        lose_context(a, settled.context, events)?;
+        lose_context(heap, a, settled.context, events)?;
     }
-    events.push(Event::Settle(settled.visit))?;
+    heap.push(events, Event::Settle(settled.visit))?;
     Ok(())
 }
 
 /// The events of the call before its effect.
 fn tell_completion(
+    heap: &mut Heap,
     a: usize,
     completion: Completion,
     events: &mut Vec<Event>,
 ) -> Result<(), AllocError>
-    ensures { OnOk result (events.new.items ≡ events.old.items ++ completion_told a completion) }
+    ensures told { OnOk result (events.new.items ≡ events.old.items ++ completion_told a completion) }
+    ensures granted { OnOk result (heap.new ≡ heap.old) }
+    ensures memory { OnErr result (heap.new ≢ heap.old) }
 {
-    events.push(Event::Call(a, completion.call))?;
+    heap.push(events, Event::Call(a, completion.call))?;
     if let Some(answer) = completion.answer {
-        events.push(Event::Status(a, answer))?;
+        heap.push(events, Event::Status(a, answer))?;
     }
-    need_named(a, completion.named, events)
+    need_named(heap, a, completion.named, events)
 }
 
 /// The call, by what is read of the activation.
 fn plan_completion(
-    alloc: Global,
+    heap: &mut Heap,
     store: &Store,
     a: usize,
     completion: Completion,
@@ -121,12 +128,14 @@ fn plan_completion(
     ensures takes { IfOk result (λ plan. (locks : List HeldLock) → TakesNone locks plan.write) }
     ensures possible { IfOk result (λ plan. IsPossible store.now plan.change) }
     ensures few { IfOk result (λ plan. cancels_entries plan.change ≡ false) }
+    ensures granted { OnOk result (heap.new ≡ heap.old) }
+    ensures memory { OnErr result (heap.new ≢ heap.old) }
 {
-    let mut events = Vec::new(alloc);
-    tell_completion(a, completion, &mut events)?;
+    let mut events = Vec::new(heap.alloc());
+    tell_completion(heap, a, completion, &mut events)?;
     match completion.settled {
         Some(settled) => {
-            tell_settled(store, a, settled, &mut events)?;
+            tell_settled(heap, store, a, settled, &mut events)?;
             let change = Change::Settle(settled.visit, settled.context, settled.way);
             Ok(made_plan(events, true, Write::Nothing, change))
         }
@@ -191,7 +200,7 @@ fn settled_by(
 
 /// FltCompletePendedPreOperation, of the given operation or of one that was removed from the queue.
 pub(crate) fn complete_pre(
-    alloc: Global,
+    heap: &mut Heap,
     loaded: &Loaded,
     store: &Store,
     caller: &Caller,
@@ -204,6 +213,8 @@ pub(crate) fn complete_pre(
     ensures own { IfOk result (λ plan. AreOwn caller.now.activation plan.events) }
     ensures possible { IfOk result (λ plan. AreCounted store.now → IsPossible store.now plan.change) }
     ensures few { IfOk result (λ plan. cancels_entries plan.change ≡ false) }
+    ensures granted { OnOk result (heap.new ≡ heap.old) }
+    ensures memory { OnErr result (heap.new ≢ heap.old) }
 {
     let named = Named {
         visit: caller.standing.operation(operation),
@@ -216,12 +227,12 @@ pub(crate) fn complete_pre(
         named,
         settled: settled_by(loaded, store, named, answer),
     };
-    plan_completion(alloc, store, caller.activation, completion)
+    plan_completion(heap, store, caller.activation, completion)
 }
 
 /// FltCompletePendedPostOperation.
 pub(crate) fn complete_post(
-    alloc: Global,
+    heap: &mut Heap,
     loaded: &Loaded,
     store: &Store,
     caller: &Caller,
@@ -232,6 +243,8 @@ pub(crate) fn complete_post(
     ensures own { IfOk result (λ plan. AreOwn caller.now.activation plan.events) }
     ensures possible { IfOk result (λ plan. AreCounted store.now → IsPossible store.now plan.change) }
     ensures few { IfOk result (λ plan. cancels_entries plan.change ≡ false) }
+    ensures granted { OnOk result (heap.new ≡ heap.old) }
+    ensures memory { OnErr result (heap.new ≢ heap.old) }
 {
     let named = Named {
         visit: caller.standing.operation(OperationVariable::Data),
@@ -244,7 +257,7 @@ pub(crate) fn complete_post(
         named,
         settled: settled_by(loaded, store, named, answer),
     };
-    plan_completion(alloc, store, caller.activation, completion)
+    plan_completion(heap, store, caller.activation, completion)
 }
 
 // ---- the end
@@ -261,6 +274,7 @@ struct Returning {
 
 /// The visit is lost where it is held, and is settled either way; a frame takes the context over.
 fn tell_back(
+    heap: &mut Heap,
     store: &Store,
     a: usize,
     held: bool,
@@ -269,42 +283,47 @@ fn tell_back(
     way: Way,
     events: &mut Vec<Event>,
 ) -> Result<(), AllocError>
-    ensures { OnOk result (events.new.items ≡ events.old.items ++ visit_told store.now a held visit context (parts.way_of way)) }
+    ensures told { OnOk result (events.new.items ≡ events.old.items ++ visit_told store.now a held visit context (parts.way_of way)) }
+    ensures granted { OnOk result (heap.new ≡ heap.old) }
+    ensures memory { OnErr result (heap.new ≢ heap.old) }
 {
     if held {
-        events.push(Event::Lose(a, Object::Visit(visit)))?;
+        heap.push(events, Event::Lose(a, Object::Visit(visit)))?;
     }
     if store.makes_frame(visit, way) {
-        lose_context(a, context, events)?;
+        lose_context(heap, a, context, events)?;
     }
     if settles_visit(way) {
-        events.push(Event::Settle(visit))?;
+        heap.push(events, Event::Settle(visit))?;
     }
     Ok(())
 }
 
 /// A status is given, or is missing where one is wanted; the context that goes with it is used.
 fn tell_status(
+    heap: &mut Heap,
     a: usize,
     answers: bool,
     named: Option<Option<usize>>,
     status: Option<Status>,
     events: &mut Vec<Event>,
 ) -> Result<(), AllocError>
-    ensures { OnOk result (events.new.items ≡ events.old.items ++ (status_told a answers status ++ context_told a named)) }
+    ensures told { OnOk result (events.new.items ≡ events.old.items ++ (status_told a answers status ++ context_told a named)) }
+    ensures granted { OnOk result (heap.new ≡ heap.old) }
+    ensures memory { OnErr result (heap.new ≢ heap.old) }
 {
     if answers || status.is_some() {
-        events.push(Event::Status(a, Answer::Returned(status)))?;
+        heap.push(events, Event::Status(a, Answer::Returned(status)))?;
     }
     match named {
-        Some(x) => need(a, &[context(x)], events),
+        Some(x) => need(heap, a, &[context(x)], events),
         None => Ok(()),
     }
 }
 
 /// The end, by what is read of the activation.
 fn plan_return(
-    alloc: Global,
+    heap: &mut Heap,
     loaded: &Loaded,
     store: &Store,
     a: usize,
@@ -319,19 +338,21 @@ fn plan_return(
     ensures own { IfOk result (λ plan. AreOwn a plan.events) }
     ensures possible { IfOk result (λ plan. IsPossible store.now plan.change) }
     ensures few { IfOk result (λ plan. cancels_entries plan.change ≡ false) }
+    ensures granted { OnOk result (heap.new ≡ heap.old) }
+    ensures memory { OnErr result (heap.new ≢ heap.old) }
 {
-    let mut events = Vec::new(alloc);
-    tell_status(a, r.answers, r.named, status, &mut events)?;
+    let mut events = Vec::new(heap.alloc());
+    tell_status(heap, a, r.answers, r.named, status, &mut events)?;
     match r.given {
         Some(visit) if r.answers => {
             let x = there(r.named);
             let way = way_of(loaded, store, visit, Answer::Returned(status));
-            tell_back(store, a, r.held, visit, x, way, &mut events)?;
-            events.push(Event::End(a))?;
+            tell_back(heap, store, a, r.held, visit, x, way, &mut events)?;
+            heap.push(&mut events, Event::End(a))?;
             Ok(made_plan(events, true, Write::End, Change::Settle(visit, x, way)))
         }
         _ => {
-            events.push(Event::End(a))?;
+            heap.push(&mut events, Event::End(a))?;
             Ok(made_plan(events, true, Write::End, Change::Nothing))
         }
     }
@@ -354,7 +375,7 @@ fn read_at_end(caller: &Caller, status: Option<Status>) -> Returning
 
 /// The end of a callback, by `return` with a status or without.
 pub(crate) fn returns(
-    alloc: Global,
+    heap: &mut Heap,
     loaded: &Loaded,
     store: &Store,
     caller: &Caller,
@@ -366,7 +387,9 @@ pub(crate) fn returns(
     ensures own { IfOk result (λ plan. AreOwn caller.now.activation plan.events) }
     ensures possible { IfOk result (λ plan. AreCounted store.now → IsPossible store.now plan.change) }
     ensures few { IfOk result (λ plan. cancels_entries plan.change ≡ false) }
+    ensures granted { OnOk result (heap.new ≡ heap.old) }
+    ensures memory { OnErr result (heap.new ≢ heap.old) }
 {
     let r = read_at_end(caller, status);
-    plan_return(alloc, loaded, store, caller.activation, status, r)
+    plan_return(heap, loaded, store, caller.activation, status, r)
 }

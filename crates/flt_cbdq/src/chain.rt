@@ -1,7 +1,8 @@
 //! The nodes of one visit in one queue.
-ghost use Rattle.std.specs.Prelude.{◌≡◌, true, [], ◌∷◌, ◌++◌, drop, cond, OnOk, OnErr, Some, None};
+ghost use Rattle.std.specs.Prelude.{◌≡◌, ◌≢◌, true, [], ◌∷◌, ◌++◌, drop, cond, OnOk, OnErr, Some, None};
 ghost use Rattle.ilist_core.specs.NodeLists.{first_of};
 
+use counted_heap::Heap;
 use ilist_core::NodeId;
 use std::alloc::{AllocError, Global};
 use std::collections::VecDeque;
@@ -39,14 +40,13 @@ impl Chain {
         self.first
     }
 
-    pub(crate) fn push(&mut self, node: NodeId) -> Result<(), AllocError>
+    pub(crate) fn push(&mut self, heap: &mut Heap, node: NodeId) -> Result<(), AllocError>
         ensures pushed { OnOk result (self.new ≡ self.old ++ node ∷ []) }
         ensures refused { OnErr result (self.new ≡ self.old) }
+        ensures granted { OnOk result (heap.new ≡ heap.old) }
+        ensures memory { OnErr result (heap.new ≢ heap.old) }
     {
-        match self.later.push_back(node) {
-            Ok(()) => Ok(()),
-            Err(_) => Err(AllocError),
-        }
+        heap.push_back(&mut self.later, node)
     }
 
     /// Takes the first node out, unless it is the only one. Answers whether it was taken out.

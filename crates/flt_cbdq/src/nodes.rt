@@ -7,8 +7,9 @@ ghost use Rattle.flt_cbdq.specs.Kept.{entry_at, entries_of, is_with, nodes_with,
 
 use crate::Entry;
 use crate::nodes_by_visit::NodesByVisit;
+use counted_heap::Heap;
 use ilist_core::{ListId, Lists, NodeId};
-use std::alloc::{AllocError, Global};
+use std::alloc::AllocError;
 
 static NO_ENTRY: Entry = Entry {
     visit: 0,
@@ -26,19 +27,21 @@ pub(crate) fn entry_of(entries: &[Entry], node: NodeId) -> &Entry
 }
 
 /// Makes room for the entry of a node. The rows up to it are filled with what is read where there is none.
-fn make_room(entries: &mut Vec<Entry>, node: NodeId) -> Result<(), AllocError>
+fn make_room(heap: &mut Heap, entries: &mut Vec<Entry>, node: NodeId) -> Result<(), AllocError>
     ensures room { OnOk result (node < length entries.new.items) }
     ensures same { (other : ℕ) → entry_at entries.new.items other ≡ entry_at entries.old.items other }
+    ensures granted { OnOk result (heap.new ≡ heap.old) }
+    ensures memory { OnErr result (heap.new ≢ heap.old) }
 {
     while entries.len() <= node.number() {
-        entries.push(NO_ENTRY)?;
+        heap.push(entries, NO_ENTRY)?;
     }
     Ok(())
 }
 
 /// Gives a node an entry, and notes it as one of the entry's visit.
 fn put_entry(
-    alloc: Global,
+    heap: &mut Heap,
     entries: &mut Vec<Entry>,
     nodes: &mut NodesByVisit,
     node: NodeId,
@@ -50,16 +53,18 @@ fn put_entry(
     ensures apart { (visit : ℕ) → visit ≢ entry.visit → nodes_with nodes.new visit ≡ nodes_with nodes.old visit }
     ensures refused { OnErr result ((other : ℕ) → entry_at entries.new.items other ≡ entry_at entries.old.items other) }
     ensures unnoted { OnErr result (nodes_with nodes.new entry.visit ≡ nodes_with nodes.old entry.visit) }
+    ensures granted { OnOk result (heap.new ≡ heap.old) }
+    ensures memory { OnErr result (heap.new ≢ heap.old) }
 {
-    make_room(entries, node)?;
-    nodes.push(alloc, entry.visit, node)?;
+    make_room(heap, entries, node)?;
+    nodes.push(heap, entry.visit, node)?;
     entries[node.number()] = entry;
     Ok(())
 }
 
 /// Puts a new node with this entry at the end of a list.
 pub(crate) fn add_entry(
-    alloc: Global,
+    heap: &mut Heap,
     lists: &mut Lists,
     entries: &mut Vec<Entry>,
     nodes: &mut NodesByVisit,
@@ -74,9 +79,11 @@ pub(crate) fn add_entry(
     ensures unseen { OnErr result (entries_of entries.new.items lists.new.lists ≡ entries_of entries.old.items lists.old.lists) }
     ensures same { OnErr result ((node : ℕ) → entry_at entries.new.items node ≡ entry_at entries.old.items node) }
     ensures unnoted { OnErr result ((visit : ℕ) → nodes_with nodes.new visit ≡ nodes_with nodes.old visit) }
+    ensures granted { OnOk result (heap.new ≡ heap.old) }
+    ensures memory { OnErr result (heap.new ≢ heap.old) }
 {
-    let node = lists.add_node()?;
-    if let Err(refused) = put_entry(alloc, entries, nodes, node, entry) {
+    let node = lists.add_node(heap)?;
+    if let Err(refused) = put_entry(heap, entries, nodes, node, entry) {
         lists.remove_node(node);
         return Err(refused);
     }

@@ -4,6 +4,7 @@ ghost use Rattle.ilist_core.specs.NodeLists.{first_of};
 ghost use Rattle.flt_cbdq.specs.Kept.{nodes_with};
 
 use crate::chain::Chain;
+use counted_heap::Heap;
 use ilist_core::NodeId;
 use std::alloc::{AllocError, Global};
 use std::collections::BTreeMap;
@@ -48,21 +49,22 @@ impl NodesByVisit {
     #[tactic(auto, unfolding(crate::specs::Kept::nodes_with))]
     pub(crate) fn push(
         &mut self,
-        alloc: Global,
+        heap: &mut Heap,
         visit: usize,
         node: NodeId,
     ) -> Result<(), AllocError>
         ensures here { OnOk result (nodes_with self.new visit ≡ nodes_with self.old visit ++ node ∷ []) }
         ensures others { (other : ℕ) → other ≢ visit → nodes_with self.new other ≡ nodes_with self.old other }
         ensures refused { OnErr result (nodes_with self.new visit ≡ nodes_with self.old visit) }
+        ensures granted { OnOk result (heap.new ≡ heap.old) }
+        ensures memory { OnErr result (heap.new ≢ heap.old) }
     {
         if let Some(chain) = self.chains.get_mut(&visit) {
-            return chain.push(node);
+            return chain.push(heap, node);
         }
-        match self.chains.insert(visit, Chain::new(alloc, node)) {
-            Ok(_) => Ok(()),
-            Err(_) => Err(AllocError),
-        }
+        let chain = Chain::new(heap.alloc(), node);
+        heap.put(&mut self.chains, visit, chain)?;
+        Ok(())
     }
 
     /// Takes the first node of a visit out, if there is one.

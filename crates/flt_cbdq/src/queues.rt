@@ -1,14 +1,14 @@
 //! The queues themselves.
-ghost use Rattle.std.specs.Prelude.{◌≡◌, ◌≤◌, true, false, [], ◌∷◌, ◌++◌, ◌↔◌, IfOk, OnOk, OnErr, MatchResult, Err, drop, replicate, set, find, slice_get, option_copied};
+ghost use Rattle.std.specs.Prelude.{◌≡◌, ◌≢◌, ◌≤◌, true, false, [], ◌∷◌, ◌++◌, ◌↔◌, IfOk, OnOk, OnErr, MatchResult, Err, drop, replicate, set, find, slice_get, option_copied};
 ghost use Rattle.flt_cbdq.specs.Queues.{queue_of, is_disabled, with_queue, has_visit, is_of, front_of, without_first, entry_in};
-ghost use Rattle.flt_cbdq.specs.declared.fault.InsertFault.TheVariants.{Disabled};
+ghost use Rattle.flt_cbdq.specs.declared.fault.InsertFault.TheVariants as fault;
 
 use crate::nodes::{add_entry, entry_of, first_node, node_at};
 use crate::nodes_by_visit::NodesByVisit;
 use crate::walk::Walk;
 use crate::{Entry, InsertFault, OutOfMemory};
+use counted_heap::Heap;
 use ilist_core::Lists;
-use std::alloc::Global;
 use std::marker::Model;
 
 /// What is kept of one queue beside its list.
@@ -24,7 +24,6 @@ struct Queue {
 /// empty and disabled.
 #[derive(Drop)]
 pub struct Queues {
-    alloc: Global,
     /// By filter.
     lists: Lists,
     queues: Vec<Queue>,
@@ -49,20 +48,23 @@ impl Model for Queues {
 
 impl Queues {
     /// Empty queues, none of them disabled, of so many filters.
-    pub fn new(alloc: Global, filters: usize) -> Result<Self, OutOfMemory>
-        ensures { IfOk result (λ q. q ≡ record { queues = replicate filters []; disabled = replicate filters false }) }
+    pub fn new(heap: &mut Heap, filters: usize) -> Result<Self, OutOfMemory>
+        ensures empty { IfOk result (λ q. q ≡ record { queues = replicate filters []; disabled = replicate filters false }) }
+        ensures granted { OnOk result (heap.new ≡ heap.old) }
+        ensures memory { OnErr result (heap.new ≢ heap.old) }
     {
+        let alloc = heap.alloc();
         let mut lists = Lists::new(alloc);
         let mut queues = Vec::new(alloc);
         for _ in 0..filters {
-            let _ = lists.new_list()?;
-            queues.push(Queue {
+            let _ = lists.new_list(heap)?;
+            let queue = Queue {
                 nodes: NodesByVisit::new(alloc),
                 disabled: false,
-            })?;
+            };
+            heap.push(&mut queues, queue)?;
         }
         Ok(Queues {
-            alloc,
             lists,
             queues,
             entries: Vec::new(alloc),
@@ -70,11 +72,18 @@ impl Queues {
     }
 
     /// Puts the entry at the end of the filter's queue, unless that is disabled.
-    pub fn insert(&mut self, filter: usize, entry: Entry) -> Result<(), InsertFault>
+    pub fn insert(
+        &mut self,
+        heap: &mut Heap,
+        filter: usize,
+        entry: Entry,
+    ) -> Result<(), InsertFault>
         ensures queued { OnOk result (self.new ≡ with_queue self.old filter (queue_of self.old filter ++ entry ∷ [])) }
-        ensures disabled { (result ≡ Err (Disabled entry)) ↔ (is_disabled self.old filter ≡ true) }
+        ensures disabled { (result ≡ Err (fault.Disabled entry)) ↔ (is_disabled self.old filter ≡ true) }
         ensures refused { OnErr result (self.new ≡ self.old) }
         ensures back { MatchResult result (λ _. is_disabled self.old filter ≡ false) (λ fault. entry_in fault ≡ entry) }
+        ensures granted { result ≢ Err (fault.OutOfMemory entry) → heap.new ≡ heap.old }
+        ensures memory { result ≡ Err (fault.OutOfMemory entry) → heap.new ≢ heap.old }
     {
         let Some(list) = self.lists.list(filter) else {
             return Err(InsertFault::Disabled(entry));
@@ -85,9 +94,8 @@ impl Queues {
         if queue.disabled {
             return Err(InsertFault::Disabled(entry));
         }
-        let alloc = self.alloc;
         match add_entry(
-            alloc,
+            heap,
             &mut self.lists,
             &mut self.entries,
             &mut queue.nodes,

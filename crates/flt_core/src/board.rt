@@ -23,6 +23,7 @@ ghost use Rattle.flt_model.specs.declared.moves.Move.TheVariants as moves;
 use crate::fault::{ArriveFault, DetachFault};
 use crate::names::{CallerEntries, Fulls, OtherEntries, StackName};
 use crate::receipts::Receipts;
+use counted_heap::Heap;
 use flt_machine::{Advanced, ApplyFault, Board, Commit, Events, Loaded, MAX_ENTRIES, OutOfMemory};
 use flt_model::{Journal, Move, Subject};
 use flt_ops::MAX_OPERATIONS;
@@ -72,7 +73,7 @@ impl<N: StackName> Core<N> {
         requires fulls { fulls.total ≡ 0 }
         ensures opening { IfOk result (λ core. core ≡ situations.opening (length N.trees)) }
     {
-        let board = Board::new(alloc, loaded)?;
+        let board = Board::new(&mut Heap::new(alloc), loaded)?;
         Ok(Core {
             board,
             callers,
@@ -279,7 +280,7 @@ impl<N: StackName> Core<N> {
         ensures refused { OnErr result ((self.new ≡ self.old) × (mine.new.amount ≡ mine.old.amount)) }
     {
         arrivals_are_operations();
-        self.board.apply(alloc, loaded, step)?;
+        self.board.apply(&mut Heap::new(alloc), loaded, step)?;
         self.callers.add(mine, 1);
         Ok(())
     }
@@ -308,7 +309,7 @@ impl<N: StackName> Core<N> {
         ensures full { (result ≡ Err apply_fault.Full) ↔ ((IsDisabled loaded.now self.old step → ⊥) × IsFullFor self.old step) }
         ensures refused { OnErr result ((self.new ≡ self.old) × (mine.new.amount ≡ mine.old.amount)) }
     {
-        let events = self.board.apply(alloc, loaded, step)?;
+        let events = self.board.apply(&mut Heap::new(alloc), loaded, step)?;
         self.others.add(mine, 1);
         Ok(events)
     }
@@ -342,7 +343,10 @@ impl<N: StackName> Core<N> {
         ensures refused { ((events : Events) → result ≢ answer.Committed events) →
             (self.new ≡ self.old) × (mine.new.amount ≡ mine.old.amount) }
     {
-        match self.board.commit(alloc, loaded, advanced, grant) {
+        match self
+            .board
+            .commit(&mut Heap::new(alloc), loaded, advanced, grant)
+        {
             Commit::Committed(events) => {
                 self.others.add(mine, 1);
                 Commit::Committed(events)
@@ -389,7 +393,7 @@ impl<N: StackName> Core<N> {
         ensures { IfOk result (λ next. Now loaded.now self.now
             (λ p m. next.items ≡ tickets.by_move loaded.now.altitudes m.world (make p m.world step))) }
     {
-        self.board.tickets(alloc, loaded, step)
+        self.board.tickets(&mut Heap::new(alloc), loaded, step)
     }
 
     /// Whether there are as many entries as may be, or as many operations where one more arrives.

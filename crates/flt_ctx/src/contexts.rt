@@ -17,8 +17,8 @@ use crate::links::{
     Link, Row, TARGET_LISTS, add_named, context_of, find_node, place_of, put_context,
 };
 use crate::stream_set::StreamSet;
+use counted_heap::Heap;
 use ilist_core::Lists;
-use std::alloc::Global;
 use std::marker::Model;
 
 /// Contexts by number, each with the link that it may have, and the filters that are closed.
@@ -51,17 +51,20 @@ impl Model for Contexts {
 
 impl Contexts {
     /// No context yet, for so many filters, none of them closed.
-    pub fn new(alloc: Global, filters: usize) -> Result<Self, OutOfMemory>
-        ensures { IfOk result (λ c. c ≡ record { contexts = []; closed = replicate filters false }) }
+    pub fn new(heap: &mut Heap, filters: usize) -> Result<Self, OutOfMemory>
+        ensures empty { IfOk result (λ c. c ≡ record { contexts = []; closed = replicate filters false }) }
+        ensures granted { OnOk result (heap.new ≡ heap.old) }
+        ensures memory { OnErr result (heap.new ≢ heap.old) }
     {
+        let alloc = heap.alloc();
         let mut lists = Lists::new(alloc);
         let mut closed = Vec::new(alloc);
         for _ in 0..filters {
-            closed.push(false)?;
-            lists.new_list()?;
+            heap.push(&mut closed, false)?;
+            lists.new_list(heap)?;
         }
         for _ in 0..TARGET_LISTS {
-            lists.new_list()?;
+            lists.new_list(heap)?;
         }
         Ok(Contexts {
             rows: Vec::new(alloc),
@@ -80,20 +83,23 @@ impl Contexts {
     }
 
     /// Makes a context of the filter `owner`, with the value 0 and one reference, and answers its number.
-    pub fn alloc(&mut self, owner: usize) -> Result<usize, OutOfMemory>
+    pub fn alloc(&mut self, heap: &mut Heap, owner: usize) -> Result<usize, OutOfMemory>
         ensures number { IfOk result (λ x. x ≡ length self.old.contexts) }
         ensures made { OnOk result (self.new ≡ record self.old {
           contexts = self.old.contexts ++ record { owner = owner; references = 1; value = 0; link = None } ∷ [];
         }) }
         ensures refused { OnErr result (self.new ≡ self.old) }
+        ensures granted { OnOk result (heap.new ≡ heap.old) }
+        ensures memory { OnErr result (heap.new ≢ heap.old) }
     {
         let number = self.rows.len();
-        self.rows.push(Row {
+        let row = Row {
             owner,
             references: 1,
             value: 0,
             link: None,
-        })?;
+        };
+        heap.push(&mut self.rows, row)?;
         Ok(number)
     }
 
@@ -324,28 +330,30 @@ impl Contexts {
     }
 
     /// Links the context there, where none is linked. Its references stay as they are.
-    fn put_link(&mut self, context: usize, key: Key) -> Result<(), OutOfMemory>
+    fn put_link(&mut self, heap: &mut Heap, context: usize, key: Key) -> Result<(), OutOfMemory>
         requires there { context < length self.old.contexts }
         requires free { (context_at self.old context).link ≡ None }
         requires open { key.filter < length self.old.closed }
         requires none { linked_at self.old key ≡ None }
         ensures ok { OnOk result (self.new ≡ with_link self.old context (Some key)) }
         ensures refused { OnErr result (self.new ≡ self.old) }
+        ensures granted { OnOk result (heap.new ≡ heap.old) }
+        ensures memory { OnErr result (heap.new ≢ heap.old) }
     {
         let target = self
             .lists
             .list(self.closed.len() + place_of(key.target))
             .unwrap();
         let filter = self.lists.list(key.filter).unwrap();
-        let by_target = add_named(&mut self.lists, &mut self.contexts, context)?;
-        let by_filter = match add_named(&mut self.lists, &mut self.contexts, context) {
+        let by_target = add_named(heap, &mut self.lists, &mut self.contexts, context)?;
+        let by_filter = match add_named(heap, &mut self.lists, &mut self.contexts, context) {
             Ok(node) => node,
             Err(refused) => {
                 self.lists.remove_node(by_target);
                 return Err(refused);
             }
         };
-        if let Err(refused) = self.streams.insert(key) {
+        if let Err(refused) = self.streams.insert(heap, key) {
             self.lists.remove_node(by_filter);
             self.lists.remove_node(by_target);
             return Err(refused);
@@ -389,6 +397,7 @@ impl Contexts {
     /// reference passes to the caller who wants it, otherwise it is dropped.
     pub fn set(
         &mut self,
+        heap: &mut Heap,
         key: Key,
         context: usize,
         keep: bool,
@@ -407,6 +416,8 @@ impl Contexts {
         ensures done { CanLink self.old key context → linked_at self.old key ≡ None →
             OnOk result ((result ≡ Ok (answer.Done None)) × (self.new ≡ put_link self.old context key)) }
         ensures refused { OnErr result (self.new ≡ self.old) }
+        ensures granted { OnOk result (heap.new ≡ heap.old) }
+        ensures memory { OnErr result (heap.new ≢ heap.old) }
     {
         if self.is_closed(key.filter) {
             return Ok(SetAnswer::Deleting);
@@ -416,7 +427,7 @@ impl Contexts {
         }
         match self.linked_at(key) {
             None => {
-                self.put_link(context, key)?;
+                self.put_link(heap, context, key)?;
                 self.reference(context);
                 Ok(SetAnswer::Done(None))
             }

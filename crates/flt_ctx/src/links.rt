@@ -9,6 +9,7 @@ ghost use Rattle.flt_ctx.specs.Contexts.{same_key, is_key};
 ghost use Rattle.flt_ctx.specs.Rows.{key_of, row_at, context_of, place_of};
 
 use crate::key::{Key, Target};
+use counted_heap::Heap;
 use ilist_core::{ListId, Lists, NodeId};
 use std::alloc::AllocError;
 
@@ -79,6 +80,7 @@ pub(crate) fn put_context(contexts: &mut Vec<usize>, node: NodeId, context: usiz
 
 /// A new node that links a context, in no list yet.
 pub(crate) fn add_named(
+    heap: &mut Heap,
     lists: &mut Lists,
     contexts: &mut Vec<usize>,
     context: usize,
@@ -98,9 +100,11 @@ pub(crate) fn add_named(
         ≡ lists.old) }
     ensures unchanged { OnErr result (lists.new ≡ lists.old) }
     ensures refused { OnErr result ((other : ℕ) → context_of contexts.new.items other ≡ context_of contexts.old.items other) }
+    ensures granted { OnOk result (heap.new ≡ heap.old) }
+    ensures memory { OnErr result (heap.new ≢ heap.old) }
 {
-    let node = lists.add_node()?;
-    if let Err(refused) = grow(contexts, node) {
+    let node = lists.add_node(heap)?;
+    if let Err(refused) = grow(heap, contexts, node) {
         lists.remove_node(node);
         return Err(refused);
     }
@@ -109,13 +113,15 @@ pub(crate) fn add_named(
 }
 
 /// Makes room for what a node links.
-fn grow(contexts: &mut Vec<usize>, node: NodeId) -> Result<(), AllocError>
+fn grow(heap: &mut Heap, contexts: &mut Vec<usize>, node: NodeId) -> Result<(), AllocError>
     ensures within { OnOk result (node < length contexts.new.items) }
     ensures same { (other : ℕ) → context_of contexts.new.items other ≡ context_of contexts.old.items other }
     ensures longer { length contexts.old.items ≤ length contexts.new.items }
+    ensures granted { OnOk result (heap.new ≡ heap.old) }
+    ensures memory { OnErr result (heap.new ≢ heap.old) }
 {
     while contexts.len() <= node.number() {
-        contexts.push(0)?;
+        heap.push(contexts, 0)?;
     }
     Ok(())
 }

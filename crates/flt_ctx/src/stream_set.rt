@@ -1,9 +1,10 @@
 //! The streams at which contexts are linked, in the order of their numbers: the first one of a filter is found without a search.
-ghost use Rattle.std.specs.Prelude.{◌≡◌, ℕ, ◌<◌, false, true, not, ◌&&◌, ◌||◌, OnOk, OnErr, MatchOption};
+ghost use Rattle.std.specs.Prelude.{◌≡◌, ◌≢◌, ℕ, ◌<◌, false, true, not, ◌&&◌, ◌||◌, OnOk, OnErr, MatchOption};
 ghost use Rattle.flt_ctx.specs.Streams.{is_stream};
 ghost use Rattle.pair_set.specs.Pairs.{has};
 
 use crate::key::{Key, Target};
+use counted_heap::Heap;
 use pair_set::PairSet;
 use std::alloc::{AllocError, Global};
 
@@ -23,14 +24,16 @@ impl StreamSet {
     }
 
     /// Puts the key's stream in. A key of an instance changes nothing.
-    pub(crate) fn insert(&mut self, key: Key) -> Result<(), AllocError>
+    pub(crate) fn insert(&mut self, heap: &mut Heap, key: Key) -> Result<(), AllocError>
         ensures ok { OnOk result ((filter file : ℕ) →
             has self.new.set filter file ≡ (is_stream key filter file || has self.old.set filter file)) }
         ensures err { OnErr result ((filter file : ℕ) → has self.new.set filter file ≡ has self.old.set filter file) }
+        ensures granted { OnOk result (heap.new ≡ heap.old) }
+        ensures memory { OnErr result (heap.new ≢ heap.old) }
     {
         match key.target {
             Target::Instance => Ok(()),
-            Target::Stream(file) => self.set.insert(key.filter, file),
+            Target::Stream(file) => self.set.insert(heap, key.filter, file),
         }
     }
 

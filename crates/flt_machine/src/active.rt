@@ -1,16 +1,23 @@
 //! How many activations of each filter go on: a count beside the activations, so that nobody walks along them.
 
-ghost use Rattle.std.specs.Prelude.{◌≡◌, ℕ, ◌+◌, ◌-◌, ◌^◌, ◌<◌, ◌≤◌, nat_lt, length, get_or, set, OnOk};
+ghost use Rattle.std.specs.Prelude.{◌≡◌, ◌≢◌, ℕ, ◌+◌, ◌-◌, ◌^◌, ◌<◌, ◌≤◌, nat_lt, length, get_or, set, OnOk, OnErr};
 
+use counted_heap::Heap;
 use std::alloc::AllocError;
 
 /// Makes room for the count of a filter. Those up to it that weren't there count nothing.
-pub(crate) fn make_room(counts: &mut Vec<usize>, filter: usize) -> Result<(), AllocError>
+pub(crate) fn make_room(
+    heap: &mut Heap,
+    counts: &mut Vec<usize>,
+    filter: usize,
+) -> Result<(), AllocError>
     ensures room { OnOk result (filter < length counts.new.items) }
     ensures same { (other : ℕ) → get_or counts.new.items other 0 ≡ get_or counts.old.items other 0 }
+    ensures granted { OnOk result (heap.new ≡ heap.old) }
+    ensures memory { OnErr result (heap.new ≢ heap.old) }
 {
     while counts.len() <= filter {
-        counts.push(0)?;
+        heap.push(counts, 0)?;
     }
     Ok(())
 }

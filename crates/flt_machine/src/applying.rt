@@ -1,6 +1,6 @@
 //! Moves.
 
-ghost use Rattle.std.specs.Prelude.{◌≡◌, ◌↔◌, ◌<◌, ◌≤◌, ◌+◌, ◌++◌, ◌∷◌, [], false, List, length, Some, Err, is_some, IsTrue, IfOk, IfSome, OnOk, OnErr};
+ghost use Rattle.std.specs.Prelude.{◌≡◌, ◌≢◌, ◌↔◌, ◌<◌, ◌≤◌, ◌+◌, ◌++◌, ◌∷◌, [], false, List, length, Some, Err, is_some, IsTrue, IfOk, IfSome, OnOk, OnErr};
 ghost use Rattle.flt_dispatch.specs.Decisions.{IsActive, actors_by, frees_by, gains_by, is_cancelling};
 ghost use Rattle.flt_dispatch.specs.Turns as turns;
 ghost use Rattle.flt_frame.specs.Loading.{AreLoaded};
@@ -27,17 +27,18 @@ use crate::fault::ApplyFault;
 use crate::kept::Kept;
 use crate::tickets::subjects_by;
 use crate::writing::write;
+use counted_heap::Heap;
 use flt_dispatch::{Decision, Start, decide};
 use flt_frame::{Loaded, Standing};
 use flt_model::{JournalEntry, Move, Subject};
 use flt_ops::MAX_OPERATIONS;
-use std::alloc::{AllocError, Global};
+use std::alloc::AllocError;
 
 impl Board {
     /// Makes a move.
     pub fn apply(
         &mut self,
-        alloc: Global,
+        heap: &mut Heap,
         loaded: &Loaded,
         step: Move,
     ) -> Result<Events, ApplyFault>
@@ -51,6 +52,8 @@ impl Board {
         ensures disabled { (result ≡ Err fault.NotEnabled) ↔ IsDisabled loaded.now self.old step }
         ensures full { (result ≡ Err fault.Full) ↔ ((IsDisabled loaded.now self.old step → ⊥) × IsFullFor self.old step) }
         ensures refused { OnErr result (self.new ≡ self.old) }
+        ensures granted { result ≢ Err fault.OutOfMemory → heap.new ≡ heap.old }
+        ensures memory { result ≡ Err fault.OutOfMemory → heap.new ≢ heap.old }
     {
         let active = self.is_active_for(loaded, step);
         let Some(decision) = decide(loaded, &self.store, step, active) else {
@@ -59,7 +62,7 @@ impl Board {
         if self.is_full_for(step) {
             return Err(ApplyFault::Full);
         }
-        let events = self.make(alloc, loaded, step, &decision)?;
+        let events = self.make(heap, loaded, step, &decision)?;
         Ok(events)
     }
 
@@ -74,7 +77,7 @@ impl Board {
     /// What would get a ticket by a move that is enabled: the `next` that `apply` gives. Nothing where the move isn't enabled.
     pub fn tickets(
         &self,
-        alloc: Global,
+        heap: &mut Heap,
         loaded: &Loaded,
         step: Move,
     ) -> Result<Vec<Subject>, AllocError>
@@ -82,18 +85,23 @@ impl Board {
         ensures next { IfOk result (λ next. Now loaded.now self.now
             (λ p m. next.items ≡ tickets.by_move loaded.now.altitudes m.world (make p m.world step))) }
         ensures few { is_cancelling step ≡ false → IfOk result (λ next. length next.items ≤ 2) }
+        ensures granted { OnOk result (heap.new ≡ heap.old) }
+        ensures memory { OnErr result (heap.new ≢ heap.old) }
     {
         let active = self.is_active_for(loaded, step);
         let Some(decision) = decide(loaded, &self.store, step, active) else {
-            return Ok(Vec::new(alloc));
+            return Ok(Vec::new(heap.alloc()));
         };
         if let Move::Arrive { .. } = step {
-            let mut next = Vec::new(alloc);
-            next.push(Subject::Operation(self.store.operations() as u32))?;
+            let mut next = Vec::new(heap.alloc());
+            heap.push(
+                &mut next,
+                Subject::Operation(self.store.operations() as u32),
+            )?;
             return Ok(next);
         }
         let next = subjects_by(
-            alloc,
+            heap,
             loaded,
             &self.store,
             decision.change,
@@ -161,7 +169,7 @@ impl Board {
     /// A decision is made, and one entry more says so; or nothing is.
     fn make(
         &mut self,
-        alloc: Global,
+        heap: &mut Heap,
         loaded: &Loaded,
         step: Move,
         decision: &Decision,
@@ -176,18 +184,21 @@ impl Board {
         ensures few { cancels_entries decision.now.change ≡ false → IfOk result (λ events. length events.next.items ≤ 2) }
         ensures made { OnOk result (HasMoved self.old self.new step decision.now) }
         ensures refused { OnErr result (self.new ≡ self.old) }
+        ensures granted { OnOk result (heap.new ≡ heap.old) }
+        ensures memory { OnErr result (heap.new ≢ heap.old) }
     {
         let next = subjects_by(
-            alloc,
+            heap,
             loaded,
             &self.store,
             decision.change,
             self.starting(decision),
         )?;
-        let list = events_of(alloc, self.standings.len(), decision)?;
+        let list = events_of(heap, self.standings.len(), decision)?;
         match decision.start {
-            Some(start) => self.start(alloc, step, decision, start)?,
+            Some(start) => self.start(heap, step, decision, start)?,
             None => write(
+                heap,
                 &mut self.journal,
                 &mut self.store,
                 JournalEntry::Move(step),
@@ -200,7 +211,7 @@ impl Board {
     /// An activation starts.
     fn start(
         &mut self,
-        alloc: Global,
+        heap: &mut Heap,
         step: Move,
         decision: &Decision,
         start: Start,
@@ -210,12 +221,15 @@ impl Board {
         requires possible { IsPossible self.old.store decision.now.change }
         ensures made { OnOk result (HasMoved self.old self.new step decision.now) }
         ensures refused { OnErr result (self.new ≡ self.old) }
+        ensures granted { OnOk result (heap.new ≡ heap.old) }
+        ensures memory { OnErr result (heap.new ≢ heap.old) }
     {
-        self.actors.reserve(1)?;
-        self.standings.reserve(1)?;
-        make_room(&mut self.active, start.filter)?;
-        let kept = Kept::new(alloc, standing_of(start))?;
+        heap.reserve(&mut self.actors, 1)?;
+        heap.reserve(&mut self.standings, 1)?;
+        make_room(heap, &mut self.active, start.filter)?;
+        let kept = Kept::new(heap, standing_of(start))?;
         write(
+            heap,
             &mut self.journal,
             &mut self.store,
             JournalEntry::Move(step),

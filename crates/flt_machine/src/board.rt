@@ -1,6 +1,6 @@
 //! The board, and what is there.
 
-ghost use Rattle.std.specs.Prelude.{◌≡◌, ◌↔◌, ◌≤◌, ◌<◌, ℕ, true, List, length, option_map, Some, None, IfOk, MatchOption, if◌then◌else◌};
+ghost use Rattle.std.specs.Prelude.{◌≡◌, ◌≢◌, ◌↔◌, ◌≤◌, ◌<◌, ℕ, true, List, length, option_map, Some, None, IfOk, OnOk, OnErr, MatchOption, if◌then◌else◌};
 ghost use Rattle.std.specs.List.{list_any};
 ghost use Rattle.flt_costs.specs.Costs.{IsStarted, callback_cost, steps_of};
 ghost use Rattle.flt_dispatch.specs.Turns as turns;
@@ -20,12 +20,13 @@ ghost use Rattle.flt_tree.specs.declared.filter.Filter.{Filter};
 use crate::active::has_any;
 use crate::actor::Actor;
 use crate::kept::Kept;
+use counted_heap::Heap;
 use flt_costs::journals_stay_within_costs;
 use flt_frame::{Frame, Loaded, Standing};
 use flt_model::{Journal, Move};
 use flt_rules::Place;
 use flt_store::{Outcome, Store};
-use std::alloc::{AllocError, Global};
+use std::alloc::AllocError;
 use std::marker::Model;
 
 /// How many entries a journal may have.
@@ -66,15 +67,18 @@ impl Model for Board {
 
 impl Board {
     /// The board before the first move.
-    pub fn new(alloc: Global, loaded: &Loaded) -> Result<Board, AllocError>
+    pub fn new(heap: &mut Heap, loaded: &Loaded) -> Result<Board, AllocError>
         ensures opening { IfOk result (λ b. (p : List Filter) → AreLoaded p loaded.now → b ≡ spec.opening (length p)) }
         ensures own { IfOk result (λ b. (p : List Filter) → AreLoaded p loaded.now → IsBoard p b) }
+        ensures granted { OnOk result (heap.new ≡ heap.old) }
+        ensures memory { OnErr result (heap.new ≢ heap.old) }
     {
+        let alloc = heap.alloc();
         Ok(Board {
             actors: Vec::new(alloc),
             standings: Vec::new(alloc),
             active: Vec::new(alloc),
-            store: Store::new(alloc, loaded.filters())?,
+            store: Store::new(heap, loaded.filters())?,
             journal: Journal::new(alloc),
         })
     }

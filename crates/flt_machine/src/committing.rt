@@ -26,13 +26,14 @@ use crate::events::Events;
 use crate::kept::Kept;
 use crate::tickets::subjects_by;
 use crate::writing::write;
+use counted_heap::Heap;
 use flt_calls::{Caller, Plan, Write, continued, plan_step};
 use flt_frame::{Advanced, Loaded, Standing, standings_have_points};
 use flt_graph::Instruction;
 use flt_model::{JournalEntry, Subject};
 use flt_rules::{Access, Call};
 use flt_store::Change;
-use std::alloc::{AllocError, Global};
+use std::alloc::AllocError;
 
 /// What a commit answers. After anything but `Committed` the board and its journal are as they were.
 #[derive(Drop)]
@@ -54,7 +55,7 @@ impl Board {
     /// What was advanced must have been advanced on what is loaded.
     pub fn commit(
         &mut self,
-        alloc: Global,
+        heap: &mut Heap,
         loaded: &Loaded,
         advanced: &Advanced,
         grant: bool,
@@ -73,6 +74,8 @@ impl Board {
         ensures full { (result ≡ answer.Full) ↔ (IsFresh self.old advanced.now
             × ((IsBlocked loaded.now self.old advanced.now grant → ⊥) × (length self.old.entries ≡ 1000000))) }
         ensures refused { ((events : Events) → result ≢ answer.Committed events) → self.new ≡ self.old }
+        ensures granted { result ≢ answer.OutOfMemory → heap.new ≡ heap.old }
+        ensures memory { result ≡ answer.OutOfMemory → heap.new ≢ heap.old }
     {
         standings_have_points();
         if !self.is_fresh(advanced) {
@@ -90,7 +93,7 @@ impl Board {
         if self.journal.len() >= MAX_ENTRIES {
             return Commit::Full;
         }
-        match self.go_on(alloc, loaded, advanced, &caller, instruction, grant) {
+        match self.go_on(heap, loaded, advanced, &caller, instruction, grant) {
             Ok(events) => Commit::Committed(events),
             Err(_) => Commit::OutOfMemory,
         }
@@ -148,7 +151,7 @@ impl Board {
     /// The steps are made, and one entry more says so; or nothing is.
     fn go_on(
         &mut self,
-        alloc: Global,
+        heap: &mut Heap,
         loaded: &Loaded,
         advanced: &Advanced,
         caller: &Caller,
@@ -168,13 +171,15 @@ impl Board {
             advanced.now.frame.activation (is_some (standing_of self.new advanced.now.frame.activation))) }
         ensures few { IfOk result (λ events. length events.next.items ≤ 2) }
         ensures refused { OnErr result (self.new ≡ self.old) }
+        ensures granted { OnOk result (heap.new ≡ heap.old) }
+        ensures memory { OnErr result (heap.new ≢ heap.old) }
     {
         standings_have_points();
-        let plan = plan_step(alloc, loaded, &self.store, caller, grant)?;
+        let plan = plan_step(heap, loaded, &self.store, caller, grant)?;
         let later = standing_after(caller, instruction, &plan);
         let going = going(advanced.frame.activation, later.is_some());
-        let next = subjects_by(alloc, loaded, &self.store, plan.change, going)?;
-        self.write_down(entry_of(advanced, instruction, grant), plan.change)?;
+        let next = subjects_by(heap, loaded, &self.store, plan.change, going)?;
+        self.write_down(heap, entry_of(advanced, instruction, grant), plan.change)?;
         self.put(caller.activation, later);
         Ok(Events {
             list: plan.events,
@@ -183,14 +188,21 @@ impl Board {
     }
 
     /// A change is made, and one entry more says what happened; or nothing is.
-    fn write_down(&mut self, entry: JournalEntry, change: Change) -> Result<(), AllocError>
+    fn write_down(
+        &mut self,
+        heap: &mut Heap,
+        entry: JournalEntry,
+        change: Change,
+    ) -> Result<(), AllocError>
         requires possible { IsPossible self.old.store change }
         requires room { length self.old.entries < 1000000 }
         ensures ok { OnOk result (self.new ≡
             record self.old { store = after_change self.old.store change; entries = self.old.entries ++ entry ∷ [] }) }
         ensures refused { OnErr result (self.new ≡ self.old) }
+        ensures granted { OnOk result (heap.new ≡ heap.old) }
+        ensures memory { OnErr result (heap.new ≢ heap.old) }
     {
-        write(&mut self.journal, &mut self.store, entry, change)?;
+        write(heap, &mut self.journal, &mut self.store, entry, change)?;
         Ok(())
     }
 

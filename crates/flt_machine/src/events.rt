@@ -1,12 +1,13 @@
 //! What a move or a step did.
 
-ghost use Rattle.std.specs.Prelude.{◌≡◌, ◌++◌, IfOk};
+ghost use Rattle.std.specs.Prelude.{◌≡◌, ◌≢◌, ◌++◌, IfOk, OnOk, OnErr};
 ghost use Rattle.flt_dispatch.specs.Decisions as spec;
 
+use counted_heap::Heap;
 use flt_dispatch::Decision;
 use flt_model::{Event, Object, Subject};
 use sqlite_items::Items;
-use std::alloc::{AllocError, Global};
+use std::alloc::AllocError;
 
 /// What a move or a step did.
 #[derive(Drop)]
@@ -20,23 +21,28 @@ pub struct Events {
 
 /// The events of a move, where the number of the activation that it may start is this.
 pub(crate) fn events_of(
-    alloc: Global,
+    heap: &mut Heap,
     activation: usize,
     decision: &Decision,
 ) -> Result<Items<Event>, AllocError>
-    ensures { IfOk result (λ events. events ≡ spec.gains_by activation decision.now.start ++ spec.frees_by decision.now.freed) }
+    ensures told { IfOk result (λ events. events ≡ spec.gains_by activation decision.now.start ++ spec.frees_by decision.now.freed) }
+    ensures granted { OnOk result (heap.new ≡ heap.old) }
+    ensures memory { OnErr result (heap.new ≢ heap.old) }
 {
-    let mut events = Items::new(alloc);
+    let mut events = Items::new(heap.alloc());
     if let Some(start) = decision.start {
         if let Some(visit) = start.given {
-            events.push(Event::Gain(activation, Object::Visit(visit)))?;
+            heap.push_item(&mut events, Event::Gain(activation, Object::Visit(visit)))?;
         }
         if let Some(context) = start.arg {
-            events.push(Event::Gain(activation, Object::Context(context)))?;
+            heap.push_item(
+                &mut events,
+                Event::Gain(activation, Object::Context(context)),
+            )?;
         }
     }
     if let Some(context) = decision.freed {
-        events.push(Event::Free(context))?;
+        heap.push_item(&mut events, Event::Free(context))?;
     }
     Ok(events)
 }

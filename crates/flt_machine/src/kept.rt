@@ -1,9 +1,10 @@
 //! Standings of activations that go on.
 
-ghost use Rattle.std.specs.Prelude.{◌≡◌, IfOk};
+ghost use Rattle.std.specs.Prelude.{◌≡◌, ◌≢◌, IfOk, OnOk, OnErr};
 
+use counted_heap::Heap;
 use flt_frame::Standing;
-use std::alloc::{AllocError, Global};
+use std::alloc::AllocError;
 use std::marker::Model;
 
 /// A standing that takes no room once its activation has ended.
@@ -21,11 +22,13 @@ impl Model for Kept {
 }
 
 impl Kept {
-    pub(crate) fn new(alloc: Global, standing: Standing) -> Result<Kept, AllocError>
-        ensures { IfOk result (λ k. k ≡ standing) }
+    pub(crate) fn new(heap: &mut Heap, standing: Standing) -> Result<Kept, AllocError>
+        ensures kept { IfOk result (λ k. k ≡ standing) }
+        ensures granted { OnOk result (heap.new ≡ heap.old) }
+        ensures memory { OnErr result (heap.new ≢ heap.old) }
     {
         Ok(Kept {
-            inner: Box::new(alloc, standing)?,
+            inner: heap.boxed(standing)?,
         })
     }
 

@@ -1,6 +1,6 @@
 //! What gets a ticket by a step: what the next move may be about. It is found out before the step's change is made, by reading alone.
 
-ghost use Rattle.std.specs.Prelude.{◌≡◌, ℕ, ◌+◌, ◌≤◌, ◌&&◌, ◌++◌, true, false, not, nat_lt, length, map, get_or, Option, OnOk, IfOk};
+ghost use Rattle.std.specs.Prelude.{◌≡◌, ◌≢◌, ℕ, ◌+◌, ◌≤◌, ◌&&◌, ◌++◌, true, false, not, nat_lt, length, map, get_or, Option, OnOk, OnErr, IfOk};
 ghost use Rattle.std.specs.List.{list_any};
 ghost use Rattle.flt_machine.specs.Tickets as spec;
 ghost use Rattle.flt_model.specs.Moves.{is_entry_of, is_up};
@@ -10,14 +10,15 @@ ghost use Rattle.flt_ops.specs.Parts.{position_of, way_of};
 ghost use Rattle.flt_store.specs.Changes.{after_change, cancels_entries, IsPossible};
 ghost use Rattle.flt_store.specs.declared.change.Change.TheVariants as change;
 
+use counted_heap::Heap;
 use flt_frame::Loaded;
 use flt_model::Subject;
 use flt_store::{Change, Position, Store, Way};
-use std::alloc::{AllocError, Global};
+use std::alloc::AllocError;
 
 /// What gets a ticket by a change of what activations share, with the activation that starts or goes on.
 pub(crate) fn subjects_by(
-    alloc: Global,
+    heap: &mut Heap,
     loaded: &Loaded,
     store: &Store,
     change: Change,
@@ -30,22 +31,30 @@ pub(crate) fn subjects_by(
     ensures next { IfOk result (λ next. next.items ≡ spec.subjects loaded.now.altitudes store.now (after_change store.now change)
         (spec.one_of activation)) }
     ensures few { cancels_entries change ≡ false → IfOk result (λ next. length next.items ≤ 2) }
+    ensures granted { OnOk result (heap.new ≡ heap.old) }
+    ensures memory { OnErr result (heap.new ≢ heap.old) }
 {
-    let mut next = Vec::new(alloc);
-    push_one(operation_by(store, change), &mut next)?;
-    push_one(activation, &mut next)?;
-    push_one(item_by(store, change), &mut next)?;
-    push_entries(alloc, loaded, store, change, &mut next)?;
-    push_one(teardown_by(loaded, change), &mut next)?;
+    let mut next = Vec::new(heap.alloc());
+    push_one(heap, operation_by(store, change), &mut next)?;
+    push_one(heap, activation, &mut next)?;
+    push_one(heap, item_by(store, change), &mut next)?;
+    push_entries(heap, loaded, store, change, &mut next)?;
+    push_one(heap, teardown_by(loaded, change), &mut next)?;
     Ok(next)
 }
 
 /// What may be there.
-fn push_one(one: Option<Subject>, next: &mut Vec<Subject>) -> Result<(), AllocError>
-    ensures { OnOk result (next.new.items ≡ next.old.items ++ spec.one_of one) }
+fn push_one(
+    heap: &mut Heap,
+    one: Option<Subject>,
+    next: &mut Vec<Subject>,
+) -> Result<(), AllocError>
+    ensures next { OnOk result (next.new.items ≡ next.old.items ++ spec.one_of one) }
+    ensures granted { OnOk result (heap.new ≡ heap.old) }
+    ensures memory { OnErr result (heap.new ≢ heap.old) }
 {
     if let Some(one) = one {
-        next.push(one)?;
+        heap.push(next, one)?;
     }
     Ok(())
 }
@@ -133,7 +142,7 @@ fn goes_up(from: Position) -> bool
 
 /// The entries of queues that a change lets be cancelled.
 fn push_entries(
-    alloc: Global,
+    heap: &mut Heap,
     loaded: &Loaded,
     store: &Store,
     change: Change,
@@ -145,11 +154,13 @@ fn push_entries(
     ensures next { OnOk result (next.new.items ≡ next.old.items
         ++ spec.by_altitude (spec.entries_of store.now (after_change store.now change)) 0 loaded.now.altitudes) }
     ensures few { cancels_entries change ≡ false → OnOk result (length next.new.items ≤ length next.old.items + 1) }
+    ensures granted { OnOk result (heap.new ≡ heap.old) }
+    ensures memory { OnErr result (heap.new ≢ heap.old) }
 {
     match change {
-        Change::Cancel(serial) => push_cancelled(loaded, store, serial, next),
-        Change::Insert(filter, visit, _) => push_inserted(loaded, store, filter, visit, next),
-        Change::Detach(filter) => push_detached(alloc, loaded, store, filter, next),
+        Change::Cancel(serial) => push_cancelled(heap, loaded, store, serial, next),
+        Change::Insert(filter, visit, _) => push_inserted(heap, loaded, store, filter, visit, next),
+        Change::Detach(filter) => push_detached(heap, loaded, store, filter, next),
         _ => Ok(()),
     }
 }
@@ -179,24 +190,30 @@ fn is_cancelled_at(store: &Store, filter: usize, serial: u32) -> bool
 
 /// The entries of an operation that is cancelled, but where the filter is being detached.
 fn push_cancelled(
+    heap: &mut Heap,
     loaded: &Loaded,
     store: &Store,
     serial: u32,
     next: &mut Vec<Subject>,
 ) -> Result<(), AllocError>
     requires possible { IsPossible store.now (change.Cancel serial) }
-    ensures { OnOk result (next.new.items ≡ next.old.items
+    ensures next { OnOk result (next.new.items ≡ next.old.items
         ++ spec.by_altitude (spec.entries_of store.now (after_change store.now (change.Cancel serial))) 0 loaded.now.altitudes) }
+    ensures granted { OnOk result (heap.new ≡ heap.old) }
+    ensures memory { OnErr result (heap.new ≢ heap.old) }
 {
     let altitudes = loaded.altitudes.as_slice();
     let mut filter = altitudes.len();
     while filter > 0 {
         filter -= 1;
         if is_cancelled_at(store, filter, serial) {
-            next.push(Subject::Entry {
-                altitude: altitudes[filter],
-                serial,
-            })?;
+            heap.push(
+                next,
+                Subject::Entry {
+                    altitude: altitudes[filter],
+                    serial,
+                },
+            )?;
         }
     }
     Ok(())
@@ -212,6 +229,7 @@ fn is_new(store: &Store, filter: usize, serial: u32) -> bool
 
 /// An entry that comes to a queue where its operation is cancelled already, unless one of that operation stands there.
 fn push_inserted(
+    heap: &mut Heap,
     loaded: &Loaded,
     store: &Store,
     filter: usize,
@@ -223,23 +241,28 @@ fn push_inserted(
     ensures next { (x : Option ℕ) → OnOk result (next.new.items ≡ next.old.items
         ++ spec.by_altitude (spec.entries_of store.now (after_change store.now (change.Insert filter visit x))) 0 loaded.now.altitudes) }
     ensures few { OnOk result (length next.new.items ≤ length next.old.items + 1) }
+    ensures granted { OnOk result (heap.new ≡ heap.old) }
+    ensures memory { OnErr result (heap.new ≢ heap.old) }
 {
     let serial = store.visit(visit).operation;
     if !is_new(store, filter, serial) {
         return Ok(());
     }
     if let Some(altitude) = loaded.altitudes.get(filter) {
-        next.push(Subject::Entry {
-            altitude: *altitude,
-            serial,
-        })?;
+        heap.push(
+            next,
+            Subject::Entry {
+                altitude: *altitude,
+                serial,
+            },
+        )?;
     }
     Ok(())
 }
 
 /// The entries of a filter that is being detached, but those whose operation is cancelled already.
 fn push_detached(
-    alloc: Global,
+    heap: &mut Heap,
     loaded: &Loaded,
     store: &Store,
     filter: usize,
@@ -247,34 +270,42 @@ fn push_detached(
 ) -> Result<(), AllocError>
     requires possible { machine.is_attached (machine.presence_at store.now filter) ≡ true }
     requires few { length store.now.arrivals ≤ 65536 }
-    ensures { OnOk result (next.new.items ≡ next.old.items
+    ensures next { OnOk result (next.new.items ≡ next.old.items
         ++ spec.by_altitude (spec.entries_of store.now (after_change store.now (change.Detach filter))) 0 loaded.now.altitudes) }
+    ensures granted { OnOk result (heap.new ≡ heap.old) }
+    ensures memory { OnErr result (heap.new ≢ heap.old) }
 {
     let Some(altitude) = loaded.altitudes.get(filter) else {
         return Ok(());
     };
-    let marks = store.waiting(alloc, filter)?;
-    push_marked(*altitude, store, marks.as_slice(), next)
+    let marks = store.waiting(heap, filter)?;
+    push_marked(heap, *altitude, store, marks.as_slice(), next)
 }
 
 /// The marked operations that aren't cancelled, by rising serial numbers.
 fn push_marked(
+    heap: &mut Heap,
     altitude: u32,
     store: &Store,
     marks: &[bool],
     next: &mut Vec<Subject>,
 ) -> Result<(), AllocError>
     requires few { length marks.now ≤ 65536 }
-    ensures { OnOk result (next.new.items ≡ next.old.items ++ map (subject.Entry altitude)
+    ensures next { OnOk result (next.new.items ≡ next.old.items ++ map (subject.Entry altitude)
         (spec.passing (λ o. get_or marks.now o false && not (machine.route_at store.now o).cancelled) (length marks.now))) }
+    ensures granted { OnOk result (heap.new ≡ heap.old) }
+    ensures memory { OnErr result (heap.new ≢ heap.old) }
 {
     let mut serial = 0;
     while serial < marks.len() {
         if marks[serial] && !store.cancelled(serial as u32) {
-            next.push(Subject::Entry {
-                altitude,
-                serial: serial as u32,
-            })?;
+            heap.push(
+                next,
+                Subject::Entry {
+                    altitude,
+                    serial: serial as u32,
+                },
+            )?;
         }
         serial += 1;
     }

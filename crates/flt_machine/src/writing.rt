@@ -1,14 +1,16 @@
 //! Changes, each with its entry.
 
-ghost use Rattle.std.specs.Prelude.{◌≡◌, ◌++◌, ◌∷◌, [], OnOk, OnErr};
+ghost use Rattle.std.specs.Prelude.{◌≡◌, ◌≢◌, ◌++◌, ◌∷◌, [], OnOk, OnErr};
 ghost use Rattle.flt_store.specs.Changes.{after_change, IsPossible};
 
+use counted_heap::Heap;
 use flt_model::{Journal, JournalEntry};
 use flt_store::{Change, Store};
 use std::alloc::AllocError;
 
 /// What activations share is changed, and one entry more says what happened; or nothing is.
 pub(crate) fn write(
+    heap: &mut Heap,
     journal: &mut Journal,
     store: &mut Store,
     entry: JournalEntry,
@@ -18,9 +20,11 @@ pub(crate) fn write(
     ensures entry { OnOk result (journal.new ≡ journal.old ++ entry ∷ []) }
     ensures change { OnOk result (store.new ≡ after_change store.old change) }
     ensures refused { OnErr result ((journal.new ≡ journal.old) × (store.new ≡ store.old)) }
+    ensures granted { OnOk result (heap.new ≡ heap.old) }
+    ensures memory { OnErr result (heap.new ≢ heap.old) }
 {
-    journal.push(entry)?;
-    if let Err(refused) = store.perform(change) {
+    journal.push(heap, entry)?;
+    if let Err(refused) = store.perform(heap, change) {
         journal.pop();
         return Err(refused);
     }

@@ -7,6 +7,7 @@ ghost use Rattle.flt_machine.specs.Situations.{IsOwn};
 ghost use Rattle.flt_model.specs.Program.{filters_of};
 ghost use Rattle.flt_tree.specs.WellFormed.{IsWellFormed};
 
+use counted_heap::Heap;
 use flt_machine::{Advanced, ApplyFault, Board, Commit, Loaded, Outcome, advance};
 use flt_model::{Journal, JournalEntry, Move, Subject, Verdict, Violation, read};
 use flt_replay::replay;
@@ -162,7 +163,7 @@ fn commit_on(
     requires advance { IsAdvanced loaded.now advanced.now }
     ensures own { IsOwn loaded.now board.new }
 {
-    answer_of(board.commit(alloc, loaded, advanced, grant))
+    answer_of(board.commit(&mut Heap::new(alloc), loaded, advanced, grant))
 }
 
 /// Takes a turn on a board. It is the loaded filters' own then as before.
@@ -176,13 +177,13 @@ fn turn_on(
     requires own { IsOwn loaded.now board.old }
     ensures own { IsOwn loaded.now board.new }
 {
-    turn(alloc, board, loaded, subjects, choices)
+    turn(&mut Heap::new(alloc), board, loaded, subjects, choices)
 }
 
 impl Scene {
     pub(crate) fn new(alloc: Global, texts: &[&str]) -> Result<Scene, Fail> {
         let loaded = Loaded::new(alloc, trees_of(alloc, texts)?)?;
-        let board = Board::new(alloc, &loaded)?;
+        let board = Board::new(&mut Heap::new(alloc), &loaded)?;
         Ok(Scene { loaded, board })
     }
 
@@ -203,7 +204,7 @@ impl Scene {
 
     /// Makes a move, by which these must get a ticket.
     fn apply_for(&mut self, alloc: Global, step: Move, tickets: &[Subject]) -> Answer {
-        match self.board.apply(alloc, &self.loaded, step) {
+        match self.board.apply(&mut Heap::new(alloc), &self.loaded, step) {
             Ok(events) => went(events.next.as_slice() == tickets),
             Err(fault) => refusal(fault),
         }
@@ -211,7 +212,10 @@ impl Scene {
 
     /// Makes a move. What gets a ticket by it is asked first, and must be answered so.
     fn apply_asked(&mut self, alloc: Global, step: Move) -> Answer {
-        match self.board.tickets(alloc, &self.loaded, step) {
+        match self
+            .board
+            .tickets(&mut Heap::new(alloc), &self.loaded, step)
+        {
             Ok(tickets) => self.apply_for(alloc, step, tickets.as_slice()),
             Err(_) => Answer::OutOfMemory,
         }
@@ -260,7 +264,7 @@ impl Scene {
         alloc: Global,
         step: Move,
     ) -> Result<Vec<Subject>, ApplyFault> {
-        let events = self.board.apply(alloc, &self.loaded, step)?;
+        let events = self.board.apply(&mut Heap::new(alloc), &self.loaded, step)?;
         Ok(events.next)
     }
 
@@ -277,7 +281,10 @@ impl Scene {
         if advanced.steps + 1 != steps {
             return None;
         }
-        match self.board.commit(alloc, &self.loaded, &advanced, grant) {
+        match self
+            .board
+            .commit(&mut Heap::new(alloc), &self.loaded, &advanced, grant)
+        {
             Commit::Committed(events) => Some(events.next),
             _ => None,
         }

@@ -1,9 +1,10 @@
 //! Journals as values.
 
-ghost use Rattle.std.specs.Prelude.{◌≡◌, [], ◌∷◌, ◌++◌, length, slice_get, MatchOption, OnOk, OnErr};
+ghost use Rattle.std.specs.Prelude.{◌≡◌, ◌≢◌, [], ◌∷◌, ◌++◌, length, slice_get, MatchOption, OnOk, OnErr};
 ghost use Rattle.std.specs.Option.{option_copied};
 
 use crate::moves::JournalEntry;
+use counted_heap::Heap;
 use sqlite_items::Items;
 use std::alloc::{AllocError, Global};
 use std::marker::Model;
@@ -33,11 +34,13 @@ impl Journal {
     }
 
     /// One more entry, as the last one.
-    pub fn push(&mut self, entry: JournalEntry) -> Result<(), AllocError>
+    pub fn push(&mut self, heap: &mut Heap, entry: JournalEntry) -> Result<(), AllocError>
         ensures ok { OnOk result (self.new ≡ self.old ++ entry ∷ []) }
         ensures err { OnErr result (self.new ≡ self.old) }
+        ensures granted { OnOk result (heap.new ≡ heap.old) }
+        ensures memory { OnErr result (heap.new ≢ heap.old) }
     {
-        self.entries.push(entry)
+        heap.push_item(&mut self.entries, entry)
     }
 
     /// Takes the last entry back out; none where there is no entry.

@@ -10,6 +10,7 @@ use crate::journal::Journal;
 use crate::lines::line;
 use crate::scanner::{Stop, exactly};
 use crate::streams::Source;
+use counted_heap::Heap;
 use std::alloc::Global;
 
 /// How many entries a journal that is read has at most.
@@ -52,10 +53,11 @@ fn entries<R: Source>(alloc: Global, reader: &mut R) -> Result<Journal, JournalF
     ensures fails { spec.CountsAll result (R.failures reader.old) (R.failures reader.new) }
     ensures reads { R.reads reader.new ≤ R.reads reader.old + 36000005 }
 {
+    let mut heap = Heap::new(alloc);
     let mut found = Journal::new(alloc);
     for number in 0..MAX_ENTRIES {
         match line(reader) {
-            Ok(Some(entry)) => found.push(entry)?,
+            Ok(Some(entry)) => found.push(&mut heap, entry)?,
             Ok(None) => return closed(reader, found),
             Err(Stop::Wrong) => return Err(JournalFault::Line(number + 2)),
             Err(Stop::Failed) => return Err(JournalFault::Read),

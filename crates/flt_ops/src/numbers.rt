@@ -1,7 +1,8 @@
 //! The numbers of the visits of one operation.
 
-ghost use Rattle.std.specs.Prelude.{◌≡◌, [], ◌∷◌, ◌++◌, OnOk, OnErr};
+ghost use Rattle.std.specs.Prelude.{◌≡◌, ◌≢◌, [], ◌∷◌, ◌++◌, OnOk, OnErr};
 
+use counted_heap::Heap;
 use std::alloc::{AllocError, Global};
 use std::marker::Model;
 
@@ -34,11 +35,12 @@ impl Numbers {
         self.numbers.as_slice()
     }
 
-    pub(crate) fn push(&mut self, number: usize) -> Result<(), AllocError>
+    pub(crate) fn push(&mut self, heap: &mut Heap, number: usize) -> Result<(), AllocError>
         ensures pushed { OnOk result (self.new ≡ self.old ++ number ∷ []) }
         ensures refused { OnErr result (self.new ≡ self.old) }
+        ensures granted { OnOk result (heap.new ≡ heap.old) }
+        ensures memory { OnErr result (heap.new ≢ heap.old) }
     {
-        self.numbers.push(number)?;
-        Ok(())
+        heap.push(&mut self.numbers, number)
     }
 }

@@ -1,19 +1,20 @@
 //! Operations, with the calls that move them.
 
-ghost use Rattle.std.specs.Prelude.{◌≡◌, ◌↔◌, ◌≤◌, true, false, not, ◌||◌, ◌&&◌, length, slice_get, get_or, set, find, position, option_map, is_some, if◌then◌else◌, Some, None, Err, OnOk, OnErr, IfOk, MatchOption};
+ghost use Rattle.std.specs.Prelude.{◌≡◌, ◌≢◌, ◌↔◌, ◌≤◌, true, false, not, ◌||◌, ◌&&◌, length, slice_get, get_or, set, find, position, option_map, is_some, if◌then◌else◌, Some, None, Err, OnOk, OnErr, IfOk, MatchOption};
 ghost use Rattle.flt_model.specs.Moves as moves;
 ghost use Rattle.flt_model.specs.Settling as settling;
 ghost use Rattle.flt_model.specs.World as machine;
 ghost use Rattle.flt_ops.specs.Operating.{store_of, after, no_operations, route_of, filter_at, is_past_filters, frame_at, in_pre_visit, past_filter, lowered, in_post_visit, in_draining_visit, with_cancel, IsStarted};
 ghost use Rattle.flt_ops.specs.Numbered.{numbers_of};
 ghost use Rattle.flt_ops.specs.Parts.{position_of, outcome_of, way_of};
-ghost use Rattle.flt_ops.specs.declared.fault.ArriveFault.TheVariants.{Full};
+ghost use Rattle.flt_ops.specs.declared.fault.ArriveFault.TheVariants as fault;
 
 use crate::OutOfMemory;
 use crate::fault::ArriveFault;
 use crate::parts::{Arrival, Frame, Outcome, Position, Started, Visit, Way};
 use crate::route_rows::Routes;
 use crate::visit_rows::Visits;
+use counted_heap::Heap;
 use flt_rules::{FinalStatus, Mode, Operation, Stage};
 use std::alloc::Global;
 use std::marker::Model;
@@ -217,40 +218,57 @@ impl Operations {
 impl Operations {
     /// One more operation arrives at the highest filter. The answer is its serial number. Any kind may come in any mode, on any
     /// file: whether they go together is the caller's question.
-    pub fn arrive(&mut self, kind: Operation, mode: Mode, file: u32) -> Result<u32, ArriveFault>
+    pub fn arrive(
+        &mut self,
+        heap: &mut Heap,
+        kind: Operation,
+        mode: Mode,
+        file: u32,
+    ) -> Result<u32, ArriveFault>
         ensures arrived { IfOk result (λ serial. (serial ≡ length self.old.arrivals)
             × (self.new ≡ after (λ s. moves.with_arrival s (record { kind = kind; mode = mode; file = file })) self.old)) }
-        ensures full { (result ≡ Err Full) ↔ (65536 ≤ length self.old.arrivals) }
+        ensures full { (result ≡ Err fault.Full) ↔ (65536 ≤ length self.old.arrivals) }
         ensures refused { OnErr result (self.new ≡ self.old) }
+        ensures granted { result ≢ Err fault.OutOfMemory → heap.new ≡ heap.old }
+        ensures memory { result ≡ Err fault.OutOfMemory → heap.new ≢ heap.old }
     {
         let serial = self.arrivals.len();
         if serial >= MAX_OPERATIONS {
             return Err(ArriveFault::Full);
         }
-        self.arrivals.reserve(1)?;
-        self.visits.make_room(serial)?;
-        self.routes.add()?;
+        heap.reserve(&mut self.arrivals, 1)?;
+        self.visits.make_room(heap, serial)?;
+        self.routes.add(heap)?;
         self.arrivals.push_reserved(Arrival { kind, mode, file });
         Ok(serial as u32)
     }
 
     /// The pre callback of the filter that the operation is at starts. `None` where it isn't at one on its way down.
-    pub fn start_pre(&mut self, serial: u32) -> Result<Option<Started>, OutOfMemory>
+    pub fn start_pre(
+        &mut self,
+        heap: &mut Heap,
+        serial: u32,
+    ) -> Result<Option<Started>, OutOfMemory>
         ensures started { IfOk result (λ started. MatchOption (filter_at self.old serial)
             ((started ≡ None) × (self.new ≡ self.old))
             (λ f. (started ≡ Some (record { visit = length self.old.visits; filter = f; context = None }))
             × (self.new ≡ after (in_pre_visit serial f) self.old))) }
         ensures refused { OnErr result (self.new ≡ self.old) }
+        ensures granted { OnOk result (heap.new ≡ heap.old) }
+        ensures memory { OnErr result (heap.new ≢ heap.old) }
     {
         let Some(filter) = self.filter_at(serial) else {
             return Ok(None);
         };
-        let visit = self.visits.add(Visit {
-            operation: serial,
-            filter,
-            stage: Stage::Pre,
-            draining: false,
-        })?;
+        let visit = self.visits.add(
+            heap,
+            Visit {
+                operation: serial,
+                filter,
+                stage: Stage::Pre,
+                draining: false,
+            },
+        )?;
         self.routes.set_position(serial, Position::Visiting);
         Ok(Some(Started {
             visit,
@@ -288,19 +306,28 @@ impl Operations {
 
     /// The last frame is taken off, and its post callback starts. `None` where the operation isn't up or has no frame.
     #[tactic(auto, using(std::proofs::lemmas::Grind::common_steps, crate::proofs::OtherFrames::any_front, crate::proofs::OtherFrames::any_last, crate::proofs::Changes::is_last))]
-    pub fn pop_frame(&mut self, serial: u32) -> Result<Option<Started>, OutOfMemory>
+    pub fn pop_frame(
+        &mut self,
+        heap: &mut Heap,
+        serial: u32,
+    ) -> Result<Option<Started>, OutOfMemory>
         ensures started { IfOk result (λ started. IsStarted self.old (frame_at self.old serial) (in_post_visit serial) started self.new) }
         ensures refused { OnErr result (self.new ≡ self.old) }
+        ensures granted { OnOk result (heap.new ≡ heap.old) }
+        ensures memory { OnErr result (heap.new ≢ heap.old) }
     {
         let Some(frame) = self.frame_at(serial) else {
             return Ok(None);
         };
-        let visit = self.visits.add(Visit {
-            operation: serial,
-            filter: frame.filter,
-            stage: Stage::Post,
-            draining: false,
-        })?;
+        let visit = self.visits.add(
+            heap,
+            Visit {
+                operation: serial,
+                filter: frame.filter,
+                stage: Stage::Post,
+                draining: false,
+            },
+        )?;
         self.routes.pop_frame(serial);
         Ok(Some(Started {
             visit,
@@ -312,20 +339,30 @@ impl Operations {
     /// The first frame of a filter is taken out, and its post callback starts with the draining flag; the operation stays where it is.
     /// `None` where it has no frame of the filter.
     #[tactic(auto, using(std::proofs::lemmas::Grind::common_steps, crate::proofs::OtherFrames::any_left, crate::proofs::OtherFrames::found_of))]
-    pub fn drain(&mut self, filter: usize, serial: u32) -> Result<Option<Started>, OutOfMemory>
+    pub fn drain(
+        &mut self,
+        heap: &mut Heap,
+        filter: usize,
+        serial: u32,
+    ) -> Result<Option<Started>, OutOfMemory>
         ensures started { IfOk result (λ started. IsStarted self.old
             (find (moves.is_frame_of filter) (route_of self.old serial).frames) (in_draining_visit serial) started self.new) }
         ensures refused { OnErr result (self.new ≡ self.old) }
+        ensures granted { OnOk result (heap.new ≡ heap.old) }
+        ensures memory { OnErr result (heap.new ≢ heap.old) }
     {
         let Some(frame) = self.routes.first_frame(serial, filter) else {
             return Ok(None);
         };
-        let visit = self.visits.add(Visit {
-            operation: serial,
-            filter: frame.filter,
-            stage: Stage::Post,
-            draining: true,
-        })?;
+        let visit = self.visits.add(
+            heap,
+            Visit {
+                operation: serial,
+                filter: frame.filter,
+                stage: Stage::Post,
+                draining: true,
+            },
+        )?;
         self.routes.take_frame(serial, frame.filter);
         Ok(Some(Started {
             visit,
@@ -356,13 +393,22 @@ impl Operations {
 
     /// The visit's operation goes on, where the visit still moves it.
     #[tactic(auto, using(std::proofs::lemmas::Grind::common_steps, crate::proofs::OtherFrames::led_within, crate::proofs::OtherFrames::led_framed, crate::proofs::Changes::is_seen))]
-    fn lead(&mut self, visit: usize, context: Option<usize>, way: Way) -> Result<(), OutOfMemory>
+    fn lead(
+        &mut self,
+        heap: &mut Heap,
+        visit: usize,
+        context: Option<usize>,
+        way: Way,
+    ) -> Result<(), OutOfMemory>
         ensures led { OnOk result (self.new ≡ after (λ s. settling.lead s visit context (way_of way)) self.old) }
         ensures refused { OnErr result (self.new ≡ self.old) }
+        ensures granted { OnOk result (heap.new ≡ heap.old) }
+        ensures memory { OnErr result (heap.new ≢ heap.old) }
     {
         if self.is_led(visit) {
             let seen = self.visits.get(visit);
-            self.routes.lead(seen.operation, seen.filter, context, way)?;
+            self.routes
+                .lead(heap, seen.operation, seen.filter, context, way)?;
         }
         Ok(())
     }
@@ -371,17 +417,20 @@ impl Operations {
     /// nothing, nor does a draining one; `Way::Stays` settles nothing.
     pub fn settle(
         &mut self,
+        heap: &mut Heap,
         visit: usize,
         context: Option<usize>,
         way: Way,
     ) -> Result<(), OutOfMemory>
         ensures settled { OnOk result (self.new ≡ after (λ s. settling.settled_by s visit context (way_of way)) self.old) }
         ensures refused { OnErr result (self.new ≡ self.old) }
+        ensures granted { OnOk result (heap.new ≡ heap.old) }
+        ensures memory { OnErr result (heap.new ≢ heap.old) }
     {
         if matches!(way, Way::Stays) {
             return Ok(());
         }
-        self.lead(visit, context, way)?;
+        self.lead(heap, visit, context, way)?;
         self.visits.settle(visit);
         Ok(())
     }

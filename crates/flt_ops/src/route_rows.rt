@@ -1,12 +1,13 @@
 //! How far each operation has come, with the set of its frames by filter.
 
-ghost use Rattle.std.specs.Prelude.{◌≡◌, ℕ, ◌<◌, ◌+◌, true, false, List, [], ◌∷◌, ◌++◌, length, set, get_or, find, position, option_map, Some, None, OnOk, OnErr, IfOk};
+ghost use Rattle.std.specs.Prelude.{◌≡◌, ◌≢◌, ℕ, ◌<◌, ◌+◌, true, false, List, [], ◌∷◌, ◌++◌, length, set, get_or, find, position, option_map, Some, None, OnOk, OnErr, IfOk};
 ghost use Rattle.flt_model.specs.Moves as moves;
 ghost use Rattle.flt_model.specs.Settling as settling;
 ghost use Rattle.flt_model.specs.World as machine;
 ghost use Rattle.flt_ops.specs.Parts.{position_of, outcome_of, way_of};
 
 use crate::parts::{Frame, Outcome, Position, Route, Way};
+use counted_heap::Heap;
 use flt_rules::FinalStatus;
 use pair_set::PairSet;
 use std::alloc::{AllocError, Global};
@@ -15,7 +16,6 @@ use std::marker::Model;
 /// Routes by operation.
 #[derive(Drop)]
 pub(crate) struct Routes {
-    alloc: Global,
     routes: Vec<Route>,
     /// The filter and the operation of each frame.
     framed: PairSet,
@@ -116,7 +116,6 @@ impl Routes {
         ensures { result ≡ [] }
     {
         Routes {
-            alloc,
             routes: Vec::new(alloc),
             framed: PairSet::new(alloc),
         }
@@ -194,14 +193,15 @@ impl Routes {
 
 impl Routes {
     /// One more operation, at the highest filter.
-    pub(crate) fn add(&mut self) -> Result<(), AllocError>
+    pub(crate) fn add(&mut self, heap: &mut Heap) -> Result<(), AllocError>
         ensures ok { OnOk result (self.new ≡ self.old
             ++ record { position = machine.Down 0; frames = []; cancelled = false; outcome = None } ∷ []) }
         ensures refused { OnErr result (self.new ≡ self.old) }
+        ensures granted { OnOk result (heap.new ≡ heap.old) }
+        ensures memory { OnErr result (heap.new ≢ heap.old) }
     {
-        let route = arrived(self.alloc);
-        self.routes.push(route)?;
-        Ok(())
+        let route = arrived(heap.alloc());
+        heap.push(&mut self.routes, route)
     }
 
     /// The operation stands there from now on.
@@ -237,6 +237,7 @@ impl Routes {
     /// The operation goes down from a filter, with a frame for its post callback.
     fn frame(
         &mut self,
+        heap: &mut Heap,
         operation: u32,
         filter: usize,
         context: Option<usize>,
@@ -245,10 +246,12 @@ impl Routes {
         ensures ok { OnOk result (self.new ≡ set self.old operation
             (settling.led filter context settling.Frames (get_or self.old operation machine.no_route))) }
         ensures refused { OnErr result (self.new ≡ self.old) }
+        ensures granted { OnOk result (heap.new ≡ heap.old) }
+        ensures memory { OnErr result (heap.new ≢ heap.old) }
     {
         if let Some(route) = self.routes.get_mut(operation as usize) {
-            route.frames.reserve(1)?;
-            self.framed.insert(filter, operation)?;
+            heap.reserve(&mut route.frames, 1)?;
+            self.framed.insert(heap, filter, operation)?;
             route.frames.push_reserved(Frame { filter, context });
             route.position = Position::Down(filter + 1);
         }
@@ -258,6 +261,7 @@ impl Routes {
     /// The operation is led so from a filter, with this context for the frame.
     pub(crate) fn lead(
         &mut self,
+        heap: &mut Heap,
         operation: u32,
         filter: usize,
         context: Option<usize>,
@@ -267,10 +271,12 @@ impl Routes {
         ensures ok { OnOk result (self.new ≡ set self.old operation
             (settling.led filter context (way_of way) (get_or self.old operation machine.no_route))) }
         ensures refused { OnErr result (self.new ≡ self.old) }
+        ensures granted { OnOk result (heap.new ≡ heap.old) }
+        ensures memory { OnErr result (heap.new ≢ heap.old) }
     {
         match way {
             Way::Passes => self.set_position(operation, Position::Down(filter + 1)),
-            Way::Frames => self.frame(operation, filter, context)?,
+            Way::Frames => self.frame(heap, operation, filter, context)?,
             Way::Ends(outcome) => self.end(operation, outcome),
             Way::Rises => self.set_position(operation, Position::Up),
             Way::Stays => {}

@@ -1,6 +1,6 @@
 //! Visits, with the numbers of those of each operation, and a count of the unsettled ones.
 
-ghost use Rattle.std.specs.Prelude.{◌≡◌, ℕ, ◌<◌, ◌≤◌, true, false, List, [], ◌∷◌, ◌++◌, length, set, get_or, OnOk, OnErr, IfOk};
+ghost use Rattle.std.specs.Prelude.{◌≡◌, ◌≢◌, ℕ, ◌<◌, ◌≤◌, true, false, List, [], ◌∷◌, ◌++◌, length, set, get_or, OnOk, OnErr, IfOk};
 ghost use Rattle.flt_model.specs.Moves as moves;
 ghost use Rattle.flt_model.specs.World as machine;
 ghost use Rattle.flt_ops.specs.Unsettled.{count_unsettled};
@@ -8,6 +8,7 @@ ghost use Rattle.flt_ops.specs.Numbered.{numbers_of};
 
 use crate::numbers::Numbers;
 use crate::parts::Visit;
+use counted_heap::Heap;
 use flt_rules::Stage;
 use std::alloc::{AllocError, Global};
 use std::marker::Model;
@@ -15,7 +16,6 @@ use std::marker::Model;
 /// Visits by number, and whether each is settled.
 #[derive(Drop)]
 pub(crate) struct Visits {
-    alloc: Global,
     visits: Vec<Visit>,
     settled: Vec<bool>,
     /// Of each operation, how many of its visits aren't settled.
@@ -41,7 +41,6 @@ impl Visits {
         ensures { result ≡ record { room = 0; visits = []; settled = [] } }
     {
         Visits {
-            alloc,
             visits: Vec::new(alloc),
             settled: Vec::new(alloc),
             unsettled: Vec::new(alloc),
@@ -125,22 +124,25 @@ impl Visits {
     }
 
     /// Makes room for the visits of one more operation, where there is none yet.
-    pub(crate) fn make_room(&mut self, operation: usize) -> Result<(), AllocError>
+    pub(crate) fn make_room(&mut self, heap: &mut Heap, operation: usize) -> Result<(), AllocError>
         requires { operation ≤ self.old.room }
         ensures room { OnOk result (operation < self.new.room) }
         ensures kept { self.old.room ≤ self.new.room }
         ensures same { self.new ≡ record self.old { room = self.new.room } }
+        ensures granted { OnOk result (heap.new ≡ heap.old) }
+        ensures memory { OnErr result (heap.new ≢ heap.old) }
     {
         if operation == self.unsettled.len() {
-            self.unsettled.reserve(1)?;
-            self.numbers.push(Numbers::new(self.alloc))?;
+            heap.reserve(&mut self.unsettled, 1)?;
+            let numbers = Numbers::new(heap.alloc());
+            heap.push(&mut self.numbers, numbers)?;
             self.unsettled.push_reserved(0);
         }
         Ok(())
     }
 
     /// A new visit, which isn't settled. The answer is its number.
-    pub(crate) fn add(&mut self, visit: Visit) -> Result<usize, AllocError>
+    pub(crate) fn add(&mut self, heap: &mut Heap, visit: Visit) -> Result<usize, AllocError>
         requires { visit.operation < self.old.room }
         ensures number { IfOk result (λ number. number ≡ length self.old.visits) }
         ensures ok { OnOk result (self.new ≡ record self.old {
@@ -148,12 +150,14 @@ impl Visits {
           settled = self.old.settled ++ false ∷ [];
         }) }
         ensures refused { OnErr result (self.new ≡ self.old) }
+        ensures granted { OnOk result (heap.new ≡ heap.old) }
+        ensures memory { OnErr result (heap.new ≢ heap.old) }
     {
-        self.visits.reserve(1)?;
-        self.settled.reserve(1)?;
+        heap.reserve(&mut self.visits, 1)?;
+        heap.reserve(&mut self.settled, 1)?;
         let operation = visit.operation as usize;
         let number = self.visits.len();
-        self.numbers[operation].push(number)?;
+        self.numbers[operation].push(heap, number)?;
         self.visits.push_reserved(visit);
         self.settled.push_reserved(false);
         self.unsettled[operation] += 1;

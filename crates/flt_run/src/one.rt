@@ -1,7 +1,7 @@
 //! One turn at a time, on a board of one thread.
 
 ghost use Rattle.std.specs.VecDeque.{deque_len, deque_capacity};
-ghost use Rattle.std.specs.Prelude.{◌≡◌, ◌↔◌, ◌≤◌, ◌+◌, ◌++◌, ◌∷◌, [], false, true, List, length, drop, Ok, Err, Some, IfSome, IfOk, OnErr, if◌then◌else◌};
+ghost use Rattle.std.specs.Prelude.{◌≡◌, ◌≢◌, ◌↔◌, ◌≤◌, ◌+◌, ◌++◌, ◌∷◌, [], false, true, List, length, drop, Ok, Err, Some, IfSome, IfOk, OnErr, if◌then◌else◌};
 ghost use Rattle.flt_dispatch.specs.Decisions.{is_cancelling};
 ghost use Rattle.flt_machine.specs.Situations.{IsOwn, Now};
 ghost use Rattle.flt_run.specs.Turns as spec;
@@ -9,9 +9,10 @@ ghost use Rattle.flt_run.specs.declared.fault.TurnFault.TheVariants as fault;
 
 use crate::choices::Choices;
 use crate::fault::TurnFault;
+use counted_heap::Heap;
 use flt_machine::{ApplyFault, Board, Commit, Loaded, advance};
 use flt_model::{Move, Subject};
-use std::alloc::{AllocError, Global};
+use std::alloc::Global;
 use std::collections::VecDeque;
 
 /// How many subjects a turn names at most: an activation; and an operation, a work item or an entry.
@@ -75,7 +76,7 @@ pub fn stays_after(teardown: bool, made: Move) -> bool
 
 /// Makes a subject's move, where it has one that is enabled.
 fn move_on(
-    alloc: Global,
+    heap: &mut Heap,
     board: &mut Board,
     loaded: &Loaded,
     subject: Subject,
@@ -87,17 +88,19 @@ fn move_on(
     ensures few { IfOk result (λ t. length t.next.items ≤ 2) }
     ensures full { result ≡ Err fault.Full → length board.old.entries ≡ 1000000 }
     ensures refused { OnErr result (board.new ≡ board.old) }
+    ensures granted { result ≢ Err fault.OutOfMemory → heap.new ≡ heap.old }
+    ensures memory { result ≡ Err fault.OutOfMemory → heap.new ≢ heap.old }
 {
     let teardown = is_teardown(board, loaded, subject);
     let Some(step) = asked_by(board, loaded, subject) else {
-        return Ok(Turned::alone(alloc, teardown));
+        return Ok(Turned::alone(heap.alloc(), teardown));
     };
-    match board.apply(alloc, loaded, step) {
+    match board.apply(heap, loaded, step) {
         Ok(events) => Ok(Turned {
             next: events.next,
             stays: stays_after(teardown, step),
         }),
-        Err(ApplyFault::NotEnabled) => Ok(Turned::alone(alloc, teardown)),
+        Err(ApplyFault::NotEnabled) => Ok(Turned::alone(heap.alloc(), teardown)),
         Err(ApplyFault::Full) => Err(TurnFault::Full),
         Err(ApplyFault::OutOfMemory) => Err(TurnFault::OutOfMemory),
     }
@@ -105,7 +108,7 @@ fn move_on(
 
 /// Takes an activation from the board, and commits its steps.
 fn go_on(
-    alloc: Global,
+    heap: &mut Heap,
     board: &mut Board,
     loaded: &Loaded,
     choices: &mut Choices,
@@ -119,12 +122,14 @@ fn go_on(
     ensures few { IfOk result (λ t. length t.next.items ≤ 2) }
     ensures full { result ≡ Err fault.Full → length board.old.entries ≡ 1000000 }
     ensures refused { OnErr result ((board.new ≡ board.old) × (choices.new ≡ choices.old)) }
+    ensures granted { result ≢ Err fault.OutOfMemory → heap.new ≡ heap.old }
+    ensures memory { result ≡ Err fault.OutOfMemory → heap.new ≢ heap.old }
 {
     let Some(frame) = board.checkout(activation) else {
-        return Ok(Turned::alone(alloc, false));
+        return Ok(Turned::alone(heap.alloc(), false));
     };
     let advanced = advance(loaded, frame);
-    match board.commit(alloc, loaded, &advanced, choices.next()) {
+    match board.commit(heap, loaded, &advanced, choices.next()) {
         Commit::Committed(events) => {
             choices.count(loaded, &advanced);
             Ok(Turned {
@@ -133,8 +138,8 @@ fn go_on(
             })
         }
         // What is committed was taken just now, so it isn't stale.
-        Commit::Stale => Ok(Turned::alone(alloc, true)),
-        Commit::Blocked => Ok(Turned::alone(alloc, true)),
+        Commit::Stale => Ok(Turned::alone(heap.alloc(), true)),
+        Commit::Blocked => Ok(Turned::alone(heap.alloc(), true)),
         Commit::Full => Err(TurnFault::Full),
         Commit::OutOfMemory => Err(TurnFault::OutOfMemory),
     }
@@ -142,7 +147,7 @@ fn go_on(
 
 /// A subject's turn.
 fn go(
-    alloc: Global,
+    heap: &mut Heap,
     board: &mut Board,
     loaded: &Loaded,
     choices: &mut Choices,
@@ -156,10 +161,12 @@ fn go(
     ensures few { IfOk result (λ t. length t.next.items ≤ 2) }
     ensures full { result ≡ Err fault.Full → length board.old.entries ≡ 1000000 }
     ensures refused { OnErr result ((board.new ≡ board.old) × (choices.new ≡ choices.old)) }
+    ensures granted { result ≢ Err fault.OutOfMemory → heap.new ≡ heap.old }
+    ensures memory { result ≡ Err fault.OutOfMemory → heap.new ≢ heap.old }
 {
     match subject {
-        Subject::Activation(activation) => go_on(alloc, board, loaded, choices, activation),
-        _ => move_on(alloc, board, loaded, subject),
+        Subject::Activation(activation) => go_on(heap, board, loaded, choices, activation),
+        _ => move_on(heap, board, loaded, subject),
     }
 }
 
@@ -194,7 +201,7 @@ fn put_behind(subjects: &mut VecDeque<Subject>, first: Subject, turned: Turned)
 /// comes to the end first, which is an activation and an operation, a work item or an entry at most. It answers false where there is no
 /// subject. What is loaded must be the board's own.
 pub fn turn(
-    alloc: Global,
+    heap: &mut Heap,
     board: &mut Board,
     loaded: &Loaded,
     subjects: &mut VecDeque<Subject>,
@@ -210,12 +217,14 @@ pub fn turn(
         (board.new ≡ board.old) × ((subjects.new.items ≡ subjects.old.items) × (choices.new ≡ choices.old)) }
     ensures full { result ≡ Err fault.Full → length board.old.entries ≡ 1000000 }
     ensures refused { OnErr result ((board.new ≡ board.old) × ((subjects.new.items ≡ subjects.old.items) × (choices.new ≡ choices.old))) }
+    ensures granted { result ≢ Err fault.OutOfMemory → heap.new ≡ heap.old }
+    ensures memory { result ≡ Err fault.OutOfMemory → heap.new ≢ heap.old }
 {
     let Some(first) = subjects.front().copied() else {
         return Ok(false);
     };
-    subjects.reserve(MOST_NAMED)?;
-    let turned = go(alloc, board, loaded, choices, first)?;
+    heap.reserve_queue(subjects, MOST_NAMED)?;
+    let turned = go(heap, board, loaded, choices, first)?;
     put_behind(subjects, first, turned);
     Ok(true)
 }

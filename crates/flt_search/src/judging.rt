@@ -4,6 +4,7 @@ ghost use Rattle.std.specs.Prelude.{◌≡◌, ◌↔◌, IfOk, IfSome, IsTrue, 
 ghost use Rattle.flt_world.specs.Filters.{filters_of};
 ghost use Rattle.flt_search.specs.Found as spec;
 
+use counted_heap::Heap;
 use flt_model::{Journal, JournalEntry, Verdict, Violation};
 use flt_tree::Tree;
 use std::alloc::{AllocError, Global};
@@ -50,9 +51,10 @@ pub(crate) fn is_wanted(wanted: &[Violation], violation: Violation) -> bool
 pub(crate) fn journal_of(alloc: Global, entries: &[JournalEntry]) -> Result<Journal, AllocError>
     ensures { IfOk result (λ j. j ≡ entries.now) }
 {
+    let mut heap = Heap::new(alloc);
     let mut journal = Journal::new(alloc);
     for entry in entries {
-        journal.push(*entry)?;
+        journal.push(&mut heap, *entry)?;
     }
     Ok(journal)
 }

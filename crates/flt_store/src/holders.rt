@@ -1,12 +1,13 @@
 //! Who holds a filter's locks.
 
-ghost use Rattle.std.specs.Prelude.{◌≡◌, [], ◌∷◌, ◌++◌, not, ◌==◌, filter, replicate, set, get_or, OnOk, OnErr};
+ghost use Rattle.std.specs.Prelude.{◌≡◌, ◌≢◌, [], ◌∷◌, ◌++◌, not, ◌==◌, filter, replicate, set, get_or, OnOk, OnErr};
 ghost use Rattle.std.specs.List.{list_all};
 ghost use Rattle.flt_model.specs.Locks as spec;
 ghost use Rattle.flt_model.specs.World as machine;
 ghost use Rattle.flt_store.specs.Holding.{is_free, is_of, weight};
 
 use crate::places::Places;
+use counted_heap::Heap;
 use flt_rules::Access;
 use std::alloc::{AllocError, Global};
 use std::marker::Model;
@@ -68,18 +69,20 @@ impl Holders {
     }
 
     /// One more holder.
-    pub(crate) fn push(&mut self, holder: Holder) -> Result<(), AllocError>
+    pub(crate) fn push(&mut self, heap: &mut Heap, holder: Holder) -> Result<(), AllocError>
         ensures ok { OnOk result (self.new ≡ self.old ++ holder ∷ []) }
         ensures refused { OnErr result (self.new ≡ self.old) }
+        ensures granted { OnOk result (heap.new ≡ heap.old) }
+        ensures memory { OnErr result (heap.new ≢ heap.old) }
     {
-        self.places.reserve(1)?;
+        heap.reserve(&mut self.places, 1)?;
         let place = self.places.len();
         let (false, None) = (self.repeats, self.noted.get(holder.activation)) else {
             self.repeats = true;
             self.places.push_reserved(Some(holder));
             return Ok(());
         };
-        self.noted.insert(holder.activation, place)?;
+        self.noted.insert(heap, holder.activation, place)?;
         self.count += 1;
         self.alone += alone(holder.access);
         self.places.push_reserved(Some(holder));

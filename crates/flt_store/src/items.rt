@@ -1,10 +1,11 @@
 //! Work items by number. Those that have started are gone.
 
-ghost use Rattle.std.specs.Prelude.{◌≡◌, [], ◌∷◌, ◌++◌, length, set, get_or, Some, None, IfOk, OnOk, OnErr};
+ghost use Rattle.std.specs.Prelude.{◌≡◌, ◌≢◌, [], ◌∷◌, ◌++◌, length, set, get_or, Some, None, IfOk, OnOk, OnErr};
 ghost use Rattle.std.specs.List.{list_any};
 ghost use Rattle.flt_model.specs.Moves.{is_item_of};
 
-use std::alloc::{AllocError, Global};
+use counted_heap::Heap;
+use std::alloc::AllocError;
 use std::marker::Model;
 
 /// A queued work item: the filter, its routine by the number of the callback, and what it hands over.
@@ -48,12 +49,15 @@ impl Model for WorkItems {
 
 impl WorkItems {
     /// No items, with a count for each of so many filters.
-    pub(crate) fn new(alloc: Global, filters: usize) -> Result<WorkItems, AllocError>
-        ensures { IfOk result (λ items. items ≡ []) }
+    pub(crate) fn new(heap: &mut Heap, filters: usize) -> Result<WorkItems, AllocError>
+        ensures empty { IfOk result (λ items. items ≡ []) }
+        ensures granted { OnOk result (heap.new ≡ heap.old) }
+        ensures memory { OnErr result (heap.new ≢ heap.old) }
     {
+        let alloc = heap.alloc();
         let mut waiting = Vec::new(alloc);
         for _ in 0..filters {
-            waiting.push(0)?;
+            heap.push(&mut waiting, 0)?;
         }
         Ok(WorkItems {
             items: Vec::new(alloc),
@@ -89,11 +93,13 @@ impl WorkItems {
     }
 
     /// One more item.
-    pub(crate) fn push(&mut self, item: Item) -> Result<(), AllocError>
+    pub(crate) fn push(&mut self, heap: &mut Heap, item: Item) -> Result<(), AllocError>
         ensures ok { OnOk result (self.new ≡ self.old ++ Some item ∷ []) }
         ensures refused { OnErr result (self.new ≡ self.old) }
+        ensures granted { OnOk result (heap.new ≡ heap.old) }
+        ensures memory { OnErr result (heap.new ≢ heap.old) }
     {
-        self.items.push(Some(item))?;
+        heap.push(&mut self.items, Some(item))?;
         if item.filter < self.waiting.len() {
             self.waiting[item.filter] += 1;
         }

@@ -1,6 +1,6 @@
 //! Changes: each is made, or nothing is.
 
-ghost use Rattle.std.specs.Prelude.{◌≡◌, OnOk, OnErr};
+ghost use Rattle.std.specs.Prelude.{◌≡◌, ◌≢◌, OnOk, OnErr};
 ghost use Rattle.flt_store.specs.Changes.{after_change, IsPossible};
 ghost use Rattle.flt_store.specs.declared.change.Change.TheVariants as change;
 
@@ -9,6 +9,7 @@ use crate::holders::Holder;
 use crate::items::Item;
 use crate::presence::Presence;
 use crate::store::{Store, key_at};
+use counted_heap::Heap;
 use flt_cbdq::{Entry, InsertFault};
 use flt_model::Key;
 use flt_ops::{ArriveFault, Way};
@@ -18,42 +19,46 @@ use std::alloc::AllocError;
 
 impl Store {
     /// Makes a change. Where memory is refused nothing is changed.
-    pub fn perform(&mut self, change: Change) -> Result<(), AllocError>
+    pub fn perform(&mut self, heap: &mut Heap, change: Change) -> Result<(), AllocError>
         requires { IsPossible self.old change }
         ensures ok { OnOk result (self.new ≡ after_change self.old change) }
         ensures refused { OnErr result (self.new ≡ self.old) }
+        ensures granted { OnOk result (heap.new ≡ heap.old) }
+        ensures memory { OnErr result (heap.new ≢ heap.old) }
     {
         match change {
             Change::Nothing => {}
-            Change::Allocate(owner) => self.allocate(owner)?,
+            Change::Allocate(owner) => self.allocate(heap, owner)?,
             Change::AddReference(context) => self.add_reference(context),
             Change::DropReference(context) => self.drop_reference(context),
             Change::Write(context, value) => self.write(context, value),
             Change::Link(context, filter, key, over, old) => self.link(
-                context, filter, key, over, old,
+                heap, context, filter, key, over, old,
             )?,
             Change::Unlink(context, old) => self.unlink(context, old),
             Change::TakeLock(filter, lock, activation, access) => self.take_lock(
-                filter, lock, activation, access,
+                heap, filter, lock, activation, access,
             )?,
             Change::GiveUpLock(filter, lock, activation) => self.give_up_lock(
                 filter, lock, activation,
             ),
-            Change::Insert(filter, visit, context) => self.insert(filter, visit, context)?,
+            Change::Insert(filter, visit, context) => self.insert(heap, filter, visit, context)?,
             Change::RemoveNext(filter) => self.remove_next(filter),
             Change::RemoveOf(filter, serial, visit) => self.remove_of(filter, serial, visit),
             Change::Queue(filter, routine, visit, context) => self.queue(
-                filter, routine, visit, context,
+                heap, filter, routine, visit, context,
             )?,
             Change::Start(item) => self.start(item),
-            Change::Settle(visit, context, way) => self.settle(visit, context, way)?,
-            Change::Arrive(kind, mode, file) => self.arrive(kind, mode, file)?,
-            Change::StartPre(serial, filter) => self.start_pre(serial, filter)?,
+            Change::Settle(visit, context, way) => self.settle(heap, visit, context, way)?,
+            Change::Arrive(kind, mode, file) => self.arrive(heap, kind, mode, file)?,
+            Change::StartPre(serial, filter) => self.start_pre(heap, serial, filter)?,
             Change::Skip(serial, filter) => self.skip(serial, filter),
             Change::Lower(serial) => self.lower(serial),
-            Change::StartPost(serial, filter, context) => self.start_post(serial, filter, context)?,
+            Change::StartPost(serial, filter, context) => self.start_post(
+                heap, serial, filter, context,
+            )?,
             Change::StartDraining(serial, filter, context) => self.start_draining(
-                serial, filter, context,
+                heap, serial, filter, context,
             )?,
             Change::Cancel(serial) => self.cancel(serial),
             Change::Detach(filter) => self.detach(filter),
@@ -66,11 +71,13 @@ impl Store {
 // ---- contexts
 
 impl Store {
-    fn allocate(&mut self, owner: usize) -> Result<(), AllocError>
+    fn allocate(&mut self, heap: &mut Heap, owner: usize) -> Result<(), AllocError>
         ensures ok { OnOk result (self.new ≡ after_change self.old (change.Allocate owner)) }
         ensures refused { OnErr result (self.new ≡ self.old) }
+        ensures granted { OnOk result (heap.new ≡ heap.old) }
+        ensures memory { OnErr result (heap.new ≢ heap.old) }
     {
-        self.contexts.alloc(owner)?;
+        self.contexts.alloc(heap, owner)?;
         Ok(())
     }
 
@@ -97,6 +104,7 @@ impl Store {
     // makes the first link. So it never has one to keep.
     fn link(
         &mut self,
+        heap: &mut Heap,
         context: usize,
         filter: usize,
         key: Key,
@@ -106,9 +114,11 @@ impl Store {
         requires { IsPossible self.old (change.Link context filter key over old) }
         ensures ok { OnOk result (self.new ≡ after_change self.old (change.Link context filter key over old)) }
         ensures refused { OnErr result (self.new ≡ self.old) }
+        ensures granted { OnOk result (heap.new ≡ heap.old) }
+        ensures memory { OnErr result (heap.new ≢ heap.old) }
     {
         self.contexts
-            .set(key_at(filter, key), context, false, old.is_some())?;
+            .set(heap, key_at(filter, key), context, false, old.is_some())?;
         Ok(())
     }
 
@@ -124,6 +134,7 @@ impl Store {
 impl Store {
     fn take_lock(
         &mut self,
+        heap: &mut Heap,
         filter: usize,
         lock: LockNumber,
         activation: usize,
@@ -131,9 +142,11 @@ impl Store {
     ) -> Result<(), AllocError>
         ensures ok { OnOk result (self.new ≡ after_change self.old (change.TakeLock filter lock activation access)) }
         ensures refused { OnErr result (self.new ≡ self.old) }
+        ensures granted { OnOk result (heap.new ≡ heap.old) }
+        ensures memory { OnErr result (heap.new ≢ heap.old) }
     {
         if let Some(holders) = self.holders.get_mut(filter) {
-            holders[usize::from(lock.place())].push(Holder { activation, access })?;
+            holders[usize::from(lock.place())].push(heap, Holder { activation, access })?;
         }
         Ok(())
     }
@@ -152,6 +165,7 @@ impl Store {
 impl Store {
     fn insert(
         &mut self,
+        heap: &mut Heap,
         filter: usize,
         visit: usize,
         context: Option<usize>,
@@ -159,8 +173,10 @@ impl Store {
         requires { IsPossible self.old (change.Insert filter visit context) }
         ensures ok { OnOk result (self.new ≡ after_change self.old (change.Insert filter visit context)) }
         ensures refused { OnErr result (self.new ≡ self.old) }
+        ensures granted { OnOk result (heap.new ≡ heap.old) }
+        ensures memory { OnErr result (heap.new ≢ heap.old) }
     {
-        match self.queues.insert(filter, Entry { visit, context }) {
+        match self.queues.insert(heap, filter, Entry { visit, context }) {
             Ok(()) => {
                 self.greatest_queued = self.greatest_queued.max(visit);
                 Ok(())
@@ -187,6 +203,7 @@ impl Store {
 
     fn queue(
         &mut self,
+        heap: &mut Heap,
         filter: usize,
         routine: usize,
         visit: Option<usize>,
@@ -194,13 +211,16 @@ impl Store {
     ) -> Result<(), AllocError>
         ensures ok { OnOk result (self.new ≡ after_change self.old (change.Queue filter routine visit context)) }
         ensures refused { OnErr result (self.new ≡ self.old) }
+        ensures granted { OnOk result (heap.new ≡ heap.old) }
+        ensures memory { OnErr result (heap.new ≢ heap.old) }
     {
-        self.items.push(Item {
+        let item = Item {
             filter,
             routine,
             visit,
             context,
-        })
+        };
+        self.items.push(heap, item)
     }
 
     fn start(&mut self, item: usize)
@@ -213,19 +233,35 @@ impl Store {
 // ---- operations
 
 impl Store {
-    fn settle(&mut self, visit: usize, context: Option<usize>, way: Way) -> Result<(), AllocError>
+    fn settle(
+        &mut self,
+        heap: &mut Heap,
+        visit: usize,
+        context: Option<usize>,
+        way: Way,
+    ) -> Result<(), AllocError>
         ensures ok { OnOk result (self.new ≡ after_change self.old (change.Settle visit context way)) }
         ensures refused { OnErr result (self.new ≡ self.old) }
+        ensures granted { OnOk result (heap.new ≡ heap.old) }
+        ensures memory { OnErr result (heap.new ≢ heap.old) }
     {
-        self.operations.settle(visit, context, way)
+        self.operations.settle(heap, visit, context, way)
     }
 
-    fn arrive(&mut self, kind: Operation, mode: Mode, file: u32) -> Result<(), AllocError>
+    fn arrive(
+        &mut self,
+        heap: &mut Heap,
+        kind: Operation,
+        mode: Mode,
+        file: u32,
+    ) -> Result<(), AllocError>
         requires { IsPossible self.old (change.Arrive kind mode file) }
         ensures ok { OnOk result (self.new ≡ after_change self.old (change.Arrive kind mode file)) }
         ensures refused { OnErr result (self.new ≡ self.old) }
+        ensures granted { OnOk result (heap.new ≡ heap.old) }
+        ensures memory { OnErr result (heap.new ≢ heap.old) }
     {
-        match self.operations.arrive(kind, mode, file) {
+        match self.operations.arrive(heap, kind, mode, file) {
             Ok(_) => Ok(()),
             Err(ArriveFault::OutOfMemory) => Err(AllocError),
             // There is room for one operation more.
@@ -233,12 +269,14 @@ impl Store {
         }
     }
 
-    fn start_pre(&mut self, serial: u32, filter: usize) -> Result<(), AllocError>
+    fn start_pre(&mut self, heap: &mut Heap, serial: u32, filter: usize) -> Result<(), AllocError>
         requires { IsPossible self.old (change.StartPre serial filter) }
         ensures ok { OnOk result (self.new ≡ after_change self.old (change.StartPre serial filter)) }
         ensures refused { OnErr result (self.new ≡ self.old) }
+        ensures granted { OnOk result (heap.new ≡ heap.old) }
+        ensures memory { OnErr result (heap.new ≢ heap.old) }
     {
-        self.operations.start_pre(serial)?;
+        self.operations.start_pre(heap, serial)?;
         Ok(())
     }
 
@@ -258,6 +296,7 @@ impl Store {
 
     fn start_post(
         &mut self,
+        heap: &mut Heap,
         serial: u32,
         filter: usize,
         context: Option<usize>,
@@ -265,13 +304,16 @@ impl Store {
         requires { IsPossible self.old (change.StartPost serial filter context) }
         ensures ok { OnOk result (self.new ≡ after_change self.old (change.StartPost serial filter context)) }
         ensures refused { OnErr result (self.new ≡ self.old) }
+        ensures granted { OnOk result (heap.new ≡ heap.old) }
+        ensures memory { OnErr result (heap.new ≢ heap.old) }
     {
-        self.operations.pop_frame(serial)?;
+        self.operations.pop_frame(heap, serial)?;
         Ok(())
     }
 
     fn start_draining(
         &mut self,
+        heap: &mut Heap,
         serial: u32,
         filter: usize,
         context: Option<usize>,
@@ -279,8 +321,10 @@ impl Store {
         requires { IsPossible self.old (change.StartDraining serial filter context) }
         ensures ok { OnOk result (self.new ≡ after_change self.old (change.StartDraining serial filter context)) }
         ensures refused { OnErr result (self.new ≡ self.old) }
+        ensures granted { OnOk result (heap.new ≡ heap.old) }
+        ensures memory { OnErr result (heap.new ≢ heap.old) }
     {
-        self.operations.drain(filter, serial)?;
+        self.operations.drain(heap, filter, serial)?;
         Ok(())
     }
 

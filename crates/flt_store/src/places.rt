@@ -3,6 +3,7 @@
 ghost use Rattle.std.specs.Prelude.{◌≡◌, ◌≢◌, ℕ, [], OnOk, OnErr, Some, None};
 ghost use Rattle.flt_store.specs.Holding.{place_in};
 
+use counted_heap::Heap;
 use std::alloc::{AllocError, Global};
 use std::collections::BTreeMap;
 use std::marker::Model;
@@ -41,12 +42,19 @@ impl Places {
 
     /// Notes the place of an activation.
     #[tactic(auto, unfolding(crate::specs::Holding::place_in))]
-    pub(crate) fn insert(&mut self, activation: usize, place: usize) -> Result<(), AllocError>
+    pub(crate) fn insert(
+        &mut self,
+        heap: &mut Heap,
+        activation: usize,
+        place: usize,
+    ) -> Result<(), AllocError>
         ensures here { OnOk result (place_in self.new activation ≡ Some place) }
         ensures others { OnOk result ((other : ℕ) → other ≢ activation → place_in self.new other ≡ place_in self.old other) }
         ensures refused { OnErr result ((other : ℕ) → place_in self.new other ≡ place_in self.old other) }
+        ensures granted { OnOk result (heap.new ≡ heap.old) }
+        ensures memory { OnErr result (heap.new ≢ heap.old) }
     {
-        let _ = self.places.insert(activation, place)?;
+        heap.put(&mut self.places, activation, place)?;
         Ok(())
     }
 

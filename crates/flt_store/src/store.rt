@@ -1,6 +1,6 @@
 //! The store, and what is there.
 
-ghost use Rattle.std.specs.Prelude.{◌≡◌, ℕ, ◌<◌, ◌≤◌, ◌&&◌, ◌||◌, ◌==◌, not, set, true, false, [], ◌∷◌, drop, find, position, is_some, length, get_or, option_map, Some, None, IfOk, IfSome, IfNone, MatchOption, if◌then◌else◌};
+ghost use Rattle.std.specs.Prelude.{◌≡◌, ◌≢◌, ℕ, ◌<◌, ◌≤◌, ◌&&◌, ◌||◌, ◌==◌, not, set, true, false, [], ◌∷◌, drop, find, position, is_some, length, get_or, option_map, Some, None, OnOk, OnErr, IfOk, IfSome, IfNone, MatchOption, if◌then◌else◌};
 ghost use Rattle.std.specs.List.{list_any};
 ghost use Rattle.flt_model.specs.Locks as locks;
 ghost use Rattle.flt_model.specs.Moves as moves;
@@ -15,12 +15,13 @@ ghost use Rattle.flt_store.specs.Stores.{empty_store, is_emptied, order_of};
 use crate::holders::{Holders, unheld};
 use crate::items::{Item, WorkItems};
 use crate::presence::{Instance, Presence};
+use counted_heap::Heap;
 use flt_cbdq::{Entry, Queues};
 use flt_ctx::{Contexts, Key as At, Target};
 use flt_model::Key;
 use flt_ops::{Arrival, Frame, Operations, Outcome, Position, Visit, Way};
 use flt_rules::{Access, LockNumber};
-use std::alloc::{AllocError, Global};
+use std::alloc::AllocError;
 use std::marker::Model;
 
 /// What activations share. Presences, queues and lock holders are by filter; contracts see it as the machine's own store.
@@ -62,25 +63,29 @@ impl Model for Store {
 
 impl Store {
     /// The store before the first move, of so many filters.
-    pub fn new(alloc: Global, filters: usize) -> Result<Store, AllocError>
-        ensures { IfOk result (λ store. store ≡ empty_store filters) }
+    pub fn new(heap: &mut Heap, filters: usize) -> Result<Store, AllocError>
+        ensures empty { IfOk result (λ store. store ≡ empty_store filters) }
+        ensures granted { OnOk result (heap.new ≡ heap.old) }
+        ensures memory { OnErr result (heap.new ≢ heap.old) }
     {
+        let alloc = heap.alloc();
         let mut presences = Vec::new(alloc);
         let mut holders = Vec::new(alloc);
         for _ in 0..filters {
-            presences.push(Instance {
+            let instance = Instance {
                 presence: Presence::Attached,
-            })?;
-            holders.push(unheld(alloc))?;
+            };
+            heap.push(&mut presences, instance)?;
+            heap.push(&mut holders, unheld(alloc))?;
         }
         Ok(Store {
             presences,
-            queues: Queues::new(alloc, filters)?,
+            queues: Queues::new(heap, filters)?,
             greatest_queued: 0,
             holders,
             operations: Operations::new(alloc, filters),
-            contexts: Contexts::new(alloc, filters)?,
-            items: WorkItems::new(alloc, filters)?,
+            contexts: Contexts::new(heap, filters)?,
+            items: WorkItems::new(heap, filters)?,
         })
     }
 
@@ -227,12 +232,14 @@ impl Store {
 
     /// Of each operation, by its serial number, whether an entry of it stands in a filter's queue. It takes as many steps as there are
     /// operations and entries.
-    pub fn waiting(&self, alloc: Global, filter: usize) -> Result<Vec<bool>, AllocError>
+    pub fn waiting(&self, heap: &mut Heap, filter: usize) -> Result<Vec<bool>, AllocError>
         ensures length { IfOk result (λ marks. length marks.items ≡ length self.now.arrivals) }
         ensures marked { IfOk result (λ marks. (o : ℕ) → o < length self.now.arrivals →
             get_or marks.items o false ≡ list_any (moves.is_entry_of self.now o) (spec.queue_at self.now filter)) }
+        ensures granted { OnOk result (heap.new ≡ heap.old) }
+        ensures memory { OnErr result (heap.new ≢ heap.old) }
     {
-        let mut marks = vec![in alloc; false; self.operations()]?;
+        let mut marks = heap.marks(self.operations())?;
         let mut left = self.queues.walk(filter);
         while let Some(entry) = left.next_entry() {
             let serial = self.operations.visit(entry.visit).operation as usize;

@@ -3,6 +3,7 @@ ghost use Rattle.std.specs.Prelude.{◌≡◌, ◌-◌, ◌^◌, ◌<◌, true};
 ghost use Rattle.flt_ctx.specs.Contexts.{context_at};
 
 use crate::dice::Dice;
+use counted_heap::Heap;
 use flt_ctx::{Contexts, Key, Release, SetAnswer, Target, Unlinked};
 use std::alloc::{AllocError, Global};
 use std::process::Abort;
@@ -49,6 +50,7 @@ fn get(contexts: &mut Contexts, key: Key) -> Option<usize> {
 }
 
 fn set(
+    heap: &mut Heap,
     contexts: &mut Contexts,
     key: Key,
     context: usize,
@@ -63,7 +65,7 @@ fn set(
             return Ok(None);
         }
     }
-    Ok(Some(contexts.set(key, context, keep, want_old)?))
+    Ok(Some(contexts.set(heap, key, context, keep, want_old)?))
 }
 
 /// A context of the plain program.
@@ -275,6 +277,7 @@ impl Dice {
 
 /// One call of both programs that links, and whether they answered the same.
 fn link(
+    heap: &mut Heap,
     contexts: &mut Contexts,
     rows: &mut Rows,
     context: usize,
@@ -283,16 +286,24 @@ fn link(
     let key = dice.key(3);
     let keep = dice.flip();
     let want_old = dice.flip();
-    Ok(set(contexts, key, context, keep, want_old)? == Some(rows.set(key, context, keep, want_old)))
+    Ok(
+        set(heap, contexts, key, context, keep, want_old)?
+            == Some(rows.set(key, context, keep, want_old)),
+    )
 }
 
 /// One call of both programs, and whether they answered the same.
-fn step(contexts: &mut Contexts, rows: &mut Rows, dice: &mut Dice) -> Result<bool, AllocError> {
+fn step(
+    heap: &mut Heap,
+    contexts: &mut Contexts,
+    rows: &mut Rows,
+    dice: &mut Dice,
+) -> Result<bool, AllocError> {
     let context = dice.roll(6);
     match dice.roll(20) {
         0 | 1 | 2 => {
             if rows.rows.len() < MOST_CONTEXTS {
-                return Ok(contexts.alloc(dice.roll(2))? == rows.alloc()?);
+                return Ok(contexts.alloc(heap, dice.roll(2))? == rows.alloc()?);
             }
             Ok(true)
         }
@@ -330,18 +341,19 @@ fn step(contexts: &mut Contexts, rows: &mut Rows, dice: &mut Dice) -> Result<boo
             let want_old = dice.flip();
             Ok(contexts.unlink(context, want_old) == rows.unlink(context, want_old))
         }
-        _ => link(contexts, rows, context, dice),
+        _ => link(heap, contexts, rows, context, dice),
     }
 }
 
 /// The first turn at which the programs differ.
 fn first_unlike(
+    heap: &mut Heap,
     contexts: &mut Contexts,
     rows: &mut Rows,
     dice: &mut Dice,
 ) -> Result<Option<usize>, AllocError> {
     for turn in 0..40 {
-        let same = step(contexts, rows, dice)?
+        let same = step(heap, contexts, rows, dice)?
             && same_contexts(contexts, rows)
             && same_links(contexts, rows);
         if !same {
@@ -353,12 +365,13 @@ fn first_unlike(
 
 /// The same of two programs that begin anew.
 fn script_differs(alloc: Global, dice: &mut Dice) -> Result<Option<usize>, AllocError> {
-    let mut contexts = Contexts::new(alloc, FILTERS)?;
+    let heap = &mut Heap::new(alloc);
+    let mut contexts = Contexts::new(heap, FILTERS)?;
     let mut rows = Rows {
         rows: Vec::new(alloc),
         closed: Vec::new(alloc),
     };
-    first_unlike(&mut contexts, &mut rows, dice)
+    first_unlike(heap, &mut contexts, &mut rows, dice)
 }
 
 /// The first script and turn at which the programs differ.
@@ -423,12 +436,12 @@ enum Call {
 }
 
 /// Makes a call, and says whether it answers what it should.
-fn answers(contexts: &mut Contexts, call: Call) -> Result<bool, AllocError> {
+fn answers(heap: &mut Heap, contexts: &mut Contexts, call: Call) -> Result<bool, AllocError> {
     match call {
         Call::Get(key, wanted) => Ok(get(contexts, key) == wanted),
-        Call::Alloc(filter, wanted) => Ok(contexts.alloc(filter)? == wanted),
+        Call::Alloc(filter, wanted) => Ok(contexts.alloc(heap, filter)? == wanted),
         Call::Set(key, context, keep, want_old, wanted) => {
-            Ok(set(contexts, key, context, keep, want_old)? == Some(wanted))
+            Ok(set(heap, contexts, key, context, keep, want_old)? == Some(wanted))
         }
         Call::Release(context, wanted) => Ok(contexts.release(context) == wanted),
         Call::Reference(context) => {
@@ -452,9 +465,13 @@ fn answers(contexts: &mut Contexts, call: Call) -> Result<bool, AllocError> {
 }
 
 /// The first of these calls that doesn't answer what it should.
-fn first_wrong(contexts: &mut Contexts, calls: &[Call]) -> Result<Option<usize>, AllocError> {
+fn first_wrong(
+    heap: &mut Heap,
+    contexts: &mut Contexts,
+    calls: &[Call],
+) -> Result<Option<usize>, AllocError> {
     for (at, call) in calls.iter().enumerate() {
-        if !answers(contexts, *call)? {
+        if !answers(heap, contexts, *call)? {
             return Ok(Some(at));
         }
     }
@@ -463,8 +480,9 @@ fn first_wrong(contexts: &mut Contexts, calls: &[Call]) -> Result<Option<usize>,
 
 /// The same on the contexts of so many filters.
 fn wrong_call(alloc: Global, filters: usize, calls: &[Call]) -> Result<Option<usize>, AllocError> {
-    let mut contexts = Contexts::new(alloc, filters)?;
-    first_wrong(&mut contexts, calls)
+    let heap = &mut Heap::new(alloc);
+    let mut contexts = Contexts::new(heap, filters)?;
+    first_wrong(heap, &mut contexts, calls)
 }
 
 /// Whether context 1 is set over context 0 as the row says.

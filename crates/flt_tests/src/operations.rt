@@ -1,6 +1,7 @@
 //! Operations beside a plain program that scans rows.
 
 use crate::dice::Dice;
+use counted_heap::Heap;
 use flt_ops::{Frame, Operations, Outcome, Position, Started, Way};
 use flt_rules::{FinalStatus, Mode, Operation, Stage};
 use std::alloc::{AllocError, Global};
@@ -349,7 +350,7 @@ fn step(
     operations: &mut Operations,
     plain: &mut Plain,
     dice: &mut Dice,
-    alloc: Global,
+    heap: &mut Heap,
 ) -> Result<bool, Fail> {
     let number = dice.roll(MOST as u64 + 1);
     let serial = number as u32;
@@ -359,19 +360,19 @@ fn step(
             if plain.rows.len() >= MOST {
                 return Ok(true);
             }
-            let answer = operations.arrive(Operation::Read, Mode::Irp, serial)?;
-            Ok(answer as usize == plain.arrive(alloc, serial)?)
+            let answer = operations.arrive(heap, Operation::Read, Mode::Irp, serial)?;
+            Ok(answer as usize == plain.arrive(heap.alloc(), serial)?)
         }
-        1 | 2 => Ok(start(operations.start_pre(serial)?) == plain.start_pre(number)?),
+        1 | 2 => Ok(start(operations.start_pre(heap, serial)?) == plain.start_pre(number)?),
         3 => Ok(operations.skip(serial) == plain.skip(number)),
         4 => Ok(operations.lower(serial) == plain.lower(number)),
-        5 | 6 => Ok(start(operations.pop_frame(serial)?) == plain.pop_frame(number)?),
-        7 => Ok(start(operations.drain(filter, serial)?) == plain.drain(filter, number)?),
+        5 | 6 => Ok(start(operations.pop_frame(heap, serial)?) == plain.pop_frame(number)?),
+        7 => Ok(start(operations.drain(heap, filter, serial)?) == plain.drain(filter, number)?),
         8 => Ok(operations.cancel(serial) == plain.cancel(number)),
         _ => {
             let visit = dice.roll(plain.visits.len() as u64 + 1);
             let way = dice.way();
-            operations.settle(visit, Some(number), way)?;
+            operations.settle(heap, visit, Some(number), way)?;
             plain.settle(visit, Some(number), way)?;
             Ok(true)
         }
@@ -383,10 +384,10 @@ fn first_unlike(
     operations: &mut Operations,
     plain: &mut Plain,
     dice: &mut Dice,
-    alloc: Global,
+    heap: &mut Heap,
 ) -> Result<Option<usize>, Fail> {
     for turn in 0..60 {
-        let same = step(operations, plain, dice, alloc)?
+        let same = step(operations, plain, dice, heap)?
             && agree(operations, plain)
             && agree_on_visits(operations, plain);
         if !same {
@@ -400,7 +401,7 @@ fn first_unlike(
 fn script_differs(alloc: Global, dice: &mut Dice) -> Result<Option<usize>, Fail> {
     let mut operations = Operations::new(alloc, FILTERS);
     let mut plain = Plain::new(alloc);
-    first_unlike(&mut operations, &mut plain, dice, alloc)
+    first_unlike(&mut operations, &mut plain, dice, &mut Heap::new(alloc))
 }
 
 /// The first script and turn at which the programs differ.
@@ -450,19 +451,20 @@ const CALLS: [(Call, Option<(usize, usize, Option<usize>)>); 13] = [
 
 /// Makes the call, and answers what a callback starts with, if one does.
 fn made(
+    heap: &mut Heap,
     operations: &mut Operations,
     call: Call,
 ) -> Result<Option<(usize, usize, Option<usize>)>, AllocError> {
     match call {
-        Call::StartPre => Ok(start(operations.start_pre(0)?)),
+        Call::StartPre => Ok(start(operations.start_pre(heap, 0)?)),
         Call::Lower => {
             let _ = operations.lower(0);
             Ok(None)
         }
-        Call::PopFrame => Ok(start(operations.pop_frame(0)?)),
-        Call::Drain(filter) => Ok(start(operations.drain(filter, 0)?)),
+        Call::PopFrame => Ok(start(operations.pop_frame(heap, 0)?)),
+        Call::Drain(filter) => Ok(start(operations.drain(heap, filter, 0)?)),
         Call::Settle(visit, context, way) => {
-            operations.settle(visit, context, way)?;
+            operations.settle(heap, visit, context, way)?;
             Ok(None)
         }
     }
@@ -470,14 +472,15 @@ fn made(
 
 /// Whether the operation goes down and up by these calls.
 fn goes_down_and_up(
+    heap: &mut Heap,
     operations: &mut Operations,
     calls: &[(Call, Option<(usize, usize, Option<usize>)>)],
 ) -> Result<bool, Fail> {
-    if operations.arrive(Operation::Read, Mode::Irp, 7)? != 0 {
+    if operations.arrive(heap, Operation::Read, Mode::Irp, 7)? != 0 {
         return Ok(false);
     }
     for (call, wanted) in calls {
-        if operations.is_done(0) || made(operations, *call)? != *wanted {
+        if operations.is_done(0) || made(heap, operations, *call)? != *wanted {
             return Ok(false);
         }
     }
@@ -487,8 +490,9 @@ fn goes_down_and_up(
 /// `tools/refuse-allocations.sh tests flt_tests memory` refuses each request for memory in turn.
 #[test]
 fn an_operation_goes_down_and_up_within_memory(rt: HostRuntime) -> Result<(), Fail> {
+    let heap = &mut Heap::new(rt.alloc());
     let mut operations = Operations::new(rt.alloc(), FILTERS);
-    let fine = goes_down_and_up(&mut operations, &CALLS);
+    let fine = goes_down_and_up(heap, &mut operations, &CALLS);
     drop(operations);
     assert!(rt; fine?);
     Ok(())

@@ -1,6 +1,7 @@
 //! A set of pairs beside a table of those that are there.
 
 use crate::dice::Dice;
+use counted_heap::Heap;
 use pair_set::PairSet;
 use std::alloc::{AllocError, Global};
 use std::test::Fail;
@@ -23,6 +24,7 @@ fn least(row: &[bool; SECONDS]) -> Option<u32> {
 
 /// The first turn at which a set says something else than the table.
 fn wrong_turn(alloc: Global) -> Result<Option<usize>, AllocError> {
+    let mut heap = Heap::new(alloc);
     let mut pairs = PairSet::new(alloc);
     let mut there = [[false; SECONDS]; FIRSTS];
     let mut dice = Dice { state: 20261124 };
@@ -31,7 +33,7 @@ fn wrong_turn(alloc: Global) -> Result<Option<usize>, AllocError> {
         let second = dice.roll(SECONDS as u64);
         let is_put_in = dice.flip();
         if is_put_in {
-            pairs.insert(first, second as u32)?;
+            pairs.insert(&mut heap, first, second as u32)?;
         } else {
             pairs.remove(first, second as u32);
         }

@@ -1,6 +1,7 @@
 //! Cancel-safe queues: by hand, and beside vectors that every call scans.
 
 use crate::dice::Dice;
+use counted_heap::Heap;
 use flt_cbdq::{Entry, InsertFault, Queues};
 use std::alloc::{AllocError, Global};
 use std::test::Fail;
@@ -104,12 +105,13 @@ fn agree(queues: &Queues, plain: &Plain) -> bool {
 
 /// An entry put into both, and whether they answered the same. A refused one must come back.
 fn insert(
+    heap: &mut Heap,
     queues: &mut Queues,
     plain: &mut Plain,
     filter: usize,
     entry: Entry,
 ) -> Result<bool, AllocError> {
-    match queues.insert(filter, entry) {
+    match queues.insert(heap, filter, entry) {
         Ok(()) => plain.insert(filter, entry),
         Err(InsertFault::Disabled(back)) => Ok(back == entry && plain.is_disabled(filter)),
         Err(InsertFault::OutOfMemory(back)) => {
@@ -123,14 +125,19 @@ fn insert(
 }
 
 /// One call of both programs, and whether they answered the same. Few visits, so that many stand in a queue twice.
-fn step(queues: &mut Queues, plain: &mut Plain, dice: &mut Dice) -> Result<bool, AllocError> {
+fn step(
+    heap: &mut Heap,
+    queues: &mut Queues,
+    plain: &mut Plain,
+    dice: &mut Dice,
+) -> Result<bool, AllocError> {
     let filter = dice.roll(4);
     let visit = dice.roll(5);
     let other = dice.roll(9);
     match dice.roll(40) {
         0..=15 => {
             let context = if other < 5 { Some(other) } else { None };
-            insert(queues, plain, filter, Entry { visit, context })
+            insert(heap, queues, plain, filter, Entry { visit, context })
         }
         16..=21 => Ok(queues.remove_next(filter) == plain.take(filter, Some(0))),
         22..=29 => {
@@ -158,12 +165,13 @@ fn step(queues: &mut Queues, plain: &mut Plain, dice: &mut Dice) -> Result<bool,
 
 /// The first turn at which the programs differ.
 fn first_unlike(
+    heap: &mut Heap,
     queues: &mut Queues,
     plain: &mut Plain,
     dice: &mut Dice,
 ) -> Result<Option<usize>, AllocError> {
     for turn in 0..60 {
-        if !step(queues, plain, dice)? || !agree(queues, plain) {
+        if !step(heap, queues, plain, dice)? || !agree(queues, plain) {
             return Ok(Some(turn));
         }
     }
@@ -172,9 +180,10 @@ fn first_unlike(
 
 /// The same of two programs that begin anew.
 fn script_differs(alloc: Global, dice: &mut Dice) -> Result<Option<usize>, AllocError> {
-    let mut queues = Queues::new(alloc, FILTERS)?;
+    let heap = &mut Heap::new(alloc);
+    let mut queues = Queues::new(heap, FILTERS)?;
     let mut plain = Plain::new(alloc)?;
-    first_unlike(&mut queues, &mut plain, dice)
+    first_unlike(heap, &mut queues, &mut plain, dice)
 }
 
 /// The first script and turn at which the programs differ.
@@ -205,17 +214,17 @@ const SECOND: Entry = Entry {
 };
 
 /// Whether a queue that is disabled while an entry waits keeps it; each filter has a queue of its own.
-fn keeps_what_waits(queues: &mut Queues) -> bool {
-    if queues.insert(0, FIRST).is_err()
-        || queues.insert(0, SECOND).is_err()
-        || queues.insert(1, SECOND).is_err()
+fn keeps_what_waits(heap: &mut Heap, queues: &mut Queues) -> bool {
+    if queues.insert(heap, 0, FIRST).is_err()
+        || queues.insert(heap, 0, SECOND).is_err()
+        || queues.insert(heap, 1, SECOND).is_err()
     {
         return false;
     }
     queues.disable(0);
-    queues.insert(0, FIRST) == Err(InsertFault::Disabled(FIRST))
-        && queues.insert(2, FIRST) == Err(InsertFault::Disabled(FIRST))
-        && queues.insert(1, FIRST).is_ok()
+    queues.insert(heap, 0, FIRST) == Err(InsertFault::Disabled(FIRST))
+        && queues.insert(heap, 2, FIRST) == Err(InsertFault::Disabled(FIRST))
+        && queues.insert(heap, 1, FIRST).is_ok()
         && queues.first_of(0, &[9, 7]).copied() == Some(FIRST)
         && queues.first_of(0, &[8, 9]).copied() == Some(SECOND)
         && queues.first_of(0, &[8]).is_none()
@@ -229,8 +238,9 @@ fn keeps_what_waits(queues: &mut Queues) -> bool {
 
 #[test]
 fn a_disabled_queue_keeps_what_waits(rt: HostRuntime) -> Result<(), Fail> {
-    let mut queues = Queues::new(rt.alloc(), 2)?;
-    let fine = keeps_what_waits(&mut queues);
+    let heap = &mut Heap::new(rt.alloc());
+    let mut queues = Queues::new(heap, 2)?;
+    let fine = keeps_what_waits(heap, &mut queues);
     drop(queues);
     assert!(rt; fine);
     Ok(())
@@ -238,14 +248,18 @@ fn a_disabled_queue_keeps_what_waits(rt: HostRuntime) -> Result<(), Fail> {
 
 /// The first turn at which the programs differ, where entries are put in and taken out. A refused entry comes back, and the queues stay as
 /// they were.
-fn wrong_turn(queues: &mut Queues, plain: &mut Plain) -> Result<Option<usize>, AllocError> {
+fn wrong_turn(
+    heap: &mut Heap,
+    queues: &mut Queues,
+    plain: &mut Plain,
+) -> Result<Option<usize>, AllocError> {
     for turn in 0..40 {
         let filter = turn % FILTERS;
         let entry = Entry {
             visit: turn % 11,
             context: None,
         };
-        let mut same = insert(queues, plain, filter, entry)?;
+        let mut same = insert(heap, queues, plain, filter, entry)?;
         if turn % 5 == 4 {
             let place = plain.place_of(filter, &[turn % 7]);
             same = same && queues.remove(filter, turn % 7) == plain.take(filter, place);
@@ -259,9 +273,10 @@ fn wrong_turn(queues: &mut Queues, plain: &mut Plain) -> Result<Option<usize>, A
 
 /// The same of two programs that begin anew.
 fn turns_differ(alloc: Global) -> Result<Option<usize>, AllocError> {
-    let mut queues = Queues::new(alloc, FILTERS)?;
+    let heap = &mut Heap::new(alloc);
+    let mut queues = Queues::new(heap, FILTERS)?;
     let mut plain = Plain::new(alloc)?;
-    wrong_turn(&mut queues, &mut plain)
+    wrong_turn(heap, &mut queues, &mut plain)
 }
 
 /// `tools/refuse-allocations.sh tests flt_tests memory` refuses each request for memory in turn.

@@ -1,8 +1,9 @@
 //! Pairs in their order: by the first number, then by the second.
 
-ghost use Rattle.std.specs.Prelude.{◌≡◌, ℕ, ◌<◌, false, true, not, ◌&&◌, ◌||◌, OnOk, OnErr, MatchOption};
+ghost use Rattle.std.specs.Prelude.{◌≡◌, ◌≢◌, ℕ, ◌<◌, false, true, not, ◌&&◌, ◌||◌, OnOk, OnErr, MatchOption};
 ghost use Rattle.pair_set.specs.Pairs.{has, is_pair};
 
+use counted_heap::Heap;
 use std::alloc::{AllocError, Global};
 use std::collections::BTreeSet;
 use std::marker::Model;
@@ -33,14 +34,14 @@ impl PairSet {
     }
 
     /// Puts a pair in. One that is there already changes nothing.
-    pub fn insert(&mut self, first: usize, second: u32) -> Result<(), AllocError>
+    pub fn insert(&mut self, heap: &mut Heap, first: usize, second: u32) -> Result<(), AllocError>
         ensures ok { OnOk result ((a b : ℕ) → has self.new a b ≡ (is_pair first second a b || has self.old a b)) }
         ensures err { OnErr result ((a b : ℕ) → has self.new a b ≡ has self.old a b) }
+        ensures granted { OnOk result (heap.new ≡ heap.old) }
+        ensures memory { OnErr result (heap.new ≢ heap.old) }
     {
-        match self.set.insert((first, second)) {
-            Ok(_) => Ok(()),
-            Err(_) => Err(AllocError),
-        }
+        heap.add(&mut self.set, (first, second))?;
+        Ok(())
     }
 
     /// Takes a pair out. One that isn't there changes nothing.

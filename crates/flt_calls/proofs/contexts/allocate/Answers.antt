@@ -10,9 +10,9 @@ use Rattle.flt_calls.proofs.contexts.allocate.Goals as goal
 pub returns-clause-planned : goal.returns-clause-planned
 returns-clause-planned c =
     let a = c.args.caller.now.activation in
-    let told : c.push.new.self.items ≡ event.Call a call.AllocateContext ∷ (uses a [] ++ empties a []) =
+    let told : c.push.new.list.items ≡ event.Call a call.AllocateContext ∷ (uses a [] ++ empties a []) =
     rw (c.in_ok-push.ensures.items, c.new-events.ensures.items) refl in
-    answers {X = ℕ} c.args.store.now c.args.caller.now call.AllocateContext c.push.new.self.items 0 (λ act. 0) (λ y. [])
+    answers {X = ℕ} c.args.store.now c.args.caller.now call.AllocateContext c.push.new.list.items 0 (λ act. 0) (λ y. [])
     (λ w y granted refused. if c.args.grant then calls.allocated w a c.args.output granted
     (length w.store.contexts) else gives_nothing w a (Some c.args.output) refused)
     c.allocated.result (λ rest. refl) told c.allocated.ensures.planned

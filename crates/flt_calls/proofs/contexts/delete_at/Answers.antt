@@ -17,7 +17,7 @@ returns-clause-planned c =
     let x = c.operation-given.result in
     let told : c.need_anchor.new.events.items ≡ event.Call a (call.DeleteContextOf c.args.on) ∷
     (uses a (calls.needs_of c.args.on x) ++ empties a (calls.needs_of c.args.on x)) =
-    rw (c.in_ok-need_anchor.ensures, c.in_ok-push.ensures.items, c.new-events.ensures.items) refl in
+    rw (c.in_ok-need_anchor.ensures.told, c.in_ok-push.ensures.items, c.new-events.ensures.items) refl in
     answers_at c.args.store.now c.args.caller.now (call.DeleteContextOf c.args.on) c.need_anchor.new.events.items x
     (λ act. operation_in act Data) (λ y. calls.needs_of c.args.on y)
     (λ w y l granted refused. calls.delete_by w a c.args.old granted refused l) (λ g y. calls.link_of c.args.store.now g c.args.on y)

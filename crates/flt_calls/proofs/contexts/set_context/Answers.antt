@@ -18,7 +18,7 @@ returns-clause-planned c =
     let v = c.operation-given.result in
     let told : c.need_to_set.new.events.items ≡ event.Call a (call.SetContext c.args.on c.args.existing) ∷
     (uses a (context x ∷ calls.needs_of c.args.on v) ++ empties a (context x ∷ calls.needs_of c.args.on v)) =
-    rw (c.in_ok-need_to_set.ensures, c.in_ok-push.ensures.items, c.new-events.ensures.items) refl in
+    rw (c.in_ok-need_to_set.ensures.told, c.in_ok-push.ensures.items, c.new-events.ensures.items) refl in
     answers_at c.args.store.now c.args.caller.now (call.SetContext c.args.on c.args.existing) c.need_to_set.new.events.items (x, v)
     (λ act. (context_in act c.args.context, operation_in act Data)) (λ y. context y.0 ∷ calls.needs_of c.args.on y.1)
     (λ w y l granted refused. calls.set_by w a c.args.existing c.args.old granted refused y.0 l)

@@ -11,7 +11,7 @@ pub returns-clause-planned : goal.returns-clause-planned
 returns-clause-planned c = λ actors acts granted refused h.
     let w = world_of c.args.store.now actors acts in
     let a = c.args.caller.now.activation in
-    called w a c.taken.result (call.AcquireLock c.args.kind) (event.Lock a c.args.lock ∷ []) c.push-2.new.self.items [] granted refused
+    called w a c.taken.result (call.AcquireLock c.args.kind) (event.Lock a c.args.lock ∷ []) c.push-2.new.list.items [] granted refused
     (calls.taken w a c.args.lock access.Exclusive granted)
     (rw (c.in_ok-push-2.ensures.items, c.in_ok-push.ensures.items, c.new-events.ensures.items) refl)
     (c.taken.ensures.planned c.args.store.now actors acts granted refused h)

@@ -15,9 +15,9 @@ returns-clause-own c =
     let queue = queue_at c.args.store.now c.args.caller.now.filter in
     let effect : World → List Statement → List Statement → _ = λ w granted refused. calls.removed w a c.args.operation c.args.output granted refused queue in
     IfOk-weaker c.removed.result
-    (λ plan. Follows c.args.store.now c.args.caller.now c.push.new.self.items plan effect) (λ plan. AreOwn a plan.events)
+    (λ plan. Follows c.args.store.now c.args.caller.now c.push.new.list.items plan effect) (λ plan. AreOwn a plan.events)
     (λ plan planned.
-    owned_call c.args.store.now c.args.caller.now plan call.RemoveNextIo [] c.push.new.self.items [] effect
+    owned_call c.args.store.now c.args.caller.now plan call.RemoveNextIo [] c.push.new.list.items [] effect
     (rw (c.in_ok-push.ensures.items, c.new-events.ensures.items) refl)
     planned (tt, omega arith) (omega arith) (λ w. removed_up_to w a c.args.operation c.args.output [] [] queue))
     c.removed.ensures.planned

@@ -12,6 +12,7 @@ loop-filter-preserved-in-Continue-1 c = (
       walked c.args.store.now c.args.serial (uncancelled_yet (is_done c.args.store.now c.args.serial) (route_at c.args.store.now c.args.serial).cancelled c.requires.possible)
       c.args.loaded.now.altitudes c.args.next.now.items c.loop-filter.next.items c.loop-filter.filter true (omega (arith, c.loop-filter-test.true)) c.loop-filter.invariant.0
       (sym c.if-is_cancelled_at.true ∙ c.is_cancelled_at.ensures) c.loop-filter.invariant.1,
+  c.in_ok-push.ensures.granted ∙ c.loop-filter.invariant.2,
 )
 
 pub loop-filter-preserved : goal.loop-filter-preserved
@@ -21,4 +22,5 @@ loop-filter-preserved c = (
       walked c.args.store.now c.args.serial (uncancelled_yet (is_done c.args.store.now c.args.serial) (route_at c.args.store.now c.args.serial).cancelled c.requires.possible)
       c.args.loaded.now.altitudes c.args.next.now.items c.loop-filter.next.items c.loop-filter.filter false (omega (arith, c.loop-filter-test.true)) c.loop-filter.invariant.0
       (sym c.if-is_cancelled_at.false ∙ c.is_cancelled_at.ensures) c.loop-filter.invariant.1,
+  c.loop-filter.invariant.2,
 )

@@ -9,4 +9,5 @@ invariant-loop l = record {
   lists : l.lists.lists ≡ replicate l.counter [];
   unnoted : map (λ (q : Queue). q.nodes) l.queues.items ≡ replicate l.counter [];
   enabled : disabled_of l.queues.items ≡ replicate l.counter false;
+  granted : l.heap ≡ l.fn.heap;
 }

@@ -7,10 +7,12 @@ invariant-loop l = record {
   lists : l.lists.lists ≡ replicate l.counter [];
   nodes : l.lists.nodes ≡ empty;
   closed : l.closed.items ≡ replicate l.counter false;
+  granted : l.heap ≡ l.fn.heap;
 }
 
 abbrev pub invariant-loop-2 : goal.invariant-loop-2
 invariant-loop-2 l = record {
   lists : l.lists.lists ≡ replicate (l.fn.filters + l.counter) [];
   nodes : l.lists.nodes ≡ empty;
+  granted : l.heap ≡ l.fn.heap;
 }

@@ -4,4 +4,4 @@ use Rattle.flt_machine.proofs.board.Board.new.Goals as goal
 
 pub returns-clause-own : goal.returns-clause-own
 returns-clause-own c p loaded =
-    rw (c.new.ensures.items, c.new-2.ensures.items, c.in_ok-new.ensures, c.filters.ensures p loaded, c.new-5.ensures) (opening_own p)
+    rw (c.new.ensures.items, c.new-2.ensures.items, c.in_ok-new.ensures.empty, c.filters.ensures p loaded, c.new-5.ensures) (opening_own p)

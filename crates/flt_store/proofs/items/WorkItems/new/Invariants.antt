@@ -2,4 +2,7 @@ use Rattle.std.proofs.Common.{◌≡◌, replicate}
 use Rattle.flt_store.proofs.items.WorkItems.new.Given as goal
 
 abbrev pub invariant-loop : goal.invariant-loop
-invariant-loop l = l.waiting.items ≡ replicate l.counter 0
+invariant-loop l = record {
+  counts : l.waiting.items ≡ replicate l.counter 0;
+  granted : l.heap ≡ l.fn.heap;
+}

@@ -7,19 +7,19 @@ pub overflow_add-index_mut : goal.overflow_add-index_mut
 overflow_add-index_mut c =
     let of : c.item.inside.filter ≡ c.args.item.filter = ap (λ (x : Item). x.filter) c.item.view_is in
     let few = pushed_fits c.self.inside.items.items c.self.inside.waiting.items c.args.item c.item.inside.filter of c.self.invariant
-    c.push.new.self.items c.in_ok-push.ensures.items c.index_mut.result.now (omega (arith, c.if-item-len.true, c.len.ensures))
+    c.push.new.list.items c.in_ok-push.ensures.items c.index_mut.result.now (omega (arith, c.if-item-len.true, c.len.ensures))
     c.index_mut.ensures.value in
-    omega (arith, few, c.push.new.self.ok.0, c.push.new.self.small)
+    omega (arith, few, c.push.new.list.ok.0, c.push.new.list.small)
 
 pub invariant_of-self-then-item-len : goal.invariant_of-self-then-item-len
 invariant_of-self-then-item-len c =
     let of : c.item.inside.filter ≡ c.args.item.filter = ap (λ (x : Item). x.filter) c.item.view_is in
     pushed_here c.self.inside.items.items c.self.inside.waiting.items c.args.item c.item.inside.filter of c.self.invariant
-    c.push.new.self.items c.in_ok-push.ensures.items c.index_mut.result.now (omega (arith, c.if-item-len.true, c.len.ensures))
+    c.push.new.list.items c.in_ok-push.ensures.items c.index_mut.result.now (omega (arith, c.if-item-len.true, c.len.ensures))
     c.index_mut.ensures.value
 
 pub invariant_of-self-else-item-len : goal.invariant_of-self-else-item-len
 invariant_of-self-else-item-len c =
     let of : c.item.inside.filter ≡ c.args.item.filter = ap (λ (x : Item). x.filter) c.item.view_is in
     pushed_past c.self.inside.items.items c.self.inside.waiting.items c.args.item c.item.inside.filter of c.self.invariant
-    c.push.new.self.items c.in_ok-push.ensures.items (omega (arith, c.if-item-len.false, c.len.ensures))
+    c.push.new.list.items c.in_ok-push.ensures.items (omega (arith, c.if-item-len.false, c.len.ensures))

@@ -6,4 +6,5 @@ abbrev pub invariant-loop : goal.invariant-loop
 invariant-loop l = record {
   presences : l.presences.items ≡ replicate l.counter Attached;
   holders : l.holders.items ≡ replicate l.counter (replicate 8 []);
+  granted : l.heap ≡ l.fn.heap;
 }

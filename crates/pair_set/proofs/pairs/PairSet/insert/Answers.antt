@@ -2,7 +2,6 @@ use Rattle.std.proofs.Common.{◌≡◌, Bool, true, false, ◌||◌, cond, refl
 use Rattle.std.specs.Ordering.{is_eq}
 use Rattle.pair_set.specs.Pairs.{pair_cmp, has}
 use Rattle.pair_set.proofs.PairOrder.{cmp_is}
-use Rattle.pair_set.proofs.pairs.PairSet.insert.Goals.{in-Ok, in-Err}
 use Rattle.pair_set.proofs.pairs.PairSet.insert.Goals as goal
 
 either : (x y : Bool) → cond x true y ≡ (x || y)
@@ -11,12 +10,9 @@ either false y = refl
 
 pub returns-clause-ok : goal.returns-clause-ok
 unfolding has
-returns-clause-ok c = elim c.match-insert.branch [
-  | in-Ok w ↦ rw w.result-is (λ f o.
-      let was = has c.self.inside.set f o in
-      rw (← c.self.view_is)
-      (w.in-Ok.ensures.updates.0 (f, o)
-      ∙ either (is_eq (pair_cmp (c.args.first, c.args.second) (f, o))) was
-      ∙ ap (λ (b : Bool). b || was) (cmp_is c.args.first c.args.second f o)))
-  | in-Err w ↦ rw w.result-is tt
-]
+returns-clause-ok c = λ f o.
+    let was = has c.self.inside.set f o in
+    rw (← c.self.view_is)
+    (c.in_ok-add.ensures.updates.0 (f, o)
+    ∙ either (is_eq (pair_cmp (c.args.first, c.args.second) (f, o))) was
+    ∙ ap (λ (b : Bool). b || was) (cmp_is c.args.first c.args.second f o))
