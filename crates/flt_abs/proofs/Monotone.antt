@@ -327,6 +327,11 @@ grows-breaks s x y (instruction.Repeat turns body next) r b p = λ e. e
 grows-breaks s x y (instruction.Return st) r b p = grows-return s x y st r b p
 grows-breaks s x y instruction.End r b p = grows-return s x y None r b p
 
+-- what a state breaks each state above it breaks
+pub breaks_grow : (s : Setting) (x y : State) (i : Instruction) (r : Rule) → is_proper x ≡ true → is_below x y ≡ true →
+    breaks s x i r ≡ true → breaks s y i r ≡ true
+breaks_grow s x y i r p h = grows-breaks s x y i r (below_parts x y h) (proper_parts x p)
+
 none_then : (p q : Rule → Bool) (rs : List Rule) → ((r : Rule) → p r ≡ true → q r ≡ true) → find q rs ≡ None → find p rs ≡ None
 none_then p q [] f e = refl
 none_then p q (r ∷ rs) f e =

@@ -296,7 +296,8 @@ false_reaches (test.Less n a) x p t m h = (refl, m)
 
 -- ---- where an instruction leads
 
-leads : (i : Instruction) (x : State) (t : Situation) (outcome gives : Bool) → Means x t → may_come_out i t outcome ≡ true →
+-- each outcome of a situation of a state lies where the state leads, whatever is broken
+pub leads : (i : Instruction) (x : State) (t : Situation) (outcome gives : Bool) → Means x t → may_come_out i t outcome ≡ true →
     Reaches (side (leads_to x i) outcome) (successor i outcome) (leaves i outcome gives t)
 leads (instruction.Act a next) x t true gives m h = (refl, acted_means a x t m)
 leads (instruction.Act a next) x t false gives m h = cc

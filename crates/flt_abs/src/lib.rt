@@ -18,7 +18,7 @@ pub use entry::{entry_state, is_entry_below};
 pub use leads::Leads;
 pub use locks::LockList;
 pub use outcome::transfer_follows_situations;
-pub use past::{breaks_rule, leads_past};
+pub use past::{breaks_rule, breaks_rule_is_monotone, leads_past, leads_past_follows_situations};
 pub use sets::{Draining, Modes, Statuses};
 /// No call answers it: the definitions of the rules speak of it.
 pub use setting::{Setting, graphs_are_registered_alike};

@@ -119,6 +119,13 @@ impl LockList {
         }
     }
 
+    /// No lock, in the same memory.
+    pub(crate) fn emptied(&self) -> LockList
+        ensures { result ≡ [] }
+    {
+        LockList::none(*self.locks.allocator())
+    }
+
     /// Adds a lock that isn't held as the latest.
     #[tactic(auto, using(crate::proofs::LockLemmas::are_locks_more, crate::proofs::LockLemmas::seven_at_most))]
     pub fn take(&mut self, lock: LockNumber, access: Access)

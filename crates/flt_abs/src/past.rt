@@ -1,11 +1,16 @@
 //! Past a broken rule: each rule by itself, and where a point leads whatever it breaks.
 
-ghost use Rattle.std.specs.Prelude.{◌≡◌, ◌↔◌, IsSome, IfSome, IsTrue};
+ghost use Rattle.std.specs.Prelude.{◌≡◌, ◌↔◌, Bool, true, [], IsSome, IfSome, IsTrue};
 ghost use Rattle.flt_abs.specs.Breaks.{breaks};
+ghost use Rattle.flt_abs.specs.Outcome as outcome_spec;
 ghost use Rattle.flt_abs.specs.Setting.{setting_of};
-ghost use Rattle.flt_abs.specs.State.{state_of, is_proper};
+ghost use Rattle.flt_abs.specs.State.{State, Situation, Means, state_of, is_proper, is_below};
 ghost use Rattle.flt_abs.specs.Step.{leads_to};
+ghost use Rattle.flt_abs.specs.declared.setting.Setting.{Setting};
 ghost use Rattle.flt_graph.specs.Graph.{instruction_at};
+ghost use Rattle.flt_graph.specs.Points.{successor};
+ghost use Rattle.flt_graph.specs.declared.instruction.Instruction.{Instruction};
+ghost use Rattle.flt_rules.specs.declared.rule.Rule.{Rule};
 
 use crate::breaks::breaks;
 use crate::sets::{Draining, Modes, Statuses};
@@ -30,6 +35,20 @@ pub fn leads_past(graph: &Graph, callback: usize, point: usize, state: &Abs) -> 
     leads_to(state, &graph.instruction(callback, point))
 }
 
+/// Each outcome that an instruction may have in a situation of a state has its successor, whatever the state breaks there, and the
+/// successor's state means what is left of the situation. It does nothing: its clause is the law.
+pub fn leads_past_follows_situations()
+    ensures { (i : Instruction) (x : State) (t : Situation) (outcome gives : Bool) → Means x t →
+        outcome_spec.may_come_out i t outcome ≡ true →
+        outcome_spec.Reaches (outcome_spec.side (leads_to x i) outcome) (successor i outcome) (outcome_spec.leaves i outcome gives t) }
+{}
+
+/// A rule that a state breaks is broken by each state above it. It does nothing: its clause is the law.
+pub fn breaks_rule_is_monotone()
+    ensures { (s : Setting) (x y : State) (i : Instruction) (r : Rule) → IsTrue (is_proper x) → IsTrue (is_below x y) →
+        IsTrue (breaks s x i r) → IsTrue (breaks s y i r) }
+{}
+
 impl Abs {
     /// The state with these sets and the same locks; none where a set is empty.
     pub fn with_sets(
@@ -43,5 +62,19 @@ impl Abs {
         ensures value { IfSome result (λ a. a ≡ state_of contexts operations modes draining self.now.locks) }
     {
         Abs::new(contexts, operations, modes, draining, self.locks.copied())
+    }
+
+    /// The state with the same sets, and no lock.
+    pub fn without_locks(&self) -> Abs
+        ensures { result ≡ state_of self.now.contexts self.now.operations self.now.modes self.now.draining [] }
+    {
+        let _sets = self.contexts();
+        Abs {
+            contexts: self.contexts,
+            operations: self.operations,
+            modes: self.modes,
+            draining: self.draining,
+            locks: self.locks.emptied(),
+        }
     }
 }
