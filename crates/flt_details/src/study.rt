@@ -41,9 +41,9 @@ pub enum WayKind {
     Clean,
     /// Other rules are broken before.
     Behind,
-    /// No way was found.
+    /// There is no way.
     Unreached,
-    /// The search was ended.
+    /// No way was found among the situations that were looked at.
     Unknown,
 }
 

@@ -258,8 +258,9 @@ fn is_return_about(
     }
 }
 
-/// Whether a rule that an instruction breaks is broken by this operand.
-pub(crate) fn is_about(
+/// Whether a rule that an instruction of a callback of the place breaks in a state is broken by this operand. The call and the status
+/// themselves are to blame where no operand is, and aren't asked for here.
+pub fn is_about(
     place: Place,
     state: &Abs,
     instruction: &Instruction,

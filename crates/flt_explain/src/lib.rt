@@ -1,5 +1,5 @@
 //! All that is wrong with a text: where the analyser stops at the first broken rule, the walk here takes what the rule asks for as
-//! given and goes on. It exports `findings` for a text, and `faults` for a point and a state.
+//! given and goes on. It exports `findings` for a text, `faults` for a point and a state, and `is_about` for one operand of these.
 #![tactic(auto)]
 
 mod about;
@@ -15,6 +15,7 @@ mod tell;
 mod walk;
 mod writes;
 
+pub use about::is_about;
 pub use at_point::faults;
 pub use finding::{Fault, Finding, Subject};
 pub use mending::mending_is_exact;

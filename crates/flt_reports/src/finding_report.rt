@@ -56,9 +56,9 @@ fn notes(answer: &Answer) -> &'static str {
         Answer::Behind(_) =>
             "   = note: each path that was found breaks another rule before: fix that first\n",
         Answer::Unreached =>
-            "   = note: no path was found: the text is refused because the sets of the rules forget what goes together\n   = help: test the variable itself, as by `if c0 != NULL`, and not what it depends on\n",
+            "   = note: no path leads here: the text is refused because the sets of the rules forget what goes together\n   = help: test the variable itself, as by `if c0 != NULL`, and not what it depends on\n",
         Answer::Unknown =>
-            "   = note: the search for a path was ended, since there are too many situations\n",
+            "   = note: no path was found among the situations that were looked at\n",
     }
 }
 

@@ -1,6 +1,11 @@
+pub mod Blame
 pub mod Breaking
+pub mod Examples
+pub mod Growing
 pub mod LastSteps
 pub mod Leading
 pub mod MoreAnswers
 pub mod Nine
+pub mod NoWays
 pub mod Singles
+pub mod Walks

@@ -3,7 +3,7 @@ use Rattle.std.proofs.Common.{◌≡◌, ◌<◌, ◌+◌, ℕ, zero, suc, List,
 use Rattle.std.specs.List.{AllZip}
 use Rattle.flt_explain.specs.declared.finding.Finding.{Finding}
 use Rattle.flt_graph.specs.declared.graph.Graph.{Graph}
-use Rattle.flt_ways.specs.Ways.{IsAnswer}
+use Rattle.flt_ways.specs.Told.{IsAnswer}
 use Rattle.flt_ways.specs.declared.answer.Answer.{Answer}
 
 one_more : {A B : Type 0} (R : A → B → Type 0) (xs : List A) (ys : List B) (i : ℕ) (x : A) (y : B) → i < length xs → x ≡ get_or xs i x →

@@ -1,2 +1,4 @@
 pub mod Alone
+pub mod NoWay
+pub mod Told
 pub mod Ways

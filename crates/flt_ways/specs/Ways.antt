@@ -1,5 +1,5 @@
 -- Ways through a callback, and what they show. This project's own definitions.
-use Rattle.std.specs.Prelude.{◌≡◌, ℕ, Bool, true, false, not, ◌==◌, ◌&&◌, ◌||◌, IsTrue, is_none, List, [], ◌∷◌, Option, Some, None, if◌then◌else◌}
+use Rattle.std.specs.Prelude.{◌≡◌, ℕ, Bool, false, not, ◌==◌, ◌&&◌, ◌||◌, IsTrue, is_none, List, [], ◌∷◌, Option, Some, None, if◌then◌else◌}
 use Rattle.std.specs.List.{list_any}
 use Rattle.flt_rules.specs.Held.{holds_lock, same_locks}
 use Rattle.flt_rules.specs.Rule.{number}
@@ -20,11 +20,8 @@ use Rattle.flt_explain.specs.declared.finding.Finding.{Finding}
 use Rattle.flt_explain.specs.declared.finding.Subject.{Subject}
 use Rattle.flt_explain.specs.declared.finding.Subject.TheVariants as subject
 use Rattle.flt_ways.specs.Alone.{alone}
-use Rattle.flt_ways.specs.declared.answer.Answer.{Answer}
-use Rattle.flt_ways.specs.declared.answer.Answer.TheVariants as answer
 use Rattle.flt_ways.specs.declared.answer.Step.{Step}
 use Rattle.flt_ways.specs.declared.answer.Way.{Way}
-use Rattle.flt_ways.specs.declared.answer.Ways.{Ways}
 use Rattle.flt_ways.specs.declared.situation.Moment.{Moment}
 
 abbrev pub moment : ℕ → Situation → Moment
@@ -101,9 +98,12 @@ abbrev pub is_held_lock : Subject → List HeldLock → Bool
 is_held_lock (subject.Lock l) locks = holds_lock l locks
 is_held_lock _ locks = false
 
--- other locks are held, or in another way or order; the one that the finding is about is among those of one situation at least
+-- other locks are held, or in another way or order; the one that the finding is about is in one list at least
+abbrev pub are_lists_apart : Subject → List HeldLock → List HeldLock → Bool
+are_lists_apart u hs ks = not (same_locks hs ks) && (is_held_lock u hs || is_held_lock u ks)
+
 abbrev pub are_apart : Subject → Situation → Situation → Bool
-are_apart u a b = not (same_locks a.locks b.locks) && (is_held_lock u a.locks || is_held_lock u b.locks)
+are_apart u a b = are_lists_apart u a.locks b.locks
 
 -- two ways meet at one point with other locks, and the first comes from the finding's point
 pub record Meet (g : Graph) (f : Finding) (clean : Bool) (w v : Way) : Type 0 where
@@ -112,20 +112,3 @@ pub record Meet (g : Graph) (f : Finding) (clean : Bool) (w v : Way) : Type 0 wh
   pub from : IsTrue (is_last w.steps f.point)
   pub there : w.end.point ≡ v.end.point
   pub apart : IsTrue (are_apart f.subject w.end.situation v.end.situation)
-
--- ---- the answer
-
--- a way shows the finding by itself, or with another that it meets
-abbrev pub ShowWith : Graph → Finding → Bool → Way → Option Way → Type 0
-ShowWith g f clean w None = Shows g f clean w
-ShowWith g f clean w (Some v) = Meet g f clean w v
-
-abbrev pub Show : Graph → Finding → Bool → Ways → Type 0
-Show g f clean ws = ShowWith g f clean ws.way ws.other
-
--- clean ways show the finding; or ways do on which rules are broken before
-abbrev pub IsAnswer : Graph → Finding → Answer → Type 0
-IsAnswer g f (answer.Clean ws) = Show g f true ws
-IsAnswer g f (answer.Behind ws) = Show g f false ws
-IsAnswer g f answer.Unreached = Unit {0}
-IsAnswer g f answer.Unknown = Unit {0}

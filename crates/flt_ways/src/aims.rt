@@ -239,6 +239,11 @@ impl Aims {
         }
     }
 
+    /// Whether one isn't met.
+    pub(crate) fn is_any_open(&self) -> bool {
+        self.open != 0
+    }
+
     /// Whether all are met, and moments of this many steps could meet none better.
     pub(crate) fn are_met(&self, steps: usize) -> bool {
         self.open == 0 && (self.stopped == 0 || steps > self.last)

@@ -37,8 +37,8 @@ pub enum Answer {
     Clean(Ways),
     /// Other rules are broken before, and each call there is taken as made. No way was found on which nothing is.
     Behind(Ways),
-    /// No way was found.
+    /// There is no way, whatever is broken before.
     Unreached,
-    /// The search was ended: too many situations.
+    /// No way was found among the situations that were looked at.
     Unknown,
 }

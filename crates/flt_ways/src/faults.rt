@@ -5,7 +5,7 @@ ghost use Rattle.flt_explain.specs.Subjects.{place as place_of_subject};
 ghost use Rattle.flt_ways.specs.Ways as spec;
 
 use crate::situation::Situation;
-use flt_abs::transfer;
+use flt_abs::{LockList, transfer};
 use flt_explain::{Fault, Finding, Subject, faults};
 use flt_graph::Graph;
 use std::alloc::{AllocError, Global};
@@ -72,19 +72,25 @@ pub(crate) fn is_found_in(
 }
 
 /// Whether this is a lock that is held.
-fn is_held_lock(subject: Subject, situation: &Situation) -> bool
-    ensures { result ≡ spec.is_held_lock subject situation.now.locks }
+fn is_held_lock(subject: Subject, locks: &LockList) -> bool
+    ensures { result ≡ spec.is_held_lock subject locks.now }
 {
     match subject {
-        Subject::Lock(lock) => situation.state().locks().contains(lock),
+        Subject::Lock(lock) => locks.contains(lock),
         _ => false,
     }
 }
 
-/// Whether other locks are held, or in another way or order, and that which the subject is in one situation at least.
+/// Whether other locks are held, or in another way or order, and that which the subject is in one list at least.
+pub(crate) fn are_lists_apart(subject: Subject, a: &LockList, b: &LockList) -> bool
+    ensures { result ≡ spec.are_lists_apart subject a.now b.now }
+{
+    !a.is_same(b) && (is_held_lock(subject, a) || is_held_lock(subject, b))
+}
+
+/// Whether the locks of two situations are apart so.
 pub(crate) fn are_apart(subject: Subject, a: &Situation, b: &Situation) -> bool
     ensures { result ≡ spec.are_apart subject a.now b.now }
 {
-    let same = a.state().locks().is_same(b.state().locks());
-    !same && (is_held_lock(subject, a) || is_held_lock(subject, b))
+    are_lists_apart(subject, a.state().locks(), b.state().locks())
 }

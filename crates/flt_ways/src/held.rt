@@ -77,6 +77,14 @@ impl Lists {
         self.lists.get(number)
     }
 
+    /// A state in which the locks of a list are held.
+    pub(crate) fn state(&self, number: usize) -> Option<&Abs> {
+        match self.held(number) {
+            Some(held) => Some(&held.state),
+            None => None,
+        }
+    }
+
     /// The list behind a point that takes or releases a lock; none where there are too many.
     pub(crate) fn behind(
         &mut self,

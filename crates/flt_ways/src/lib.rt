@@ -1,10 +1,11 @@
 //! A way through the callback to what is found there: from a situation at the entry, step by step, to the finding's point. It exports
-//! `ways`, which looks for one and checks it.
+//! `ways`, which looks for one and checks it; or it finds out, from all that the search reached, that there is none.
 #![tactic(auto)]
 
 mod aims;
 mod answer;
 mod choices;
+mod cover;
 mod ends;
 mod faults;
 mod ground;
@@ -12,6 +13,7 @@ mod held;
 mod meeting;
 mod plan;
 mod possible;
+mod reached;
 mod search;
 mod seeking;
 mod situation;

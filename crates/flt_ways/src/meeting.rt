@@ -1,6 +1,7 @@
 //! The search for two ways that meet with other locks.
 
 use crate::choices::{Branch, branches_to, path_along};
+use crate::cover::Cover;
 use crate::ground::Ground;
 use crate::possible::Possible;
 use crate::search::{Followed, Manner, Node, Search, Stop};
@@ -130,6 +131,7 @@ fn meeting_with(
     finding: &Finding,
     manner: Manner,
     budget: &mut Budget,
+    covers: &mut Vec<Cover>,
 ) -> Result<Came, AllocError> {
     let mut search = Search::open(alloc, ground, manner)?;
     search.reach_all(alloc, ground, budget.limit())?;
@@ -143,7 +145,10 @@ fn meeting_with(
             },
         ) => Ok(Came::Stopped(stop)),
         Some(pair) => Ok(Came::To(ways_to(alloc, ground, &search, finding, pair)?)),
-        None if is_all => Ok(Came::To(Sought::Nothing)),
+        None if is_all => {
+            let number = search.write_down(alloc, ground, covers)?;
+            Ok(Came::To(Sought::Nothing(number)))
+        }
         None => Ok(Came::To(Sought::Unknown)),
     }
 }
@@ -155,6 +160,7 @@ pub(crate) fn seek_meeting(
     finding: &Finding,
     clean: bool,
     budget: &mut Budget,
+    covers: &mut Vec<Cover>,
 ) -> Result<Sought, AllocError> {
     let mut followed = Followed {
         parts: Possible::NOTHING,
@@ -167,7 +173,7 @@ pub(crate) fn seek_meeting(
             refused_first: false,
             open_alone: false,
         };
-        match meeting_with(alloc, ground, finding, manner, budget)? {
+        match meeting_with(alloc, ground, finding, manner, budget, covers)? {
             Came::To(sought) => return Ok(sought),
             Came::Stopped(stop) => followed = followed.with(stop),
         }

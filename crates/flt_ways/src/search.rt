@@ -1,7 +1,7 @@
 //! The search for ways: breadth first over the points of a callback and what is possible of the parts that are followed. A status never
-//! depends on another variable but by the way that is taken. So along one way each part has a set of its own, which tests and asks cut, and
-//! the way can be gone exactly where no set becomes empty. Nothing is proved of the search's answer but that it comes to one; what it finds is
-//! checked by walking it again.
+//! depends on another variable but by the way that is taken. So along one way each part has a set of its own, which tests and asks cut,
+//! and the way can be gone exactly where no set becomes empty. Nothing is proved of the search's answer but that it comes to one: what
+//! it finds is checked by walking it again, and that it finds nothing by going one step from all that it reached.
 
 use crate::aims::Aims;
 use crate::ground::Ground;
@@ -35,6 +35,16 @@ pub(crate) struct Node {
     pub(crate) steps: usize,
     pub(crate) arrival: Option<(usize, bool)>,
 }
+
+/// The numbers of the moments that follow one, by its outcomes; `NOWHERE` where none does.
+#[derive(Clone, Copy)]
+pub(crate) struct Lead {
+    pub(crate) granted: usize,
+    pub(crate) refused: usize,
+}
+
+/// No number.
+pub(crate) const NOWHERE: usize = usize::MAX;
 
 impl Followed {
     pub(crate) fn is_same(self, other: Followed) -> bool {
@@ -105,6 +115,8 @@ pub(crate) struct Manner {
 pub(crate) struct Search {
     pub(crate) manner: Manner,
     pub(crate) nodes: Vec<Node>,
+    /// What follows each moment that was looked at, by their numbers.
+    pub(crate) leads: Vec<Lead>,
     table: Table,
     /// Whether something was left out.
     is_cut: bool,
@@ -122,11 +134,12 @@ impl Search {
         let mut search = Search {
             manner,
             nodes: Vec::new(alloc),
+            leads: Vec::new(alloc),
             table: Table::new(alloc)?,
             is_cut: false,
             looked: 0,
         };
-        search.arrive(
+        let _first = search.arrive(
             alloc,
             Node {
                 point: 0,
@@ -169,27 +182,31 @@ impl Search {
         }
     }
 
-    /// A moment is reached.
-    fn arrive(&mut self, alloc: Global, node: Node) -> Result<(), AllocError> {
+    /// A moment is reached. Its number.
+    fn arrive(&mut self, alloc: Global, node: Node) -> Result<usize, AllocError> {
         if self.manner.open_alone && node.stop.is_some() {
-            return Ok(());
+            return Ok(NOWHERE);
         }
         let key = self.key(node);
         match self.table.find(key) {
-            Some(known) => self.better(known, node),
+            Some(known) => {
+                self.better(known, node);
+                Ok(known)
+            }
             None => {
-                self.table.insert(alloc, key, self.nodes.len())?;
+                let number = self.nodes.len();
+                self.table.insert(alloc, key, number)?;
                 self.nodes.push(node)?;
+                Ok(number)
             }
         }
-        Ok(())
     }
 
-    /// A moment is reached, if there is one.
-    fn arrive_at(&mut self, alloc: Global, node: Option<Node>) -> Result<(), AllocError> {
+    /// A moment is reached, if there is one. Its number.
+    fn arrive_at(&mut self, alloc: Global, node: Option<Node>) -> Result<usize, AllocError> {
         match node {
             Some(node) => self.arrive(alloc, node),
-            None => Ok(()),
+            None => Ok(NOWHERE),
         }
     }
 
@@ -256,13 +273,17 @@ impl Search {
     ) -> Result<(), AllocError> {
         let (granted, refused) = self.behind(ground, number, node)?;
         let asks_entry = ground.plan.spot(node.point).asks_entry;
-        let (first, second) = if self.manner.refused_first || asks_entry {
-            (refused, granted)
+        let lead = if self.manner.refused_first || asks_entry {
+            let refused = self.arrive_at(alloc, refused)?;
+            let granted = self.arrive_at(alloc, granted)?;
+            Lead { granted, refused }
         } else {
-            (granted, refused)
+            let granted = self.arrive_at(alloc, granted)?;
+            let refused = self.arrive_at(alloc, refused)?;
+            Lead { granted, refused }
         };
-        self.arrive_at(alloc, first)?;
-        self.arrive_at(alloc, second)
+        self.leads.push(lead)?;
+        Ok(())
     }
 
     /// Goes on until all aims are met, nothing more can be reached, or so many moments were looked at.

@@ -2,9 +2,10 @@
 
 ghost use Rattle.std.specs.Prelude.{◌≤◌, length};
 
+use crate::cover::Cover;
 use crate::ground::Ground;
 use crate::meeting::seek_meeting;
-use crate::sought::{Budgets, Sought, put};
+use crate::sought::{Budgets, Outcomes, Sought};
 use crate::tasks::Tasks;
 use flt_explain::Finding;
 use flt_graph::Graph;
@@ -26,9 +27,12 @@ fn seek_pair(
     ground: &mut Ground<'_>,
     finding: &Finding,
     budgets: &mut Budgets,
+    covers: &mut Vec<Cover>,
 ) -> Result<Sought, AllocError> {
-    match seek_meeting(alloc, ground, finding, true, &mut budgets.text)? {
-        Sought::Nothing => seek_meeting(alloc, ground, finding, false, &mut budgets.text),
+    match seek_meeting(alloc, ground, finding, true, &mut budgets.text, covers)? {
+        Sought::Nothing(_) => {
+            seek_meeting(alloc, ground, finding, false, &mut budgets.text, covers)
+        }
         sought => Ok(sought),
     }
 }
@@ -40,7 +44,7 @@ fn seek_in(
     first: usize,
     found: &[Finding],
     budgets: &mut Budgets,
-    sought: &mut Vec<Option<Sought>>,
+    outcomes: &mut Outcomes,
 ) -> Result<(), AllocError> {
     let [finding, ..] = found else {
         return Ok(());
@@ -50,13 +54,13 @@ fn seek_in(
     for (at, finding) in found.iter().enumerate() {
         let number = first.saturating_add(at);
         if matches!(finding.rule, Rule::R12) {
-            let pair = seek_pair(alloc, &mut ground, finding, budgets)?;
-            put(sought, number, pair);
+            let pair = seek_pair(alloc, &mut ground, finding, budgets, &mut outcomes.covers)?;
+            outcomes.put(number, pair);
         } else {
             tasks.push(number, *finding)?;
         }
     }
-    tasks.seek_all(alloc, &mut ground, budgets, sought)
+    tasks.seek_all(alloc, &mut ground, budgets, outcomes)
 }
 
 /// How many findings there are of the first one's callback before one of another.
@@ -77,17 +81,20 @@ pub(crate) fn seek_all(
     alloc: Global,
     graph: &Graph,
     found: &[Finding],
-) -> Result<Vec<Option<Sought>>, AllocError> {
-    let mut sought = unsought(alloc, found)?;
+) -> Result<Outcomes, AllocError> {
+    let mut outcomes = Outcomes {
+        sought: unsought(alloc, found)?,
+        covers: Vec::new(alloc),
+    };
     let mut budgets = Budgets::new();
     let mut first: usize = 0;
     let mut rest = found;
     for _run in 0..found.len() {
         let count = run_of(rest);
         let (run, later) = rest.split_at(count);
-        seek_in(alloc, graph, first, run, &mut budgets, &mut sought)?;
+        seek_in(alloc, graph, first, run, &mut budgets, &mut outcomes)?;
         first = first.saturating_add(count);
         rest = later;
     }
-    Ok(sought)
+    Ok(outcomes)
 }

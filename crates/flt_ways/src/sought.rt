@@ -1,6 +1,7 @@
 //! What searches come to, and how far they go.
 
 use crate::choices::Path;
+use crate::cover::Cover;
 
 /// How many moments are looked at, at most: for all findings of a text, in one search, and for all in the searches that take ways which may
 /// not be shortest where these didn't come to an end.
@@ -23,8 +24,8 @@ pub(crate) enum Sought {
     /// Past nothing that is broken.
     Clean(Found),
     Behind(Found),
-    /// Nothing more can be reached.
-    Nothing,
+    /// Nothing more can be reached: all that was stands in the cover of this number.
+    Nothing(usize),
     Unknown,
 }
 
@@ -77,9 +78,18 @@ impl Budget {
     }
 }
 
-/// Writes down what the searches for the finding of a number came to.
-pub(crate) fn put(all: &mut Vec<Option<Sought>>, number: usize, sought: Sought) {
-    if let Some(place) = all.get_mut(number) {
-        *place = Some(sought);
+/// What the searches for the findings of a text came to, by their numbers, and the covers that this names.
+#[derive(Drop)]
+pub(crate) struct Outcomes {
+    pub(crate) sought: Vec<Option<Sought>>,
+    pub(crate) covers: Vec<Cover>,
+}
+
+impl Outcomes {
+    /// Writes down what the searches for the finding of a number came to.
+    pub(crate) fn put(&mut self, number: usize, sought: Sought) {
+        if let Some(place) = self.sought.get_mut(number) {
+            *place = Some(sought);
+        }
     }
 }

@@ -5,8 +5,8 @@ use crate::aims::{Aim, Aims, asked};
 use crate::choices::{branches_to, path_along};
 use crate::ground::Ground;
 use crate::possible::Possible;
-use crate::search::{Followed, Manner, Search, Stop};
-use crate::sought::{Budget, Budgets, Found, Sought, put};
+use crate::search::{Followed, Manner, NOWHERE, Search, Stop};
+use crate::sought::{Budget, Budgets, Found, Outcomes, Sought};
 use flt_explain::Finding;
 use std::alloc::{AllocError, Global};
 
@@ -17,8 +17,8 @@ const TURNS: usize = 20;
 #[derive(Clone, Copy)]
 enum Standing {
     Open,
-    /// Nothing more can be reached.
-    Ended,
+    /// Nothing more can be reached: all that was stands in the cover of this number, if rules may be broken before.
+    Ended(usize),
     /// A search was ended.
     Cut,
     Found,
@@ -131,17 +131,20 @@ impl Tasks {
         ground: &Ground<'_>,
         search: &Search,
         aim: Aim,
-        sought: &mut Vec<Option<Sought>>,
+        cover: Option<usize>,
+        outcomes: &mut Outcomes,
     ) -> Result<(), AllocError> {
         match (aim.met, aim.stop) {
             (Some(_), Some(stop)) => self.stopped_by(aim.task, stop),
             (Some(number), None) => {
                 let found = found_by(alloc, ground, search, number, aim.wants)?;
                 self.stand(aim.task, Standing::Found);
-                put(sought, self.number(aim.task), found);
+                outcomes.put(self.number(aim.task), found);
             }
-            (None, _) if search.is_all() => self.stand(aim.task, Standing::Ended),
-            (None, _) => self.stand(aim.task, Standing::Cut),
+            (None, _) => match cover {
+                Some(number) => self.stand(aim.task, Standing::Ended(number)),
+                None => self.stand(aim.task, Standing::Cut),
+            },
         }
         Ok(())
     }
@@ -153,14 +156,15 @@ impl Tasks {
         ground: &mut Ground<'_>,
         manner: Manner,
         budget: &mut Budget,
-        sought: &mut Vec<Option<Sought>>,
+        outcomes: &mut Outcomes,
     ) -> Result<(), AllocError> {
         let mut aims = self.aims(alloc, ground, manner)?;
         let mut search = Search::open(alloc, ground, manner)?;
         search.run(alloc, ground, &mut aims, budget.limit())?;
         budget.take(search.looked);
+        let cover = cover_of(alloc, ground, &search, &aims, outcomes)?;
         for aim in aims.aims.iter() {
-            self.settle(alloc, ground, &search, *aim, sought)?;
+            self.settle(alloc, ground, &search, *aim, cover, outcomes)?;
         }
         Ok(())
     }
@@ -174,7 +178,7 @@ impl Tasks {
         clean: bool,
         open_alone: bool,
         budget: &mut Budget,
-        sought: &mut Vec<Option<Sought>>,
+        outcomes: &mut Outcomes,
     ) -> Result<(), AllocError> {
         for _turn in 0..self.tasks.len().saturating_mul(TURNS) {
             let Some(task) = self.least() else {
@@ -186,7 +190,7 @@ impl Tasks {
                 refused_first: task.refused_first,
                 open_alone,
             };
-            self.seek_with(alloc, ground, manner, budget, sought)?;
+            self.seek_with(alloc, ground, manner, budget, outcomes)?;
         }
         Ok(())
     }
@@ -195,7 +199,7 @@ impl Tasks {
     fn open_again(&mut self, cut: bool) {
         for task in self.tasks.iter_mut() {
             let is_meant = match task.standing {
-                Standing::Ended => !cut,
+                Standing::Ended(_) => !cut,
                 Standing::Cut => cut,
                 Standing::Open | Standing::Found => false,
             };
@@ -208,15 +212,15 @@ impl Tasks {
     }
 
     /// Writes down what became of each task that has no path.
-    fn write_down(&self, sought: &mut Vec<Option<Sought>>) {
+    fn write_down(&self, outcomes: &mut Outcomes) {
         for task in self.tasks.iter() {
             let came = match task.standing {
-                Standing::Ended => Some(Sought::Nothing),
+                Standing::Ended(number) => Some(Sought::Nothing(number)),
                 Standing::Open | Standing::Cut => Some(Sought::Unknown),
                 Standing::Found => None,
             };
             if let Some(came) = came {
-                put(sought, task.number, came);
+                outcomes.put(task.number, came);
             }
         }
     }
@@ -227,18 +231,36 @@ impl Tasks {
         alloc: Global,
         ground: &mut Ground<'_>,
         budgets: &mut Budgets,
-        sought: &mut Vec<Option<Sought>>,
+        outcomes: &mut Outcomes,
     ) -> Result<(), AllocError> {
-        self.seek(alloc, ground, true, false, &mut budgets.text, sought)?;
+        self.seek(alloc, ground, true, false, &mut budgets.text, outcomes)?;
         self.open_again(false);
-        self.seek(alloc, ground, false, false, &mut budgets.text, sought)?;
+        self.seek(alloc, ground, false, false, &mut budgets.text, outcomes)?;
         self.open_again(true);
-        self.seek(alloc, ground, true, true, &mut budgets.last, sought)?;
+        self.seek(alloc, ground, true, true, &mut budgets.last, outcomes)?;
         self.open_again(true);
-        self.seek(alloc, ground, false, true, &mut budgets.last, sought)?;
-        self.write_down(sought);
+        self.seek(alloc, ground, false, true, &mut budgets.last, outcomes)?;
+        self.write_down(outcomes);
         Ok(())
     }
+}
+
+/// The number of the cover of all that a search reached, if it came to its end; no cover is written down where each aim is met, or where
+/// the search went past nothing that is broken.
+fn cover_of(
+    alloc: Global,
+    ground: &Ground<'_>,
+    search: &Search,
+    aims: &Aims,
+    outcomes: &mut Outcomes,
+) -> Result<Option<usize>, AllocError> {
+    if !search.is_all() {
+        return Ok(None);
+    }
+    if search.manner.clean || !aims.is_any_open() {
+        return Ok(Some(NOWHERE));
+    }
+    Ok(Some(search.write_down(alloc, ground, &mut outcomes.covers)?))
 }
 
 /// The path to the moment of a number, in which this is wanted.

@@ -1,16 +1,19 @@
 //! Ways that show a finding, checked by walking them.
 
 ghost use Rattle.std.specs.List.{AllZip};
-ghost use Rattle.std.specs.Prelude.{◌≡◌, IfOk, IfSome, IsTrue};
+ghost use Rattle.std.specs.Prelude.{◌≡◌, map, IfOk, IfSome, IsTrue};
+ghost use Rattle.flt_ways.specs.NoWay.{is_checked};
+ghost use Rattle.flt_ways.specs.Told as told;
 ghost use Rattle.flt_ways.specs.Ways as spec;
 
 use crate::answer::{Answer, Way, Ways};
 use crate::choices::Path;
+use crate::cover::{Cover, checked, is_ruled_out};
 use crate::ends::{end_of, is_last};
 use crate::faults::{are_apart, is_found_in};
 use crate::seeking::seek_all;
 use crate::situation::Moment;
-use crate::sought::{Found, Sought};
+use crate::sought::{Found, Outcomes, Sought};
 use flt_explain::Finding;
 use flt_graph::Graph;
 use sqlite_items::Items;
@@ -40,7 +43,7 @@ fn shown(
     clean: bool,
     path: Path,
 ) -> Result<Option<Ways>, AllocError>
-    ensures { IfOk result (λ found. IfSome found (spec.Show graph.now finding.now clean)) }
+    ensures { IfOk result (λ found. IfSome found (told.Show graph.now finding.now clean)) }
 {
     let Some(way) = walked(alloc, graph, finding.callback, clean, path) else {
         return Ok(None);
@@ -71,7 +74,7 @@ fn met(
     path: Path,
     other: Path,
 ) -> Option<Ways>
-    ensures { IfSome result (spec.Show graph.now finding.now clean) }
+    ensures { IfSome result (told.Show graph.now finding.now clean) }
 {
     let way = walked(alloc, graph, finding.callback, clean, path)?;
     let other = walked(alloc, graph, finding.callback, clean, other)?;
@@ -86,18 +89,36 @@ fn met(
 }
 
 /// What was found, checked.
-fn checked(
+fn confirmed(
     alloc: Global,
     graph: &Graph,
     finding: &Finding,
     clean: bool,
     found: Found,
 ) -> Result<Option<Ways>, AllocError>
-    ensures { IfOk result (λ ways. IfSome ways (spec.Show graph.now finding.now clean)) }
+    ensures { IfOk result (λ ways. IfSome ways (told.Show graph.now finding.now clean)) }
 {
     match found {
         Found::One(path) => shown(alloc, graph, finding, clean, path),
         Found::Two(path, other) => Ok(met(alloc, graph, finding, clean, path, other)),
+    }
+}
+
+/// What is told of a finding where all that the searches for it reached stands in the cover of a number.
+fn without_way(
+    graph: &Graph,
+    finding: &Finding,
+    covers: &[Cover],
+    closed: &[bool],
+    number: usize,
+) -> Answer
+    requires { closed.now ≡ map (is_checked graph.now) covers.now }
+    ensures { told.IsAnswer graph.now finding.now result }
+{
+    if is_ruled_out(graph, finding, covers, closed, number) {
+        Answer::Unreached
+    } else {
+        Answer::Unknown
     }
 }
 
@@ -107,19 +128,22 @@ fn answer(
     graph: &Graph,
     finding: &Finding,
     sought: Sought,
+    covers: &[Cover],
+    closed: &[bool],
 ) -> Result<Answer, AllocError>
-    ensures { IfOk result (spec.IsAnswer graph.now finding.now) }
+    requires { closed.now ≡ map (is_checked graph.now) covers.now }
+    ensures { IfOk result (told.IsAnswer graph.now finding.now) }
 {
     match sought {
-        Sought::Clean(found) => match checked(alloc, graph, finding, true, found)? {
+        Sought::Clean(found) => match confirmed(alloc, graph, finding, true, found)? {
             Some(ways) => Ok(Answer::Clean(ways)),
             None => Ok(Answer::Unknown),
         },
-        Sought::Behind(found) => match checked(alloc, graph, finding, false, found)? {
+        Sought::Behind(found) => match confirmed(alloc, graph, finding, false, found)? {
             Some(ways) => Ok(Answer::Behind(ways)),
             None => Ok(Answer::Unknown),
         },
-        Sought::Nothing => Ok(Answer::Unreached),
+        Sought::Nothing(number) => Ok(without_way(graph, finding, covers, closed, number)),
         Sought::Unknown => Ok(Answer::Unknown),
     }
 }
@@ -134,19 +158,23 @@ fn taken_from(sought: &mut Vec<Option<Sought>>, number: usize) -> Sought {
 
 /// What shows each finding of a text, in their order: a way to its point, or, where ways meet with other locks, two to the point where they
 /// meet, the first of which comes from the finding's point. Numbers aren't followed, so a test of them may come out either way; nor is how
-/// many turns a `repeat` has left. No clause says that a way is found where there is one, nor that it is a shortest one.
+/// many turns a `repeat` has left. Where `Unreached` is answered there is no way; no clause says that a way is found where there is one,
+/// nor that it is a shortest one.
 ///
 /// # Errors
 ///
 /// Where a growth was refused.
 pub fn ways(alloc: Global, graph: &Graph, found: &[Finding]) -> Result<Items<Answer>, AllocError>
-    ensures { IfOk result (AllZip (spec.IsAnswer graph.now) found.now) }
+    ensures { IfOk result (AllZip (told.IsAnswer graph.now) found.now) }
 {
-    let mut sought = seek_all(alloc, graph, found)?;
+    let Outcomes { mut sought, covers } = seek_all(alloc, graph, found)?;
+    let covers = covers.as_slice();
+    let closed = checked(alloc, graph, covers)?;
+    let closed = closed.as_slice();
     let mut all = Items::new(alloc);
     for finding in found {
         let came = taken_from(&mut sought, all.len());
-        all.push(answer(alloc, graph, finding, came)?)?;
+        all.push(answer(alloc, graph, finding, came, covers, closed)?)?;
     }
     Ok(all)
 }

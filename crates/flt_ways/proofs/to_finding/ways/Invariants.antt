@@ -1,6 +1,6 @@
 use Rattle.std.proofs.Common.{take}
 use Rattle.std.specs.List.{AllZip}
-use Rattle.flt_ways.specs.Ways.{IsAnswer}
+use Rattle.flt_ways.specs.Told.{IsAnswer}
 use Rattle.flt_ways.proofs.to_finding.ways.Given as goal
 
 abbrev pub invariant-loop-finding : goal.invariant-loop-finding
