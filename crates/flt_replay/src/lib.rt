@@ -9,4 +9,4 @@ mod monitor;
 mod rules;
 mod statuses;
 
-pub use monitor::{broken_rule_at_last, replay};
+pub use monitor::{broken_rule_at_last, replay, world_after};

@@ -1,6 +1,6 @@
 //! The monitor: it runs a journal entry by entry, and stops at the first that isn't a run or that breaks something.
 
-ghost use Rattle.std.specs.Prelude.{◌≡◌, ◌↔◌, ℕ, List, [], ◌∷◌, ◌++◌, None, Some, replicate, IfOk, IfSome};
+ghost use Rattle.std.specs.Prelude.{◌≡◌, ◌↔◌, ℕ, true, false, List, [], ◌∷◌, ◌++◌, None, Some, option_map, replicate, IfOk, IfSome};
 ghost use Rattle.flt_model.specs.declared.moves.Move.{Move};
 ghost use Rattle.flt_model.specs.declared.verdict.Violation.{Violation};
 ghost use Rattle.flt_model.specs.Effects.{Step};
@@ -155,13 +155,26 @@ impl<'a> Monitor<'a> {
     }
 
     /// Makes steps that nobody else sees, unless one of them isn't such a step.
-    fn go_unseen(&mut self, a: usize, steps: u32) -> Result<bool, AllocError>
+    #[inline(never)]
+    fn go_locally(&mut self, a: usize, steps: u32) -> Result<bool, AllocError>
         ensures { IfOk result (λ unseen. (p : List Filter) (m : Moment) (xs : List Transition) → IsAt self.old m →
             GoesOn unseen self.new p xs (spec.course p m (replicate steps (Local a) ++ xs))) }
     {
         local_steps_are_quiet();
         locks_stay_exclusive();
         flt_steps::steps_unseen(&mut self.world, a, steps)
+    }
+
+    /// The same, where mostly there are none.
+    #[inline(always)]
+    fn go_unseen(&mut self, a: usize, steps: u32) -> Result<bool, AllocError>
+        ensures { IfOk result (λ unseen. (p : List Filter) (m : Moment) (xs : List Transition) → IsAt self.old m →
+            GoesOn unseen self.new p xs (spec.course p m (replicate steps (Local a) ++ xs))) }
+    {
+        if steps == 0 {
+            return Ok(true);
+        }
+        self.go_locally(a, steps)
     }
 
     /// What comes of so many steps of an activation, of which exactly the last is seen.
@@ -225,6 +238,7 @@ impl<'a> Monitor<'a> {
     }
 
     /// What comes of an entry.
+    #[inline(always)]
     fn entry(
         &mut self,
         alloc: Global,
@@ -268,6 +282,29 @@ impl<'a> Monitor<'a> {
 }
 
 impl<'a> Monitor<'a> {
+    /// Whether some entries are a run that breaks nothing, before the first of which the monitor stands. It then stands behind the last.
+    fn runs(
+        &mut self,
+        alloc: Global,
+        stack: &Stack<'a>,
+        entries: &[JournalEntry],
+        room: &mut Room,
+    ) -> Result<bool, AllocError>
+        requires { IsAt self.old (start stack.now) }
+        ensures behind { IfOk result (λ legal. legal ≡ true → (m : Moment)
+            × IsAt self.new m × (moment_after stack.now (start stack.now) entries.now ≡ Some m)) }
+        ensures stops { IfOk result (λ legal. legal ≡ false → moment_after stack.now (start stack.now) entries.now ≡ None) }
+    {
+        for entry in entries {
+            match self.entry(alloc, stack, *entry, room)? {
+                Course::Reaches => {}
+                Course::Stops => return Ok(false),
+                Course::Fails(_) => return Ok(false),
+            }
+        }
+        Ok(true)
+    }
+
     /// The least of the last four violations that the last of some entries breaks, before the first of which the monitor stands, where those
     /// before it are a run that breaks nothing.
     fn last_rule(
@@ -282,11 +319,8 @@ impl<'a> Monitor<'a> {
         ensures { IfOk result (λ o. IfSome o (λ v. (m : Moment)
             × (moment_after stack.now (start stack.now) before.now ≡ Some m) × EndsBy stack.now m (spec.expansion last) v)) }
     {
-        for entry in before {
-            match self.entry(alloc, stack, *entry, room)? {
-                Course::Reaches => {}
-                Course::Stops | Course::Fails(_) => return Ok(None),
-            }
+        if !self.runs(alloc, stack, before, room)? {
+            return Ok(None);
         }
         self.entry_rule(alloc, stack, last, room)
     }
@@ -347,6 +381,27 @@ pub fn replay(alloc: Global, trees: &[Tree], journal: &Journal) -> Result<Verdic
     legal_journals_are_clean_runs();
     first_faults_are_told();
     Ok(verdict)
+}
+
+/// The world at the end of a journal on a stack; none where its entries aren't a run that breaks nothing.
+///
+/// # Errors
+///
+/// Where a growth was refused, or a number or a count would reach 2^32.
+pub fn world_after<'a>(
+    alloc: Global,
+    stack: &Stack<'a>,
+    journal: &Journal,
+) -> Result<Option<World<'a>>, AllocError>
+    ensures { IfOk result (λ found. found ≡ option_map (λ m. m.world) (moment_after stack.now (start stack.now) journal.now)) }
+{
+    let mut monitor = opening(alloc, stack)?;
+    let mut room = no_room(alloc);
+    if !monitor.runs(alloc, stack, journal.entries(), &mut room)? {
+        return Ok(None);
+    }
+    let Monitor { world, ledger: _ } = monitor;
+    Ok(Some(world))
 }
 
 /// Which of the violations of statuses, levels, lock discipline and places the last entry of a journal breaks, the least of them, whatever else

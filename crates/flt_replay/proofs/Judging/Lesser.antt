@@ -11,7 +11,10 @@ use Rattle.flt_model.specs.Runs.{Moment, start}
 use Rattle.flt_model.specs.Steps.{Local, Board}
 use Rattle.flt_model.specs.World.{World}
 use Rattle.flt_replay.specs.Judging.{IsJudgedBy}
-use Rattle.flt_replay.specs.Lesser.{moment_after, BreaksRule, EndsBy}
+use Rattle.flt_replay.specs.Lesser.{moment_after, moment_by, BreaksRule, EndsBy}
+use Rattle.flt_replay.specs.Monitoring.{ComesTo}
+use Rattle.flt_replay.specs.declared.monitor.Course.TheVariants as code
+use Rattle.flt_replay.specs.declared.monitor.Monitor.{Monitor}
 use Rattle.flt_model.specs.Program.{by_altitude}
 use Rattle.std.specs.declared.alloc.AllocError.{AllocError}
 use Rattle.flt_replay.proofs.Judging.Courses.{go_on_more}
@@ -35,6 +38,37 @@ one_more p a m r (x ∷ es) (suc n) d h is e =
         rw (next, same) (more b (rw same at is))
     by more Stops same = let none : None ≡ Some m = rw same at is in absurd (cc)
     by more (Fails v) same = let none : None ≡ Some m = rw same at is in absurd (cc)
+
+-- an entry that doesn't lead on, behind those that lead to a moment: all of them lead nowhere
+pub stops_at : (p : List Filter) (a m : Moment) (es : List JournalEntry) (n : ℕ) (d : JournalEntry) → n < length es →
+    moment_after p a (take n es) ≡ Some m →
+    ((f : Moment → Option Moment) → moment_by (entry_course p m (expansion (get_or es n d))) f ≡ None) →
+    moment_after p a es ≡ None
+stops_at p a m [] n d h is none = absurd (omega (arith, h))
+stops_at p a m (x ∷ es) zero d h is none =
+    let same : m ≡ a = cc in
+    subst (λ b. moment_by (entry_course p b (expansion x)) (λ r. moment_after p r es) ≡ None) same (none (λ r. moment_after p r es))
+stops_at p a m (x ∷ es) (suc n) d h is none =
+    by (λ b led. stops_at p b m es n d (omega (arith, h)) led none) (entry_course p a (expansion x)) refl
+  where
+    by : ((b : Moment) → moment_after p b (take n es) ≡ Some m → moment_after p b es ≡ None) → (k : Course) →
+        entry_course p a (expansion x) ≡ k → moment_after p a (x ∷ es) ≡ None
+    by more (Reaches b) same = rw same (more b (rw same at is))
+    by more Stops same = rw same refl
+    by more (Fails v) same = rw same refl
+
+-- where the monitor stops, nothing is reached
+pub stopped : (monitor : Monitor) (k : Course) → ComesTo code.Stops monitor k → (f : Moment → Option Moment) → moment_by k f ≡ None
+stopped monitor Stops comes f = refl
+stopped monitor (Reaches m) comes f = absurd comes
+stopped monitor (Fails v) comes f = absurd comes
+
+-- where it finds something broken, too
+pub broken_off : (monitor : Monitor) (v : Violation) (k : Course) → ComesTo (code.Fails v) monitor k →
+    (f : Moment → Option Moment) → moment_by k f ≡ None
+broken_off monitor v (Fails u) comes f = refl
+broken_off monitor v (Reaches m) comes f = absurd comes
+broken_off monitor v Stops comes f = absurd comes
 
 -- steps that nobody sees, and one that is judged
 pub ends_by : (p : List Filter) (m on : Moment) (a steps : ℕ) (grant : Bool) (w : World) (events : List Event) (rule : Option Violation)

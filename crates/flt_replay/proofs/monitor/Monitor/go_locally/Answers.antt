@@ -1,6 +1,6 @@
 use Rattle.flt_replay.proofs.Judging.Courses.{StayExclusive, in_other_words, all_unseen}
 use Rattle.flt_replay.proofs.Machine.Locals.{AreQuiet}
-use Rattle.flt_replay.proofs.monitor.Monitor.go_unseen.Goals as goal
+use Rattle.flt_replay.proofs.monitor.Monitor.go_locally.Goals as goal
 
 pub returns : goal.returns
 returns c =
