@@ -1,5 +1,5 @@
 //! How a worker that is alone goes round among tickets of which none moves anything.
-ghost use Rattle.std.specs.Prelude.{◌≤◌};
+ghost use Rattle.std.specs.Prelude.{◌≤◌, ◌<◌, ◌↔◌, IsTrue};
 
 /// Which turns of a worker can be passed over. A ticket that stays goes to the back of the worker's deque. Where each of its tickets had its
 /// turn, all stay, and none moved anything, the next round finds all as it was, and so does each one after it: the worker is alone, so
@@ -10,7 +10,7 @@ pub(crate) struct Round {
     alone: bool,
     /// How many tickets had a turn since something was moved last, at which all stayed.
     still: u64,
-    /// How many entries the journal had when that was last looked at.
+    /// How many entries the journal had beside the arrivals when that was last looked at.
     entries: usize,
 }
 
@@ -33,12 +33,20 @@ impl Round {
         };
     }
 
+    /// Whether the ticket that had its turn last stays, and nothing was moved.
+    pub(crate) fn is_still(&self) -> bool
+        ensures { IsTrue result ↔ 0 < self.now.still }
+    {
+        self.still != 0
+    }
+
     /// Whether turns of an earlier call count.
     pub(crate) fn goes_on(&self) -> bool {
         self.alone && self.still != 0
     }
 
-    /// The journal has this many entries. If these are others than before, each ticket is to have a turn once more.
+    /// The journal has this many entries beside the arrivals, which move no ticket that stays. If these are others than before, each ticket
+    /// is to have a turn once more.
     pub(crate) fn begin(&mut self, entries: usize) {
         if entries != self.entries {
             self.entries = entries;

@@ -1,5 +1,5 @@
 //! The seats of callers and of workers.
-ghost use Rattle.std.specs.Prelude.{◌<◌};
+ghost use Rattle.std.specs.Prelude.{◌<◌, ◌↔◌, IsTrue};
 
 use crate::pace::Pace;
 use crate::requests::Requests;
@@ -42,4 +42,14 @@ pub struct WorkerSeat<N: StackName> {
     pub(crate) requests: Requests,
     pub(crate) ghost backed: { 0 < share.parts },
     pub(crate) ghost counts: { 0 < fulls.parts },
+}
+
+impl<N: StackName> WorkerSeat<N> {
+    /// Whether the ticket that had its turn last stays, and nothing was moved. Where that isn't so behind a call of `work`, the call found no
+    /// ticket that waits for others. What the seat counts of this no clause of `work` says.
+    pub fn is_still(&self) -> bool
+        ensures { IsTrue result ↔ 0 < self.now.round.still }
+    {
+        self.round.is_still()
+    }
 }

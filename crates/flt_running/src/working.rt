@@ -84,7 +84,7 @@ impl<N: StackName> Stack<N> {
         seat.waiting.push_all(&mut seat.place)?;
         let mut made = self.collect(rt, alloc, seat, gate)?;
         if seat.round.goes_on() {
-            seat.round.begin(self.entries(rt));
+            seat.round.begin(self.moving(rt));
         }
         let mut taken: u32 = 0;
         for _ in 0..MAX_LOOKS {
@@ -101,9 +101,11 @@ impl<N: StackName> Stack<N> {
         Ok(made)
     }
 
-    /// How many entries the journal has.
-    fn entries<R: Wait>(&self, rt: &R) -> usize {
-        self.locked.lock(rt).core.board().journal().len()
+    /// How many entries the journal has beside the arrivals. An arrival moves no ticket that stays: its operation gets one of its own.
+    fn moving<R: Wait>(&self, rt: &R) -> usize {
+        let locked = self.locked.lock(rt);
+        let board = locked.core.board();
+        board.journal().len().saturating_sub(board.operations())
     }
 
     /// Serves a ticket, or else what was asked to be cancelled. It answers none where it finds neither.
