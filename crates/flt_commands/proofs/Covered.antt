@@ -16,8 +16,9 @@ use Rattle.flt_explain.specs.declared.finding.Finding.{Finding}
 use Rattle.flt_forms.specs.Lines.{AreLines}
 use Rattle.flt_forms.specs.Sarif.{AreResults}
 use Rattle.flt_forms.specs.declared.as_lines.Style.{Style}
+use Rattle.flt_forms.specs.declared.unread.UnreadFile.{UnreadFile}
 use Rattle.flt_forms.specs.declared.as_lines.Style.TheVariants.{Object, Sentence}
-use Rattle.flt_notes.specs.Reported.{AreReportsOf, HasNotice, HasNoticeStatus, HasReport, HasStatus, IsText}
+use Rattle.flt_notes.specs.Reported.{AreAllReports, AreReportsOf, HasNotice, HasNoticeStatus, HasReport, HasStatus, IsText}
 use Rattle.flt_details.specs.Reports.{IsJudged, IsKnown, findings_status, status_of as status_of_judged, texts_of}
 use Rattle.flt_details.specs.declared.sources.Explained.{Explained as Told}
 use Rattle.flt_details.specs.declared.sources.Source.{Source}
@@ -34,12 +35,12 @@ use Rattle.flt_syntax.specs.Spelling.{Spells}
 use Rattle.flt_tree.specs.declared.filter.Filter.{Filter}
 use Rattle.flt_commands.proofs.OnePlace.{zipped_once}
 use Rattle.flt_commands.specs.Analyse.{IsAnalysed}
-use Rattle.flt_commands.specs.Answer.{status_of}
+use Rattle.flt_commands.specs.Answer.{status_of, told_status}
 use Rattle.flt_commands.specs.Check.{Decides, HasPoints, IsAnswer, IsChecked}
 use Rattle.flt_commands.specs.Clean.{BreakNothing, BreaksNothing, EachBreaksNothing, IsClean}
-use Rattle.flt_commands.specs.Commands.{IsSaid, IsSaidOf, IsReported}
+use Rattle.flt_commands.specs.Commands.{IsSaid, IsReported}
 use Rattle.flt_commands.specs.Explain.{IsExplained, IsTold}
-use Rattle.flt_commands.specs.Inputs.{Giving, given, Text, unread}
+use Rattle.flt_commands.specs.Inputs.{Giving, given, Says, Text, unread}
 use Rattle.flt_commands.specs.Running.{IsRan}
 use Rattle.flt_commands.specs.Thin.{IsThinned, Decides as DecidesThin}
 use Rattle.flt_words.specs.Request.{Asked, Check, Analyse, Thin, Run, Replay, Show, Explain, Pages}
@@ -89,7 +90,7 @@ module _ (law : Law) (runs : LawOfRuns) (nowhere : SpelledFailsNowhere) where
   judged text certificate (Judged v) said good = absurd said.decided
   judged text certificate (has_run ran) said good = absurd said.decided
   judged text certificate (FileRefused n f) said good = absurd said.decided
-  judged text certificate (Explained r) said good = absurd said.decided
+  judged text certificate (Explained r missed) said good = absurd said.decided
   judged text certificate (Shown rows v) said good = absurd said.decided
   judged text certificate (has_pages t) said good = absurd said.decided
 
@@ -108,7 +109,7 @@ module _ (law : Law) (runs : LawOfRuns) (nowhere : SpelledFailsNowhere) where
   left text certificate (Judged v) said good = absurd said.decided
   left text certificate (has_run ran) said good = absurd said.decided
   left text certificate (FileRefused n f) said good = absurd said.decided
-  left text certificate (Explained r) said good = absurd said.decided
+  left text certificate (Explained r missed) said good = absurd said.decided
   left text certificate (Shown rows v) said good = absurd said.decided
   left text certificate (has_pages t) said good = absurd said.decided
 
@@ -128,7 +129,7 @@ module _ (law : Law) (runs : LawOfRuns) (nowhere : SpelledFailsNowhere) where
   analysed (text ∷ []) (Judged v) file said good = absurd said
   analysed (text ∷ []) (has_run ran) file said good = absurd said
   analysed (text ∷ []) (FileRefused n f) file said good = absurd said
-  analysed (text ∷ []) (Explained r) file said good = absurd said
+  analysed (text ∷ []) (Explained r missed) file said good = absurd said
   analysed (text ∷ []) (Shown rows v) file said good = absurd said
   analysed (text ∷ []) (has_pages t) file said good = absurd said
   analysed (text ∷ more ∷ texts) answer file said good = said
@@ -139,7 +140,7 @@ module _ (law : Law) (runs : LawOfRuns) (nowhere : SpelledFailsNowhere) where
   driven (bytes ∷ texts) (has_run ran) workers quiet script files said good = runs bytes texts ran said
   driven (bytes ∷ texts) (FileRefused n f) workers quiet script files said good = absurd (omega (arith, good))
   driven (bytes ∷ texts) Accepted workers quiet script files said good = absurd said
-  driven (bytes ∷ texts) (Explained r) workers quiet script files said good = absurd said
+  driven (bytes ∷ texts) (Explained r missed) workers quiet script files said good = absurd said
   driven (bytes ∷ texts) (Shown rows v) workers quiet script files said good = absurd said
   driven (bytes ∷ texts) (has_pages t) workers quiet script files said good = absurd said
   driven (bytes ∷ texts) (Refused f) workers quiet script files said good = absurd said
@@ -206,39 +207,71 @@ module _ (law : Law) (runs : LawOfRuns) (nowhere : SpelledFailsNowhere) where
       let zeros = both_zero first others (sym greatest ∙ good) in
       (found_well s.text.now own.judged own.is (sym own.own ∙ zeros.0), in_results ss others_tokens others rest zeros.1)
 
-  told_well : (form : Form) (sources : List Source) (e : Told) → IsTold form sources e → e.status ≡ 0 → EachBreaksNothing (texts_of sources)
-  told_well Human sources e told good = reported told.filters (texts_of sources) e.output.items e.status told.are good
-  told_well Short sources e told good = in_lines Sentence sources [] e.output.items e.status told good
-  told_well Lines sources e told good = in_lines Object sources [] e.output.items e.status told good
-  told_well Sarif sources e told good = in_results sources told.0 e.status told.1 good
+  -- of all files
+  all_reported : (filters : List Filter) (texts : List Text) (printed : List ℕ) (status : ℕ) → AreAllReports filters texts printed status →
+      status ≡ 0 → EachBreaksNothing texts
+  all_reported filters [] printed status said good = tt
+  all_reported filters (t ∷ []) printed status is good = (report_well filters t printed status is.is good, tt)
+  all_reported filters (t ∷ u ∷ ts) printed status is good = reported filters (t ∷ u ∷ ts) is.reports status is.are good
 
-  explained : (form : Form) (colour : Colour) (states : ℕ) (journal : Option Text) (names texts : List Text) (answer : Answer) → IsExplained form journal names texts (Ok answer) → status_of answer ≡ 0 →
-      IsClean (Explain form colour states journal names) texts
-  explained form colour states journal files texts (Explained e) said good = subst EachBreaksNothing said.given (told_well form said.sources e.explained said.told good)
-  explained form colour states journal files texts (Shown rows v) said good = absurd said
-  explained form colour states journal files texts (has_pages t) said good = absurd said
-  explained form colour states journal files texts (has_run ran) said good = absurd said
-  explained form colour states journal files texts (FileRefused n f) said good = absurd said
-  explained form colour states journal files texts Accepted said good = absurd said
-  explained form colour states journal files texts (Refused f) said good = absurd said
-  explained form colour states journal files texts (Written c) said good = absurd said
-  explained form colour states journal files texts (Judged v) said good = absurd said
+  told_well : (form : Form) (sources : List Source) (missed : List UnreadFile) (e : Told) → IsTold form sources missed e → e.status ≡ 0 →
+      EachBreaksNothing (texts_of sources)
+  told_well Human sources missed e told good = all_reported told.filters (texts_of sources) e.output.items e.status told.are good
+  told_well Short sources missed e told good = in_lines Sentence sources [] e.output.items e.status told good
+  told_well Lines sources missed e told good = in_lines Object sources [] e.output.items e.status told good
+  told_well Sarif sources missed e told good = in_results sources told.0 e.status told.1 good
 
-  said_is_clean : (request : Asked) (texts : List Text) (answer : Answer) → IsSaidOf request texts (Ok answer) →
-      status_of answer ≡ 0 → IsClean request texts
-  said_is_clean (Check file cert) texts answer said good = checked texts answer file cert said good
-  said_is_clean (Analyse file) texts answer said good = analysed texts answer file said good
-  said_is_clean (Thin file cert) texts answer said good = thinned texts answer file cert said good
-  said_is_clean (Run workers quiet script files) texts answer said good = driven texts answer workers quiet script files said good
-  said_is_clean (Replay journal files) texts answer said good = tt
-  said_is_clean (Show timeline picture journal files) texts answer said good = tt
-  said_is_clean (Explain form colour states journal files) texts answer said good = explained form colour states journal files texts answer said good
-  said_is_clean (Pages names) texts answer said good = tt
+  -- where a file isn't read, the status isn't 0
+  own_zero : (status : ℕ) (missed : List UnreadFile) → told_status status missed ≡ 0 → status ≡ 0
+  own_zero status [] good = good
+  own_zero status (file ∷ files) good = absurd (omega (arith, good))
 
-  -- where this is said of what the names give, and reported with the status 0, the text breaks nothing
+  explained : (gives : Giving) (form : Form) (colour : Colour) (states : ℕ) (journal : Option Text) (files texts : List Text) (answer : Answer) →
+      IsExplained gives form journal files texts (Ok answer) → status_of answer ≡ 0 → IsClean (Explain form colour states journal files) texts
+  explained gives form colour states journal files texts (Explained e missed) said good =
+      subst EachBreaksNothing said.told.given
+      (told_well form said.told.sources missed.items e.explained said.told.told (own_zero e.explained.status missed.items good))
+  explained gives form colour states journal files texts (Shown rows v) said good = absurd said
+  explained gives form colour states journal files texts (has_pages t) said good = absurd said
+  explained gives form colour states journal files texts (has_run ran) said good = absurd said
+  explained gives form colour states journal files texts (FileRefused n f) said good = absurd said
+  explained gives form colour states journal files texts Accepted said good = absurd said
+  explained gives form colour states journal files texts (Refused f) said good = absurd said
+  explained gives form colour states journal files texts (Written c) said good = absurd said
+  explained gives form colour states journal files texts (Judged v) said good = absurd said
+
+  -- where this is said of what the names give, and reported with the status 0, that holds which it says of an answer with that status
+  says_clean : (gives : Giving) (names texts : List Text) (IsSaidOf : List Text → Result Answer Failure → Type 0) (P : Type 0)
+      (said : Result Answer Failure) (bytes : List ℕ) (status : ℕ) →
+      ((answer : Answer) → IsSaidOf texts (Ok answer) → status_of answer ≡ 0 → P) → Says gives names IsSaidOf texts said →
+      IsReported said bytes status → status ≡ 0 → P
+  says_clean gives names texts IsSaidOf P _ bytes status holds (unread f fails) reported good = absurd (omega (arith, reported.1.1, good))
+  says_clean gives names texts IsSaidOf P (Err f) bytes status holds (given result there said) reported good =
+      absurd (omega (arith, reported.1.1, good))
+  says_clean gives names texts IsSaidOf P (Ok answer) bytes status holds (given result there said) reported good =
+      holds answer said (sym reported.1 ∙ good)
+
+  explains_clean : (gives : Giving) (form : Form) (colour : Colour) (states : ℕ) (journal : Option Text) (files texts : List Text)
+      (said : Result Answer Failure) (bytes : List ℕ) (status : ℕ) → IsExplained gives form journal files texts said → IsReported said bytes status →
+      status ≡ 0 → IsClean (Explain form colour states journal files) texts
+  explains_clean gives form colour states journal files texts (Ok answer) bytes status said reported good =
+      explained gives form colour states journal files texts answer said (sym reported.1 ∙ good)
+  explains_clean gives form colour states journal files texts (Err f) bytes status said reported good =
+      absurd (omega (arith, reported.1.1, good))
+
+  -- where this is said of what is asked for, and reported with the status 0, the text breaks nothing
   pub clean_of : (gives : Giving) (request : Asked) (texts : List Text) (said : Result Answer Failure) (bytes : List ℕ) (status : ℕ) →
       IsSaid gives request texts said → IsReported said bytes status → status ≡ 0 → IsClean request texts
-  clean_of gives request texts _ bytes status (unread f fails) reported good = absurd (omega (arith, reported.1.1, good))
-  clean_of gives request texts (Err f) bytes status (given result there said) reported good = absurd (omega (arith, reported.1.1, good))
-  clean_of gives request texts (Ok answer) bytes status (given result there said) reported good =
-      said_is_clean request texts answer said (sym reported.1 ∙ good)
+  clean_of gives (Check file cert) texts said bytes status is reported good =
+      says_clean gives _ texts IsChecked _ said bytes status (λ answer is well. checked texts answer file cert is well) is reported good
+  clean_of gives (Analyse file) texts said bytes status is reported good =
+      says_clean gives _ texts IsAnalysed _ said bytes status (λ answer is well. analysed texts answer file is well) is reported good
+  clean_of gives (Thin file cert) texts said bytes status is reported good =
+      says_clean gives _ texts IsThinned _ said bytes status (λ answer is well. thinned texts answer file cert is well) is reported good
+  clean_of gives (Run workers quiet script files) texts said bytes status is reported good =
+      says_clean gives _ texts IsRan _ said bytes status (λ answer is well. driven texts answer workers quiet script files is well) is reported good
+  clean_of gives (Replay journal files) texts said bytes status is reported good = tt
+  clean_of gives (Show timeline picture journal files) texts said bytes status is reported good = tt
+  clean_of gives (Explain form colour states journal files) texts said bytes status is reported good =
+      explains_clean gives form colour states journal files texts said bytes status is reported good
+  clean_of gives (Pages names) texts said bytes status is reported good = tt

@@ -14,3 +14,4 @@ pub mod OneVerdict
 pub mod Paged
 pub mod Readings
 pub mod Reported
+pub mod SomeRead

@@ -48,7 +48,7 @@ module _ (graph : (text : Text) (g h : Graph) → HasPoints text g → HasPoints
   answered text (Judged v) x = absurd x
   answered text (Ran ran) x = absurd x
   answered text (FileRefused n f) x = absurd x
-  answered text (Explained r) x = absurd x
+  answered text (Explained r files) x = absurd x
   answered text (Shown rows v) x = absurd x
   answered text (Pages t) x = absurd x
 
@@ -61,21 +61,21 @@ module _ (graph : (text : Text) (g h : Graph) → HasPoints text g → HasPoints
   answers_once text (Written c) (Judged v) x y = absurd y
   answers_once text (Written c) (Ran ran) x y = absurd y
   answers_once text (Written c) (FileRefused n f) x y = absurd y
-  answers_once text (Written c) (Explained r) x y = absurd y
+  answers_once text (Written c) (Explained r files) x y = absurd y
   answers_once text (Written c) (Shown rows v) x y = absurd y
   answers_once text (Written c) (Pages t) x y = absurd y
   answers_once text (Refused f) Accepted x y = absurd y
   answers_once text (Refused f) (Judged v) x y = absurd y
   answers_once text (Refused f) (Ran ran) x y = absurd y
   answers_once text (Refused f) (FileRefused n h) x y = absurd y
-  answers_once text (Refused f) (Explained r) x y = absurd y
+  answers_once text (Refused f) (Explained r files) x y = absurd y
   answers_once text (Refused f) (Shown rows v) x y = absurd y
   answers_once text (Refused f) (Pages t) x y = absurd y
   answers_once text Accepted b x y = absurd x
   answers_once text (Judged v) b x y = absurd x
   answers_once text (Ran ran) b x y = absurd x
   answers_once text (FileRefused n f) b x y = absurd x
-  answers_once text (Explained r) b x y = absurd x
+  answers_once text (Explained r files) b x y = absurd x
   answers_once text (Shown rows v) b x y = absurd x
   answers_once text (Pages t) b x y = absurd x
 

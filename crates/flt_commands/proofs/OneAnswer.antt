@@ -5,7 +5,7 @@ use Rattle.flt_commands.proofs.OneReading.{says_once}
 use Rattle.flt_commands.specs.Analyse.{IsAnalysed}
 use Rattle.flt_commands.specs.Answer.{output, status_of}
 use Rattle.flt_commands.specs.Check.{IsChecked}
-use Rattle.flt_commands.specs.Commands.{AnswersFor, IsReported, IsSaid, IsSaidOf, giving_for}
+use Rattle.flt_commands.specs.Commands.{AnswersFor, IsReported, IsSaid, giving_for}
 use Rattle.flt_commands.specs.Inputs.{Giving, Text, gives_but, gives_if, gives_text, kept}
 use Rattle.flt_commands.specs.Names.{names_of}
 use Rattle.flt_commands.specs.Replay.{IsReplayed}
@@ -81,21 +81,21 @@ module _ (gives : Giving) (one : GivesOne gives) where
   gives_one (Pages names) = one
 
 module _ (checked : SaysOne IsChecked) (analysed : SaysOne IsAnalysed) (thinned : SaysOne IsThinned) (replayed : SaysOne IsReplayed) where
-  of_one : (request : Asked) → HasOneAnswer request → SaysOne (IsSaidOf request)
-  of_one (Check file cert) has = checked
-  of_one (Analyse file) has = analysed
-  of_one (Thin file cert) has = thinned
-  of_one (Run workers quiet script files) has = absurd has
-  of_one (Show timeline picture journal files) has = absurd has
-  of_one (Explain form colour states journal files) has = absurd has
-  of_one (Pages names) has = absurd has
-  of_one (Replay journal files) has = replayed
-
   -- of what is asked for one thing is said at most
   pub said_once : (gives : Giving) (request : Asked) (texts more : List Text) (a b : Result Answer Failure) → HasOneAnswer request →
       GivesOne gives → IsSaid gives request texts a → IsSaid gives request more b → AreSame a b
-  said_once gives request texts more a b has one x y =
-      says_once gives one (names_of request) (IsSaidOf request) (of_one request has) texts more a b x y
+  said_once gives (Check file cert) texts more a b has one x y =
+      says_once gives one (names_of (Check file cert)) IsChecked checked texts more a b x y
+  said_once gives (Analyse file) texts more a b has one x y =
+      says_once gives one (names_of (Analyse file)) IsAnalysed analysed texts more a b x y
+  said_once gives (Thin file cert) texts more a b has one x y =
+      says_once gives one (names_of (Thin file cert)) IsThinned thinned texts more a b x y
+  said_once gives (Run workers quiet script files) texts more a b has one x y = absurd has
+  said_once gives (Replay journal files) texts more a b has one x y =
+      says_once gives one (names_of (Replay journal files)) IsReplayed replayed texts more a b x y
+  said_once gives (Show timeline picture journal files) texts more a b has one x y = absurd has
+  said_once gives (Explain form colour states journal files) texts more a b has one x y = absurd has
+  said_once gives (Pages names) texts more a b has one x y = absurd has
 
   -- one thing is printed at most, with one exit status
   pub printed_once : (gives : Giving) (written others : Text → Text → Type 0) (request : Option Asked) (r s : Report) → AskForOne request →

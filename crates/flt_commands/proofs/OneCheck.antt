@@ -25,7 +25,7 @@ module _ (one : HasOneFault) (none : CoversWithoutFault) where
   checks_once g c Accepted (Judged v) x y = absurd y
   checks_once g c Accepted (Ran ran) x y = absurd y
   checks_once g c Accepted (FileRefused n h) x y = absurd y
-  checks_once g c Accepted (Explained r) x y = absurd y
+  checks_once g c Accepted (Explained r files) x y = absurd y
   checks_once g c Accepted (Shown rows v) x y = absurd y
   checks_once g c Accepted (Pages t) x y = absurd y
   checks_once g c (Refused f) Accepted x y = absurd (none g c f y x)
@@ -34,13 +34,13 @@ module _ (one : HasOneFault) (none : CoversWithoutFault) where
   checks_once g c (Refused f) (Judged v) x y = absurd y
   checks_once g c (Refused f) (Ran ran) x y = absurd y
   checks_once g c (Refused f) (FileRefused n h) x y = absurd y
-  checks_once g c (Refused f) (Explained r) x y = absurd y
+  checks_once g c (Refused f) (Explained r files) x y = absurd y
   checks_once g c (Refused f) (Shown rows v) x y = absurd y
   checks_once g c (Refused f) (Pages t) x y = absurd y
   checks_once g c (Written d) b x y = absurd x
   checks_once g c (Judged v) b x y = absurd x
   checks_once g c (Ran ran) b x y = absurd x
   checks_once g c (FileRefused n h) b x y = absurd x
-  checks_once g c (Explained r) b x y = absurd x
+  checks_once g c (Explained r files) b x y = absurd x
   checks_once g c (Shown rows v) b x y = absurd x
   checks_once g c (Pages t) b x y = absurd x

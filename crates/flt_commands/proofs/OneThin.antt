@@ -15,7 +15,7 @@ module _ (one : HasOneFault) (none : CoversWithoutFault) where
   thins_once g c (Written d) (Judged v) x y = absurd y
   thins_once g c (Written d) (Ran ran) x y = absurd y
   thins_once g c (Written d) (FileRefused n h) x y = absurd y
-  thins_once g c (Written d) (Explained r) x y = absurd y
+  thins_once g c (Written d) (Explained r files) x y = absurd y
   thins_once g c (Written d) (Shown rows v) x y = absurd y
   thins_once g c (Written d) (Pages t) x y = absurd y
   thins_once g c (Refused f) (Written d) x y = absurd (none g c f y.0 x)
@@ -24,13 +24,13 @@ module _ (one : HasOneFault) (none : CoversWithoutFault) where
   thins_once g c (Refused f) (Judged v) x y = absurd y
   thins_once g c (Refused f) (Ran ran) x y = absurd y
   thins_once g c (Refused f) (FileRefused n h) x y = absurd y
-  thins_once g c (Refused f) (Explained r) x y = absurd y
+  thins_once g c (Refused f) (Explained r files) x y = absurd y
   thins_once g c (Refused f) (Shown rows v) x y = absurd y
   thins_once g c (Refused f) (Pages t) x y = absurd y
   thins_once g c Accepted b x y = absurd x
   thins_once g c (Judged v) b x y = absurd x
   thins_once g c (Ran ran) b x y = absurd x
   thins_once g c (FileRefused n h) b x y = absurd x
-  thins_once g c (Explained r) b x y = absurd x
+  thins_once g c (Explained r files) b x y = absurd x
   thins_once g c (Shown rows v) b x y = absurd x
   thins_once g c (Pages t) b x y = absurd x

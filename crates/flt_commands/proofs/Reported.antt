@@ -1,18 +1,21 @@
 -- The report on what is asked for, from what is said of it and how that is printed.
-use Rattle.std.proofs.Common.{◌≡◌, ◌≢◌, ◌∙◌, ℕ, List, [], ◌∷◌, Option, Some, None, Result, Ok, Err, IfOk, OnOk, Vec, Global, map, ap, sym, arith}
+use Rattle.std.proofs.Common.{◌≡◌, ◌≢◌, ◌∙◌, ℕ, List, [], ◌∷◌, ◌++◌, flat_map, refl, Option, Some, None, Result, Ok, Err, IfOk, OnOk, Vec, Global, map, ap, sym, arith}
 use Rattle.std.proofs.Math.Path.{subst}
 use Rattle.flt_syntax.specs.TextFails.{SpelledFailsNowhere}
 use Rattle.flt_commands.proofs.Covered.{Law, LawOfRuns, clean_of}
 use Rattle.flt_commands.specs.Commands.{Answers, AreThose, IsBefore, IsKept, IsKeptAs, IsRemarked, NamesNoJournal, IsRemarkedAfter, IsReported, IsSaid, giving_for, texts_in}
 use Rattle.flt_commands.specs.Explain.{ArePaged}
 use Rattle.flt_commands.specs.Inputs.{Giving, Says, Text, given}
-use Rattle.flt_commands.specs.Remarks.{IsFound}
+use Rattle.flt_commands.specs.Remarks.{IsFound, unread_in, unread_lines}
+use Rattle.flt_commands.specs.Answer.{status_of, told_status}
+use Rattle.flt_forms.specs.declared.unread.UnreadFile.{UnreadFile}
 use Rattle.flt_model.specs.JournalText.{Entries}
 use Rattle.flt_words.specs.Request.{Asked, Explain}
 use Rattle.flt_words.specs.Words.{asked}
 use Rattle.flt_words.specs.declared.request.Colour.{Colour}
 use Rattle.flt_words.specs.declared.request.Form.{Form}
 use Rattle.flt_commands.specs.declared.answer.Answer.{Answer}
+use Rattle.flt_commands.specs.declared.answer.Answer.TheVariants.{Accepted, Refused, Certificate, Judged, Explained, Pages, Ran, FileRefused, Shown}
 use Rattle.flt_commands.specs.declared.failure.Failure.{Failure}
 use Rattle.flt_commands.specs.declared.fault.CommandFault.{CommandFault}
 use Rattle.flt_commands.specs.declared.report.Report.{Report}
@@ -62,6 +65,22 @@ quiet_shown P before (Ok answer) (Ok report) none reported same = λ good p. sam
 quiet_shown P before (Err f) (Ok report) none reported same = λ good p. absurd (good reported.1.1)
 quiet_shown P before said (Err e) none reported same = tt
 
+-- where each file is read, nothing is said of one that isn't
+none_unread : (status : ℕ) (unread : List UnreadFile) → told_status status unread ≢ 2 → flat_map unread_lines unread ≡ []
+none_unread status [] good = refl
+none_unread status (file ∷ files) good = absurd (good refl)
+
+unread_none : (answer : Answer) → status_of answer ≢ 2 → unread_in answer ≡ []
+unread_none (Explained e unread) good = none_unread e.explained.status unread.items good
+unread_none Accepted good = refl
+unread_none (Refused f) good = refl
+unread_none (Certificate bytes) good = refl
+unread_none (Judged v) good = refl
+unread_none (Pages pages) good = refl
+unread_none (Ran ran) good = refl
+unread_none (Shown rows v) good = refl
+unread_none (FileRefused n f) good = refl
+
 -- of what `explain` says, where no file is named for a journal
 quiet_for : (form : Form) (colour : Colour) (states : ℕ) (journal : Option Text) (files : List Text) (before : List ℕ) (said : Result Answer Failure)
     (result : Result Report CommandFault) → IsFound journal said before →
@@ -69,7 +88,8 @@ quiet_for : (form : Form) (colour : Colour) (states : ℕ) (journal : Option Tex
     IfOk result (λ report. report.status ≢ 2 → report.remark.items ≡ before) →
     IfOk result (λ report. report.status ≢ 2 → NamesNoJournal (Some (Explain form colour states journal files)) → report.remark.items ≡ [])
 quiet_for form colour states (Some name) files before said (Ok report) found reported same = λ good names. absurd names
-quiet_for form colour states None files before (Ok answer) (Ok report) found reported same = λ good names. same good ∙ found
+quiet_for form colour states None files before (Ok answer) (Ok report) found reported same =
+    λ good names. same good ∙ found ∙ ap (λ lines. lines ++ []) (unread_none answer (λ two. good (reported.1 ∙ two)))
 quiet_for form colour states None files before (Err f) (Ok report) found reported same = λ good names. absurd (good reported.1.1)
 quiet_for form colour states journal files before said (Err e) found reported same = tt
 

@@ -7,6 +7,7 @@ use Rattle.flt_rules.specs.declared.rule.Rule.{Rule}
 use Rattle.flt_crew.specs.declared.ending.Ending.{Ending}
 use Rattle.flt_crew.specs.declared.ending.Ending.TheVariants.{Whole, Full, Already, Differ}
 use Rattle.flt_check.specs.declared.checker.Refusal.{Refusal}
+use Rattle.flt_forms.specs.declared.unread.UnreadFile.{UnreadFile}
 use Rattle.flt_model.specs.declared.verdict.Verdict.{Verdict}
 use Rattle.flt_model.specs.declared.verdict.Verdict.TheVariants.{Legal, NotARun, Breaks}
 use Rattle.flt_model.specs.declared.verdict.Violation.{Violation}
@@ -58,7 +59,7 @@ output Accepted = codes "accepted" ++ 10 ∷ []
 output (Refused f) = refusal_line f ++ 10 ∷ []
 output (Certificate bytes) = bytes.items
 output (Judged v) = verdict_line v ++ 10 ∷ []
-output (Explained e) = e.explained.output.items
+output (Explained e unread) = e.explained.output.items
 output (Pages pages) = join_by (λ page. page.now) (10 ∷ []) pages.items
 output (Ran ran) = ran.journal.items
 output (Shown rows v) = rows.items ++ (verdict_line v ++ 10 ∷ [])
@@ -70,15 +71,20 @@ abbrev pub ended_status : Ending → ℕ
 ended_status Whole = 0
 ended_status _ = 2
 
+-- the exit status of reports: their own, or 2 where a file isn't read
+abbrev pub told_status : ℕ → List UnreadFile → ℕ
+told_status status [] = status
+told_status status (file ∷ files) = 2
+
 -- the exit status: 0 where the certificate covers or is found, or nothing is broken, and of a page; of a journal, by how its run ended; of
--- reports, their own; 1 for any other answer
+-- reports, their own, where each file is read; 1 for any other answer
 abbrev pub status_of : Answer → ℕ
 status_of Accepted = 0
 status_of (Refused f) = 1
 status_of (Certificate bytes) = 0
 status_of (Judged Legal) = 0
 status_of (Judged _) = 1
-status_of (Explained e) = e.explained.status
+status_of (Explained e unread) = told_status e.explained.status unread.items
 status_of (Pages pages) = 0
 status_of (Ran ran) = ended_status ran.ending
 status_of (FileRefused file f) = 1

@@ -23,17 +23,6 @@ use Rattle.flt_commands.specs.declared.report.Report.{Report}
 
 -- ---- what is said
 
--- what is said of the bytes that the names give
-abbrev pub IsSaidOf : Asked → List Text → Result Answer Failure → Type 0
-IsSaidOf (Check file cert) = IsChecked
-IsSaidOf (Analyse file) = IsAnalysed
-IsSaidOf (Thin file cert) = IsThinned
-IsSaidOf (Run workers quiet script files) = IsRan
-IsSaidOf (Replay journal files) = IsReplayed
-IsSaidOf (Show timeline picture journal files) = IsShown timeline picture
-IsSaidOf (Explain form colour states journal files) = IsExplained form journal files
-IsSaidOf (Pages names) = λ texts. ArePaged names
-
 -- what the names may give: all their bytes, and of a name that is a text alone what is kept of them. `explain` reads all, since a FILE may
 -- be a journal; so does `check` of a text and its certificate in one input
 abbrev pub giving_for : Asked → Giving → Giving
@@ -45,9 +34,18 @@ giving_for (Replay journal files) = gives_but (Some journal)
 giving_for (Show timeline picture journal files) = gives_but (Some journal)
 giving_for request = λ gives. gives
 
--- what is said of what is asked for, an answer or why there is none, where the names give these texts
+-- what is said of what is asked for, an answer or why there is none, where the names give these texts; `explain` alone says something of
+-- some of them where others can't be read
 abbrev pub IsSaid : Giving → Asked → List Text → Result Answer Failure → Type 0
-IsSaid gives request = Says gives (names_of request) (IsSaidOf request)
+IsSaid gives (Check file cert) = Says gives (names_of (Check file cert)) IsChecked
+IsSaid gives (Analyse file) = Says gives (names_of (Analyse file)) IsAnalysed
+IsSaid gives (Thin file cert) = Says gives (names_of (Thin file cert)) IsThinned
+IsSaid gives (Run workers quiet script files) = Says gives (names_of (Run workers quiet script files)) IsRan
+IsSaid gives (Replay journal files) = Says gives (names_of (Replay journal files)) IsReplayed
+IsSaid gives (Show timeline picture journal files) =
+    Says gives (names_of (Show timeline picture journal files)) (IsShown timeline picture)
+IsSaid gives (Explain form colour states journal files) = IsExplained gives form journal files
+IsSaid gives (Pages names) = Says gives (names_of (Pages names)) (λ texts. ArePaged names)
 
 -- ---- how that is printed
 
@@ -66,7 +64,7 @@ abbrev pub IsRemarkedAfter : List ℕ → Result Answer Failure → List ℕ →
 IsRemarkedAfter before (Ok answer) bytes = bytes ≡ before ++ remark (ending_of answer)
 IsRemarkedAfter before (Err f) bytes = bytes ≡ before ++ (failure_line f ++ 10 ∷ [])
 
--- what may stand before it: why a file isn't read, which `explain` says, or isn't written; and that no run is found
+-- what may stand before it: which files of `explain` aren't read; why a file isn't written; and that no run is found
 abbrev pub IsBefore : Asked → Result Answer Failure → List ℕ → Type 0
 IsBefore (Explain form colour states journal files) said bytes = IsFound journal said bytes
 IsBefore (Show timeline picture journal files) said bytes = OnOk said (bytes ≡ [])

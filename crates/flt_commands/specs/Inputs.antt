@@ -1,10 +1,12 @@
 -- What is read for the names of a command line. This project's own program.
-use Rattle.std.specs.Prelude.{◌≡◌, ◌⊎◌, ℕ, ◌≤◌, Bool, ◌&&◌, true, false, List, ◌∷◌, ◌++◌, codes, count_by, take, Option, Some, None, Result, Err}
+use Rattle.std.specs.Prelude.{◌≡◌, ◌⊎◌, ℕ, ◌≤◌, Bool, ◌&&◌, true, false, List, [], ◌∷◌, ◌++◌, codes, count_by, map, string_bytes, take, Option, Some, None, Result, Err}
 use Rattle.std.specs.List.{AllZip, list_any}
 use Rattle.std.specs.Str.{bytes_eq}
 use Rattle.flt_commands.specs.declared.answer.Answer.{Answer}
 use Rattle.flt_commands.specs.declared.failure.Failure.{Failure}
 use Rattle.flt_commands.specs.declared.failure.Failure.TheVariants.{CannotRead, OutOfMemory}
+use Rattle.flt_commands.specs.declared.inputs.ReadFiles.{ReadFiles}
+use Rattle.flt_forms.specs.declared.unread.UnreadFile.{UnreadFile}
 
 -- a name, or what it gives, as bytes
 abbrev pub Text : Type 0
@@ -44,6 +46,24 @@ pub record AreGiven (gives : Giving) (names texts : List Text) : Type 0 where
 -- nothing is given for the name behind others, or it is the standard input again
 abbrev pub IsMissing : Giving → List Text → Text → Type 0
 IsMissing gives before name = (is_standard name && list_any is_standard before ≡ true) ⊎ gives name None
+
+-- of these names these are read and give these texts, and the others aren't, each behind those before it; all in their order
+pub data AreRead (gives : Giving) : List Text → List Text → List Text → List Text → Type 0 where
+  none : AreRead gives [] [] [] []
+  read : {names read texts unread : List Text} (name text : Text) → AreRead gives names read texts unread → gives name (Some text) →
+      is_standard name && list_any is_standard names ≡ false →
+      AreRead gives (names ++ name ∷ []) (read ++ name ∷ []) (texts ++ text ∷ []) unread
+  missing : {names read texts unread : List Text} (name : Text) → AreRead gives names read texts unread → IsMissing gives names name →
+      AreRead gives (names ++ name ∷ []) read texts (unread ++ name ∷ [])
+
+-- the names of files that aren't read
+abbrev pub unread_names : List UnreadFile → List Text
+unread_names unread = map (λ (file : UnreadFile). string_bytes file.name) unread
+
+-- the same of what is known of some files
+abbrev pub AreReadIn : Giving → List Text → ReadFiles → Type 0
+AreReadIn gives names r =
+    AreRead gives names (map (λ name. name.now) r.names.items) (map (λ text. text.items) r.texts.items) (unread_names r.unread.items)
 
 -- the failure says that this name can't be read
 abbrev pub IsUnread : Text → Failure → Type 0

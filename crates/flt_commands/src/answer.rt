@@ -5,6 +5,7 @@ ghost use Rattle.flt_commands.specs.Answer as spec;
 
 use flt_check::Refusal;
 use flt_crew::{Ending, Ran};
+use flt_forms::UnreadFile;
 use flt_model::{Verdict, Violation};
 use flt_notes::Told;
 use flt_rules::{Rule, number, text};
@@ -22,8 +23,8 @@ pub enum Answer {
     Certificate(Vec<u8>),
     /// What a journal is.
     Judged(Verdict),
-    /// Reports of texts, with what came of the findings in runs.
-    Explained(Told),
+    /// Reports of texts, with what came of the findings in runs; and the files that aren't read.
+    Explained(Told, Vec<UnreadFile>),
     /// The pages of rules, violations, faults of a text, calls or statuses.
     Pages(Vec<&'static str>),
     /// What a script came to.
@@ -35,14 +36,17 @@ pub enum Answer {
 }
 
 impl Answer {
-    /// The exit status: 0 for yes, 1 for no, and 2 for a journal that is full before its script has ended, or that the receipts contradict.
+    /// The exit status: 0 for yes, 1 for no, and 2 for a journal that is full before its script has ended, or that the receipts contradict,
+    /// and where a file isn't read.
     pub fn status(&self) -> u8
         ensures { result ≡ spec.status_of self.now }
     {
         match self {
             Answer::Accepted | Answer::Certificate(_) | Answer::Judged(Verdict::Legal) => 0,
             Answer::Pages(_) | Answer::Shown(_, Verdict::Legal) => 0,
-            Answer::Explained(told) => told.explained.status,
+            Answer::Explained(told, unread) => {
+                told_status(told.explained.status, unread.as_slice())
+            }
             Answer::Refused(_) | Answer::FileRefused(_, _) | Answer::Judged(_) => 1,
             Answer::Shown(_, _) => 1,
             Answer::Ran(ran) => ended_status(ran.ending),
@@ -57,7 +61,7 @@ impl Answer {
         match self {
             Answer::Ran(ran) => ran.ending,
             Answer::Accepted | Answer::Refused(_) | Answer::Certificate(_) => Ending::Whole,
-            Answer::Judged(_) | Answer::Explained(_) | Answer::Pages(_) => Ending::Whole,
+            Answer::Judged(_) | Answer::Explained(_, _) | Answer::Pages(_) => Ending::Whole,
             Answer::FileRefused(_, _) | Answer::Shown(_, _) => Ending::Whole,
         }
     }
@@ -68,7 +72,7 @@ impl Answer {
     {
         let line = match self {
             Answer::Certificate(bytes) => return Ok(bytes),
-            Answer::Explained(told) => return Ok(told.explained.output),
+            Answer::Explained(told, _) => return Ok(told.explained.output),
             Answer::Ran(ran) => return Ok(ran.journal),
             Answer::Shown(rows, verdict) => return shown(alloc, rows, verdict),
             Answer::Pages(pages) => pages.as_slice().join(alloc, "\n")?,
@@ -87,6 +91,16 @@ impl Answer {
             }
         };
         Ok(line.into_bytes())
+    }
+}
+
+/// The exit status of reports, beside which these files aren't read.
+fn told_status(status: u8, unread: &[UnreadFile]) -> u8
+    ensures { result ≡ spec.told_status status unread.now }
+{
+    match unread {
+        [] => status,
+        [_, ..] => 2,
     }
 }
 

@@ -157,6 +157,7 @@ fn report_of<'a, R: Threads + Wait + Sync, I: Inputs, P: Pictures, W: Watch>(
         } => {
             let asked = Asked { states, journal };
             let files = files.as_slice();
+            let mut remark = Vec::new(alloc);
             let said = explain_files(
                 alloc,
                 is_coloured(colour, coloured),
@@ -166,8 +167,9 @@ fn report_of<'a, R: Threads + Wait + Sync, I: Inputs, P: Pictures, W: Watch>(
                 files,
                 pictures,
                 &mut contents,
+                &mut remark,
             );
-            let before = explain_remark(alloc, inputs, files, journal, &said)?;
+            let before = explain_remark(alloc, remark, journal, &said)?;
             report_on(alloc, before, said, contents)
         }
         Request::Pages { names } => {

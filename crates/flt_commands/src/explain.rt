@@ -2,19 +2,20 @@
 
 ghost use Rattle.std.specs.Prelude.{◌≡◌, IfOk, OnOk, length, map, option_map, string_bytes};
 ghost use Rattle.flt_commands.specs.Explain as spec;
-ghost use Rattle.flt_commands.specs.Inputs.{Says};
+ghost use Rattle.flt_commands.specs.Remarks.{unread_in};
 ghost use Rattle.flt_notes.specs.Noted.{first_journal};
 ghost use Rattle.flt_notes.specs.Told.{AreNoted};
 ghost use Rattle.flt_details.specs.Reports.{texts_of};
 
 use crate::answer::Answer;
 use crate::failure::Failure;
-use crate::inputs::{Inputs, Pictures, read_all};
+use crate::inputs::{Inputs, Pictures, read_each};
+use crate::remarks::unread_lines;
 use crate::report::Contents;
 use crate::unwritten::Unwritten;
 use flt_details::Source;
 use flt_driven::journal_bytes;
-use flt_forms::{Style, lines, sarif};
+use flt_forms::{Style, UnreadFile, lines, sarif};
 use flt_notes::{Noted, Told, explain, first_journal};
 use flt_pages::page;
 use flt_words::{Form, visible};
@@ -88,15 +89,16 @@ fn noted(
     Ok(told.noted)
 }
 
-/// What is found of some texts, in a form.
+/// What is found of some texts, in a form, beside files that aren't read.
 fn told(
     alloc: Global,
     coloured: bool,
     form: Form,
     asked: Asked<'_>,
     sources: &[Source<'_>],
+    unread: &[UnreadFile],
 ) -> Result<Told, AllocError>
-    ensures told { IfOk result (λ t. spec.IsTold form sources.now t.explained) }
+    ensures told { IfOk result (λ t. spec.IsTold form sources.now unread.now t.explained) }
     ensures noted { IfOk result (λ t. AreNoted (texts_of sources.now) t.noted) }
     ensures notes { IfOk result (spec.IsNoteTold form) }
 {
@@ -104,10 +106,29 @@ fn told(
         Form::Human => return explain(alloc, coloured, sources, asked.states),
         Form::Short => lines(alloc, Style::Sentence, sources)?,
         Form::Lines => lines(alloc, Style::Object, sources)?,
-        Form::Sarif => sarif(alloc, sources)?,
+        Form::Sarif => sarif(alloc, sources, unread)?,
     };
     let noted = noted(alloc, asked, sources)?;
     Ok(Told { explained, noted })
+}
+
+/// What is found of the texts of some files, in a form, beside files that aren't read.
+fn explain_read(
+    alloc: Global,
+    coloured: bool,
+    form: Form,
+    asked: Asked<'_>,
+    names: &[&str],
+    texts: &[Vec<u8>],
+    unread: &[UnreadFile],
+) -> Result<Told, AllocError>
+    requires { length texts.now ≡ length names.now }
+    ensures { IfOk result (spec.IsToldUnder form (map (λ name. name.now) names.now) (map (λ text. text.items) texts.now) unread.now) }
+{
+    let names = told_names(alloc, form, names)?;
+    let sources = sources(alloc, names.as_slice(), texts)?;
+    let told = told(alloc, coloured, form, asked, sources.as_slice(), unread)?;
+    Ok(told)
 }
 
 /// Writes the journal of the first finding that has one, if there is one, into a file that is none of the inputs. Why that couldn't be
@@ -130,8 +151,8 @@ fn write_journal<P: Pictures>(
     }
 }
 
-/// What `explain` says of the names that it is given, in a form, and what these give. The journal of the first finding that has one is written into a file,
-/// where one is named.
+/// What `explain` says of those of the names that it is given which can be read, in a form, and what these give. `remark` becomes whole lines
+/// on the others. The journal of the first finding that has one is written into a file, where one is named.
 pub fn explain_files<'a, I: Inputs, P: Pictures>(
     alloc: Global,
     coloured: bool,
@@ -141,23 +162,34 @@ pub fn explain_files<'a, I: Inputs, P: Pictures>(
     files: &[&'a str],
     pictures: &mut P,
     contents: &mut Contents,
+    remark: &mut Vec<u8>,
 ) -> Result<Answer, Failure<'a>>
-    ensures said { Says (I.gives inputs.now) (map (λ name. name.now) files.now)
-        (spec.IsExplained form (option_map (λ name. name.now) asked.entry.journal) (map (λ name. name.now) files.now))
-        (map (λ text. text.items) contents.new.texts.items) result }
+    ensures said { spec.IsExplained (I.gives inputs.now) form (option_map (λ name. name.now) asked.entry.journal)
+        (map (λ name. name.now) files.now) (map (λ text. text.items) contents.new.texts.items) result }
+    ensures unread { IfOk result (λ answer. remark.new.items ≡ unread_in answer) }
     ensures written { IfOk result (spec.IsWritten (P.written pictures.new) (option_map (λ name. name.now) asked.entry.journal)) }
 {
-    contents.texts = read_all(alloc, inputs, files)?;
-    let names = told_names(alloc, form, files)?;
-    let sources = sources(alloc, names.as_slice(), contents.texts.as_slice())?;
-    let told = told(alloc, coloured, form, asked, sources.as_slice())?;
+    let read = read_each(alloc, inputs, files)?;
+    let names = read.names;
+    let unread = read.unread;
+    contents.texts = read.texts;
+    *remark = unread_lines(alloc, unread.as_slice())?;
+    let told = explain_read(
+        alloc,
+        coloured,
+        form,
+        asked,
+        names.as_slice(),
+        contents.texts.as_slice(),
+        unread.as_slice(),
+    )?;
     if let Some(name) = asked.journal {
         let noted = told.noted.as_slice();
         if let Err(why) = write_journal(alloc, files, name, noted, pictures)? {
             return Err(Failure::CannotWrite(name, why));
         }
     }
-    Ok(Answer::Explained(told))
+    Ok(Answer::Explained(told, unread))
 }
 
 /// The pages of some names, in order.

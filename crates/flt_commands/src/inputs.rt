@@ -1,7 +1,8 @@
 //! What a command reads.
 
 ghost use Rattle.std.specs.Io.KnownBytes.{Consumes, IsAtEnd};
-ghost use Rattle.std.specs.Prelude.{◌≡◌, ◌≢◌, ◌⊎◌, ◌≤◌, ◌<◌, ◌∷◌, ℕ, List, Option, IfOk, IfErr, IfNone, IfSome, OnOk, length, map, option_map};
+ghost use Rattle.std.specs.Prelude.{◌≡◌, ◌≢◌, ◌⊎◌, ◌≤◌, ◌<◌, [], ◌∷◌, ◌++◌, ℕ, List, Option, IfOk, IfErr, IfNone, IfSome, OnErr, OnOk, ◌&&◌, None, Some, false, length, map, option_map, true};
+ghost use Rattle.std.specs.List.{list_any};
 ghost use Rattle.std.specs.Prelude;
 ghost use Rattle.flt_commands.specs.Inputs as spec;
 ghost use Rattle.flt_commands.specs.System as system;
@@ -11,6 +12,7 @@ use crate::pieces::Pieces;
 use crate::system::Reader;
 use crate::unread::Unread;
 use crate::unwritten::Unwritten;
+use flt_forms::UnreadFile;
 use std::alloc::{AllocError, Global};
 use std::cmp::min;
 
@@ -235,6 +237,83 @@ pub fn read_all<'a, I: Inputs>(
     ensures err { IfErr result (spec.NamesFail (I.gives inputs.now) (map (λ name. name.now) names.now)) }
 {
     read_behind(alloc, inputs, false, names)
+}
+
+/// What one name gives behind others, or why it gives nothing. The standard input gives something once, and `is_used` says whether it is
+/// among the others.
+fn read_one<I: Inputs>(
+    alloc: Global,
+    inputs: &I,
+    is_used: bool,
+    name: &str,
+) -> Result<Result<Vec<u8>, Unread>, AllocError>
+    ensures given { IfOk result (λ found. IfOk found (λ text. I.gives inputs.now name.now (Some text.items))) }
+    ensures once { IfOk result (λ found. OnOk found (spec.is_standard name.now && is_used ≡ false)) }
+    ensures missing { IfOk result (λ found. OnErr found
+        ((spec.is_standard name.now && is_used ≡ true) ⊎ I.gives inputs.now name.now None)) }
+{
+    if is_used && is_standard(name) {
+        return Ok(Err(Unread::Again));
+    }
+    match inputs.read(alloc, name)? {
+        Some(text) => Ok(Ok(text)),
+        None => Ok(Err(inputs.why(name))),
+    }
+}
+
+/// The names of some files that are read, what these give, and the others.
+#[derive(Drop)]
+pub(crate) struct ReadFiles<'a> {
+    pub(crate) names: Vec<&'a str>,
+    pub(crate) texts: Vec<Vec<u8>>,
+    pub(crate) unread: Vec<UnreadFile>,
+}
+
+impl<'a> ReadFiles<'a> {
+    /// One name more, and what it gives or why it gives nothing. `is_used` says whether the standard input is among those before it.
+    fn add<I: Inputs>(
+        &mut self,
+        alloc: Global,
+        inputs: &I,
+        is_used: bool,
+        name: &'a str,
+    ) -> Result<(), AllocError>
+        ensures { (before : List (List ℕ)) → spec.AreReadIn (I.gives inputs.now) before self.old → is_used ≡ list_any spec.is_standard before →
+            OnOk result (spec.AreReadIn (I.gives inputs.now) (before ++ name.entry.now ∷ []) self.new) }
+    {
+        match read_one(alloc, inputs, is_used, name)? {
+            Ok(text) => {
+                self.names.push(name)?;
+                self.texts.push(text)?;
+            }
+            Err(why) => {
+                let file = why.file(alloc, name)?;
+                self.unread.push(file)?;
+            }
+        }
+        Ok(())
+    }
+}
+
+/// What each name gives, in order, or why it gives nothing. The standard input gives something once.
+pub(crate) fn read_each<'a, I: Inputs>(
+    alloc: Global,
+    inputs: &I,
+    names: &[&'a str],
+) -> Result<ReadFiles<'a>, AllocError>
+    ensures { IfOk result (spec.AreReadIn (I.gives inputs.now) (map (λ name. name.now) names.now)) }
+{
+    let mut read = ReadFiles {
+        names: Vec::new(alloc),
+        texts: Vec::new(alloc),
+        unread: Vec::new(alloc),
+    };
+    let mut is_used = false;
+    for name in names {
+        read.add(alloc, inputs, is_used, name)?;
+        is_used = is_used || is_standard(name);
+    }
+    Ok(read)
 }
 
 /// The same of a journal and the files behind it. The journal's bytes come in pieces.

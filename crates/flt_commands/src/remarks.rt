@@ -1,37 +1,69 @@
 //! What stands on the standard error above the line that says why there is no answer, or beside an answer.
 
-ghost use Rattle.std.specs.Prelude.{◌≡◌, [], IfOk, OnOk, option_map};
+ghost use Rattle.std.specs.Prelude.{◌≡◌, [], IfOk, OnOk, Some, flat_map, option_map, string_bytes};
 ghost use Rattle.flt_commands.specs.Remarks as spec;
 
 use crate::answer::Answer;
 use crate::failure::Failure;
-use crate::inputs::{Inputs, is_standard};
-use crate::unread::{Unread, unread_lines};
 use crate::unwritten::unwritten_lines;
+use flt_forms::UnreadFile;
 use flt_notes::first_journal;
 use flt_words::visible;
 use std::alloc::{AllocError, Global};
+use std::fmt;
 
-/// Whether the standard input is named more than once.
-fn is_named_again(files: &[&str]) -> bool {
-    let mut is_named = false;
-    for name in files {
-        if is_standard(name) {
-            if is_named {
-                return true;
-            }
-            is_named = true;
-        }
-    }
-    false
+/// What is said of a file that isn't read, under its name as it is shown.
+#[derive(Drop)]
+struct LinesOn<'a> {
+    name: &'a str,
+    why: &'a str,
+    help: &'a str,
 }
 
-/// Why nothing is read for a name among others.
-fn why<I: Inputs>(inputs: &I, files: &[&str], name: &str) -> Unread {
-    if is_standard(name) && is_named_again(files) {
-        return Unread::Again;
+impl fmt::Display for LinesOn<'_> {
+    ghost output = { λ l. Some (spec.lines_on l.name.now l.why.now l.help.now) };
+
+    fn fmt<W: fmt::Write>(&self, f: &mut fmt::Formatter<W>) -> fmt::Result {
+        let name = self.name;
+        let why = self.why;
+        let help = self.help;
+        write!(
+            f,
+            "error: `{name}` isn't read: {why}\n   = help: {help}\ncannot read {name}\n"
+        )
     }
-    inputs.why(name)
+}
+
+/// The same as text.
+fn lines_on<'a>(
+    alloc: Global,
+    name: &'a str,
+    why: &'a str,
+    help: &'a str,
+) -> Result<String, AllocError>
+    ensures { IfOk result (λ lines. string_bytes lines ≡ spec.lines_on name.now why.now help.now) }
+{
+    let lines = LinesOn { name, why, help };
+    format!(in alloc; "{lines}")
+}
+
+/// Whole lines that say that a file isn't read.
+fn lines_on_file(alloc: Global, file: &UnreadFile) -> Result<String, AllocError>
+    ensures { IfOk result (λ lines. string_bytes lines ≡ spec.unread_lines file.now) }
+{
+    let name = visible(alloc, file.name.as_str())?;
+    lines_on(alloc, name.as_str(), file.why.as_str(), file.help)
+}
+
+/// Whole lines that say which files aren't read.
+pub(crate) fn unread_lines(alloc: Global, files: &[UnreadFile]) -> Result<Vec<u8>, AllocError>
+    ensures { IfOk result (λ lines. lines.items ≡ flat_map spec.unread_lines files.now) }
+{
+    let mut lines = Vec::new(alloc);
+    for file in files {
+        lines.extend_from_slice(lines_on_file(alloc, file)?.as_bytes())?;
+    }
+    Ok(lines)
 }
 
 /// The line that says that no journal is written into a file where one is asked for, since no run is found; else nothing.
@@ -42,7 +74,7 @@ fn unfound_line(
 ) -> Result<Vec<u8>, AllocError>
     ensures { IfOk result (λ line. line.items ≡ spec.unfound (option_map (λ name. name.now) journal.entry) answer.now) }
 {
-    let (Some(name), Answer::Explained(told)) = (journal, answer) else {
+    let (Some(name), Answer::Explained(told, _)) = (journal, answer) else {
         return Ok(Vec::new(alloc));
     };
     match first_journal(told.noted.as_slice()) {
@@ -55,23 +87,25 @@ fn unfound_line(
     }
 }
 
-/// Whole lines on what `explain` of some files says: why one isn't read or written, or that no run is found for the journal that is asked
-/// for.
-pub(crate) fn explain_remark<I: Inputs>(
+/// Whole lines on what `explain` of some files says, behind those on files that aren't read: why a file isn't written, or that no run is
+/// found for the journal that is asked for.
+pub(crate) fn explain_remark(
     alloc: Global,
-    inputs: &I,
-    files: &[&str],
+    before: Vec<u8>,
     journal: Option<&str>,
     said: &Result<Answer, Failure<'_>>,
 ) -> Result<Vec<u8>, AllocError>
+    requires { IfOk said.now (λ answer. before.items ≡ spec.unread_in answer) }
     ensures { IfOk result (λ lines. spec.IsFound (option_map (λ name. name.now) journal.entry) said.now lines.items) }
 {
-    match said {
-        Ok(answer) => unfound_line(alloc, journal, answer),
-        Err(Failure::CannotRead(name)) => unread_lines(alloc, name, why(inputs, files, name)),
-        Err(Failure::CannotWrite(name, why)) => unwritten_lines(alloc, name, *why),
-        Err(_) => Ok(Vec::new(alloc)),
-    }
+    let lines = match said {
+        Ok(answer) => unfound_line(alloc, journal, answer)?,
+        Err(Failure::CannotWrite(name, why)) => unwritten_lines(alloc, name, *why)?,
+        Err(_) => Vec::new(alloc),
+    };
+    let mut all = before;
+    all.extend_from_slice(lines.as_slice())?;
+    Ok(all)
 }
 
 /// Whole lines that say why a picture isn't written, where that is what is said; else nothing.

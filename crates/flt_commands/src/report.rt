@@ -15,7 +15,7 @@ use std::alloc::{AllocError, Global};
 /// What a command comes to: what was read for it, and what goes where.
 #[derive(Drop)]
 pub struct Report {
-    /// What the names among the words give, in their order; of a journal see `journal`.
+    /// What the names among the words give, in their order; none for a file of `explain` that isn't read, and of a journal see `journal`.
     pub texts: Vec<Vec<u8>>,
     /// The entries of the journal that was read. Its bytes, which they spell, are given back while it is read.
     pub journal: Option<Journal>,

@@ -1,7 +1,9 @@
 //! Why a file isn't read.
 
+ghost use Rattle.std.specs.Prelude.{◌≡◌, IfOk, string_bytes};
+
+use flt_forms::UnreadFile;
 use flt_pages::page;
-use flt_words::visible;
 use std::alloc::{AllocError, Global};
 use std::io;
 
@@ -109,13 +111,17 @@ impl Unread {
             Unread::Refused(_) | Unread::Failed => "copy it into a file first",
         }
     }
-}
 
-/// Whole lines that say why nothing is read for a name.
-pub(crate) fn unread_lines(alloc: Global, name: &str, why: Unread) -> Result<Vec<u8>, AllocError> {
-    let words = why.words(alloc, name)?;
-    let help = why.help();
-    let name = visible(alloc, name)?;
-    let lines = format!(in alloc; "error: `{name}` isn't read: {words}\n   = help: {help}\n")?;
-    Ok(lines.into_bytes())
+    /// The file of a name, for which nothing is read.
+    pub(crate) fn file(self, alloc: Global, name: &str) -> Result<UnreadFile, AllocError>
+        ensures { IfOk result (λ file. string_bytes file.name ≡ name.now) }
+    {
+        let why = self.words(alloc, name)?;
+        let name = String::from_str(alloc, name)?;
+        Ok(UnreadFile {
+            name,
+            why,
+            help: self.help(),
+        })
+    }
 }

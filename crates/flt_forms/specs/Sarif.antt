@@ -1,5 +1,5 @@
 -- What is found of texts, as SARIF 2.1.0 (OASIS).
-use Rattle.std.specs.Prelude.{◌≡◌, ℕ, List, [], ◌∷◌, ◌++◌, Option, Some, None, codes, flat_map, max}
+use Rattle.std.specs.Prelude.{◌≡◌, ℕ, List, [], ◌∷◌, ◌++◌, Option, Some, None, codes, false, flat_map, max, string_bytes}
 use Rattle.flt_explain.specs.declared.finding.Finding.{Finding}
 use Rattle.flt_hints.specs.Trouble.{IsDescribed}
 use Rattle.flt_hints.specs.declared.troubles.Trouble.{Trouble}
@@ -25,9 +25,10 @@ use Rattle.flt_syntax.specs.declared.fault.SyntaxFault.{SyntaxFault}
 use Rattle.flt_syntax.specs.declared.fault.FaultKind.TheVariants.{E01, E02, E03, E04, E05, E06, E07, E08}
 use Rattle.flt_tree.specs.Names.{Text}
 use Rattle.flt_tree.specs.declared.filter.Filter.{Filter}
-use Rattle.json.specs.Token.{Token, begin_object, end_object, key}
+use Rattle.json.specs.Token.{Token, begin_object, boolean, end_object, key}
 use Rattle.flt_forms.specs.Members.{array_member, filled_member, line_of, number_member, object_member, string_member, text_member}
 use Rattle.flt_forms.specs.Uri.{uri_of}
+use Rattle.flt_forms.specs.declared.unread.UnreadFile.{UnreadFile}
 
 -- an object with these members, in an array
 abbrev pub item : List Token → List Token
@@ -244,16 +245,47 @@ driver_members = string_member (codes "name") (codes "fltstack") ++ array_member
 abbrev pub tool : List Token
 tool = object_member (codes "tool") (object_member (codes "driver") driver_members)
 
--- a run, with these results
-abbrev pub run : List Token → List Token
-run results = begin_object ∷ (tool ++ (array_member (codes "results") results ++ end_object ∷ []))
+-- ---- files that aren't read
 
--- the whole document, with these results
-abbrev pub document : List Token → List Token
-document results =
+-- why one isn't
+abbrev pub reason : List ℕ → List Token
+reason why = object_member (codes "message") (string_member (codes "text") why)
+
+-- a file as a whole
+abbrev pub whole_file : List ℕ → List Token
+whole_file uri = object_member (codes "physicalLocation") (object_member (codes "artifactLocation") (text_member (codes "uri") uri))
+
+abbrev pub unread_places : List ℕ → List Token
+unread_places name = array_member (codes "locations") (item (whole_file (uri_of name)))
+
+-- that a file isn't read, and why
+abbrev pub notification : UnreadFile → List Token
+notification file = item (level ++ (reason (string_bytes file.why) ++ unread_places (string_bytes file.name)))
+
+-- the tool failed, with a notification for each of these files
+abbrev pub invocation : List UnreadFile → List Token
+invocation files =
+    item ((key (codes "executionSuccessful") ∷ boolean false ∷ [])
+    ++ array_member (codes "toolExecutionNotifications") (flat_map notification files))
+
+-- that is said where there are some
+abbrev pub invocations : List UnreadFile → List Token
+invocations [] = []
+invocations (file ∷ files) = array_member (codes "invocations") (invocation (file ∷ files))
+
+-- ---- the run
+
+-- a run in which these files aren't read, with these results of the others
+abbrev pub run : List UnreadFile → List Token → List Token
+run unread results = begin_object ∷ (tool ++ (invocations unread ++ (array_member (codes "results") results ++ end_object ∷ [])))
+
+-- the whole document, of this run
+abbrev pub document : List UnreadFile → List Token → List Token
+document unread results =
     begin_object ∷ (string_member (codes "$schema") (codes "https://json.schemastore.org/sarif-2.1.0.json")
-    ++ (string_member (codes "version") (codes "2.1.0") ++ (array_member (codes "runs") (run results) ++ end_object ∷ [])))
+    ++ (string_member (codes "version") (codes "2.1.0") ++ (array_member (codes "runs") (run unread results) ++ end_object ∷ [])))
 
--- one document for several texts
-abbrev pub IsSarif : List Source → List ℕ → ℕ → Type 0
-IsSarif sources printed status = (results : List Token) × AreResults sources results status × (printed ≡ line_of (document results))
+-- one document for several texts, beside which these files aren't read
+abbrev pub IsSarif : List Source → List UnreadFile → List ℕ → ℕ → Type 0
+IsSarif sources unread printed status =
+    (results : List Token) × AreResults sources results status × (printed ≡ line_of (document unread results))

@@ -13,6 +13,7 @@ use crate::fault::help_of;
 use crate::finding::put_rule_text;
 use crate::members::{close_array, close_object, open_array, open_object, put_key, put_string};
 use crate::results::{put_fault_result, put_results, put_rule_name};
+use crate::unread::{UnreadFile, put_invocations};
 use crate::uri::uri;
 use flt_details::{Explained, Judged, Source, details, fault_name, judge};
 use flt_explain::Finding;
@@ -255,24 +256,35 @@ fn put_results_member(
 
 // ---- the whole
 
-fn put_run(alloc: Global, writer: &mut Writer, sources: &[Source<'_>]) -> Result<u8, AllocError>
+fn put_run(
+    alloc: Global,
+    writer: &mut Writer,
+    sources: &[Source<'_>],
+    unread: &[UnreadFile],
+) -> Result<u8, AllocError>
     ensures { IfOk result (λ status. (ts : List Token) × spec.AreResults sources.now ts status
-        × Added writer.old writer.new (spec.run ts)) }
+        × Added writer.old writer.new (spec.run unread.now ts)) }
 {
     open_object(writer)?;
     put_tool(alloc, writer)?;
+    put_invocations(alloc, writer, unread)?;
     let status = put_results_member(alloc, writer, sources)?;
     close_object(writer)?;
     Ok(status)
 }
 
-fn put_runs(alloc: Global, writer: &mut Writer, sources: &[Source<'_>]) -> Result<u8, AllocError>
+fn put_runs(
+    alloc: Global,
+    writer: &mut Writer,
+    sources: &[Source<'_>],
+    unread: &[UnreadFile],
+) -> Result<u8, AllocError>
     ensures { IfOk result (λ status. (ts : List Token) × spec.AreResults sources.now ts status
-        × Added writer.old writer.new (array_member (codes "runs") (spec.run ts))) }
+        × Added writer.old writer.new (array_member (codes "runs") (spec.run unread.now ts))) }
 {
     put_key(writer, "runs")?;
     open_array(writer)?;
-    let status = put_run(alloc, writer, sources)?;
+    let status = put_run(alloc, writer, sources, unread)?;
     close_array(writer)?;
     Ok(status)
 }
@@ -281,9 +293,10 @@ fn put_document(
     alloc: Global,
     writer: &mut Writer,
     sources: &[Source<'_>],
+    unread: &[UnreadFile],
 ) -> Result<u8, AllocError>
     ensures { IfOk result (λ status. (ts : List Token) × spec.AreResults sources.now ts status
-        × Added writer.old writer.new (spec.document ts)) }
+        × Added writer.old writer.new (spec.document unread.now ts)) }
 {
     open_object(writer)?;
     put_string(
@@ -292,23 +305,28 @@ fn put_document(
         "https://json.schemastore.org/sarif-2.1.0.json",
     )?;
     put_string(writer, "version", "2.1.0")?;
-    let status = put_runs(alloc, writer, sources)?;
+    let status = put_runs(alloc, writer, sources, unread)?;
     close_object(writer)?;
     Ok(status)
 }
 
 /// What is wrong with some texts, as one SARIF 2.1.0 document and a line feed: a result for each finding of a text that parses, in
-/// their order, and one for a text that doesn't. Names are made relative references. The status is that of `explain`: 0 where nothing
-/// is found, 1 where something is, 2 where a text doesn't parse.
+/// their order, and one for a text that doesn't; and where files aren't read, that the tool failed, with a notification for each of them.
+/// Names are made relative references. The status is that of the texts: 0 where nothing is found, 1 where something is, 2 where a text
+/// doesn't parse.
 ///
 /// # Errors
 ///
 /// Where a growth was refused.
-pub fn sarif(alloc: Global, sources: &[Source<'_>]) -> Result<Explained, AllocError>
-    ensures { IfOk result (λ e. spec.IsSarif sources.now e.output.items e.status) }
+pub fn sarif(
+    alloc: Global,
+    sources: &[Source<'_>],
+    unread: &[UnreadFile],
+) -> Result<Explained, AllocError>
+    ensures { IfOk result (λ e. spec.IsSarif sources.now unread.now e.output.items e.status) }
 {
     let mut writer = Writer::new(Vec::new(alloc));
-    let status = put_document(alloc, &mut writer, sources)?;
+    let status = put_document(alloc, &mut writer, sources, unread)?;
     let mut output = writer.into_inner();
     output.push(b'\n')?;
     Ok(Explained { output, status })

@@ -1,4 +1,5 @@
-//! What `explain` finds, for other programs: line by line, or as SARIF. It exports `lines` and `sarif`.
+//! What `explain` finds, for other programs: line by line, or as SARIF. It exports `lines` and `sarif`, and
+//! `UnreadFile`, by which SARIF tells of a file that isn't read.
 #![tactic(auto)]
 
 mod as_lines;
@@ -9,7 +10,9 @@ mod members;
 mod results;
 mod short;
 mod steps;
+mod unread;
 mod uri;
 
 pub use as_lines::{Style, lines};
 pub use as_sarif::sarif;
+pub use unread::UnreadFile;

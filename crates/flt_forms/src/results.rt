@@ -28,7 +28,11 @@ fn put_message(alloc: Global, writer: &mut Writer, words: &Vec<u8>) -> Result<()
     close_object(writer)
 }
 
-fn put_artifact(alloc: Global, writer: &mut Writer, uri: &Vec<u8>) -> Result<(), AllocError>
+pub(crate) fn put_artifact(
+    alloc: Global,
+    writer: &mut Writer,
+    uri: &Vec<u8>,
+) -> Result<(), AllocError>
     ensures { Adds result writer.old writer.new
         (object_member (codes "artifactLocation") (text_member (codes "uri") uri.now.items)) }
 {
@@ -384,7 +388,7 @@ fn put_flows(
 
 // ---- results
 
-fn put_level(writer: &mut Writer) -> Result<(), AllocError>
+pub(crate) fn put_level(writer: &mut Writer) -> Result<(), AllocError>
     ensures { Adds result writer.old writer.new spec.level }
 {
     put_string(writer, "level", "error")

@@ -5,7 +5,7 @@ use Rattle.std.proofs.lemmas.List.Sorted.{All-permutation, IsPermutation-reverse
 use Rattle.std.proofs.lemmas.List.Elements.{All-nil, All-cons, All-head, All-tail, All-push, All-weaker}
 use Rattle.flt_model.specs.Program.{filters_of}
 use Rattle.flt_notes.specs.Readings.{AreParsed, IsOther, IsUnread}
-use Rattle.flt_notes.specs.Reported.{HasNotice, HasNoticeStatus, HasReport, HasStatus, IsReport, IsStatus, stack_of}
+use Rattle.flt_notes.specs.Reported.{IsCount, HasNotice, HasNoticeStatus, HasReport, HasStatus, IsReport, IsStatus, stack_of}
 use Rattle.std.specs.declared.alloc.AllocError.{AllocError}
 use Rattle.flt_syntax.specs.declared.fault.SyntaxFault.{SyntaxFault}
 use Rattle.flt_tree.specs.Names.{Text}
@@ -26,6 +26,7 @@ use Rattle.flt_schedules.specs.declared.schedules.Suspect.{Suspect}
 use Rattle.flt_notes.specs.declared.noted.Noted.{Noted}
 use Rattle.flt_notes.specs.declared.printing.Known.{Known}
 use Rattle.flt_notes.specs.declared.printing.Output.{Output}
+use Rattle.flt_notes.specs.declared.totals.Tally.{Tally}
 use Rattle.flt_notes.proofs.Printed.{stand_in_more, stand_with_one}
 
 said_with_one : (noted : List Noted) (n : Noted) →
@@ -91,22 +92,39 @@ output_noted trees old new n lines is note (rest, begins) added pushed = record 
 }
 
 -- how a text's reports end
-pub reports_fault : (filters : List Filter) (text : Text) (f : SyntaxFault) (printed : List ℕ) (r : Result ℕ AllocError) → IsUnread text f →
-    IfOk r (ClosesFault f printed) → IfOk r (IsReport filters text printed)
-reports_fault filters text f printed (Ok status) is (two, ends) = record { is = inl (Unread f, is, two, ends) }
+pub reports_fault : (filters : List Filter) (text : Text) (f : SyntaxFault) (printed : List ℕ) (r : Result Tally AllocError) → IsUnread text f →
+    IfOk r (ClosesFault f printed) → IfOk r (λ tally. IsReport filters text printed tally.status)
+reports_fault filters text f printed (Ok tally) is (two, one, ends) = record { is = inl (Unread f, is, two, ends) }
 reports_fault filters text f printed (Err e) is closes = tt
 
-pub reports_findings : (filters : List Filter) (text : Text) (tree : Tree) (graph : Graph) (found : List Finding) (printed : List ℕ) (r : Result ℕ AllocError) →
-    IsKnown text tree graph found → IfOk r (ClosesFindings found printed) → IfOk r (IsReport filters text printed)
-reports_findings filters text tree graph found printed (Ok status) known (same, ends) = record { is = inl (Found tree graph found, known, same, ends) }
+pub reports_findings : (filters : List Filter) (text : Text) (tree : Tree) (graph : Graph) (found : List Finding) (printed : List ℕ) (r : Result Tally AllocError) →
+    IsKnown text tree graph found → IfOk r (ClosesFindings found printed) → IfOk r (λ tally. IsReport filters text printed tally.status)
+reports_findings filters text tree graph found printed (Ok tally) known (same, count, ends) = record { is = inl (Found tree graph found, known, same, ends) }
 reports_findings filters text tree graph found printed (Err e) known closes = tt
 
 -- how what is said of a certificate, a journal or a script ends
-pub reports_notice : (filters : List Filter) (text : Text) (kind : Kind) (printed : List ℕ) (r : Result ℕ AllocError) → IsOther text kind →
-    IfOk r (ClosesOther (stack_of filters) kind text printed) → IfOk r (IsReport filters text printed)
-reports_notice filters text kind printed (Ok status) other (n, is, closes) =
-    record { is = inr (n, record { kind = kind; other = other; is = is }, closes.0, closes.1) }
+pub reports_notice : (filters : List Filter) (text : Text) (kind : Kind) (printed : List ℕ) (r : Result Tally AllocError) → IsOther text kind →
+    IfOk r (ClosesOther (stack_of filters) kind text printed) → IfOk r (λ tally. IsReport filters text printed tally.status)
+reports_notice filters text kind printed (Ok tally) other (n, is, closes) =
+    record { is = inr (n, record { kind = kind; other = other; is = is }, closes.0, closes.2) }
 reports_notice filters text kind printed (Err e) other closes = tt
+
+-- how many findings a file has
+pub counts_fault : (filters : List Filter) (text : Text) (f : SyntaxFault) (printed : List ℕ) (r : Result Tally AllocError) → IsUnread text f →
+    IfOk r (ClosesFault f printed) → IfOk r (λ tally. IsCount filters text tally.findings)
+counts_fault filters text f printed (Ok tally) is (two, one, ends) = record { is = inl (Unread f, is, one) }
+counts_fault filters text f printed (Err e) is closes = tt
+
+pub counts_findings : (filters : List Filter) (text : Text) (tree : Tree) (graph : Graph) (found : List Finding) (printed : List ℕ) (r : Result Tally AllocError) →
+    IsKnown text tree graph found → IfOk r (ClosesFindings found printed) → IfOk r (λ tally. IsCount filters text tally.findings)
+counts_findings filters text tree graph found printed (Ok tally) known (same, count, ends) = record { is = inl (Found tree graph found, known, count) }
+counts_findings filters text tree graph found printed (Err e) known closes = tt
+
+pub counts_notice : (filters : List Filter) (text : Text) (kind : Kind) (printed : List ℕ) (r : Result Tally AllocError) → IsOther text kind →
+    IfOk r (ClosesOther (stack_of filters) kind text printed) → IfOk r (λ tally. IsCount filters text tally.findings)
+counts_notice filters text kind printed (Ok tally) other (n, is, closes) =
+    record { is = inr (n, record { kind = kind; other = other; is = is }, closes.1) }
+counts_notice filters text kind printed (Err e) other closes = tt
 
 status_of_either : (filters : List Filter) (text : Text) (printed : List ℕ) (status : ℕ) →
     HasReport text printed status ⊎ HasNotice filters text printed status → HasStatus text status ⊎ HasNoticeStatus filters text status

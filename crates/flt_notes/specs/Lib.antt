@@ -4,3 +4,4 @@ pub mod Printing
 pub mod Readings
 pub mod Reported
 pub mod Told
+pub mod Totals

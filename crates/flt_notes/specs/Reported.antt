@@ -1,16 +1,18 @@
 -- What is reported of files: of texts, and of certificates, journals and scripts. This project's own program.
-use Rattle.std.specs.Prelude.{◌≡◌, ◌⊎◌, ℕ, List, [], ◌∷◌, Some, None, max}
+use Rattle.std.specs.Prelude.{◌≡◌, ◌⊎◌, ℕ, ◌+◌, List, [], ◌∷◌, ◌++◌, Some, None, length, max}
 use Rattle.flt_script.specs.ScriptText.{Stack}
 use Rattle.flt_tree.specs.Names.{Text}
 use Rattle.flt_tree.specs.declared.filter.Filter.{Filter}
 use Rattle.flt_reasons.specs.Notice as notices
 use Rattle.flt_reasons.specs.declared.notice.Kind.{Kind}
 use Rattle.flt_reasons.specs.declared.notice.Notice.{Notice}
+use Rattle.flt_reasons.specs.declared.notice.Notice.TheVariants.{Whole, Malformed}
 use Rattle.flt_details.specs.Closing as texts
 use Rattle.flt_details.specs.Reports.{EndsWith, IsJudged, status_of}
 use Rattle.flt_details.specs.declared.judged.Judged.{Judged}
 use Rattle.flt_details.specs.declared.judged.Judged.TheVariants.{Unread, Known}
 use Rattle.flt_notes.specs.Readings.{AreParsed, IsOther, IsUnread}
+use Rattle.flt_notes.specs.Totals.{some, summary}
 
 -- what a text is that isn't taken for anything else: it has this first fault, or it is known
 abbrev pub IsText : Text → Judged → Type 0
@@ -60,8 +62,49 @@ AreReportsOf filters (t ∷ []) printed status = IsReport filters t printed stat
 AreReportsOf filters (t ∷ u ∷ ts) printed status =
     (first : ℕ) × (others : ℕ) × IsStatus filters t first × AreReportsOf filters (u ∷ ts) printed others × (status ≡ max first others)
 
+-- how many findings a text has; one that doesn't parse has its first fault
+abbrev pub findings_in : Judged → ℕ
+findings_in (Unread f) = 1
+findings_in (Known tree graph found) = length found
+
+-- the same of a certificate, a journal or a script: its first malformed line, or none
+abbrev pub faults_in : Notice → ℕ
+faults_in (Whole kind count) = 0
+faults_in (Malformed kind reason) = 1
+
+abbrev pub HasFindings : Text → ℕ → Type 0
+HasFindings text count = (j : Judged) × IsText text j × (count ≡ findings_in j)
+
+abbrev pub HasFaults : List Filter → Text → ℕ → Type 0
+HasFaults filters text count = (n : Notice) × IsNoticeOf filters text n × (count ≡ faults_in n)
+
+-- how many findings a file has
+pub record IsCount (filters : List Filter) (text : Text) (count : ℕ) : Type 0 where
+  pub is : HasFindings text count ⊎ HasFaults filters text count
+
+-- how many findings files have, and how many of these have some
+pub data AreCounted (filters : List Filter) : List Text → ℕ → ℕ → Type 0 where
+  none : AreCounted filters [] 0 0
+  one_more : {texts : List Text} {findings files : ℕ} (text : Text) (count : ℕ) → AreCounted filters texts findings files →
+      IsCount filters text count → AreCounted filters (texts ++ text ∷ []) (findings + count) (files + some count)
+
+-- behind the reports of several files stand an empty line and one that says how much is found
+pub record AreSummed (filters : List Filter) (texts : List Text) (printed : List ℕ) (status : ℕ) : Type 0 where
+  pub reports : List ℕ
+  pub are : AreReportsOf filters texts reports status
+  pub findings : ℕ
+  pub files : ℕ
+  pub counted : AreCounted filters texts findings files
+  pub whole : printed ≡ reports ++ (10 ∷ (summary findings files (length texts) ++ 10 ∷ []))
+
+-- what is reported of files, where there are none, one or several
+abbrev pub AreAllReports : List Filter → List Text → List ℕ → ℕ → Type 0
+AreAllReports filters [] printed status = (printed ≡ []) × (status ≡ 0)
+AreAllReports filters (t ∷ []) printed status = IsReport filters t printed status
+AreAllReports filters (t ∷ u ∷ ts) printed status = AreSummed filters (t ∷ u ∷ ts) printed status
+
 -- the same, where the filters are those of the texts that parse
 pub record AreReports (texts : List Text) (printed : List ℕ) (status : ℕ) : Type 0 where
   pub filters : List Filter
   pub parsed : AreParsed texts filters
-  pub are : AreReportsOf filters texts printed status
+  pub are : AreAllReports filters texts printed status

@@ -19,13 +19,14 @@ pub struct Told {
     pub noted: Items<Noted>,
 }
 
-/// What is wrong with some texts, for people to read: each finding with the lines that show it, a way that leads there, how to mend it,
-/// and a journal that breaks what its rule prevents, if one is found. Journals are looked for by one search for all findings of a text, up to
+/// What is wrong with some texts, for people to read: each finding with the lines that show it, a way that leads there, how to mend it, and
+/// a journal that breaks what its rule prevents, if one is found. Journals are looked for by one search for all findings of a text, up to
 /// so many states: where several texts parse and the text's filter meets another one on an operation, half of them on all that parse, and
-/// for what isn't found there on the filter alone. The last line of each text is what `analyse` says of it, or `nothing found`. A text that doesn't
-/// parse and begins as a certificate, a journal or a script is taken for one: what is said of it is why a line of it is malformed, and its last
-/// line is what `check`, `replay` or `run` say of it, or `nothing found`. A script is taken for one for the filters of the texts that
-/// parse, or, where none does, for whichever filters it detaches. With `coloured`, marks of a terminal colour it.
+/// for what isn't found there on the filter alone. The last line of each text is what `analyse` says of it, or `nothing found`; behind
+/// those of several texts a line says how many findings there are, and in how many of the texts. A text that doesn't parse and begins as a
+/// certificate, a journal or a script is taken for one: what is said of it is why a line of it is malformed, and its last line is what
+/// `check`, `replay` or `run` say of it, or `nothing found`. A script is taken for one for the filters of the texts that parse, or, where
+/// none does, for whichever filters it detaches. With `coloured`, marks of a terminal colour it.
 ///
 /// # Errors
 ///

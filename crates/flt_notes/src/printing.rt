@@ -1,11 +1,11 @@
 //! Reports and notes, put together.
 
-ghost use Rattle.std.specs.Prelude.{◌≡◌, ◌++◌, All, IfOk, OnOk, max, option_map, option_to_list, slice_get};
+ghost use Rattle.std.specs.Prelude.{◌≡◌, [], ◌++◌, All, IfOk, OnOk, option_map, option_to_list, slice_get};
 ghost use Rattle.flt_model.specs.Program.{filters_of};
 ghost use Rattle.flt_notes.specs.Lines.{BeginsWith, said};
 ghost use Rattle.flt_notes.specs.Printing as spec;
 ghost use Rattle.flt_notes.specs.Readings.{AreStudied, IsStudied, texts_read};
-ghost use Rattle.flt_notes.specs.Reported.{AreReportsOf, IsReport, IsStatus, stack_of};
+ghost use Rattle.flt_notes.specs.Reported.{AreAllReports, AreCounted, AreReportsOf, AreSummed, IsCount, IsReport, IsStatus, faults_in as faults, stack_of};
 
 use crate::again::Again;
 use crate::also::also_broken;
@@ -14,6 +14,7 @@ use crate::noted::{Noted, schedule_of};
 use crate::notices::{detaches, notice_lines};
 use crate::readings::{Reading, Studied};
 use crate::setters::Setter;
+use crate::totals::{Summary, Tally, Total};
 use flt_details::{Source, fault_line, findings_line};
 use flt_explain::Finding;
 use flt_graph::{Graph, Place};
@@ -330,7 +331,7 @@ impl Stage<'_> {
         output: &mut Output,
         source: Source<'_>,
         known: Known<'_>,
-    ) -> Result<u8, AllocError>
+    ) -> Result<Tally, AllocError>
         requires known { spec.IsKnownIn self.now.trees.now known }
         requires old { spec.IsOutput self.now.trees.now output.old }
         ensures output { OnOk result (spec.IsOutput self.now.trees.now output.new) }
@@ -338,7 +339,10 @@ impl Stage<'_> {
     {
         self.put_findings(output, source, known)?;
         output.lines(findings_line(self.alloc, known.found)?.as_bytes())?;
-        Ok(u8::from(!known.found.is_empty()))
+        Ok(Tally {
+            status: u8::from(!known.found.is_empty()),
+            findings: known.found.len(),
+        })
     }
 
     /// Writes what is reported of a text that doesn't parse.
@@ -347,14 +351,17 @@ impl Stage<'_> {
         output: &mut Output,
         source: Source<'_>,
         fault: SyntaxFault,
-    ) -> Result<u8, AllocError>
+    ) -> Result<Tally, AllocError>
         requires old { spec.IsOutput self.now.trees.now output.old }
         ensures output { OnOk result (spec.IsOutput self.now.trees.now output.new) }
         ensures report { IfOk result (spec.ClosesFault fault output.new.bytes.items) }
     {
         output.lines(report_unread(self.alloc, self.coloured, source)?.as_slice())?;
         output.lines(fault_line(self.alloc, fault)?.as_bytes())?;
-        Ok(2)
+        Ok(Tally {
+            status: 2,
+            findings: 1,
+        })
     }
 
     /// The filters of a stack, where there are any.
@@ -373,7 +380,7 @@ impl Stage<'_> {
         output: &mut Output,
         source: Source<'_>,
         notice: &Notice<'_>,
-    ) -> Result<u8, AllocError>
+    ) -> Result<Tally, AllocError>
         requires old { spec.IsOutput self.now.trees.now output.old }
         ensures output { OnOk result (spec.IsOutput self.now.trees.now output.new) }
         ensures report { IfOk result (spec.ClosesNotice notice.now output.new.bytes.items) }
@@ -382,7 +389,10 @@ impl Stage<'_> {
         let said = notice_lines(self.alloc, self.coloured, is_alone, source.name, notice)?;
         output.lines(said.as_slice())?;
         output.lines(notice.closing(self.alloc)?.as_bytes())?;
-        Ok(notice.status())
+        Ok(Tally {
+            status: notice.status(),
+            findings: faults_in(notice),
+        })
     }
 
     /// Writes what is said of what is taken for a certificate, a journal or a script.
@@ -391,7 +401,7 @@ impl Stage<'_> {
         output: &mut Output,
         source: Source<'_>,
         kind: Kind,
-    ) -> Result<u8, AllocError>
+    ) -> Result<Tally, AllocError>
         requires old { spec.IsOutput self.now.trees.now output.old }
         ensures output { OnOk result (spec.IsOutput self.now.trees.now output.new) }
         ensures report { IfOk result
@@ -401,12 +411,15 @@ impl Stage<'_> {
         self.put_notice(output, source, &notice)
     }
 
-    /// Writes what is found of a text, and gives its status.
-    fn put_text(&self, output: &mut Output, studied: &Studied<'_>) -> Result<u8, AllocError>
+    /// Writes what is found of a text, and gives its status and how many findings it has.
+    fn put_text(&self, output: &mut Output, studied: &Studied<'_>) -> Result<Tally, AllocError>
         requires text { IsStudied self.now.trees.now studied.now }
         requires old { spec.IsOutput self.now.trees.now output.old }
         ensures output { OnOk result (spec.IsOutput self.now.trees.now output.new) }
-        ensures report { IfOk result (IsReport (filters_of self.now.trees.now) studied.now.source.text.now output.new.bytes.items) }
+        ensures report { IfOk result (λ tally.
+            IsReport (filters_of self.now.trees.now) studied.now.source.text.now output.new.bytes.items tally.status) }
+        ensures count { IfOk result (λ tally.
+            IsCount (filters_of self.now.trees.now) studied.now.source.text.now tally.findings) }
     {
         match &studied.reading {
             Reading::Unread(fault) => self.put_unread(output, studied.source, *fault),
@@ -422,20 +435,65 @@ impl Stage<'_> {
         }
     }
 
-    /// Writes what is found of a text, with an empty line behind it, and gives its status.
-    fn put_before(&self, output: &mut Output, studied: &Studied<'_>) -> Result<u8, AllocError>
+    /// Writes what is found of a text, with an empty line behind it, and gives its status and how many findings it has.
+    fn put_before(&self, output: &mut Output, studied: &Studied<'_>) -> Result<Tally, AllocError>
         requires text { IsStudied self.now.trees.now studied.now }
         requires old { spec.IsOutput self.now.trees.now output.old }
         ensures output { OnOk result (spec.IsOutput self.now.trees.now output.new) }
-        ensures status { IfOk result (IsStatus (filters_of self.now.trees.now) studied.now.source.text.now) }
+        ensures status { IfOk result (λ tally. IsStatus (filters_of self.now.trees.now) studied.now.source.text.now tally.status) }
+        ensures count { IfOk result (λ tally. IsCount (filters_of self.now.trees.now) studied.now.source.text.now tally.findings) }
     {
-        let status = self.put_text(output, studied)?;
+        let tally = self.put_text(output, studied)?;
         output.lines(b"\n")?;
-        Ok(status)
+        Ok(tally)
     }
 
-    /// Writes what is found of each text, and gives the greatest status.
+    /// Writes what is found of each text, and gives what they come to.
     #[tactic(auto, using(crate::proofs::Together::begun))]
+    fn put_each(&self, output: &mut Output, each: &[Studied<'_>]) -> Result<Total, AllocError>
+        requires texts { AreStudied self.now.trees.now each.now }
+        requires old { spec.IsOutput self.now.trees.now output.old }
+        ensures output { OnOk result (spec.IsOutput self.now.trees.now output.new) }
+        ensures reports { IfOk result (λ total.
+            AreReportsOf (filters_of self.now.trees.now) (texts_read each.now) output.new.bytes.items total.status) }
+        ensures counted { IfOk result (λ total.
+            AreCounted (filters_of self.now.trees.now) (texts_read each.now) total.findings total.files) }
+    {
+        let mut total = Total {
+            status: 0,
+            findings: 0,
+            files: 0,
+        };
+        let [before @ .., last] = each else {
+            return Ok(total);
+        };
+        for studied in before {
+            let tally = self.put_before(output, studied)?;
+            total = total.and(tally)?;
+        }
+        let tally = self.put_text(output, last)?;
+        Ok(total.and(tally)?)
+    }
+
+    /// Writes the same, and behind it how much is found. It gives the greatest status.
+    fn put_several(&self, output: &mut Output, each: &[Studied<'_>]) -> Result<u8, AllocError>
+        requires texts { AreStudied self.now.trees.now each.now }
+        requires old { spec.IsOutput self.now.trees.now output.old }
+        ensures output { OnOk result (spec.IsOutput self.now.trees.now output.new) }
+        ensures reports { IfOk result (AreSummed (filters_of self.now.trees.now) (texts_read each.now) output.new.bytes.items) }
+    {
+        let total = self.put_each(output, each)?;
+        let summary = Summary {
+            findings: total.findings,
+            files: total.files,
+            all: each.len(),
+        };
+        let line = format!(in self.alloc; "\n{summary}\n")?;
+        output.lines(line.as_bytes())?;
+        Ok(total.status)
+    }
+
+    /// Writes what is found of each text, and behind several of them how much it is. It gives the greatest status.
     pub(crate) fn put_all(
         &self,
         output: &mut Output,
@@ -443,22 +501,24 @@ impl Stage<'_> {
     ) -> Result<u8, AllocError>
         requires texts { AreStudied self.now.trees.now each.now }
         requires old { spec.IsOutput self.now.trees.now output.old }
+        requires none { output.old.bytes.items ≡ [] }
         ensures output { OnOk result (spec.IsOutput self.now.trees.now output.new) }
-        ensures reports { IfOk result (AreReportsOf (filters_of self.now.trees.now) (texts_read each.now) output.new.bytes.items) }
+        ensures reports { IfOk result (AreAllReports (filters_of self.now.trees.now) (texts_read each.now) output.new.bytes.items) }
     {
-        let [before @ .., last] = each else {
-            return Ok(0);
-        };
-        let mut greatest = 0;
-        for studied in before {
-            greatest = greater(greatest, self.put_before(output, studied)?);
+        match each {
+            [] => Ok(0),
+            [only] => Ok(self.put_text(output, only)?.status),
+            [_, _, ..] => self.put_several(output, each),
         }
-        Ok(greater(greatest, self.put_text(output, last)?))
     }
 }
 
-fn greater(a: u8, b: u8) -> u8
-    ensures { result ≡ max a b }
+/// How many findings a certificate, a journal or a script has: its first malformed line, or none.
+fn faults_in(notice: &Notice<'_>) -> usize
+    ensures { result ≡ faults notice.now }
 {
-    if a < b { b } else { a }
+    match notice {
+        Notice::Whole(_, _) => 0,
+        Notice::Malformed(_, _) => 1,
+    }
 }
