@@ -1,16 +1,20 @@
 -- What comes of findings in runs of some filters. This project's own definitions.
-use Rattle.std.specs.Prelude.{◌≡◌, ℕ, ◌+◌, ◌≤◌, true, false, List, Option, Some, Contains, IfSome, length, slice_get, slice_range}
+use Rattle.std.specs.Prelude.{◌≡◌, ℕ, ◌+◌, ◌≤◌, Bool, true, false, List, Option, Some, Contains, IfSome, length, slice_get, slice_range}
 use Rattle.std.specs.Borrow.{Bor}
 use Rattle.std.specs.List.{AllZip}
+use Rattle.flt_tree.specs.declared.filter.Callback.{Callback}
 use Rattle.flt_tree.specs.declared.filter.Filter.{Filter}
 use Rattle.flt_tree.specs.declared.tree.Tree.{Tree}
 use Rattle.flt_graph.specs.declared.graph.Graph.{Graph}
 use Rattle.flt_explain.specs.declared.finding.Finding.{Finding}
+use Rattle.flt_starts.specs.Closed.{IsClosed}
+use Rattle.flt_starts.specs.Starts.{NeverStarts}
+use Rattle.flt_started.specs.Marks.{is_marked}
 use Rattle.flt_search.specs.Found.{IsFound}
 use Rattle.flt_search.specs.declared.answering.Answer.{Answer}
 use Rattle.flt_search.specs.declared.answering.Answer.TheVariants as answer
 use Rattle.flt_search.specs.declared.goal.Goal.{Goal}
-use Rattle.flt_model.specs.Program.{filters_of, HasDistinctAltitudes}
+use Rattle.flt_model.specs.Program.{callbacks_at, filters_of, HasDistinctAltitudes}
 use Rattle.flt_model.specs.declared.verdict.Violation.{Violation}
 use Rattle.flt_schedules.specs.HandOver.{is_without_hand_over}
 use Rattle.flt_schedules.specs.Meeting.{meets_others}
@@ -49,15 +53,23 @@ AreFound p found answers =
 -- ---- what comes of a finding
 
 -- the journal breaks, by its last entry, something that the finding's rule prevents. That nothing hands a context is said exactly where
--- `arg` is held where it mustn't be, and nothing ever gives it one. That nothing starts the callback, and that nothing sets a context
--- which is asked for on each path to what is found, are said only where that is so. Where no run was found nothing is claimed.
-abbrev pub IsSchedule : List Filter → Graph → Finding → Schedule → Type 0
-IsSchedule p g f (schedule.Breaks b) = IsFound p (violations_of f.rule) b × (is_without_hand_over g f ≡ false)
-IsSchedule p g f schedule.NeverHanded = is_without_hand_over g f ≡ true
-IsSchedule p g f schedule.NeverStarted = IsNeverStarted g f
-IsSchedule p g f (schedule.NeverGot u) = IsNeverGot g f u
-IsSchedule p g f schedule.NotWithin = is_without_hand_over g f ≡ false
-IsSchedule p g f schedule.Cut = is_without_hand_over g f ≡ false
+-- `arg` is held where it mustn't be, and nothing ever gives it one. That nothing starts the callback is said only where no run starts it,
+-- whatever other filters take part; that nothing sets a context which is asked for on each path to what is found, only where that is so. Where no run was found nothing is claimed.
+abbrev pub IsSchedule : List Filter → List Callback → Graph → Finding → Schedule → Type 0
+IsSchedule p cs g f (schedule.Breaks b) = IsFound p (violations_of f.rule) b × (is_without_hand_over g f ≡ false)
+IsSchedule p cs g f schedule.NeverHanded = is_without_hand_over g f ≡ true
+IsSchedule p cs g f schedule.NeverStarted = IsNeverStarted g f × NeverStarts cs f.callback
+IsSchedule p cs g f (schedule.NeverGot u) = IsNeverGot g f u
+IsSchedule p cs g f schedule.NotWithin = is_without_hand_over g f ≡ false
+IsSchedule p cs g f schedule.Cut = is_without_hand_over g f ≡ false
+
+-- the callbacks of the filter of a number
+abbrev pub callbacks_of : List Tree → ℕ → List Callback
+callbacks_of trees n = callbacks_at (filters_of trees) n
+
+-- where it is known which of some callbacks may start, nothing leads out of these
+abbrev pub IsStartedOf : List Callback → Option (Bor (List Bool)) → Type 0
+IsStartedOf cs started = IfSome started (λ (s : Bor (List Bool)). IsClosed cs (is_marked s.now))
 
 -- the filter of a number alone
 abbrev pub only : List Tree → ℕ → List Tree
@@ -85,8 +97,8 @@ AreTogether trees n found answers =
 -- what comes of a finding of the filter of a number, which has these points: it holds of the filter alone, or of all of them where those
 -- may meet
 abbrev pub IsScheduled : List Tree → ℕ → Graph → Finding → Scheduled → Type 0
-IsScheduled trees n g f (scheduled.Alone a) = IsSchedule (filters_of (only trees n)) g f a
-IsScheduled trees n g f (scheduled.Together a) = IsSchedule (filters_of trees) g f a × MayMeet trees n
+IsScheduled trees n g f (scheduled.Alone a) = IsSchedule (filters_of (only trees n)) (callbacks_of trees n) g f a
+IsScheduled trees n g f (scheduled.Together a) = IsSchedule (filters_of trees) (callbacks_of trees n) g f a × MayMeet trees n
 
 pub record IsOutcome (trees : List Tree) (n : ℕ) (g : Graph) (s : Suspect) (o : Outcome) : Type 0 where
   pub number : o.number ≡ s.number

@@ -2,6 +2,8 @@
 
 ghost use Rattle.std.specs.Prelude.{◌≡◌, List, IsTrue, IfOk, IfSome, None, false};
 ghost use Rattle.std.specs.List.{AllZip};
+ghost use Rattle.flt_starts.specs.Starts.{NeverStarts};
+ghost use Rattle.flt_tree.specs.declared.filter.Callback.{Callback};
 ghost use Rattle.flt_tree.specs.declared.filter.Filter.{Filter};
 ghost use Rattle.flt_world.specs.Filters.{filters_of};
 ghost use Rattle.flt_schedules.specs.HandOver as hand;
@@ -16,7 +18,8 @@ use flt_explain::Finding;
 use flt_model::{Violation, first_repeated};
 use flt_rules::Rule;
 use flt_search::{Answer, Bounds, Broken, Goal, search};
-use flt_tree::Tree;
+use flt_started::Started;
+use flt_tree::{Callback, Tree};
 use std::alloc::{AllocError, Global};
 
 /// How many filters a stack has at most.
@@ -70,6 +73,16 @@ pub struct Outcome {
     pub scheduled: Scheduled,
 }
 
+/// The callbacks of the filter of a number; none where it isn't there.
+fn callbacks_of(trees: &[Tree], number: usize) -> &[Callback]
+    ensures { result.now ≡ spec.callbacks_of trees.now number }
+{
+    match trees.get(number) {
+        Some(tree) => tree.filter.callbacks.as_slice(),
+        None => &[],
+    }
+}
+
 // ---- what is looked for
 
 /// Whether the harm that a broken rule does may come at another line of the callback.
@@ -77,15 +90,30 @@ fn is_anywhere(rule: Rule) -> bool {
     matches!(rule, Rule::R03 | Rule::R12)
 }
 
+/// Whether no run starts a finding's callback, as far as it is known which may start.
+fn never_starts(started: Option<&Started>, finding: &Finding) -> bool
+    ensures { (cs : List Callback) → spec.IsStartedOf cs started.entry → IsTrue result → NeverStarts cs finding.now.callback }
+{
+    match started {
+        Some(started) => started.rules_out(finding.callback),
+        None => false,
+    }
+}
+
 /// Why no run can, where that is known without a search.
-fn known_for(outlook: &Outlook<'_>, finding: &Finding) -> Option<Schedule>
-    ensures known { (p : List Filter) → IfSome result (spec.IsSchedule p outlook.now finding.now) }
+fn known_for(
+    outlook: &Outlook<'_>,
+    started: Option<&Started>,
+    finding: &Finding,
+) -> Option<Schedule>
+    ensures known { (p : List Filter) (cs : List Callback) → spec.IsStartedOf cs started.entry →
+        IfSome result (spec.IsSchedule p cs outlook.now finding.now) }
     ensures otherwise { result ≡ None → hand.is_without_hand_over outlook.now finding.now ≡ false }
 {
     if is_without_hand_over(outlook.graph(), finding) {
         return Some(Schedule::NeverHanded);
     }
-    if outlook.is_unstarted(finding) {
+    if never_starts(started, finding) && outlook.is_unstarted(finding) {
         return Some(Schedule::NeverStarted);
     }
     match outlook.unset_for(finding) {
@@ -102,12 +130,13 @@ fn is_run(answer: Option<&Answer>) -> bool {
 /// What is to be broken for a finding: nothing, where that is known without a search, or where this answer is a run.
 fn wanted_for(
     outlook: &Outlook<'_>,
+    started: Option<&Started>,
     finding: &Finding,
     answer: Option<&Answer>,
 ) -> &'static [Violation]
     ensures { spec.AreWanted finding.now result.now }
 {
-    if is_run(answer) || known_for(outlook, finding).is_some() {
+    if is_run(answer) || known_for(outlook, started, finding).is_some() {
         &[]
     } else {
         violations_of(finding.rule)
@@ -117,6 +146,7 @@ fn wanted_for(
 /// What is looked for of a finding of the filter of a number, where this is answered already.
 fn goal_for(
     outlook: &Outlook<'_>,
+    started: Option<&Started>,
     filter: usize,
     suspect: &Suspect,
     answer: Option<&Answer>,
@@ -128,7 +158,7 @@ fn goal_for(
         filter,
         callback: finding.callback,
         point: finding.point,
-        wanted: wanted_for(outlook, finding, answer),
+        wanted: wanted_for(outlook, started, finding, answer),
         is_anywhere: is_anywhere(finding.rule),
     }
 }
@@ -137,6 +167,7 @@ fn goal_for(
 fn goals_for(
     alloc: Global,
     outlook: &Outlook<'_>,
+    started: Option<&Started>,
     filter: usize,
     found: &[Suspect],
     answers: &[Answer],
@@ -145,7 +176,7 @@ fn goals_for(
 {
     let mut goals = Vec::new(alloc);
     for (place, suspect) in found.iter().enumerate() {
-        let goal = goal_for(outlook, filter, suspect, answers.get(place));
+        let goal = goal_for(outlook, started, filter, suspect, answers.get(place));
         goals.push(goal)?;
     }
     Ok(goals)
@@ -159,12 +190,20 @@ fn searched(
     trees: &[Tree],
     filter: usize,
     suspects: &Suspects<'_>,
+    started: Option<&Started>,
     answers: &[Answer],
     states: u32,
 ) -> Result<Vec<Answer>, AllocError>
     ensures { IfOk result (λ found. spec.AreFound (filters_of trees.now) suspects.now.found.now found.items) }
 {
-    let goals = goals_for(alloc, suspects.outlook, filter, suspects.found, answers)?;
+    let goals = goals_for(
+        alloc,
+        suspects.outlook,
+        started,
+        filter,
+        suspects.found,
+        answers,
+    )?;
     search(alloc, trees, goals.as_slice(), Bounds { states })
 }
 
@@ -191,6 +230,7 @@ fn searched_together(
     alloc: Global,
     trees: &[Tree],
     suspects: &Suspects<'_>,
+    started: Option<&Started>,
     states: u32,
 ) -> Result<Vec<Answer>, AllocError>
     ensures { IfOk result (λ found. spec.AreTogether trees.now suspects.now.filter suspects.now.found.now found.items) }
@@ -198,7 +238,15 @@ fn searched_together(
     if !may_meet(trees, suspects.filter) {
         return Ok(Vec::new(alloc));
     }
-    searched(alloc, trees, suspects.filter, suspects, &[], states)
+    searched(
+        alloc,
+        trees,
+        suspects.filter,
+        suspects,
+        started,
+        &[],
+        states,
+    )
 }
 
 // ---- what comes of them
@@ -207,12 +255,14 @@ fn searched_together(
 fn schedule_for(
     alloc: Global,
     outlook: &Outlook<'_>,
+    started: Option<&Started>,
     finding: &Finding,
     answer: Option<&Answer>,
 ) -> Result<Schedule, AllocError>
-    ensures { IfOk result (λ s. (p : List Filter) → spec.IsFoundBy p finding.now answer.entry → spec.IsSchedule p outlook.now finding.now s) }
+    ensures { IfOk result (λ s. (p : List Filter) (cs : List Callback) → spec.IsStartedOf cs started.entry →
+        spec.IsFoundBy p finding.now answer.entry → spec.IsSchedule p cs outlook.now finding.now s) }
 {
-    if let Some(known) = known_for(outlook, finding) {
+    if let Some(known) = known_for(outlook, started, finding) {
         return Ok(known);
     }
     match answer {
@@ -227,21 +277,23 @@ fn scheduled_for(
     alloc: Global,
     _trees: &[Tree],
     suspects: &Suspects<'_>,
+    started: Option<&Started>,
     finding: &Finding,
     together: Option<&Answer>,
     alone: Option<&Answer>,
 ) -> Result<Scheduled, AllocError>
+    requires started { spec.IsStartedOf (spec.callbacks_of _trees.now suspects.now.filter) started }
     requires together { spec.IsTogetherBy _trees.now suspects.now.filter finding.now together }
     requires alone { spec.IsFoundBy (filters_of (spec.only _trees.now suspects.now.filter)) finding.now alone }
     ensures { IfOk result (spec.IsScheduled _trees.now suspects.now.filter suspects.now.outlook.now finding.now) }
 {
     match together {
         Some(Answer::Breaks(_)) => {
-            let schedule = schedule_for(alloc, suspects.outlook, finding, together)?;
+            let schedule = schedule_for(alloc, suspects.outlook, started, finding, together)?;
             Ok(Scheduled::Together(schedule))
         }
         _ => {
-            let schedule = schedule_for(alloc, suspects.outlook, finding, alone)?;
+            let schedule = schedule_for(alloc, suspects.outlook, started, finding, alone)?;
             Ok(Scheduled::Alone(schedule))
         }
     }
@@ -252,9 +304,11 @@ fn outcomes_by(
     alloc: Global,
     trees: &[Tree],
     suspects: &Suspects<'_>,
+    started: Option<&Started>,
     together: &[Answer],
     alone: &[Answer],
 ) -> Result<Vec<Outcome>, AllocError>
+    requires started { spec.IsStartedOf (spec.callbacks_of trees.now suspects.now.filter) started }
     requires together { spec.AreTogether trees.now suspects.now.filter suspects.now.found.now together.now }
     requires alone { spec.AreFound (filters_of (spec.only trees.now suspects.now.filter)) suspects.now.found.now alone.now }
     ensures { IfOk result (λ all. spec.AreOutcomes trees.now suspects.now.filter suspects.now.outlook.now suspects.now.found.now all.items) }
@@ -265,6 +319,7 @@ fn outcomes_by(
             alloc,
             trees,
             suspects,
+            started,
             &suspect.finding,
             together.get(place),
             alone.get(place),
@@ -294,18 +349,21 @@ pub fn outcomes_among(
 ) -> Result<Vec<Outcome>, AllocError>
     ensures { IfOk result (λ all. spec.AreOutcomes trees.now suspects.now.filter suspects.now.outlook.now suspects.now.found.now all.items) }
 {
-    let together = searched_together(alloc, trees, suspects, states / 2)?;
+    let started = Started::of(alloc, callbacks_of(trees, suspects.filter))?;
+    let started = started.as_ref();
+    let together = searched_together(alloc, trees, suspects, started, states / 2)?;
     let left = if together.is_empty() {
         states
     } else {
         states / 2
     };
     let own = only(trees, suspects.filter);
-    let alone = searched(alloc, own, 0, suspects, together.as_slice(), left)?;
+    let alone = searched(alloc, own, 0, suspects, started, together.as_slice(), left)?;
     outcomes_by(
         alloc,
         trees,
         suspects,
+        started,
         together.as_slice(),
         alone.as_slice(),
     )

@@ -1,0 +1,11 @@
+mod Bodies
+mod Lists
+mod Kept
+mod Stores
+mod Found
+mod Leaving
+mod Stepping
+mod Moving
+mod Running
+mod Beginning
+mod Worked
