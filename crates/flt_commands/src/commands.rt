@@ -8,6 +8,7 @@ ghost use Rattle.flt_words.specs.Words.{asked};
 use crate::analyse::analyse_file;
 use crate::check::check_files;
 use crate::clean::{covered_texts_break_nothing, driven_texts_break_nothing};
+use crate::deadlock::tell_deadlock;
 use crate::explain::{Asked, explain_files, pages_of};
 use crate::fault::CommandFault;
 use crate::inputs::{Inputs, Pictures};
@@ -118,6 +119,7 @@ fn report_of<'a, R: Threads + Wait + Sync, I: Inputs, P: Pictures, W: Watch>(
                 watch,
                 &mut contents,
             );
+            tell_deadlock(alloc, &said, &contents, watch)?;
             report_on(alloc, Vec::new(alloc), said, contents)
         }
         Request::Replay { journal, files } => {

@@ -238,10 +238,11 @@ fn path_of(name: &str) -> &str {
 /// After how many lines of a script a terminal is told how far the run has come.
 const LINES_A_LOOK: u64 = 1_000;
 
-/// Tells a terminal how far a run has come, on the standard error.
+/// Tells on the standard error what a run waits for at its end, and a terminal how far it has come.
 #[derive(Drop)]
 struct Progress<'a> {
     rt: &'a HostRuntime,
+    /// Whether a terminal hears how far the run has come.
     is_shown: bool,
     lines: u64,
 }
@@ -253,6 +254,10 @@ impl Watch for Progress<'_> {
             let lines = self.lines;
             let _ = eprintln!(self.rt; "{lines} lines: {entries} entries");
         }
+    }
+
+    fn waits(&mut self, lines: &str) {
+        let _ = eprintln!(self.rt; "{lines}");
     }
 }
 

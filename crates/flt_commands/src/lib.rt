@@ -7,6 +7,7 @@ mod answer;
 mod check;
 mod clean;
 mod commands;
+mod deadlock;
 mod explain;
 mod failure;
 mod fault;

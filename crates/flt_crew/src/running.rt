@@ -34,6 +34,9 @@ pub struct Ran {
     pub made: u64,
     /// How it ends.
     pub ending: Ending,
+    /// Whether the last ticket that had a turn stays, and nothing was moved: so it is where activations wait for one another. No clause says
+    /// so.
+    pub is_still: bool,
 }
 
 /// A journal, how many entries the workers were answered that they made, and how it ends.
@@ -42,6 +45,7 @@ struct Driven {
     journal: Journal,
     made: u64,
     ending: Ending,
+    is_still: bool,
 }
 
 // ---- a stack
@@ -198,6 +202,14 @@ fn is_countable(journal: &Journal)
     let _length = journal.len();
 }
 
+/// Whether the last ticket of the first worker stays, and nothing was moved.
+fn ends_still<N: StackName>(workers: &[WorkerSeat<N>]) -> bool {
+    match workers.first() {
+        Some(seat) => seat.is_still(),
+        None => false,
+    }
+}
+
 /// Ends the stack.
 fn finish<N: StackName>(
     alloc: Global,
@@ -220,6 +232,7 @@ fn finish<N: StackName>(
         is_full,
         is_refused,
     } = followed;
+    let is_still = ends_still(workers.as_slice());
     let callers = callers_of(alloc, caller)?;
     let journal = match stack.finish(callers, workers) {
         Ok(journal) => journal,
@@ -228,6 +241,7 @@ fn finish<N: StackName>(
                 journal,
                 made,
                 ending: Ending::Differ,
+                is_still,
             });
         }
     };
@@ -237,6 +251,7 @@ fn finish<N: StackName>(
             journal,
             made,
             ending: Ending::Full,
+            is_still,
         });
     }
     if is_refused {
@@ -244,12 +259,14 @@ fn finish<N: StackName>(
             journal,
             made,
             ending: Ending::Already,
+            is_still,
         });
     }
     Ok(Driven {
         journal,
         made,
         ending: Ending::Whole,
+        is_still,
     })
 }
 
@@ -337,6 +354,7 @@ fn written(alloc: Global, driven: Driven) -> Result<Ran, AllocError>
         journal,
         made: driven.made,
         ending: driven.ending,
+        is_still: driven.is_still,
     })
 }
 

@@ -4,6 +4,9 @@
 pub trait Watch {
     /// A command of the script was given, and this many entries are known to have been made so far.
     fn after(&mut self, entries: u64);
+
+    /// At the end of the script activations wait for locks, and nothing goes on. These lines say so, without the last one's end.
+    fn waits(&mut self, lines: &str);
 }
 
 /// Takes no notice.
@@ -12,4 +15,6 @@ pub struct Unwatched;
 
 impl Watch for Unwatched {
     fn after(&mut self, _entries: u64) {}
+
+    fn waits(&mut self, _lines: &str) {}
 }

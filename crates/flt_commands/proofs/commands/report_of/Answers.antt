@@ -37,8 +37,8 @@ returns-in-Run-default-true-default-default-clause-answers g c =
     (those_of _ _ c.report_on-in-Run-default-true-default-default.ensures.texts)
     c.report_on-in-Run-default-true-default-default.ensures.reported (remarked_after request _ _ _ c.new-in-Run-default-true-default-default.ensures.items c.report_on-in-Run-default-true-default-default.ensures.remarked)
 
-pub returns-in-Run-clause-answers : goal.returns-in-Run-clause-answers
-returns-in-Run-clause-answers g c =
+pub returns-in_ok-tell_deadlock-in-Run-clause-answers : goal.returns-in_ok-tell_deadlock-in-Run-clause-answers
+returns-in_ok-tell_deadlock-in-Run-clause-answers g c =
     let request = Run c.in-Run.workers.count c.in-Run.quiet c.in-Run.script.now (map (λ name. name.now) c.in-Run.files.items) in
     answers_of c.covered_texts_break_nothing.ensures c.driven_texts_break_nothing.ensures
     c.fails_exactly_where_nothing_is_spelled.ensures.nowhere _ _ _ request _ _

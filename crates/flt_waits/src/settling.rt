@@ -1,0 +1,79 @@
+//! The local steps of an activation, as many as come one after another.
+
+ghost use Rattle.std.specs.Prelude.{◌≡◌, Bool, List, is_some, OnOk, IfOk, MatchOption, [], ◌∷◌};
+ghost use Rattle.flt_model.specs.LocalSteps.{local_step};
+ghost use Rattle.flt_model.specs.Steps.{local};
+ghost use Rattle.flt_model.specs.World.{Activation, activation_at};
+ghost use Rattle.flt_records.specs.Rest.{statement_of};
+ghost use Rattle.flt_tree.specs.declared.filter.Statement.{Statement};
+ghost use Rattle.flt_waits.specs.Waiting as spec;
+ghost use Rattle.flt_world.specs.Happening.{later};
+
+use crate::asking::is_local;
+use flt_records::Upcoming;
+use flt_steps::step_unseen;
+use flt_world::World;
+use std::alloc::AllocError;
+
+/// No callback makes as many steps.
+const MAX_STEPS: u32 = 1_000_000;
+
+/// What comes next in an activation, which stays; nothing at the end of its body.
+fn first<'a>(world: &mut World<'a>, a: usize) -> Result<Option<Upcoming<'a>>, AllocError>
+    ensures same { OnOk result (world.new ≡ world.old) }
+    ensures first { IfOk result (λ f. MatchOption f ((activation_at world.old a).rest ≡ [])
+        (λ u. (activation_at world.old a).rest ≡ statement_of u ∷ later world.old a)) }
+{
+    match world.activations.get_mut(a) {
+        Some(activation) => activation.first(),
+        None => Ok(None),
+    }
+}
+
+/// Whether nobody else sees the step that comes next.
+fn is_next_local(next: Option<Upcoming<'_>>) -> bool
+    ensures { (draining : Bool) (act : Activation) (statements rest : List Statement) →
+        MatchOption next.entry (statements ≡ []) (λ u. statements ≡ statement_of u ∷ rest) →
+        is_some (local_step draining act statements) ≡ result }
+{
+    match next {
+        Some(Upcoming::Statement(statement)) => is_local(statement),
+        Some(Upcoming::Repeat(_, _, _)) => true,
+        None => false,
+    }
+}
+
+/// Whether an activation's next step is one that nobody else sees, where this comes next.
+#[tactic(auto, using(crate::proofs::LocalSteps::none_of_ended, crate::proofs::LocalSteps::local_of_list))]
+fn goes_locally(world: &World<'_>, a: usize, next: Option<Upcoming<'_>>) -> bool
+    ensures { MatchOption next.entry ((activation_at world.now a).rest ≡ [])
+        (λ u. (activation_at world.now a).rest ≡ statement_of u ∷ later world.now a) → is_some (local [] [] world.now a) ≡ result }
+{
+    if world.has_ended(a) {
+        return false;
+    }
+    is_next_local(next)
+}
+
+/// Makes an activation's local steps, as many as come one after another, and answers what comes next; nothing at the end of its body.
+#[tactic(auto, using(crate::proofs::LocalSteps::one_more, crate::proofs::LocalSteps::enabled, crate::proofs::LocalSteps::settled_at, crate::proofs::LocalSteps::settled_after))]
+pub(crate) fn settle<'a>(
+    world: &mut World<'a>,
+    a: usize,
+) -> Result<Option<Upcoming<'a>>, AllocError>
+    ensures settled { OnOk result (spec.IsSettled world.old a world.new) }
+    ensures next { IfOk result (λ next. MatchOption next ((activation_at world.new a).rest ≡ [])
+        (λ u. (activation_at world.new a).rest ≡ statement_of u ∷ later world.new a)) }
+{
+    for _made in 0..MAX_STEPS {
+        let next = first(world, a)?;
+        if !goes_locally(world, a, next) {
+            return Ok(next);
+        }
+        if !step_unseen(world, a)? {
+            unreachable!();
+        }
+    }
+    let next = first(world, a)?;
+    Ok(next)
+}
