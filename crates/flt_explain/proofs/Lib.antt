@@ -1,4 +1,9 @@
 pub mod Digits
+pub mod FilledSets
+pub mod FirstFindings
 pub mod Firsts
+pub mod Looks
 pub mod MendedSets
 pub mod Reading
+pub mod SetDigits
+pub mod Steps

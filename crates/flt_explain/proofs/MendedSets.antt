@@ -1,5 +1,5 @@
 -- What is left of sets, and the digits of that.
-use Rattle.std.proofs.Common.{◌≡◌, ℕ, ◌<◌, ◌+◌, ◌&&◌, ◌||◌, Bool, true, false, not, refl, sym, lit<}
+use Rattle.std.proofs.Common.{◌≡◌, ◌<◌, ◌+◌, ◌&&◌, ◌||◌, Bool, true, false, not, refl, lit<}
 use Rattle.std.specs.Prelude.{IsTrue}
 use Rattle.std.specs.Int.RustNames.{bit_and}
 use Rattle.flt_rules.specs.declared.rule.Rule.{Rule}

@@ -1,6 +1,11 @@
 pub mod About
 pub mod Faults
 pub mod Findings
+pub mod Locks
 pub mod Mending
+pub mod Sets
+pub mod Sight
 pub mod Subjects
 pub mod Told
+pub mod Walk
+pub mod Writes

@@ -1,5 +1,8 @@
 //! Locks of which the ways to a point disagree.
 
+ghost use Rattle.std.specs.Prelude.{◌≡◌, ◌&&◌, ◌||◌, not};
+ghost use Rattle.flt_explain.specs.Locks as spec;
+
 use crate::finding::lock_place;
 use flt_abs::LockList;
 use flt_rules::LockNumber;
@@ -21,65 +24,124 @@ pub(crate) struct Locks {
     flags: [bool; 8],
 }
 
+/// Whether a flag is set.
+fn has_any(flags: &[bool]) -> bool
+    ensures { result ≡ spec.has_any flags.now }
+{
+    match flags {
+        [flag, others @ ..] => *flag || has_any(others),
+        [] => false,
+    }
+}
+
 impl Locks {
-    pub(crate) fn none() -> Locks {
+    pub(crate) fn none() -> Locks
+        ensures { result ≡ spec.none }
+    {
         Locks { flags: [false; 8] }
     }
 
-    pub(crate) fn contains(&self, lock: LockNumber) -> bool {
+    pub(crate) fn contains(&self, lock: LockNumber) -> bool
+        ensures { result ≡ spec.contains self.now lock }
+    {
         self.flags[lock_place(lock)]
     }
 
-    fn insert(&mut self, lock: LockNumber) {
-        self.flags[lock_place(lock)] = true;
+    fn is_in_either(&self, other: &Locks, lock: LockNumber) -> bool
+        ensures { result ≡ (spec.contains self.now lock || spec.contains other.now lock) }
+    {
+        self.contains(lock) || other.contains(lock)
+    }
+
+    fn is_in_first(&self, other: &Locks, lock: LockNumber) -> bool
+        ensures { result ≡ (spec.contains self.now lock && not (spec.contains other.now lock)) }
+    {
+        self.contains(lock) && !other.contains(lock)
     }
 
     /// The locks of both.
-    pub(crate) fn union(&self, other: &Locks) -> Locks {
-        let mut all = *self;
-        for lock in LOCKS {
-            if other.contains(lock) {
-                all.insert(lock);
-            }
+    pub(crate) fn union(&self, other: &Locks) -> Locks
+        ensures { result ≡ spec.union self.now other.now }
+    {
+        Locks {
+            flags: [
+                self.is_in_either(other, LockNumber::L0),
+                self.is_in_either(other, LockNumber::L1),
+                self.is_in_either(other, LockNumber::L2),
+                self.is_in_either(other, LockNumber::L3),
+                self.is_in_either(other, LockNumber::L4),
+                self.is_in_either(other, LockNumber::L5),
+                self.is_in_either(other, LockNumber::L6),
+                self.is_in_either(other, LockNumber::L7),
+            ],
         }
-        all
     }
 
     /// The locks of this set that aren't in the other.
-    pub(crate) fn without(&self, other: &Locks) -> Locks {
-        let mut rest = Locks::none();
-        for lock in LOCKS {
-            if self.contains(lock) && !other.contains(lock) {
-                rest.insert(lock);
-            }
+    pub(crate) fn without(&self, other: &Locks) -> Locks
+        ensures { result ≡ spec.without self.now other.now }
+    {
+        Locks {
+            flags: [
+                self.is_in_first(other, LockNumber::L0),
+                self.is_in_first(other, LockNumber::L1),
+                self.is_in_first(other, LockNumber::L2),
+                self.is_in_first(other, LockNumber::L3),
+                self.is_in_first(other, LockNumber::L4),
+                self.is_in_first(other, LockNumber::L5),
+                self.is_in_first(other, LockNumber::L6),
+                self.is_in_first(other, LockNumber::L7),
+            ],
         }
-        rest
     }
 
-    pub(crate) fn is_empty(&self) -> bool {
-        !self.flags.iter().any(|flag| *flag)
+    pub(crate) fn is_empty(&self) -> bool
+        ensures { result ≡ spec.is_empty self.now }
+    {
+        !has_any(&self.flags)
     }
 
     /// The locks of a list.
-    fn of(list: &LockList) -> Locks {
-        let mut held = Locks::none();
-        for lock in LOCKS {
-            if list.contains(lock) {
-                held.insert(lock);
-            }
+    fn of(list: &LockList) -> Locks
+        ensures { result ≡ spec.locks_in list.now }
+    {
+        Locks {
+            flags: [
+                list.contains(LockNumber::L0),
+                list.contains(LockNumber::L1),
+                list.contains(LockNumber::L2),
+                list.contains(LockNumber::L3),
+                list.contains(LockNumber::L4),
+                list.contains(LockNumber::L5),
+                list.contains(LockNumber::L6),
+                list.contains(LockNumber::L7),
+            ],
         }
-        held
+    }
+
+    /// The locks that are in one list alone.
+    fn in_one(a: &LockList, b: &LockList) -> Locks
+        ensures { result ≡ spec.in_one a.now b.now }
+    {
+        let first = Locks::of(a);
+        let second = Locks::of(b);
+        first.without(&second).union(&second.without(&first))
     }
 
     /// The locks by which two lists differ: those that are in one alone. All of them where both lists have the same locks, in another
     /// order or held in another way; none where the lists are the same.
-    pub(crate) fn differing(a: &LockList, b: &LockList) -> Locks {
+    #[tactic(auto, unfolding(crate::specs::Locks::differing))]
+    pub(crate) fn differing(a: &LockList, b: &LockList) -> Locks
+        ensures { result ≡ spec.differing a.now b.now }
+    {
         if a.is_same(b) {
             return Locks::none();
         }
-        let first = Locks::of(a);
-        let second = Locks::of(b);
-        let differ = first.without(&second).union(&second.without(&first));
-        if differ.is_empty() { first } else { differ }
+        let differ = Locks::in_one(a, b);
+        if differ.is_empty() {
+            Locks::of(a)
+        } else {
+            differ
+        }
     }
 }

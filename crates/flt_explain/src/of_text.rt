@@ -1,7 +1,9 @@
 //! All findings of a text.
 
-ghost use Rattle.std.specs.Prelude.{◌≡◌, ◌<◌, IfOk};
+ghost use Rattle.std.specs.Prelude.{◌≡◌, ◌<◌, ◌-◌, [], ◌∷◌, length, IfOk, IfSome};
+ghost use Rattle.std.specs.List.{position};
 ghost use Rattle.flt_explain.specs.Findings as spec;
+ghost use Rattle.flt_explain.specs.Walk.{walked_from};
 
 use crate::finding::{Finding, Subject};
 use crate::walk::walk_callback;
@@ -42,24 +44,26 @@ fn refusal(alloc: Global, graph: &Graph) -> Result<Option<Refusal>, AllocError>
 }
 
 /// Whether a finding is where the refusal is, by its rule.
-fn is_refusal(finding: &Finding, refusal: &Refusal) -> bool {
+fn is_refusal(refusal: &Refusal, finding: &Finding) -> bool
+    ensures { result ≡ spec.is_refusal refusal.now finding.now }
+{
     finding.callback == refusal.callback
         && finding.point == refusal.point
         && flt_rules::number(finding.rule) == flt_rules::number(refusal.rule)
 }
 
-/// Takes the finding that the refusal is about out of the others.
-fn take_first(findings: &mut Items<Finding>, refusal: &Refusal) -> Finding
-    ensures { spec.refusal_of result ≡ refusal.now }
+/// The number of the first finding that the refusal is about, from 0.
+fn place_of(refusal: &Refusal, findings: &[Finding]) -> Option<usize>
+    ensures value { result ≡ position (spec.is_refusal refusal.now) findings.now }
+    ensures within { IfSome result (λ place. place < length findings.now) }
 {
-    let place = findings
-        .as_slice()
-        .iter()
-        .position(|f| is_refusal(f, refusal));
-    let subject = match place {
-        Some(place) if place < findings.len() => findings.remove(place).subject,
-        _ => Subject::Call,
-    };
+    findings.iter().position(|f| is_refusal(refusal, f))
+}
+
+/// The refusal as a finding about a subject.
+fn refused(refusal: &Refusal, subject: Subject) -> Finding
+    ensures { result ≡ spec.refused refusal.now subject }
+{
     Finding {
         callback: refusal.callback,
         point: refusal.point,
@@ -69,24 +73,48 @@ fn take_first(findings: &mut Items<Finding>, refusal: &Refusal) -> Finding
     }
 }
 
+/// Takes the finding that the refusal is about out of the others.
+#[tactic(auto, unfolding(crate::specs::Findings::with_first))]
+fn take_first(refusal: &Refusal, findings: &mut Items<Finding>) -> Finding
+    ensures { result ∷ findings.new ≡ spec.with_first refusal.now findings.old }
+{
+    let subject = match place_of(refusal, findings.as_slice()) {
+        Some(place) => findings.remove(place).subject,
+        None => Subject::Call,
+    };
+    refused(refusal, subject)
+}
+
 /// The findings with the one in front that the refusal is about.
 fn with_first(
     alloc: Global,
     refusal: &Refusal,
     mut findings: Items<Finding>,
 ) -> Result<Items<Finding>, AllocError>
-    ensures { IfOk result (spec.BeginWith refusal.now) }
+    ensures { IfOk result (λ fs. fs ≡ spec.with_first refusal.now findings) }
 {
-    let first = take_first(&mut findings, refusal);
+    let first = take_first(refusal, &mut findings);
     let mut all = Items::new(alloc);
     all.push(first)?;
     all.append(findings)?;
     Ok(all)
 }
 
+/// What the walks of all callbacks from one on find, in order.
+#[tactic(auto, using(crate::proofs::Looks::one_walk, crate::proofs::Looks::no_more_walks))]
+fn walk_from(alloc: Global, graph: &Graph, first: usize) -> Result<Items<Finding>, AllocError>
+    ensures { IfOk result (λ fs. fs ≡ walked_from graph.now first (length graph.now.callbacks - first) []) }
+{
+    let mut findings = Items::new(alloc);
+    for callback in first..graph.callbacks() {
+        walk_callback(alloc, graph, callback, &mut findings)?;
+    }
+    Ok(findings)
+}
+
 /// What is wrong with a text. There are no findings exactly where the analyser gives a certificate; else the first one is its refusal.
 /// The others come as the walk meets them: callbacks in order, in each the least pending point, and at a point by rule and then by
-/// subject. No clause speaks of them.
+/// subject.
 ///
 /// # Errors
 ///
@@ -94,12 +122,10 @@ fn with_first(
 pub fn findings(alloc: Global, graph: &Graph) -> Result<Items<Finding>, AllocError>
     ensures { IfOk result (spec.AreFindings graph.now) }
 {
-    let mut findings = Items::new(alloc);
     let Some(refusal) = refusal(alloc, graph)? else {
-        return Ok(findings);
+        return Ok(Items::new(alloc));
     };
-    for callback in refusal.callback..graph.callbacks() {
-        walk_callback(alloc, graph, callback, &mut findings)?;
-    }
-    with_first(alloc, &refusal, findings)
+    let found = walk_from(alloc, graph, refusal.callback)?;
+    let all = with_first(alloc, &refusal, found)?;
+    Ok(all)
 }

@@ -1,5 +1,10 @@
 //! The sets of a state in which rules were mended. Unlike those of `Abs` they may be empty.
 
+ghost use Rattle.std.specs.Prelude.{◌≡◌, length, map};
+ghost use Rattle.flt_abs.specs.Sets as sets_spec;
+ghost use Rattle.flt_abs.specs.State.{either_all};
+ghost use Rattle.flt_explain.specs.Sets as spec;
+
 use crate::about::set_at;
 use crate::finding::{Fault, Subject};
 use crate::mending::{mended, mended_draining, mended_modes};
@@ -7,6 +12,7 @@ use crate::operands::OPERANDS;
 use crate::writes::writes;
 use flt_abs::{Abs, CONTEXTS, Draining, Modes, OPERATIONS, Statuses};
 use flt_graph::Instruction;
+use flt_rules::Rule;
 
 /// What may be so of each variable, of the mode and of draining. Of an empty set all that was possible broke a rule; nothing more is told
 /// of its subject, until it is written or a way joins in that has one.
@@ -18,72 +24,138 @@ pub(crate) struct Sets {
     draining: Draining,
 }
 
-fn no_statuses() -> Statuses {
-    Statuses::from_digit(0).unwrap()
+fn no_statuses() -> Statuses
+    ensures { result ≡ spec.no_statuses }
+{
+    Statuses::from_low_bits(0)
 }
 
-fn no_modes() -> Modes {
+fn no_modes() -> Modes
+    ensures { result ≡ spec.no_modes }
+{
     Modes::from_digit(0).unwrap()
 }
 
-fn no_draining() -> Draining {
+fn no_draining() -> Draining
+    ensures { result ≡ spec.no_draining }
+{
     Draining::from_digit(0).unwrap()
 }
 
-fn either_statuses(a: Statuses, b: Statuses) -> Statuses {
-    Statuses::from_digit(a.digit() | b.digit()).unwrap_or(a)
+#[tactic(auto, using(crate::proofs::SetDigits::either_statuses))]
+fn either_statuses(a: Statuses, b: Statuses) -> Statuses
+    ensures { result ≡ sets_spec.either_status a b }
+{
+    Statuses::from_low_bits(a.digit() | b.digit())
 }
 
-fn either_modes(a: Modes, b: Modes) -> Modes {
-    Modes::from_digit(a.digit() | b.digit()).unwrap_or(a)
+#[tactic(auto, using(crate::proofs::SetDigits::either_modes, crate::proofs::SetDigits::either_modes_low))]
+fn either_modes(a: Modes, b: Modes) -> Modes
+    ensures { result ≡ sets_spec.either_mode a b }
+{
+    Modes::from_digit(a.digit() | b.digit()).unwrap()
 }
 
-fn either_draining(a: Draining, b: Draining) -> Draining {
-    Draining::from_digit(a.digit() | b.digit()).unwrap_or(a)
+#[tactic(auto, using(crate::proofs::SetDigits::either_drainings, crate::proofs::SetDigits::either_drainings_low))]
+fn either_draining(a: Draining, b: Draining) -> Draining
+    ensures { result ≡ sets_spec.either_draining a b }
+{
+    Draining::from_digit(a.digit() | b.digit()).unwrap()
+}
+
+#[tactic(auto, using(crate::proofs::SetDigits::some_status))]
+fn is_possible(set: Statuses) -> bool
+    ensures { result ≡ sets_spec.is_possible set }
+{
+    set.digit() != 0
+}
+
+#[tactic(auto, using(crate::proofs::SetDigits::some_mode))]
+fn is_mode_possible(modes: Modes) -> bool
+    ensures { result ≡ sets_spec.is_mode_possible modes }
+{
+    modes.digit() != 0
+}
+
+#[tactic(auto, using(crate::proofs::SetDigits::some_draining))]
+fn is_draining_possible(draining: Draining) -> bool
+    ensures { result ≡ sets_spec.is_draining_possible draining }
+{
+    draining.digit() != 0
 }
 
 /// The set, or all statuses in place of none.
-fn or_all(set: Statuses) -> Statuses {
-    if set.digit() == 0 {
-        Statuses::from_digit(7).unwrap()
-    } else {
+fn or_all(set: Statuses) -> Statuses
+    ensures { result ≡ spec.or_all set }
+{
+    if is_possible(set) {
         set
+    } else {
+        Statuses::from_low_bits(7)
     }
 }
 
 /// The set, or both modes in place of none.
-fn or_both(modes: Modes) -> Modes {
-    if modes.digit() == 0 {
-        Modes::from_digit(3).unwrap()
-    } else {
+fn or_both(modes: Modes) -> Modes
+    ensures { result ≡ spec.or_both modes }
+{
+    if is_mode_possible(modes) {
         modes
+    } else {
+        Modes::from_digit(3).unwrap()
     }
 }
 
 /// The set, or both answers in place of none.
-fn or_either(draining: Draining) -> Draining {
-    if draining.digit() == 0 {
-        Draining::from_digit(3).unwrap()
-    } else {
+fn or_either(draining: Draining) -> Draining
+    ensures { result ≡ spec.or_either draining }
+{
+    if is_draining_possible(draining) {
         draining
+    } else {
+        Draining::from_digit(3).unwrap()
     }
 }
 
-fn are_same(a: &[Statuses], b: &[Statuses]) -> bool {
-    a.iter().zip(b).all(|(x, y)| x.digit() == y.digit())
+#[tactic(auto, using(crate::proofs::Steps::more_not_same))]
+fn are_same(a: &[Statuses], b: &[Statuses]) -> bool
+    ensures { result ≡ spec.are_same a.now b.now }
+{
+    match (a, b) {
+        ([], []) => true,
+        ([], [_, ..]) | ([_, ..], []) => false,
+        ([x, a @ ..], [y, b @ ..]) => x.digit() == y.digit() && are_same(a, b),
+    }
+}
+
+/// Adds to each set what is in the other's.
+fn unite(into: &mut [Statuses], other: &[Statuses])
+    requires { length into.old ≡ length other.now }
+    ensures { into.new ≡ either_all into.old other.now }
+{
+    for index in 0..into.len() {
+        into[index] = either_statuses(into[index], other[index]);
+    }
+}
+
+/// All in place of each empty set.
+fn fill(sets: &mut [Statuses])
+    ensures { sets.new ≡ map spec.or_all sets.old }
+{
+    for index in 0..sets.len() {
+        sets[index] = or_all(sets[index]);
+    }
 }
 
 impl Sets {
     /// The sets of a state.
-    pub(crate) fn of(state: &Abs) -> Sets {
+    pub(crate) fn of(state: &Abs) -> Sets
+        ensures { result ≡ spec.sets_of state.now }
+    {
         let mut contexts = [no_statuses(); CONTEXTS];
-        for place in 0..CONTEXTS {
-            contexts[place] = set_at(state.contexts(), place);
-        }
+        contexts.copy_from_slice(state.contexts());
         let mut operations = [no_statuses(); OPERATIONS];
-        for place in 0..OPERATIONS {
-            operations[place] = set_at(state.operations(), place);
-        }
+        operations.copy_from_slice(state.operations());
         Sets {
             contexts,
             operations,
@@ -93,18 +165,22 @@ impl Sets {
     }
 
     /// Whether something is told of a subject: its set isn't empty, or it has none.
-    pub(crate) fn tells(&self, subject: Subject) -> bool {
+    pub(crate) fn tells(&self, subject: Subject) -> bool
+        ensures { result ≡ spec.tells self.now subject }
+    {
         match subject {
-            Subject::Context(variable) => self.contexts[variable.place()].digit() != 0,
-            Subject::Operation(variable) => self.operations[variable.place()].digit() != 0,
-            Subject::Mode => self.modes.digit() != 0,
-            Subject::Draining => self.draining.digit() != 0,
+            Subject::Context(variable) => is_possible(set_at(&self.contexts, variable.place())),
+            Subject::Operation(variable) => is_possible(set_at(&self.operations, variable.place())),
+            Subject::Mode => is_mode_possible(self.modes),
+            Subject::Draining => is_draining_possible(self.draining),
             Subject::Lock(_) | Subject::Call | Subject::Status => true,
         }
     }
 
     /// Empties the set of a subject.
-    fn empty(&mut self, subject: Subject) {
+    fn empty(&mut self, subject: Subject)
+        ensures { self.new ≡ spec.emptied self.old subject }
+    {
         match subject {
             Subject::Context(variable) => self.contexts[variable.place()] = no_statuses(),
             Subject::Operation(variable) => self.operations[variable.place()] = no_statuses(),
@@ -114,17 +190,18 @@ impl Sets {
         }
     }
 
-    /// Takes out what breaks the rule of a fault.
-    fn mend(&mut self, fault: Fault) {
-        let rule = fault.rule;
-        match fault.subject {
+    /// Takes out what breaks a rule by a subject.
+    fn mend(&mut self, rule: Rule, subject: Subject)
+        ensures { self.new ≡ spec.mended_by self.old rule subject }
+    {
+        match subject {
             Subject::Context(variable) => {
                 let place = variable.place();
-                self.contexts[place] = mended(self.contexts[place], rule);
+                self.contexts[place] = mended(set_at(&self.contexts, place), rule);
             }
             Subject::Operation(variable) => {
                 let place = variable.place();
-                self.operations[place] = mended(self.operations[place], rule);
+                self.operations[place] = mended(set_at(&self.operations, place), rule);
             }
             Subject::Mode => self.modes = mended_modes(self.modes),
             Subject::Draining => self.draining = mended_draining(self.draining),
@@ -133,35 +210,58 @@ impl Sets {
     }
 
     /// The sets without what breaks the rules of these faults.
-    pub(crate) fn mended(&self, faults: &[Fault]) -> Sets {
+    pub(crate) fn mended(&self, faults: &[Fault]) -> Sets
+        ensures { result ≡ spec.mended_of self.now faults.now }
+    {
         let mut sets = *self;
         for fault in faults {
-            sets.mend(*fault);
+            sets.mend(fault.rule, fault.subject);
         }
         sets
     }
 
-    /// These sets, which an instruction made of others: what was empty there is empty here, unless it was written.
-    pub(crate) fn after(&self, before: &Sets, instruction: &Instruction, granted: bool) -> Sets {
-        let mut sets = *self;
-        for subject in OPERANDS {
-            if !before.tells(subject) && !writes(instruction, granted, subject) {
-                sets.empty(subject);
+    /// Empties the sets that stay empty, of some subjects.
+    fn keep_empty(
+        &mut self,
+        before: &Sets,
+        instruction: &Instruction,
+        granted: bool,
+        subjects: &[Subject],
+    )
+        ensures { self.new ≡ spec.after_of before.now instruction.now granted subjects.now self.old }
+    {
+        for subject in subjects {
+            if before.stays_empty(instruction, granted, *subject) {
+                self.empty(*subject);
             }
         }
+    }
+
+    /// Whether nothing is told of a subject here, nor behind an instruction, which doesn't write it.
+    fn stays_empty(&self, instruction: &Instruction, granted: bool, subject: Subject) -> bool
+        ensures { result ≡ spec.stays_empty self.now instruction.now granted subject }
+    {
+        !self.tells(subject) && !writes(instruction, granted, subject)
+    }
+
+    /// These sets, which an instruction made of others: what was empty there is empty here, unless it was written.
+    #[tactic(auto, unfolding(crate::specs::Sets::after))]
+    pub(crate) fn after(&self, before: &Sets, instruction: &Instruction, granted: bool) -> Sets
+        ensures { result ≡ spec.after before.now instruction.now granted self.now }
+    {
+        let mut sets = *self;
+        sets.keep_empty(before, instruction, granted, &OPERANDS);
         sets
     }
 
     /// What is in one of both.
-    pub(crate) fn union(&self, other: &Sets) -> Sets {
+    pub(crate) fn union(&self, other: &Sets) -> Sets
+        ensures { result ≡ spec.union self.now other.now }
+    {
         let mut contexts = self.contexts;
-        for place in 0..CONTEXTS {
-            contexts[place] = either_statuses(contexts[place], other.contexts[place]);
-        }
+        unite(&mut contexts, &other.contexts);
         let mut operations = self.operations;
-        for place in 0..OPERATIONS {
-            operations[place] = either_statuses(operations[place], other.operations[place]);
-        }
+        unite(&mut operations, &other.operations);
         Sets {
             contexts,
             operations,
@@ -170,7 +270,9 @@ impl Sets {
         }
     }
 
-    pub(crate) fn is_same(&self, other: &Sets) -> bool {
+    pub(crate) fn is_same(&self, other: &Sets) -> bool
+        ensures { result ≡ spec.is_same self.now other.now }
+    {
         are_same(&self.contexts, &other.contexts)
             && are_same(&self.operations, &other.operations)
             && self.modes.digit() == other.modes.digit()
@@ -178,20 +280,19 @@ impl Sets {
     }
 
     /// The state with these sets, all in place of an empty one, and with the locks of a state.
-    pub(crate) fn with_locks_of(&self, state: &Abs) -> Option<Abs> {
+    #[tactic(auto, using(crate::proofs::FilledSets::filled_is_proper))]
+    pub(crate) fn with_locks_of(&self, state: &Abs) -> Abs
+        ensures { result ≡ spec.filled self.now state.now }
+    {
         let mut contexts = self.contexts;
-        for place in 0..CONTEXTS {
-            contexts[place] = or_all(contexts[place]);
-        }
+        fill(&mut contexts);
         let mut operations = self.operations;
-        for place in 0..OPERATIONS {
-            operations[place] = or_all(operations[place]);
-        }
-        state.with_sets(
-            contexts,
-            operations,
-            or_both(self.modes),
-            or_either(self.draining),
-        )
+        fill(&mut operations);
+        let _sets = state.contexts();
+        let modes = or_both(self.modes);
+        let draining = or_either(self.draining);
+        state
+            .with_sets(contexts, operations, modes, draining)
+            .unwrap()
     }
 }

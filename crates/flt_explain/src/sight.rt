@@ -1,5 +1,8 @@
 //! What the walk knows at a point.
 
+ghost use Rattle.std.specs.Prelude.{◌≡◌};
+ghost use Rattle.flt_explain.specs.Sight as spec;
+
 use crate::finding::{Fault, Subject};
 use crate::locks::Locks;
 use crate::sets::Sets;
@@ -33,7 +36,10 @@ pub(crate) struct Ways {
 
 impl Sight {
     /// At the entry of a callback of the place.
-    pub(crate) fn entry(alloc: Global, place: Place) -> Sight {
+    #[tactic(auto, unfolding(crate::specs::Sight::entered))]
+    pub(crate) fn entry(alloc: Global, place: Place) -> Sight
+        ensures { result ≡ spec.entered place }
+    {
         let state = entry_state(alloc, place);
         Sight {
             sets: Sets::of(&state),
@@ -42,74 +48,124 @@ impl Sight {
         }
     }
 
+    /// What is known by these sets, with the locks of a state.
+    fn of(state: &Abs, sets: Sets, unsure: Locks) -> Sight
+        ensures { result ≡ spec.sight state.now sets unsure }
+    {
+        Sight {
+            state: sets.with_locks_of(state),
+            sets,
+            unsure,
+        }
+    }
+
     /// Whether a fault about a subject is told.
-    pub(crate) fn tells(&self, subject: Subject) -> bool {
+    pub(crate) fn tells(&self, subject: Subject) -> bool
+        ensures { result ≡ spec.tells self.now subject }
+    {
         match subject {
             Subject::Lock(lock) => !self.unsure.contains(lock),
             _ => self.sets.tells(subject),
         }
     }
 
-    /// The locks by which this and another way to the same point differ, as far as both are sure of them.
-    pub(crate) fn differing(&self, other: &Sight) -> Locks {
+    /// The locks by which this and another way to the same point differ.
+    fn differ(&self, other: &Sight) -> Locks
+        ensures { result ≡ spec.differ self.now other.now }
+    {
         Locks::differing(self.state.locks(), other.state.locks())
+    }
+
+    /// The same, as far as both are sure of them.
+    #[tactic(auto, unfolding(crate::specs::Sight::told_apart))]
+    pub(crate) fn differing(&self, other: &Sight) -> Locks
+        ensures { result ≡ spec.told_apart self.now other.now }
+    {
+        self.differ(other)
             .without(&self.unsure)
             .without(&other.unsure)
     }
 
-    /// What is known where another way comes to the same point; none where that tells nothing new. A way that came with other locks is
-    /// not joined: they are unsure from here on.
-    pub(crate) fn joined(&self, other: &Sight) -> Option<Sight> {
-        let differ = Locks::differing(self.state.locks(), other.state.locks());
-        let unsure = self.unsure.union(&other.unsure).union(&differ);
-        let sets = if differ.is_empty() {
+    /// The sets of both, or of this alone, where the other way came with other locks.
+    fn joined_sets(&self, other: &Sight) -> Sets
+        ensures { result ≡ spec.joined_sets self.now other.now }
+    {
+        if self.differ(other).is_empty() {
             self.sets.union(&other.sets)
         } else {
             self.sets
-        };
-        if sets.is_same(&self.sets) && unsure.without(&self.unsure).is_empty() {
-            return None;
         }
-        Some(Sight {
-            state: sets.with_locks_of(&self.state)?,
-            sets,
-            unsure,
-        })
+    }
+
+    /// The locks that are unsure where both ways meet.
+    fn joined_unsure(&self, other: &Sight) -> Locks
+        ensures { result ≡ spec.joined_unsure self.now other.now }
+    {
+        self.unsure.union(&other.unsure).union(&self.differ(other))
+    }
+
+    /// What is known where another way comes to the same point; none where that tells nothing new. A way that came with other locks is
+    /// not joined: they are unsure from here on.
+    #[tactic(auto, unfolding(crate::specs::Sight::joined))]
+    pub(crate) fn joined(&self, other: &Sight) -> Option<Sight>
+        ensures { result ≡ spec.joined self.now other.now }
+    {
+        let sets = self.joined_sets(other);
+        let unsure = self.joined_unsure(other);
+        if sets.is_same(&self.sets) && unsure.without(&self.unsure).is_empty() {
+            None
+        } else {
+            Some(Sight::of(&self.state, sets, unsure))
+        }
+    }
+
+    /// What is known behind an instruction that made a state.
+    #[tactic(auto, unfolding(crate::specs::Sight::seen))]
+    fn seen(&self, mended: &Sets, instruction: &Instruction, granted: bool, state: &Abs) -> Sight
+        ensures { result ≡ spec.seen self.now mended.now instruction.now granted state.now }
+    {
+        let sets = Sets::of(state).after(mended, instruction, granted);
+        Sight::of(state, sets, self.unsure)
     }
 
     /// What is known behind an instruction by one outcome.
+    #[tactic(auto, unfolding(crate::specs::Sight::way))]
     fn way(
         &self,
-        next: Option<Successor>,
         mended: &Sets,
         instruction: &Instruction,
         granted: bool,
-    ) -> Option<Way> {
-        let Successor { point, state } = next?;
-        let sets = Sets::of(&state).after(mended, instruction, granted);
-        let sight = Sight {
-            state: sets.with_locks_of(&state)?,
-            sets,
-            unsure: self.unsure,
-        };
-        Some(Way { point, sight })
+        next: Option<Successor>,
+    ) -> Option<Way>
+        ensures { result ≡ spec.way self.now mended.now instruction.now granted next }
+    {
+        match next {
+            Some(Successor { point, state }) => Some(Way {
+                point,
+                sight: self.seen(mended, instruction, granted, &state),
+            }),
+            None => None,
+        }
     }
 
     /// Where a point leads when what is wrong there is mended.
+    #[tactic(auto, unfolding(crate::specs::Sight::past))]
     pub(crate) fn past(
         &self,
         graph: &Graph,
         callback: usize,
         point: usize,
         faults: &[Fault],
-    ) -> Option<Ways> {
+    ) -> Ways
+        ensures { result ≡ spec.past graph.now callback point faults.now self.now }
+    {
         let mended = self.sets.mended(faults);
-        let state = mended.with_locks_of(&self.state)?;
+        let state = mended.with_locks_of(&self.state);
         let next = leads_past(graph, callback, point, &state);
         let instruction = graph.instruction(callback, point);
-        Some(Ways {
-            first: self.way(next.first, &mended, &instruction, true),
-            second: self.way(next.second, &mended, &instruction, false),
-        })
+        Ways {
+            first: self.way(&mended, &instruction, true, next.first),
+            second: self.way(&mended, &instruction, false, next.second),
+        }
     }
 }

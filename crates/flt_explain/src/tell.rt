@@ -2,11 +2,12 @@
 
 ghost use Rattle.std.specs.Prelude.{◌≡◌, OnOk};
 ghost use Rattle.flt_explain.specs.Told as spec;
+ghost use Rattle.flt_explain.specs.Walk as walk_spec;
 
 use crate::finding::{Fault, Finding, Subject};
 use crate::locks::{LOCKS, Locks};
 use crate::sight::Sight;
-use flt_rules::Rule;
+use flt_rules::{LockNumber, Rule};
 use sqlite_items::Items;
 use std::alloc::AllocError;
 
@@ -37,7 +38,9 @@ impl Spot {
         findings: &mut Items<Finding>,
         sight: &Sight,
         faults: &[Fault],
-    ) -> Result<(), AllocError> {
+    ) -> Result<(), AllocError>
+        ensures { OnOk result (findings.new ≡ walk_spec.faults_told self sight.now faults.now findings.old) }
+    {
         for fault in faults {
             if sight.tells(fault.subject) {
                 tell(findings, self.finding(fault.rule, fault.subject))?;
@@ -47,14 +50,29 @@ impl Spot {
     }
 
     /// Tells that the ways from the point meet others with other locks.
+    #[tactic(auto, unfolding(crate::specs::Walk::locks_told))]
     pub(crate) fn tell_locks(
         self,
         findings: &mut Items<Finding>,
         differ: &Locks,
-    ) -> Result<(), AllocError> {
-        for lock in LOCKS {
-            if differ.contains(lock) {
-                tell(findings, self.finding(Rule::R12, Subject::Lock(lock)))?;
+    ) -> Result<(), AllocError>
+        ensures { OnOk result (findings.new ≡ walk_spec.locks_told self differ.now findings.old) }
+    {
+        self.tell_each(findings, differ, &LOCKS)
+    }
+
+    /// The same of some locks.
+    fn tell_each(
+        self,
+        findings: &mut Items<Finding>,
+        differ: &Locks,
+        locks: &[LockNumber],
+    ) -> Result<(), AllocError>
+        ensures { OnOk result (findings.new ≡ walk_spec.locks_told_of self differ.now locks.now findings.old) }
+    {
+        for lock in locks {
+            if differ.contains(*lock) {
+                tell(findings, self.finding(Rule::R12, Subject::Lock(*lock)))?;
             }
         }
         Ok(())

@@ -1,10 +1,16 @@
 //! The walk over the points of one callback, past what is wrong there.
 
+ghost use Rattle.std.specs.Prelude.{◌≡◌, OnOk, IfOk, is_some};
+ghost use Rattle.std.specs.Option.{option_copied};
+ghost use Rattle.flt_analyse.specs.Pending.{least};
+ghost use Rattle.flt_explain.specs.Walk as spec;
+
 use crate::at_point::faults;
-use crate::finding::Finding;
+use crate::finding::{Fault, Finding};
 use crate::locks::Locks;
-use crate::sight::{Sight, Way};
+use crate::sight::{Sight, Way, Ways};
 use crate::tell::Spot;
+use flt_abs::Abs;
 use flt_graph::Graph;
 use sqlite_items::Items;
 use std::alloc::{AllocError, Global};
@@ -19,109 +25,214 @@ struct Walk {
     pending: Items<bool>,
 }
 
+/// The least flag that is set, from 0.
+#[tactic(auto, using(crate::proofs::Looks::first_at, crate::proofs::Looks::not_at))]
+fn first(flags: &[bool]) -> Option<usize>
+    ensures { result ≡ least flags.now }
+{
+    for place in 0..flags.len() {
+        if flags[place] {
+            return Some(place);
+        }
+    }
+    None
+}
+
 impl Walk {
-    /// The callback is entered, and nothing else is reached.
-    fn open(alloc: Global, graph: &Graph, callback: usize) -> Result<Walk, AllocError> {
+    /// Nothing is reached.
+    fn blank(alloc: Global, count: usize) -> Result<Walk, AllocError>
+        ensures { IfOk result (λ w. w ≡ spec.blank count) }
+    {
         let mut points = Items::new(alloc);
         let mut pending = Items::new(alloc);
-        for _point in 0..graph.points(callback) {
+        for _point in 0..count {
             points.push(None)?;
             pending.push(false)?;
         }
-        let mut walk = Walk { points, pending };
+        Ok(Walk { points, pending })
+    }
+
+    /// The callback is entered, and nothing else is reached.
+    #[tactic(auto, unfolding(crate::specs::Walk::opened))]
+    fn open(alloc: Global, graph: &Graph, callback: usize) -> Result<Walk, AllocError>
+        ensures { IfOk result (λ w. w ≡ spec.opened graph.now callback) }
+    {
+        let mut walk = Walk::blank(alloc, graph.points(callback))?;
         walk.arrive(0, Sight::entry(alloc, graph.place(callback)));
         Ok(walk)
     }
 
     /// A point is to be looked at, or no longer.
-    fn mark(&mut self, point: usize, is_pending: bool) {
+    fn mark(&mut self, point: usize, is_pending: bool)
+        ensures { self.new ≡ spec.marked self.old point is_pending }
+    {
         if point < self.pending.len() {
             self.pending.set(point, is_pending);
         }
     }
 
     /// This is known at a point from now on, and it is to be looked at.
-    fn arrive(&mut self, point: usize, sight: Sight) {
+    fn arrive(&mut self, point: usize, sight: Sight)
+        ensures { self.new ≡ spec.arrived self.old point sight }
+    {
         if point < self.points.len() {
             self.points.set(point, Some(sight));
-            self.mark(point, true);
         }
+        self.mark(point, true);
     }
 
     /// Takes the least point that is pending.
-    fn take(&mut self) -> Option<usize> {
-        let point = self.pending.as_slice().iter().position(|pending| *pending)?;
+    fn take(&mut self) -> Option<usize>
+        ensures point { result ≡ spec.first_pending self.old }
+        ensures rest { self.new ≡ spec.taken_if self.old result }
+    {
+        let point = first(self.pending.as_slice())?;
         self.mark(point, false);
         Some(point)
     }
 
-    /// A way leads to a point: the locks by which it differs from those that led there before.
-    fn reach(&mut self, way: Option<Way>) -> Locks {
-        let Some(Way { point, sight }) = way else {
-            return Locks::none();
-        };
+    /// What is known at a point.
+    #[tactic(auto, using(crate::proofs::Reading::found, crate::proofs::Reading::missing))]
+    fn known(&self, point: usize) -> Option<&Sight>
+        ensures { option_copied result ≡ spec.known self.now point }
+    {
         match self.points.get(point) {
-            Some(Some(found)) => {
-                let differ = found.differing(&sight);
-                if let Some(joined) = found.joined(&sight) {
-                    self.arrive(point, joined);
-                }
-                differ
-            }
-            _ => {
-                self.arrive(point, sight);
-                Locks::none()
-            }
+            Some(sight) => sight.as_ref(),
+            None => None,
         }
     }
 
+    /// The locks by which a way to a point differs from those that led there before.
+    fn apart(&self, point: usize, sight: &Sight) -> Locks
+        ensures { result ≡ spec.apart (spec.known self.now point) sight.now }
+    {
+        match self.known(point) {
+            Some(found) => found.differing(sight),
+            None => Locks::none(),
+        }
+    }
+
+    /// What becomes known at a point where a way leads there; none where that is nothing new.
+    fn news(&self, point: usize, sight: Sight) -> Option<Sight>
+        ensures { result ≡ spec.news (spec.known self.now point) sight }
+    {
+        match self.known(point) {
+            Some(found) => found.joined(&sight),
+            None => Some(sight),
+        }
+    }
+
+    /// A way leads to a point: the locks by which it differs from those that led there before.
+    #[tactic(auto, unfolding(crate::specs::Walk::met, crate::specs::Walk::reached))]
+    fn reach(&mut self, way: Option<Way>) -> Locks
+        ensures differ { result ≡ spec.met self.old way }
+        ensures reached { self.new ≡ spec.reached self.old way }
+    {
+        let Some(Way { point, sight }) = way else {
+            return Locks::none();
+        };
+        let differ = self.apart(point, &sight);
+        if let Some(sight) = self.news(point, sight) {
+            self.arrive(point, sight);
+        }
+        differ
+    }
+
+    /// Follows both ways from a point.
+    #[tactic(auto, unfolding(crate::specs::Walk::led))]
+    fn follow(
+        &mut self,
+        spot: Spot,
+        ways: Ways,
+        findings: &mut Items<Finding>,
+    ) -> Result<(), AllocError>
+        ensures { OnOk result (spec.progress self.new findings.new ≡ spec.led spot ways (spec.progress self.old findings.old)) }
+    {
+        let first = self.reach(ways.first);
+        spot.tell_locks(findings, &first)?;
+        let second = self.reach(ways.second);
+        spot.tell_locks(findings, &second)?;
+        Ok(())
+    }
+
     /// Looks at a point that was taken: tells what is wrong there, and goes on as if it weren't.
+    #[tactic(auto, using(crate::proofs::Looks::looked_by), unfolding(crate::specs::Walk::looked))]
     fn look(
         &mut self,
         alloc: Global,
         graph: &Graph,
         spot: Spot,
         findings: &mut Items<Finding>,
-    ) -> Result<(), AllocError> {
-        let Spot {
-            callback,
-            point,
-            ..
-        } = spot;
-        let Some(Some(sight)) = self.points.get(point) else {
+    ) -> Result<(), AllocError>
+        ensures { OnOk result (spec.progress self.new findings.new ≡ spec.looked graph.now spot (spec.progress self.old findings.old)) }
+    {
+        let Some(sight) = self.known(spot.point) else {
             return Ok(());
         };
-        let faults = faults(alloc, graph, callback, point, &sight.state)?;
+        let faults = wrong(alloc, graph, spot, &sight.state)?;
         spot.tell_faults(findings, sight, faults.as_slice())?;
-        if let Some(ways) = sight.past(graph, callback, point, faults.as_slice()) {
-            let first = self.reach(ways.first);
-            spot.tell_locks(findings, &first)?;
-            let second = self.reach(ways.second);
-            spot.tell_locks(findings, &second)?;
-        }
+        let ways = sight.past(graph, spot.callback, spot.point, faults.as_slice());
+        self.follow(spot, ways, findings)?;
         Ok(())
+    }
+
+    /// Looks at the least pending point; whether there was one.
+    #[tactic(auto, unfolding(crate::specs::Walk::step))]
+    fn step(
+        &mut self,
+        alloc: Global,
+        graph: &Graph,
+        callback: usize,
+        findings: &mut Items<Finding>,
+    ) -> Result<bool, AllocError>
+        ensures pending { IfOk result (λ pending. pending ≡ is_some (spec.first_pending self.old)) }
+        ensures walk { OnOk result (self.new ≡ (spec.step graph.now callback (spec.progress self.old findings.old)).walk) }
+        ensures found { OnOk result (findings.new ≡ (spec.step graph.now callback (spec.progress self.old findings.old)).found) }
+    {
+        let Some(point) = self.take() else {
+            return Ok(false);
+        };
+        self.look(alloc, graph, spot(graph, callback, point), findings)?;
+        Ok(true)
+    }
+}
+
+/// What is wrong at a point.
+#[tactic(auto, unfolding(crate::specs::Walk::wrong))]
+fn wrong(alloc: Global, graph: &Graph, spot: Spot, state: &Abs) -> Result<Items<Fault>, AllocError>
+    ensures { IfOk result (λ fs. fs ≡ spec.wrong graph.now spot state.now) }
+{
+    let faults = faults(alloc, graph, spot.callback, spot.point, state)?;
+    Ok(faults)
+}
+
+/// A point of a callback, where findings are told.
+fn spot(graph: &Graph, callback: usize, point: usize) -> Spot
+    ensures { result ≡ spec.spot graph.now callback point }
+{
+    Spot {
+        callback,
+        point,
+        line: graph.line(callback, point),
     }
 }
 
 /// Tells all that is wrong in a callback.
+#[tactic(auto, using(crate::proofs::Looks::one_look, crate::proofs::Looks::no_look, crate::proofs::Looks::no_more), unfolding(crate::specs::Walk::walked))]
 pub(crate) fn walk_callback(
     alloc: Global,
     graph: &Graph,
     callback: usize,
     findings: &mut Items<Finding>,
-) -> Result<(), AllocError> {
+) -> Result<(), AllocError>
+    ensures { OnOk result (findings.new ≡ spec.walked graph.now callback findings.old) }
+{
     let mut walk = Walk::open(alloc, graph, callback)?;
     for _look in 0..graph.points(callback).saturating_mul(LOOKS) {
-        let Some(point) = walk.take() else {
+        let is_pending = walk.step(alloc, graph, callback, findings)?;
+        if !is_pending {
             return Ok(());
-        };
-        let line = graph.line(callback, point);
-        let spot = Spot {
-            callback,
-            point,
-            line,
-        };
-        walk.look(alloc, graph, spot, findings)?;
+        }
     }
     Ok(())
 }

@@ -1,16 +1,23 @@
 //! Which variables an instruction writes.
 
+ghost use Rattle.std.specs.Prelude.{◌≡◌};
+ghost use Rattle.flt_explain.specs.Writes as spec;
+
 use crate::about::{is_context, is_operation};
 use crate::finding::Subject;
 use flt_graph::{Action, Instruction, Invocation, OperationVariable};
 use flt_rules::{Change, Effects, row};
 
-fn is_change(change: Change) -> bool {
+fn is_change(change: Change) -> bool
+    ensures { result ≡ spec.is_change change }
+{
     !matches!(change, Change::Stays)
 }
 
 /// What becomes of a call's operands where it succeeds, or where it fails, if it can.
-fn effects(call: &Invocation, granted: bool) -> Option<Effects> {
+fn effects(call: &Invocation, granted: bool) -> Option<Effects>
+    ensures { result ≡ spec.effects call.now granted }
+{
     let row = row(call.call);
     if granted {
         Some(row.on_ok)
@@ -19,7 +26,9 @@ fn effects(call: &Invocation, granted: bool) -> Option<Effects> {
     }
 }
 
-fn call_writes(call: &Invocation, granted: bool, subject: Subject) -> bool {
+fn call_writes(call: &Invocation, granted: bool, subject: Subject) -> bool
+    ensures { result ≡ spec.effects_write (spec.effects call.now granted) call.now subject }
+{
     let Some(effects) = effects(call, granted) else {
         return false;
     };
@@ -33,16 +42,25 @@ fn call_writes(call: &Invocation, granted: bool, subject: Subject) -> bool {
     }
 }
 
+fn action_writes(action: Action, subject: Subject) -> bool
+    ensures { result ≡ spec.action_writes action subject }
+{
+    match (action, subject) {
+        (Action::ClearContext(c), Subject::Context(v)) => is_context(Some(c), v),
+        (Action::ClearOperation(o), Subject::Operation(v)) => {
+            is_operation(Some(OperationVariable::Removed(o)), v)
+        }
+        _ => false,
+    }
+}
+
 /// Whether an instruction gives a variable a new status, where a call succeeds or where it fails.
-pub(crate) fn writes(instruction: &Instruction, granted: bool, subject: Subject) -> bool {
-    match (instruction, subject) {
-        (Instruction::Act(Action::ClearContext(c), _), Subject::Context(v)) => {
-            is_context(Some(*c), v)
-        }
-        (Instruction::Act(Action::ClearOperation(o), _), Subject::Operation(v)) => {
-            is_operation(Some(OperationVariable::Removed(*o)), v)
-        }
-        (Instruction::Call(call, _, _), _) => call_writes(call, granted, subject),
+pub(crate) fn writes(instruction: &Instruction, granted: bool, subject: Subject) -> bool
+    ensures { result ≡ spec.writes instruction.now granted subject }
+{
+    match instruction {
+        Instruction::Act(action, _) => action_writes(*action, subject),
+        Instruction::Call(call, _, _) => call_writes(call, granted, subject),
         _ => false,
     }
 }

@@ -1,4 +1,4 @@
-use Rattle.std.proofs.Common.{◌≡◌, ◌++◌, ap, ◌∙◌}
+use Rattle.std.proofs.Common.{◌++◌, ap, ◌∙◌}
 use Rattle.flt_abs.specs.Breaks.{rules}
 use Rattle.flt_explain.specs.Faults.{first_rule, faults_at}
 use Rattle.flt_explain.specs.Subjects.{operands}

@@ -1,0 +1,7 @@
+use Rattle.std.proofs.Common.{◌≡◌, drop}
+use Rattle.flt_explain.specs.Walk.{faults_told}
+use Rattle.flt_explain.proofs.tell.Spot.tell_faults.Given as goal
+
+abbrev pub invariant-loop-fault : goal.invariant-loop-fault
+invariant-loop-fault l =
+    faults_told l.self l.sight (drop l.fault-index l.faults) l.findings ≡ faults_told l.self l.sight l.faults l.initial.findings
