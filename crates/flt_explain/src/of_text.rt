@@ -126,6 +126,6 @@ pub fn findings(alloc: Global, graph: &Graph) -> Result<Items<Finding>, AllocErr
         return Ok(Items::new(alloc));
     };
     let found = walk_from(alloc, graph, refusal.callback)?;
-    let all = with_first(alloc, &refusal, found)?;
-    Ok(all)
+    let told = with_first(alloc, &refusal, found)?;
+    Ok(told)
 }
