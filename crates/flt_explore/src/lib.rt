@@ -13,7 +13,9 @@ mod paths;
 mod round_search;
 mod rounds;
 mod targets;
+mod watch;
 
 pub use round_search::{Found, Left, Search, explore};
 pub use rounds::{ROUNDS, Round};
 pub use targets::{Firsts, Stand, Targets};
+pub use watch::{SearchWatch, UnwatchedSearch, Watched};

@@ -5,6 +5,7 @@ use crate::key::key_of;
 use crate::paths::Paths;
 use crate::rounds::Round;
 use crate::targets::{Met, Stand, Targets};
+use crate::watch::{SearchWatch, Watched};
 use flt_model::{JournalEntry, Violation};
 use flt_plan::Plan;
 use flt_small_world::{Course, NOTHING_MADE, Next, OPENING, World};
@@ -675,11 +676,12 @@ impl<'p> Search<'p> {
 
     /// Goes on from a state, unless enough of its callback were gone on from at its depth: then it waits again. False where the round
     /// is over.
-    fn take_state(
+    fn take_state<W: SearchWatch>(
         &mut self,
         depth: usize,
         number: usize,
         counts: &mut Counts,
+        watched: &mut Watched<'_, W>,
     ) -> Result<bool, AllocError> {
         let class = match self.states.get(number) {
             Some(state) => state.class(),
@@ -697,6 +699,7 @@ impl<'p> Search<'p> {
             let state = *state;
             self.drop_state(number, class);
             self.expand(&state)?;
+            watched.add_state();
         }
         Ok(true)
     }
@@ -716,7 +719,11 @@ impl<'p> Search<'p> {
     }
 
     /// Goes through the states of a depth. False where the round is over.
-    fn go_through(&mut self, depth: usize) -> Result<bool, AllocError> {
+    fn go_through<W: SearchWatch>(
+        &mut self,
+        depth: usize,
+        watched: &mut Watched<'_, W>,
+    ) -> Result<bool, AllocError> {
         let mut counts = NO_COUNTS;
         let mut next = self.take_layer(depth);
         for _ in 0..MAX_WAITING {
@@ -724,7 +731,7 @@ impl<'p> Search<'p> {
                 return Ok(true);
             };
             next = self.next_of(number);
-            if !self.take_state(depth, number, &mut counts)? {
+            if !self.take_state(depth, number, &mut counts, watched)? {
                 return Ok(false);
             }
         }
@@ -733,12 +740,12 @@ impl<'p> Search<'p> {
     }
 
     /// Goes through all depths. False where the round is over.
-    fn pass(&mut self) -> Result<bool, AllocError> {
+    fn pass<W: SearchWatch>(&mut self, watched: &mut Watched<'_, W>) -> Result<bool, AllocError> {
         for depth in 0..MAX_DEPTH {
             if depth >= self.layers.len() {
                 return Ok(self.waiting > 0);
             }
-            if !self.go_through(depth)? {
+            if !self.go_through(depth, watched)? {
                 return Ok(false);
             }
         }
@@ -746,7 +753,7 @@ impl<'p> Search<'p> {
     }
 
     /// Goes through the round.
-    fn run(&mut self) -> Result<(), AllocError> {
+    fn run<W: SearchWatch>(&mut self, watched: &mut Watched<'_, W>) -> Result<(), AllocError> {
         let opening = State {
             node: None,
             depth: 0,
@@ -761,7 +768,7 @@ impl<'p> Search<'p> {
         self.push_state(&opening, &mut first, 0)?;
         for number in 0..MAX_PASSES {
             self.share = fair_share(number);
-            if !self.pass()? {
+            if !self.pass(watched)? {
                 return Ok(());
             }
         }
@@ -775,14 +782,15 @@ impl<'p> Search<'p> {
 /// # Errors
 ///
 /// Where a growth was refused.
-pub fn explore(
+pub fn explore<'p, W: SearchWatch>(
     alloc: Global,
-    plan: &Plan,
+    plan: &'p Plan,
     round: Round,
     targets: Targets,
     left: Left,
-) -> Result<Search<'_>, AllocError> {
+    watched: &mut Watched<'_, W>,
+) -> Result<Search<'p>, AllocError> {
     let mut search = Search::new(alloc, plan, round, targets, left);
-    search.run()?;
+    search.run(watched)?;
     Ok(search)
 }

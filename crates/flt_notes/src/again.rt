@@ -6,7 +6,7 @@ use crate::noted::schedule_of;
 use crate::setters::{Setter, is_same};
 use flt_explain::Finding;
 use flt_schedules::{Outcome, Outlook, Schedule, Suspect, Suspects, outcomes_among};
-use flt_search::Broken;
+use flt_search::{Broken, UnwatchedSearch};
 use std::alloc::{AllocError, Global};
 use std::fmt::Write;
 
@@ -89,7 +89,13 @@ fn outcomes_of(
         outlook: &outlook,
         found: again.as_slice(),
     };
-    outcomes_among(alloc, setter.trees.as_slice(), &suspects, states)
+    outcomes_among(
+        alloc,
+        setter.trees.as_slice(),
+        &suspects,
+        states,
+        &mut UnwatchedSearch,
+    )
 }
 
 impl Again {

@@ -22,6 +22,7 @@ use flt_model::Violation;
 use flt_reasons::{Kind, Notice, describe};
 use flt_reports::{Report, report_findings, report_nothing, report_unread};
 use flt_schedules::{Outcome, Outlook, Schedule, Suspect, Suspects, outcomes_among};
+use flt_search::UnwatchedSearch;
 use flt_syntax::SyntaxFault;
 use flt_tree::Tree;
 use sqlite_items::Items;
@@ -132,7 +133,13 @@ impl Stage<'_> {
             outlook,
             found: found.as_slice(),
         };
-        let mut outcomes = outcomes_among(self.alloc, self.trees, &suspects, self.states)?;
+        let mut outcomes = outcomes_among(
+            self.alloc,
+            self.trees,
+            &suspects,
+            self.states,
+            &mut UnwatchedSearch,
+        )?;
         outcomes.reverse();
         Ok(outcomes)
     }

@@ -17,7 +17,7 @@ use crate::violations::violations_of;
 use flt_explain::Finding;
 use flt_model::{Violation, first_repeated};
 use flt_rules::Rule;
-use flt_search::{Answer, Bounds, Broken, Goal, search};
+use flt_search::{Answer, Bounds, Broken, Goal, SearchWatch, Watched, search};
 use flt_started::Started;
 use flt_tree::{Callback, Tree};
 use std::alloc::{AllocError, Global};
@@ -185,7 +185,7 @@ fn goals_for(
 // ---- the searches
 
 /// What runs of some filters have of some findings of the filter of a number, where these are answers already.
-fn searched(
+fn searched<W: SearchWatch>(
     alloc: Global,
     trees: &[Tree],
     filter: usize,
@@ -193,6 +193,7 @@ fn searched(
     started: Option<&Started>,
     answers: &[Answer],
     states: u32,
+    watched: &mut Watched<'_, W>,
 ) -> Result<Vec<Answer>, AllocError>
     ensures { IfOk result (λ found. spec.AreFound (filters_of trees.now) suspects.now.found.now found.items) }
 {
@@ -204,7 +205,7 @@ fn searched(
         suspects.found,
         answers,
     )?;
-    search(alloc, trees, goals.as_slice(), Bounds { states })
+    search(alloc, trees, goals.as_slice(), Bounds { states }, watched)
 }
 
 /// The filter of a number alone; none where it isn't there.
@@ -226,12 +227,13 @@ fn may_meet(trees: &[Tree], number: usize) -> bool
 }
 
 /// What runs of all filters have; nothing, where the findings' filter doesn't meet another one.
-fn searched_together(
+fn searched_together<W: SearchWatch>(
     alloc: Global,
     trees: &[Tree],
     suspects: &Suspects<'_>,
     started: Option<&Started>,
     states: u32,
+    watched: &mut Watched<'_, W>,
 ) -> Result<Vec<Answer>, AllocError>
     ensures { IfOk result (λ found. spec.AreTogether trees.now suspects.now.filter suspects.now.found.now found.items) }
 {
@@ -246,7 +248,30 @@ fn searched_together(
         started,
         &[],
         states,
+        watched,
     )
+}
+
+/// What runs of the findings' filter alone have, of what is no run among these answers of runs of all filters: with half of so many states, or
+/// with all of them where there are no such answers.
+fn searched_alone<W: SearchWatch>(
+    alloc: Global,
+    trees: &[Tree],
+    suspects: &Suspects<'_>,
+    started: Option<&Started>,
+    together: &[Answer],
+    states: u32,
+    watched: &mut Watched<'_, W>,
+) -> Result<Vec<Answer>, AllocError>
+    ensures { IfOk result (λ found. spec.AreFound (filters_of (spec.only trees.now suspects.now.filter)) suspects.now.found.now found.items) }
+{
+    let left = if together.is_empty() {
+        states
+    } else {
+        states / 2
+    };
+    let own = only(trees, suspects.filter);
+    searched(alloc, own, 0, suspects, started, together, left, watched)
 }
 
 // ---- what comes of them
@@ -335,36 +360,34 @@ fn outcomes_by(
 /// What comes of each of some findings of one filter in runs of some filters, in any order, all of which are there. Where the findings' filter
 /// meets another one on an operation, runs of all filters are looked for first, with half of the bound; what they don't break is looked
 /// for in runs of the filter alone. Each of these is one search for all findings, as `flt_search::search` says; both together go on from
-/// at most so many states. A run that breaks something where a finding is comes before one that breaks it elsewhere in the callback; no
-/// clause speaks of that.
+/// at most so many states, and `watch` is told how far they have come, of each 10,000 states. A run that breaks something where a finding is
+/// comes before one that breaks it elsewhere in the callback; no clause speaks of that.
 ///
 /// # Errors
 ///
 /// Where a growth was refused, or a number or a count would reach 2^32.
-pub fn outcomes_among(
+pub fn outcomes_among<W: SearchWatch>(
     alloc: Global,
     trees: &[Tree],
     suspects: &Suspects<'_>,
     states: u32,
+    watch: &mut W,
 ) -> Result<Vec<Outcome>, AllocError>
     ensures { IfOk result (λ all. spec.AreOutcomes trees.now suspects.now.filter suspects.now.outlook.now suspects.now.found.now all.items) }
 {
     let started = Started::of(alloc, callbacks_of(trees, suspects.filter))?;
     let started = started.as_ref();
-    let together = searched_together(alloc, trees, suspects, started, states / 2)?;
-    let left = if together.is_empty() {
-        states
-    } else {
-        states / 2
-    };
-    let own = only(trees, suspects.filter);
-    let alone = searched(alloc, own, 0, suspects, started, together.as_slice(), left)?;
-    outcomes_by(
+    let mut watched = Watched::new(watch);
+    let together = searched_together(alloc, trees, suspects, started, states / 2, &mut watched)?;
+    let together = together.as_slice();
+    let alone = searched_alone(
         alloc,
         trees,
         suspects,
         started,
-        together.as_slice(),
-        alone.as_slice(),
-    )
+        together,
+        states,
+        &mut watched,
+    )?;
+    outcomes_by(alloc, trees, suspects, started, together, alone.as_slice())
 }

@@ -13,6 +13,7 @@ mod searching;
 mod shortening;
 
 pub use answering::Answer;
+pub use flt_explore::{SearchWatch, UnwatchedSearch, Watched};
 pub use goal::{Bounds, Goal};
 pub use judging::Broken;
 pub use searching::search;

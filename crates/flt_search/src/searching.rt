@@ -8,7 +8,9 @@ use crate::answering::{Answer, Proposals, answers};
 use crate::goal::{Bounds, Goal};
 use crate::judging::{is_same, judge};
 use crate::shortening::shorten;
-use flt_explore::{Firsts, Found, Left, ROUNDS, Round, Search, Stand, Targets, explore};
+use flt_explore::{
+    Firsts, Found, Left, ROUNDS, Round, Search, SearchWatch, Stand, Targets, Watched, explore,
+};
 use flt_model::{JournalEntry, Violation};
 use flt_plan::Plan;
 use flt_small_world::Violations;
@@ -326,16 +328,17 @@ fn take_over(
     )
 }
 
-fn go_through(
+fn go_through<W: SearchWatch>(
     alloc: Global,
     trees: &[Tree],
     goals: &[Goal<'_>],
     plan: &Plan,
     round: Round,
     state: &mut State,
+    watched: &mut Watched<'_, W>,
 ) -> Result<(), AllocError> {
     let targets = targets_of(alloc, plan, goals, state.hits.as_slice())?;
-    let search = explore(alloc, plan, round, targets, state.left)?;
+    let search = explore(alloc, plan, round, targets, state.left, watched)?;
     let taken = take_over(alloc, trees, goals, plan, &search, state);
     drop(search);
     taken
@@ -352,11 +355,12 @@ fn no_hits(alloc: Global, count: usize) -> Result<Vec<Hit>, AllocError> {
     Ok(hits)
 }
 
-fn state_behind(
+fn state_behind<W: SearchWatch>(
     alloc: Global,
     trees: &[Tree],
     goals: &[Goal<'_>],
     bounds: Bounds,
+    watched: &mut Watched<'_, W>,
 ) -> Result<State, AllocError> {
     let mut state = State {
         runs: Runs {
@@ -381,7 +385,7 @@ fn state_behind(
             return Ok(state);
         }
         let round = round.within(bounds.states);
-        go_through(alloc, trees, goals, &plan, round, &mut state)?;
+        go_through(alloc, trees, goals, &plan, round, &mut state, watched)?;
     }
     Ok(state)
 }
@@ -405,20 +409,21 @@ fn chosen_of(alloc: Global, hits: &[Hit]) -> Result<Vec<Option<usize>>, AllocErr
 /// activations that could go on, a cancelled operation and a filter that is detached, and one has 1,100 operations one after the other. So
 /// many states are gone on from in all, with five times as many moves and a hundred times as many local steps. Of a goal at a point a run
 /// is answered that breaks something there, where a round finds one, else one that breaks it elsewhere in the callback; no clause speaks of
-/// that, nor says that a run is found where there is one.
+/// that, nor says that a run is found where there is one. `watched` counts the states, and tells its watcher of them.
 ///
 /// # Errors
 ///
 /// Where a growth was refused, or a number or a count would reach 2^32.
-pub fn search(
+pub fn search<W: SearchWatch>(
     alloc: Global,
     trees: &[Tree],
     goals: &[Goal<'_>],
     bounds: Bounds,
+    watched: &mut Watched<'_, W>,
 ) -> Result<Vec<Answer>, AllocError>
     ensures { IfOk result (λ answers. spec.AreAnswers (filters_of trees.now) goals.now answers.items) }
 {
-    let state = state_behind(alloc, trees, goals, bounds)?;
+    let state = state_behind(alloc, trees, goals, bounds, watched)?;
     let chosen = chosen_of(alloc, state.hits.as_slice())?;
     let proposals = Proposals {
         runs: state.runs.runs.as_slice(),
