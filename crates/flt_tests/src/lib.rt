@@ -1,5 +1,5 @@
-//! Tests of the crates that read, write and keep, of what no run of the program shows: calls beside a plain program, and streams that
-//! fail. They stand apart from those crates, so that no crate with code is proved twice.
+//! Tests of the crates that read, write, keep and search, of what no run of the program shows: calls beside a plain program, streams that
+//! fail, and what a watcher is told. They stand apart from those crates, so that no crate with code is proved twice.
 #![tactic(auto)]
 
 #[cfg(test)]
@@ -18,6 +18,8 @@ mod operations;
 mod pairs;
 #[cfg(test)]
 mod queues;
+#[cfg(test)]
+mod searches;
 #[cfg(test)]
 mod thin;
 #[cfg(test)]
