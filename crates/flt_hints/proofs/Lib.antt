@@ -1,2 +1,4 @@
+pub mod Declared
 pub mod Placed
+pub mod Rare
 pub mod Tried

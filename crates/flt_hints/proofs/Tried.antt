@@ -1,9 +1,7 @@
 -- What is tried by the reader may stand: where the text with it there fails, it fails past it.
-use Rattle.std.proofs.Common.{◌≡◌, ◌↔◌, Bool, true, false, Bor, List, [], ◌∷◌, ◌++◌, Result, Ok, Err, IsTrue, map, refl, sym, ap, ◌∙◌, subst}
-use Rattle.std.proofs.lemmas.Bool.{true≢false, and_parts}
-use Rattle.std.proofs.lemmas.List.Elements.{All-nil, All-cons}
-use Rattle.std.specs.Prelude.{All}
-use Rattle.std.specs.List.{list_all}
+use Rattle.std.proofs.Common.{◌≡◌, ◌↔◌, Bool, true, false, List, [], ◌∷◌, ◌++◌, Result, Ok, Err, map, refl, sym, ap, ◌∙◌, subst}
+use Rattle.std.proofs.lemmas.Bool.{true≢false}
+use Rattle.std.specs.List.{filter}
 use Rattle.flt_syntax.specs.File.{filter_of}
 use Rattle.flt_syntax.specs.TextFails.{Fails}
 use Rattle.flt_syntax.specs.Vocabulary.{vocabulary}
@@ -11,7 +9,8 @@ use Rattle.flt_syntax.specs.declared.fault.SyntaxFault.{SyntaxFault}
 use Rattle.flt_syntax.specs.declared.token.Kind.{Kind}
 use Rattle.flt_tree.specs.Names.{Text}
 use Rattle.flt_tree.specs.declared.filter.Filter.{Filter}
-use Rattle.flt_hints.specs.Choices.{AreChoices, ArePossible, none, may, may_not, any_name, any_number, entry_of, possible, symbols}
+use Rattle.flt_hints.specs.Choices.{AreChoices, ArePossible, none, may, may_not, TakesName, entry_of, one, possible, possible_names, symbols}
+use Rattle.flt_hints.specs.Names.{IsNew, declared_names}
 use Rattle.flt_hints.specs.Trial.{Gap, MayStand, is_past, line_behind, may_stand, reads_on, tried}
 use Rattle.flt_hints.specs.declared.choices.Choices.{Choices}
 
@@ -51,39 +50,45 @@ module _ (told : TheFaultIsTold) (gap : Gap) (word : Text) where
   whether b same = ((λ on. tried_may (sym same ∙ on)), (λ h. same ∙ may_tried h))
 
 module _ (told : TheFaultIsTold) (gap : Gap) where
-  by_trial : (e : Text × Kind) (es : List (Text × Kind)) (b : Bool) → may_stand gap e.0 ≡ b → ArePossible gap es (possible gap es) →
-      ArePossible gap (e ∷ es) (possible gap (e ∷ es))
+  -- of words that are tried one by one, those that are read may stand there, and no other
+  module _ {A : Type 0} (word : A → Text) where
+    by_trial : (e : A) (es : List A) (b : Bool) → may_stand gap (word e) ≡ b →
+        ArePossible gap word es (filter (λ x. may_stand gap (word x)) es) →
+        ArePossible gap word (e ∷ es) (filter (λ x. may_stand gap (word x)) (e ∷ es))
+    by_trial e es true on rest = rw on (may (tried_may told gap (word e) on) rest)
+    by_trial e es false on rest = rw on (may_not (λ h. true≢false (sym (may_tried told gap (word e) h) ∙ on)) rest)
+
+    filtered : (es : List A) → ArePossible gap word es (filter (λ x. may_stand gap (word x)) es)
+    filtered [] = none
+    filtered (e ∷ es) = by_trial e es (may_stand gap (word e)) refl (filtered es)
+
+    and_then : (a b c d : List A) → ArePossible gap word a b → ArePossible gap word c d → ArePossible gap word (a ++ c) (b ++ d)
+    and_then [] [] c d none q = q
+    and_then [] (g ∷ b) c d p q = elim p [ ]
+    and_then (e ∷ a) (g ∷ b) c d (may h p) q = may h (and_then a b c d p q)
+    and_then (e ∷ a) b c d (may_not h p) q = may_not h (and_then a b c d p q)
+
+  possible_there : (table : List (Text × Kind)) → ArePossible gap (λ e. e.0) table (possible gap table)
   unfolding possible
-  by_trial e es true on rest = rw on (may (tried_may told gap e.0 on) rest)
-  by_trial e es false on rest = rw on (may_not (λ h. true≢false (sym (may_tried told gap e.0 h) ∙ on)) rest)
+  possible_there table = filtered (λ e. e.0) table
 
-  -- those of a table that are read there may stand there, and no other
-  possible_there : (table : List (Text × Kind)) → ArePossible gap table (possible gap table)
-  unfolding possible
-  possible_there [] = none
-  possible_there (e ∷ es) = by_trial e es (may_stand gap e.0) refl (possible_there es)
+  names_there : (names : List Text) → ArePossible gap (λ n. n) names (possible_names gap names)
+  unfolding possible_names
+  names_there names = filtered (λ n. n) names
 
-  and_then : (a b c d : List (Text × Kind)) → ArePossible gap a b → ArePossible gap c d → ArePossible gap (a ++ c) (b ++ d)
-  and_then [] [] c d none q = q
-  and_then [] (g ∷ b) c d p q = elim p [ ]
-  and_then (e ∷ a) (g ∷ b) c d (may h p) q = may h (and_then a b c d p q)
-  and_then (e ∷ a) b c d (may_not h p) q = may_not h (and_then a b c d p q)
-
-  names_there : (names : List (Bor Text)) → IsTrue (list_all (λ n. may_stand gap n.now) names) → All (λ n. MayStand gap n.now) names
-  names_there [] h = All-nil (λ (n : Bor Text). MayStand gap n.now)
-  names_there (n ∷ ns) h =
-      let parts = and_parts (may_stand gap n.now) (list_all (λ (m : Bor Text). may_stand gap m.now) ns) h in
-      All-cons (λ (m : Bor Text). MayStand gap m.now) n ns (tried_may told gap n.now parts.0) (names_there ns parts.1)
+  -- a name that is new to a text says whether one may stand there
+  pub takes_name : (text name : Text) (b : Bool) → IsNew text name → b ≡ may_stand gap name → TakesName text gap b
+  takes_name text name b new same = record { name = name; new = new; taken = whether told gap name b same }
 
   -- what is tried to stand in a place are the choices there
-  pub are_choices : (c : Choices) → map entry_of c.expected ≡ possible gap vocabulary ++ possible gap symbols →
-      c.takes_number ≡ may_stand gap any_number → c.takes_name ≡ may_stand gap any_name →
-      IsTrue (list_all (λ n. may_stand gap n.now) c.names) → AreChoices gap c
-  are_choices c expected number name names = record {
-    expected = rw expected (and_then vocabulary _ symbols _ (possible_there vocabulary) (possible_there symbols));
-    number = whether told gap any_number c.takes_number number;
-    name = whether told gap any_name c.takes_name name;
-    names = names_there c.names names;
+  pub are_choices : (text : Text) (c : Choices) → map entry_of c.expected ≡ possible gap vocabulary ++ possible gap symbols →
+      c.takes_number ≡ may_stand gap one → TakesName text gap c.takes_name →
+      map (λ n. n.now) c.names ≡ possible_names gap (declared_names text) → AreChoices text gap c
+  are_choices text c expected number name names = record {
+    expected = rw expected (and_then (λ e. e.0) vocabulary _ symbols _ (possible_there vocabulary) (possible_there symbols));
+    number = whether told gap one c.takes_number number;
+    name = name;
+    names = rw names (names_there (declared_names text));
   }
 
   -- a word that is tried with success may stand

@@ -20,7 +20,7 @@ pub record AreNone (t : Trouble) : Type 0 where
 
 -- what may stand in the place of a token, and a word that is meant is one that may
 pub record AreFor (kind : FaultKind) (text : Text) (token : Token) (t : Trouble) : Type 0 where
-  pub choices : AreChoices (gap_at kind text token) t.choices
+  pub choices : AreChoices text (gap_at kind text token) t.choices
   pub meant : IfSome t.meant (λ w. MayStand (gap_at kind text token) w.now)
 
 -- no word is meant by one that names what the language leaves out

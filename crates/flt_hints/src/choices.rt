@@ -1,12 +1,13 @@
 //! What may stand in a place of a text.
 
-ghost use Rattle.std.specs.Prelude.{◌≡◌, [], ◌++◌, map, IfOk, OnOk, IsTrue};
-ghost use Rattle.std.specs.List.{list_all};
+ghost use Rattle.std.specs.Prelude.{◌≡◌, ◌≤◌, [], ◌++◌, length, map, IfOk, OnOk};
 ghost use Rattle.flt_hints.specs.Choices as spec;
 ghost use Rattle.flt_hints.specs.Trial.{gap_of};
-ghost use Rattle.flt_hints.specs.Trial as trial;
+ghost use Rattle.flt_hints.specs.Names as declared;
 ghost use Rattle.flt_syntax.specs.Vocabulary.{vocabulary};
+ghost use Rattle.flt_tree.specs.Limits.{max_text};
 
+use crate::new_name::new_name;
 use crate::trial::{Gap, may_stand};
 use flt_syntax::{Kind, keywords, the_fault_is_the_one_told};
 use sqlite_items::Items;
@@ -80,12 +81,13 @@ fn expected_in(alloc: Global, gap: Gap<'_>) -> Result<Items<Expected>, AllocErro
 }
 
 /// Those of some names that may stand in a place.
+#[tactic(auto, unfolding(crate::specs::Choices::possible_names))]
 fn names_in<'a>(
     alloc: Global,
     gap: Gap<'_>,
     names: &[&'a [u8]],
 ) -> Result<Items<&'a [u8]>, AllocError>
-    ensures { IfOk result (λ ns. IsTrue (list_all (λ n. trial.may_stand (gap_of gap.entry) n.now) ns)) }
+    ensures { IfOk result (λ ns. map (λ n. n.now) ns ≡ spec.possible_names (gap_of gap.entry) (map (λ n. n.now) names.now)) }
 {
     let mut found = Items::new(alloc);
     for name in names {
@@ -96,18 +98,32 @@ fn names_in<'a>(
     Ok(found)
 }
 
-/// What may stand in a place, of the language and of some names.
+/// Whether a name that is new to a text may stand in a place of it.
+fn takes_name(alloc: Global, text: &[u8], gap: Gap<'_>) -> Result<bool, AllocError>
+    requires { length text.now ≤ max_text }
+    ensures { IfOk result (λ b. spec.TakesName text.now (gap_of gap.entry) b) }
+{
+    the_fault_is_the_one_told();
+    let name = new_name(alloc, text)?;
+    let taken = may_stand(alloc, gap, name.as_slice())?;
+    Ok(taken)
+}
+
+/// What may stand in a place of a text that declares some names.
 pub(crate) fn choices_in<'a>(
     alloc: Global,
+    text: &[u8],
     gap: Gap<'_>,
     names: &[&'a [u8]],
 ) -> Result<Choices<'a>, AllocError>
-    ensures { IfOk result (λ c. spec.AreChoices (gap_of gap.entry) c) }
+    requires few { length text.now ≤ max_text }
+    requires names { map (λ n. n.now) names.now ≡ declared.declared_names text.now }
+    ensures { IfOk result (λ c. spec.AreChoices text.now (gap_of gap.entry) c) }
 {
     the_fault_is_the_one_told();
     let expected = expected_in(alloc, gap)?;
     let takes_number = may_stand(alloc, gap, b"1")?;
-    let takes_name = may_stand(alloc, gap, b"a_name_of_its_own")?;
+    let takes_name = takes_name(alloc, text, gap)?;
     let names = names_in(alloc, gap, names)?;
     Ok(Choices {
         expected,

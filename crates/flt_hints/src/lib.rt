@@ -10,6 +10,7 @@ mod kinds;
 mod misspelt;
 mod names;
 mod nearest;
+mod new_name;
 mod open_call;
 mod phrases;
 mod spot;

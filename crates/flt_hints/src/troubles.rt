@@ -1,12 +1,14 @@
 //! What is said of a text that doesn't parse.
 
-ghost use Rattle.std.specs.Prelude.{◌≡◌, false, true, None, IfOk, IfSome};
+ghost use Rattle.std.specs.Prelude.{◌≡◌, ◌≤◌, false, true, length, None, IfOk, IfSome};
 ghost use Rattle.flt_hints.specs.Absences as absences;
 ghost use Rattle.flt_hints.specs.Choices.{AreChoices};
+ghost use Rattle.flt_hints.specs.Spot.{tokens_of};
 ghost use Rattle.flt_hints.specs.Trial as trial;
 ghost use Rattle.flt_hints.specs.Trial.{gap_of};
 ghost use Rattle.flt_hints.specs.Trouble as spec;
 ghost use Rattle.flt_syntax.specs.TextFails.{Fails};
+ghost use Rattle.flt_tree.specs.Limits.{max_text};
 
 use crate::absences::absence_of;
 use crate::choices::{Choices, choices_in};
@@ -148,10 +150,12 @@ fn choices_at<'a>(
     kind: FaultKind,
     token: Token,
 ) -> Result<Choices<'a>, AllocError>
-    ensures { IfOk result (λ c. AreChoices (trial.gap_at kind text.now token) c) }
+    requires few { length text.now ≤ max_text }
+    requires tokens { tokens.now ≡ tokens_of text.now }
+    ensures { IfOk result (λ c. AreChoices text.now (trial.gap_at kind text.now token) c) }
 {
     let names = declared_names(alloc, text, tokens)?;
-    choices_in(alloc, gap_at(kind, text, token), names.as_slice())
+    choices_in(alloc, text, gap_at(kind, text, token), names.as_slice())
 }
 
 /// What is said in the place of a token.
@@ -162,6 +166,8 @@ fn with_token<'a>(
     spot: Spot<'a>,
     token: Token,
 ) -> Result<Trouble<'a>, AllocError>
+    requires few { length text.now ≤ max_text }
+    requires tokens { tokens.now ≡ tokens_of text.now }
     ensures { IfOk result (spec.IsPlaced text.now spot.entry token) }
 {
     let choices = choices_at(alloc, text, tokens, spot.fault.kind, token)?;
