@@ -1,6 +1,7 @@
 pub mod Bits
 pub mod Gathering
 pub mod HeldLocks
+pub mod Last
 pub mod OnWays
 pub mod Parts
 pub mod Reading

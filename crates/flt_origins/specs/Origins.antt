@@ -1,5 +1,6 @@
 -- Where a fact comes from: the step that made it, or the entry, and the steps since. This project's own definitions.
-use Rattle.std.specs.Prelude.{◌≡◌, ℕ, Bool, true, false, ◌==◌, ◌&&◌, IsTrue, is_some, List, [], ◌∷◌, Option, Some, None, if◌then◌else◌}
+use Rattle.std.specs.Prelude.{◌≡◌, ℕ, Bool, true, false, not, ◌==◌, ◌&&◌, IsTrue, is_some, List, [], ◌∷◌, ◌++◌, Option, Some, None, if◌then◌else◌}
+use Rattle.std.specs.List.{list_all}
 use Rattle.flt_rules.specs.declared.call.LockNumber.{LockNumber}
 use Rattle.flt_rules.specs.declared.held.HeldLock.{HeldLock}
 use Rattle.flt_rules.specs.declared.place.Mode.{Mode}
@@ -113,6 +114,20 @@ origin_on g k f steps p =
     let c = last_cause g k f cause.Entry steps in
     let later = since g k f steps steps in
     origin_if (is_origin g k f p c later) (origin f c later)
+
+-- whether no step of some makes a fact
+abbrev pub are_unmade : Graph → ℕ → Fact → List Step → Bool
+are_unmade g k f steps = list_all (λ s. not (is_made_by g k f s)) steps
+
+-- what made a fact last on a way: a step that makes it, behind which none does, with the steps since; or the entry, where no step does
+abbrev pub IsLast : Graph → ℕ → Fact → List Step → Cause → List Step → Type 0
+IsLast g k f steps cause.Entry later = (later ≡ steps) × (are_unmade g k f steps ≡ true)
+IsLast g k f steps (cause.Made s) later =
+    (front : List Step) × (steps ≡ front ++ s ∷ later) × (is_made_by g k f s ≡ true) × (are_unmade g k f later ≡ true)
+
+-- nothing that made a fact last on a way is its origin at a point
+abbrev pub HasNone : Graph → ℕ → Fact → List Step → ℕ → Type 0
+HasNone g k f steps p = (c : Cause) (later : List Step) → IsLast g k f steps c later → is_origin g k f p c later ≡ false
 
 -- whatever is so at the end of a way has an origin on it
 abbrev pub HaveOrigins : Type 0

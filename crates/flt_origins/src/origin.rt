@@ -1,6 +1,6 @@
 //! Where a fact comes from.
 
-ghost use Rattle.std.specs.Prelude.{◌≡◌, Some, IfOk, IfSome};
+ghost use Rattle.std.specs.Prelude.{◌≡◌, None, Some, IfOk, IfSome};
 ghost use Rattle.flt_graph.specs.Points.{successor};
 ghost use Rattle.flt_origins.specs.Origins as spec;
 ghost use Rattle.flt_origins.specs.declared.origin.Cause.TheVariants as cause;
@@ -181,6 +181,8 @@ pub fn origin_on(
 ) -> Result<Option<Origin>, AllocError>
     ensures value { IfOk result (λ o. o ≡ spec.origin_on graph.now callback fact steps.now point) }
     ensures meaning { IfOk result (λ o. IfSome o (spec.IsOrigin graph.now callback fact point)) }
+    ensures last { IfOk result (λ o. IfSome o (λ x. spec.IsLast graph.now callback fact steps.now x.cause x.later)) }
+    ensures none { IfOk result (λ o. o ≡ None → spec.HasNone graph.now callback fact steps.now point) }
 {
     let (cause, later) = last_made(graph, callback, fact, steps);
     if !is_origin(alloc, graph, callback, fact, point, cause, later) {
