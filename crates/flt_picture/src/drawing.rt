@@ -45,40 +45,19 @@ fn escape(letter: char) -> Option<&'static str> {
     }
 }
 
-fn put_number(out: &mut String, number: usize) -> Result<(), AllocError> {
-    write!(out, "{number}")
-}
-
 impl Drawing {
-    /// Some words, and behind each a number, as long as there are numbers.
-    fn put(&mut self, words: &[&str], numbers: &[usize]) -> Result<(), AllocError> {
-        let mut place: usize = 0;
-        for word in words {
-            self.out.push_str(word)?;
-            if let Some(number) = numbers.get(place) {
-                put_number(&mut self.out, *number)?;
-            }
-            place = place.saturating_add(1);
-        }
-        Ok(())
-    }
-
     /// An empty picture, white.
     pub(crate) fn new(alloc: Global, width: usize, height: usize) -> Result<Drawing, AllocError> {
-        let mut drawing = Drawing {
-            out: String::new(alloc),
-        };
-        drawing.put(
-            &[
-                "<svg xmlns=\"http://www.w3.org/2000/svg\" font-family=\"monospace\" font-size=\"12\" width=\"",
-                "\" height=\"",
-                "\">\n<rect width=\"",
-                "\" height=\"",
-                "\" fill=\"#ffffff\"/>\n",
-            ],
-            &[width, height, width, height],
+        let mut out = String::new(alloc);
+        write!(
+            out,
+            "<svg xmlns=\"http://www.w3.org/2000/svg\" font-family=\"monospace\" font-size=\"12\" width=\"{width}\" height=\"{height}\">\n"
         )?;
-        Ok(drawing)
+        write!(
+            out,
+            "<rect width=\"{width}\" height=\"{height}\" fill=\"#ffffff\"/>\n"
+        )?;
+        Ok(Drawing { out })
     }
 
     /// A filled box.
@@ -90,31 +69,17 @@ impl Drawing {
         height: usize,
         colour: &str,
     ) -> Result<(), AllocError> {
-        self.put(
-            &[
-                "<rect x=\"",
-                "\" y=\"",
-                "\" width=\"",
-                "\" height=\"",
-                "\" rx=\"3\" fill=\"",
-                colour,
-                "\"/>\n",
-            ],
-            &[x, y, width, height],
+        write!(
+            self.out,
+            "<rect x=\"{x}\" y=\"{y}\" width=\"{width}\" height=\"{height}\" rx=\"3\" fill=\"{colour}\"/>\n"
         )
     }
 
     /// A line from one height to another.
     pub(crate) fn rule(&mut self, x: usize, top: usize, bottom: usize) -> Result<(), AllocError> {
-        self.put(
-            &[
-                "<line x1=\"",
-                "\" y1=\"",
-                "\" x2=\"",
-                "\" y2=\"",
-                "\" stroke=\"#a0a0a0\" stroke-width=\"2\"/>\n",
-            ],
-            &[x, top, x, bottom],
+        write!(
+            self.out,
+            "<line x1=\"{x}\" y1=\"{top}\" x2=\"{x}\" y2=\"{bottom}\" stroke=\"#a0a0a0\" stroke-width=\"2\"/>\n"
         )
     }
 
@@ -130,10 +95,8 @@ impl Drawing {
 
     /// The beginning of words at a place.
     fn open(&mut self, x: usize, y: usize, look: Look) -> Result<(), AllocError> {
-        self.put(
-            &["<text x=\"", "\" y=\"", "\" ", look_words(look), ">"],
-            &[x, y],
-        )
+        let look = look_words(look);
+        write!(self.out, "<text x=\"{x}\" y=\"{y}\" {look}>")
     }
 
     /// Words from a place on, or round it where they stand inside a shape.
@@ -176,7 +139,7 @@ impl Drawing {
         number: usize,
     ) -> Result<(), AllocError> {
         self.open(x, y, look)?;
-        self.put(&["", "</text>\n"], &[number])
+        write!(self.out, "{number}</text>\n")
     }
 
     /// The numbers of a row's entries, from 0.
@@ -189,9 +152,9 @@ impl Drawing {
     ) -> Result<(), AllocError> {
         self.open(x, y, Look::Before)?;
         if last > first {
-            return self.put(&["", "-", "</text>\n"], &[first, last]);
+            return write!(self.out, "{first}-{last}</text>\n");
         }
-        self.put(&["", "</text>\n"], &[first])
+        write!(self.out, "{first}</text>\n")
     }
 
     /// The end of the picture.

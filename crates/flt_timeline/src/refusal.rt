@@ -1,9 +1,9 @@
 //! Why an entry isn't enabled: which condition of its move or step fails, in the world in which it comes.
 
+use flt_course::is_local;
 use flt_model::{Move, fits_mode};
 use flt_records::{Position, Upcoming};
 use flt_rules::{Mode, Operation};
-use flt_tree::{Action, Condition, Statement, Test};
 use flt_world::{Stack, World};
 
 /// Why an entry isn't enabled.
@@ -214,30 +214,9 @@ pub(crate) fn of_move(world: &World<'_>, stack: &Stack<'_>, step: Move) -> Refus
 
 // ---- steps
 
-/// Whether others see the step of a statement.
-fn is_seen(statement: &Statement) -> bool {
-    match statement {
-        Statement::Act(_, action) => matches!(
-            action,
-            Action::ReadValue(_, _) | Action::ReadFile(_, _) | Action::WriteValue(_, _)
-        ),
-        Statement::Call(_, _) | Statement::Return(_, _) => true,
-        Statement::If(_, condition, _, _) => matches!(
-            condition,
-            Condition::Succeeds(_) | Condition::Test(Test::IsIrp)
-        ),
-        Statement::Repeat(_, _, _) => false,
-    }
-}
-
 /// Why the last step of an entry isn't enabled with this choice, by what comes next in the activation: nothing at the end of its body.
 pub(crate) fn of_step(next: Option<Upcoming<'_>>, grant: bool) -> Refusal {
-    let is_seen = match next {
-        Some(Upcoming::Statement(statement)) => is_seen(statement),
-        Some(Upcoming::Repeat(_, _, _)) => false,
-        None => true,
-    };
-    if !is_seen {
+    if is_local(next) {
         Refusal::IsUnseen
     } else if grant {
         Refusal::IsLocked

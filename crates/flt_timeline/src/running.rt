@@ -7,7 +7,6 @@ use crate::telling::{Happening, Started, Telling, Who};
 use flt_model::{Journal, JournalEntry, Move};
 use flt_records::Upcoming;
 use flt_rules::{Operation, Place};
-use flt_steps::Setup;
 use flt_tree::{Callback, Filter, Head, OperationVariable, Statement, Tree};
 use flt_world::{Stack, World};
 use std::alloc::{AllocError, Global};
@@ -250,8 +249,7 @@ impl<'b, 'a> Teller<'b, 'a> {
 
     /// Makes a move. False where it isn't enabled.
     fn make(&mut self, step: Move) -> Result<bool, AllocError> {
-        let mut events = Vec::new(self.alloc);
-        flt_moves::make(&mut self.world, self.alloc, self.stack, step, &mut events)
+        flt_course::make_move(&mut self.world, self.alloc, self.stack, step)
     }
 
     /// A move was made that started nothing.
@@ -283,22 +281,9 @@ impl<'b, 'a> Teller<'b, 'a> {
 
     // ---- steps
 
-    /// Makes steps that nobody else sees, up to one that isn't such a step: how many.
-    fn go_unseen(&mut self, activation: usize, steps: u32) -> Result<u32, AllocError> {
-        for made in 0..steps {
-            if !flt_steps::step_unseen(&mut self.world, activation)? {
-                return Ok(made);
-            }
-        }
-        Ok(steps)
-    }
-
     /// What comes next in an activation; nothing at the end of its body.
     fn upcoming(&mut self, activation: usize) -> Result<Option<Upcoming<'a>>, AllocError> {
-        match self.world.activations.get_mut(activation) {
-            Some(activation) => activation.first(),
-            None => Ok(None),
-        }
+        flt_course::upcoming(&mut self.world, activation)
     }
 
     fn callback(&self, started: Started) -> Option<&'a Callback> {
@@ -318,14 +303,7 @@ impl<'b, 'a> Teller<'b, 'a> {
 
     /// Makes a step that others see. False where it isn't enabled.
     fn step_seen(&mut self, activation: usize, grant: bool) -> Result<bool, AllocError> {
-        // Whether the activation holds its operation changes no world: only events, and those aren't read.
-        let setup = Setup {
-            activation,
-            grant,
-            held: true,
-        };
-        let mut events = Vec::new(self.alloc);
-        flt_steps::step_seen(&mut self.world, self.stack, setup, &mut events)
+        flt_course::step_seen(&mut self.world, self.alloc, self.stack, activation, grant)
     }
 
     /// Makes the step of a line; none where it isn't enabled.
@@ -390,7 +368,7 @@ impl<'b, 'a> Teller<'b, 'a> {
         if steps == 0 {
             return Ok(Err(Refusal::NoStep));
         }
-        let made = self.go_unseen(activation, steps - 1)?;
+        let made = flt_course::go_locally(&mut self.world, activation, steps - 1)?;
         if made < steps - 1 {
             return Ok(Err(Refusal::IsSeen(made.saturating_add(1))));
         }

@@ -6,10 +6,11 @@ use crate::refusal::Refusal;
 use crate::rows::Row;
 use crate::telling::{Column, Happening, Telling, Who};
 use crate::timeline::Timeline;
-use crate::words::{put, put_callback, put_happening, violation_word};
+use crate::words::{put_callback, put_happening, put_one, violation_word};
 use flt_model::Verdict;
 use sqlite_items::Items;
 use std::alloc::{AllocError, Global};
+use std::fmt::Write;
 
 const NOBODY: Who = Who {
     operation: None,
@@ -86,7 +87,7 @@ fn put_refusal(out: &mut String, refusal: Option<Refusal>) -> Result<(), AllocEr
     };
     out.push_str("  <- isn't enabled: ")?;
     match refusal {
-        Refusal::IsSeen(step) => put(out, &[refusal.words()], &[step as usize]),
+        Refusal::IsSeen(step) => put_one(out, refusal.words(), step),
         _ => out.push_str(refusal.words()),
     }
 }
@@ -159,7 +160,7 @@ impl<'a> Timeline<'a> {
         if count == 1 {
             return self.put_words(out, block);
         }
-        put(out, &["", " times ("], &[count])?;
+        write!(out, "{count} times (")?;
         self.put_words(out, block)?;
         out.push_str(")")
     }
@@ -203,12 +204,12 @@ impl<'a> Timeline<'a> {
         let first = row.first;
         if row.count <= 1 {
             put_blanks(out, field.saturating_sub(width(first)))?;
-            return put(out, &["", "  "], &[first]);
+            return write!(out, "{first}  ");
         }
         let last = row.first.saturating_add(row.count.saturating_sub(1));
         let taken = width(first).saturating_add(width(last)).saturating_add(1);
         put_blanks(out, field.saturating_sub(taken))?;
-        put(out, &["", "-", "  "], &[first, last])
+        write!(out, "{first}-{last}  ")
     }
 
     /// The sign of a row's own column.
@@ -216,7 +217,8 @@ impl<'a> Timeline<'a> {
         if own < COLUMNS {
             return out.push_str("o ");
         }
-        put(out, &["+ ", ": "], &[self.serial(entry) as usize])
+        let serial = self.serial(entry);
+        write!(out, "+ {serial}: ")
     }
 
     /// The signs of the columns before a row's own, and its own.
@@ -238,7 +240,8 @@ impl<'a> Timeline<'a> {
         let last = row.first.saturating_add(row.count.saturating_sub(1));
         match self.verdict {
             Verdict::Breaks(violation, entry) if entry == last => {
-                put(out, &["  <- breaks ", violation_word(violation)], &[])
+                let word = violation_word(violation);
+                write!(out, "  <- breaks {word}")
             }
             _ if matches!(self.happening(last), Happening::IsRefused(_)) => {
                 put_refusal(out, self.refusal)
@@ -285,13 +288,10 @@ impl<'a> Timeline<'a> {
         Self::put_numbers(out, field, numbers)?;
         let more = times(fold).saturating_sub(1);
         if fold.block == 1 {
-            return put(out, &["the same ", " times more\n"], &[more]);
+            return write!(out, "the same {more} times more\n");
         }
-        put(
-            out,
-            &["the same ", " rows ", " times more\n"],
-            &[fold.block, more],
-        )
+        let rows = fold.block;
+        write!(out, "the same {rows} rows {more} times more\n")
     }
 
     fn put_fold(

@@ -42,46 +42,26 @@ fn choice_word(choice: bool) -> &'static str {
     if choice { " yes" } else { " no" }
 }
 
-fn put_number(out: &mut String, number: usize) -> Result<(), AllocError> {
-    write!(out, "{number}")
-}
-
-/// Some words, and behind each a number, as long as there are numbers.
-pub(crate) fn put(out: &mut String, words: &[&str], numbers: &[usize]) -> Result<(), AllocError> {
-    let mut place: usize = 0;
-    for word in words {
-        out.push_str(word)?;
-        if let Some(number) = numbers.get(place) {
-            put_number(out, *number)?;
-        }
-        place = place.saturating_add(1);
-    }
-    Ok(())
-}
-
 /// A word, which ends with a blank, and a number.
-fn put_one(out: &mut String, word: &str, number: u32) -> Result<(), AllocError> {
-    put(out, &[word], &[number as usize])
+pub(crate) fn put_one(out: &mut String, word: &str, number: u32) -> Result<(), AllocError> {
+    write!(out, "{word}{number}")
 }
 
 /// A word, which ends with a blank, and two numbers.
 fn put_two(out: &mut String, word: &str, one: u32, other: u32) -> Result<(), AllocError> {
-    put(out, &[word, " "], &[one as usize, other as usize])
+    write!(out, "{word}{one} {other}")
 }
 
 fn put_arrival(out: &mut String, kind: Operation, mode: Mode, file: u32) -> Result<(), AllocError> {
-    put(out, &["arrive ", kind_word(kind)], &[])?;
-    put_one(out, mode_word(mode), file)
+    let kind = kind_word(kind);
+    let mode = mode_word(mode);
+    write!(out, "arrive {kind}{mode}{file}")
 }
 
 fn put_unlink(out: &mut String, altitude: u32, key: Key) -> Result<(), AllocError> {
     match key {
-        Key::Stream(file) => put(
-            out,
-            &["unlink ", " stream "],
-            &[altitude as usize, file as usize],
-        ),
-        Key::Instance => put(out, &["unlink ", " instance"], &[altitude as usize]),
+        Key::Stream(file) => write!(out, "unlink {altitude} stream {file}"),
+        Key::Instance => write!(out, "unlink {altitude} instance"),
     }
 }
 
@@ -117,11 +97,7 @@ fn put_entry(out: &mut String, entry: JournalEntry) -> Result<(), AllocError> {
             grant,
         } => {
             let choice = choice_word(grant);
-            put(
-                out,
-                &["go ", " ", choice],
-                &[activation as usize, steps as usize],
-            )
+            write!(out, "go {activation} {steps}{choice}")
         }
     }
 }
@@ -136,16 +112,23 @@ fn put_name(out: &mut String, name: &[u8]) -> Result<(), AllocError> {
 
 /// A name behind a word, in quotes with it.
 fn put_named(out: &mut String, word: &str, name: &[u8]) -> Result<(), AllocError> {
-    put(out, &["`", word], &[])?;
+    out.push_str("`")?;
+    out.push_str(word)?;
     put_name(out, name)?;
     out.push_str("`")
+}
+
+/// The head of an operation's callback, in quotes.
+fn put_head_on(out: &mut String, word: &str, kind: Operation) -> Result<(), AllocError> {
+    let kind = kind_word(kind);
+    write!(out, "`{word}{kind}`")
 }
 
 /// The head of a callback as its text has it, in quotes.
 fn put_head(out: &mut String, head: &Head) -> Result<(), AllocError> {
     match head {
-        Head::Pre(kind) => put(out, &["`pre ", kind_word(*kind), "`"], &[]),
-        Head::Post(kind) => put(out, &["`post ", kind_word(*kind), "`"], &[]),
+        Head::Pre(kind) => put_head_on(out, "pre ", *kind),
+        Head::Post(kind) => put_head_on(out, "post ", *kind),
         Head::Canceled => out.push_str("`canceled`"),
         Head::DeferredPre(name) => put_named(out, "deferred_pre ", name.as_slice()),
         Head::DeferredPost(name) => put_named(out, "deferred_post ", name.as_slice()),
@@ -192,7 +175,7 @@ fn put_run(out: &mut String, line: usize, outcome: Option<bool>) -> Result<(), A
         Some(outcome) => choice_word(outcome),
         None => "",
     };
-    put(out, &["", came_out], &[line])
+    write!(out, "{line}{came_out}")
 }
 
 /// What an entry came to that is about an operation of this number, if it is about one.

@@ -1,15 +1,13 @@
 //! The local steps of an activation, as many as come one after another.
 
-ghost use Rattle.std.specs.Prelude.{◌≡◌, Bool, List, is_some, OnOk, IfOk, MatchOption, [], ◌∷◌};
-ghost use Rattle.flt_model.specs.LocalSteps.{local_step};
+ghost use Rattle.std.specs.Prelude.{◌≡◌, is_some, OnOk, IfOk, MatchOption, [], ◌∷◌};
 ghost use Rattle.flt_model.specs.Steps.{local};
-ghost use Rattle.flt_model.specs.World.{Activation, activation_at};
+ghost use Rattle.flt_model.specs.World.{activation_at};
 ghost use Rattle.flt_records.specs.Rest.{statement_of};
-ghost use Rattle.flt_tree.specs.declared.filter.Statement.{Statement};
 ghost use Rattle.flt_waits.specs.Waiting as spec;
 ghost use Rattle.flt_world.specs.Happening.{later};
 
-use crate::asking::is_local;
+use flt_course::{is_local, upcoming};
 use flt_records::Upcoming;
 use flt_steps::step_unseen;
 use flt_world::World;
@@ -17,31 +15,6 @@ use std::alloc::AllocError;
 
 /// No callback makes as many steps.
 const MAX_STEPS: u32 = 1_000_000;
-
-/// What comes next in an activation, which stays; nothing at the end of its body.
-fn first<'a>(world: &mut World<'a>, a: usize) -> Result<Option<Upcoming<'a>>, AllocError>
-    ensures same { OnOk result (world.new ≡ world.old) }
-    ensures first { IfOk result (λ f. MatchOption f ((activation_at world.old a).rest ≡ [])
-        (λ u. (activation_at world.old a).rest ≡ statement_of u ∷ later world.old a)) }
-{
-    match world.activations.get_mut(a) {
-        Some(activation) => activation.first(),
-        None => Ok(None),
-    }
-}
-
-/// Whether nobody else sees the step that comes next.
-fn is_next_local(next: Option<Upcoming<'_>>) -> bool
-    ensures { (draining : Bool) (act : Activation) (statements rest : List Statement) →
-        MatchOption next.entry (statements ≡ []) (λ u. statements ≡ statement_of u ∷ rest) →
-        is_some (local_step draining act statements) ≡ result }
-{
-    match next {
-        Some(Upcoming::Statement(statement)) => is_local(statement),
-        Some(Upcoming::Repeat(_, _, _)) => true,
-        None => false,
-    }
-}
 
 /// Whether an activation's next step is one that nobody else sees, where this comes next.
 #[tactic(auto, using(crate::proofs::LocalSteps::none_of_ended, crate::proofs::LocalSteps::local_of_list))]
@@ -52,7 +25,7 @@ fn goes_locally(world: &World<'_>, a: usize, next: Option<Upcoming<'_>>) -> bool
     if world.has_ended(a) {
         return false;
     }
-    is_next_local(next)
+    is_local(next)
 }
 
 /// Makes an activation's local steps, as many as come one after another, and answers what comes next; nothing at the end of its body.
@@ -66,7 +39,7 @@ pub(crate) fn settle<'a>(
         (λ u. (activation_at world.new a).rest ≡ statement_of u ∷ later world.new a)) }
 {
     for _made in 0..MAX_STEPS {
-        let next = first(world, a)?;
+        let next = upcoming(world, a)?;
         if !goes_locally(world, a, next) {
             return Ok(next);
         }
@@ -74,6 +47,6 @@ pub(crate) fn settle<'a>(
             unreachable!();
         }
     }
-    let next = first(world, a)?;
+    let next = upcoming(world, a)?;
     Ok(next)
 }

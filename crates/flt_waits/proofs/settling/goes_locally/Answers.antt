@@ -5,5 +5,5 @@ use Rattle.flt_world.specs.Happening.{later}
 
 pub returns : goal.returns
 returns c comes =
-    local_of_list c.args.world.now c.args.a c.is_next_local.result (sym c.if-has_ended.ensures)
-    (c.is_next_local.ensures _ _ _ (later c.args.world.now c.args.a) comes)
+    local_of_list c.args.world.now c.args.a c.is_local.result (sym c.if-has_ended.ensures)
+    (c.is_local.ensures _ _ _ (later c.args.world.now c.args.a) comes)

@@ -1,0 +1,10 @@
+//! A journal run along in the monitor's world, whatever it breaks: for those who show or explain a run that is judged already.
+//!
+//! `coming` says what comes next in an activation, and whether others see it; `entries` makes moves, steps and entries.
+#![tactic(auto)]
+
+mod coming;
+mod entries;
+
+pub use coming::{is_local, upcoming};
+pub use entries::{go_locally, make_entry, make_move, step_seen};
