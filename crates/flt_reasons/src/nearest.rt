@@ -1,19 +1,10 @@
 //! Which word is meant where another one stands.
 
+use flt_nearest::Nearest;
 use std::alloc::{AllocError, Global};
-use strsim::osa_distance;
 
 /// How many letters a word has at most that is compared with others.
 const MAX_LETTERS: usize = 16;
-
-/// A word as a text, in lower case.
-fn lowered(alloc: Global, word: &[u8]) -> Result<String, AllocError> {
-    let mut text = String::new(alloc);
-    for byte in word {
-        text.push(char::from(byte.to_ascii_lowercase()))?;
-    }
-    Ok(text)
-}
 
 /// How many letters may differ: a third of them, and always one.
 fn reach(a: &[u8], b: &[u8]) -> usize {
@@ -29,16 +20,12 @@ pub(crate) fn nearest_word<'a>(
     if MAX_LETTERS < written.len() {
         return Ok(None);
     }
-    let from = lowered(alloc, written)?;
-    let mut nearest = None;
-    let mut least = usize::MAX;
+    let mut nearest = Nearest {
+        word: None,
+        distance: usize::MAX,
+    };
     for word in words {
-        let to = lowered(alloc, word)?;
-        let distance = osa_distance(alloc, from.as_str(), to.as_str())?;
-        if distance <= reach(written, word) && distance <= least {
-            nearest = if distance < least { Some(*word) } else { None };
-            least = distance;
-        }
+        nearest = nearest.or(alloc, written, *word, reach(written, word))?;
     }
-    Ok(nearest)
+    Ok(nearest.word)
 }
