@@ -1,1 +1,2 @@
 pub mod MoreDetails
+pub mod Pages

@@ -1,5 +1,10 @@
 pub mod Alike
+pub mod Branches
 pub mod Closing
 pub mod Operands
+pub mod Page
 pub mod Reports
 pub mod Stages
+pub mod Subjects
+pub mod Tracing
+pub mod Words

@@ -11,6 +11,7 @@ use Rattle.flt_tree.specs.declared.filter.Filter.{Filter}
 use Rattle.flt_tree.specs.declared.filter.Position.{Position}
 use Rattle.flt_details.specs.Alike.{AreLike}
 use Rattle.flt_details.specs.Operands.{AreMarks}
+use Rattle.flt_details.specs.Words.{AreWords}
 use Rattle.flt_details.specs.declared.study.Detail.{Detail}
 use Rattle.flt_details.specs.declared.study.Maker.{Maker}
 use Rattle.flt_details.specs.declared.study.Route.{Route}
@@ -44,6 +45,7 @@ pub record IsRoute (text : Text) (f : Filter) (g : Graph) (callback : ℕ) (u : 
 pub record IsDetail (text : Text) (f : Filter) (g : Graph) (found : Finding) (d : Detail) : Type 0 where
   pub finding : d.finding ≡ found
   pub marks : AreMarks text f g found.callback found.point found.subject d.marks
+  pub words : AreWords text f found d.words
   pub route : IsRoute text f g found.callback found.subject d.route
 
 -- what is said of each of some findings, in their order

@@ -1,5 +1,9 @@
 //! How points come out on a way, in words.
 
+ghost use Rattle.std.specs.Prelude.{◌≡◌, option_copied};
+ghost use Rattle.flt_details.specs.Branches as spec;
+ghost use Rattle.flt_details.specs.Page.{Writes};
+
 use crate::page::Page;
 use crate::scene::Scene;
 use flt_graph::{Instruction, Invocation};
@@ -8,7 +12,9 @@ use flt_ways::Step;
 use std::alloc::AllocError;
 
 /// How an instruction comes out; none where nothing is asked.
-fn outcome(instruction: &Instruction, granted: bool) -> Option<&'static str> {
+fn outcome(instruction: &Instruction, granted: bool) -> Option<&'static str>
+    ensures { option_copied result ≡ spec.outcome instruction.now granted }
+{
     match (instruction, granted) {
         (Instruction::Test(_, _, _), true) => Some("is true"),
         (Instruction::Test(_, _, _), false) => Some("is false"),
@@ -20,7 +26,9 @@ fn outcome(instruction: &Instruction, granted: bool) -> Option<&'static str> {
 }
 
 /// How a call comes out; none where it can't fail.
-fn call_outcome(call: &Invocation, granted: bool) -> Option<&'static str> {
+fn call_outcome(call: &Invocation, granted: bool) -> Option<&'static str>
+    ensures { option_copied result ≡ spec.call_outcome call.now granted }
+{
     let can_fail = row(call.call).on_fail.is_some();
     match (can_fail, granted) {
         (true, true) => Some("succeeds"),
@@ -30,12 +38,16 @@ fn call_outcome(call: &Invocation, granted: bool) -> Option<&'static str> {
 }
 
 /// How a step comes out; none where nothing is asked there.
-pub fn step_outcome(scene: &Scene<'_>, callback: usize, step: Step) -> Option<&'static str> {
+pub fn step_outcome(scene: &Scene<'_>, callback: usize, step: Step) -> Option<&'static str>
+    ensures { option_copied result ≡ spec.step_outcome scene.now.graph.now callback step }
+{
     outcome(&scene.instruction(callback, step.point), step.granted)
 }
 
 /// How the call of a step comes out; none where it is no call, or one that can't fail.
-pub fn step_call_outcome(scene: &Scene<'_>, callback: usize, step: Step) -> Option<&'static str> {
+pub fn step_call_outcome(scene: &Scene<'_>, callback: usize, step: Step) -> Option<&'static str>
+    ensures { option_copied result ≡ spec.step_call_outcome scene.now.graph.now callback step }
+{
     match scene.instruction(callback, step.point) {
         Instruction::Call(call, _, _) => call_outcome(&call, step.granted),
         _ => None,
@@ -49,11 +61,14 @@ pub fn tell_branch(
     callback: usize,
     point: usize,
     outcome: &str,
-) -> Result<(), AllocError> {
+) -> Result<(), AllocError>
+    ensures { Writes result page.old page.new (spec.branch_at scene.now.lines.now scene.now.graph.now callback point outcome.now) }
+{
     let asked = scene.at_point(callback, point);
     if asked.is_empty() {
-        page.words(&[outcome.as_bytes()])
-    } else {
-        page.words(&[b"`", asked, b"` ", outcome.as_bytes()])
+        page.words(&[outcome.as_bytes()])?;
+        return Ok(());
     }
+    page.words(&[b"`", asked, b"` ", outcome.as_bytes()])?;
+    Ok(())
 }

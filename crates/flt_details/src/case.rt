@@ -1,5 +1,9 @@
 //! What is known of a finding, by which its words are chosen: all of it is in the graph, or in what is so where a path ends.
 
+ghost use Rattle.std.specs.Prelude.{◌≡◌, ◌++◌};
+ghost use Rattle.flt_details.specs.Page.{shown};
+ghost use Rattle.flt_details.specs.Words as words;
+
 use crate::scene::Scene;
 use crate::subjects::{lock_name, subject_words};
 use crate::tracing::Shown;
@@ -29,7 +33,10 @@ fn only_status(digit: u8) -> Option<VariableStatus> {
 }
 
 impl<'a> Case<'a> {
-    pub(crate) fn of(scene: &Scene<'a>, finding: &Finding, shown: Option<&'a Shown>) -> Case<'a> {
+    pub(crate) fn of(scene: &Scene<'a>, finding: &Finding, shown: Option<&'a Shown>) -> Case<'a>
+        ensures scene { result.scene ≡ scene.now }
+        ensures finding { result.finding ≡ finding.now }
+    {
         Case {
             scene: *scene,
             finding: *finding,
@@ -43,7 +50,9 @@ impl<'a> Case<'a> {
     }
 
     /// The head of the callback.
-    pub(crate) fn head(&self) -> &'a [u8] {
+    pub(crate) fn head(&self) -> &'a [u8]
+        ensures { result.now ≡ words.head_of self.now.scene.lines.now self.now.scene.tree.now.filter self.now.finding.callback }
+    {
         self.scene.head(self.finding.callback)
     }
 
@@ -71,7 +80,10 @@ impl<'a> Case<'a> {
     }
 
     /// What the finding is about, as `subject_words` has it.
-    pub(crate) fn subject(&self) -> (&'a [u8], &'a [u8]) {
+    pub(crate) fn subject(&self) -> (&'a [u8], &'a [u8])
+        ensures { shown result.0.now ++ (shown result.1.now ++ shown result.0.now)
+            ≡ words.subject_told self.now.scene.tree.now.filter self.now.finding.subject }
+    {
         subject_words(self.scene.tree, self.finding.subject)
     }
 

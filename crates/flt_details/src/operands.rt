@@ -70,7 +70,7 @@ fn lock_word(tree: &Tree, lock: LockNumber) -> &[u8]
 }
 
 /// How a text spells what a finding is about; nothing where it doesn't.
-fn word_of(tree: &Tree, subject: Subject) -> &[u8]
+pub(crate) fn word_of(tree: &Tree, subject: Subject) -> &[u8]
     ensures { result.now ≡ spec.word_of tree.now.filter subject }
 {
     match subject {

@@ -1,8 +1,9 @@
 //! A text that parses, with all that is looked up in it.
 
 ghost use Rattle.std.specs.Prelude.{◌≡◌};
-ghost use Rattle.flt_graph.specs.Graph.{line_at, span_at};
+ghost use Rattle.flt_graph.specs.Graph.{instruction_at, line_at, span_at};
 ghost use Rattle.flt_details.specs.Stages.{place_of};
+ghost use Rattle.flt_details.specs.Words.{head_of};
 ghost use Rattle.flt_places.specs.Places.{bytes_of, site_of};
 
 use flt_graph::{Graph, Instruction};
@@ -41,7 +42,9 @@ impl<'a> Scene<'a> {
     }
 
     /// The head of a callback.
-    pub(crate) fn head(&self, callback: usize) -> &'a [u8] {
+    pub(crate) fn head(&self, callback: usize) -> &'a [u8]
+        ensures { result.now ≡ head_of self.now.lines.now self.now.tree.now.filter callback }
+    {
         match self.tree.filter.callbacks.get(callback) {
             Some(callback) => self.lines.bytes(callback.span),
             None => &[],
@@ -55,7 +58,9 @@ impl<'a> Scene<'a> {
         self.graph.line(callback, point)
     }
 
-    pub(crate) fn instruction(&self, callback: usize, point: usize) -> Instruction {
+    pub(crate) fn instruction(&self, callback: usize, point: usize) -> Instruction
+        ensures { result ≡ instruction_at self.now.graph.now callback point }
+    {
         self.graph.instruction(callback, point)
     }
 }

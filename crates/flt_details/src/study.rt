@@ -1,7 +1,9 @@
 //! What other forms of reports say of a finding: its words and its places.
 
-ghost use Rattle.std.specs.Prelude.{◌≡◌, [], None, IfOk, IfSome};
+ghost use Rattle.std.specs.Prelude.{◌≡◌, [], None, option_copied, IfOk, IfSome};
 ghost use Rattle.flt_details.specs.Stages as spec;
+ghost use Rattle.flt_details.specs.Subjects as about;
+ghost use Rattle.flt_details.specs.Words as words;
 
 use crate::advice::{tell_advice, tell_note, tell_title};
 use crate::alike::{firsts_of, like};
@@ -236,7 +238,9 @@ fn note_of(alloc: Global, case: &Case<'_>) -> Result<Vec<u8>, AllocError> {
     Ok(page.out)
 }
 
-fn subject_of(alloc: Global, case: &Case<'_>) -> Result<Vec<u8>, AllocError> {
+fn subject_of(alloc: Global, case: &Case<'_>) -> Result<Vec<u8>, AllocError>
+    ensures { IfOk result (λ v. v.items ≡ words.subject_told case.now.scene.tree.now.filter case.now.finding.subject) }
+{
     let mut page = Page::new(alloc);
     let (mark, name) = case.subject();
     page.words(&[mark, name, mark])?;
@@ -244,7 +248,9 @@ fn subject_of(alloc: Global, case: &Case<'_>) -> Result<Vec<u8>, AllocError> {
 }
 
 /// The words of a case.
-fn words_in(alloc: Global, case: &Case<'_>) -> Result<Words, AllocError> {
+fn words_in(alloc: Global, case: &Case<'_>) -> Result<Words, AllocError>
+    ensures { IfOk result (words.AreWords case.now.scene.lines.now case.now.scene.tree.now.filter case.now.finding) }
+{
     let title = title_of(alloc, case)?;
     let help = help_of(alloc, case)?;
     let note = note_of(alloc, case)?;
@@ -265,12 +271,16 @@ pub fn words_of(
     scene: &Scene<'_>,
     finding: &Finding,
     shown: Option<&Shown>,
-) -> Result<Words, AllocError> {
+) -> Result<Words, AllocError>
+    ensures { IfOk result (words.AreWords scene.now.lines.now scene.now.tree.now.filter finding.now) }
+{
     words_in(alloc, &Case::of(scene, finding, shown))
 }
 
 /// What a finding is about at the end of a way, in a word.
-pub fn state_at_end(finding: &Finding, way: Option<&Way>) -> Option<&'static str> {
+pub fn state_at_end(finding: &Finding, way: Option<&Way>) -> Option<&'static str>
+    ensures { option_copied result ≡ about.state_at_end finding.now.subject (option_copied way.entry) }
+{
     match way {
         Some(way) => state_word(way.end.situation.state(), finding.subject),
         None => None,

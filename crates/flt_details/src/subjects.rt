@@ -1,14 +1,16 @@
 //! What findings are about, in words.
 
+ghost use Rattle.std.specs.Prelude.{◌≡◌, ◌++◌, option_copied};
+ghost use Rattle.flt_details.specs.Page.{shown};
+ghost use Rattle.flt_details.specs.Subjects as spec;
+ghost use Rattle.flt_details.specs.Words as words;
+
+use crate::operands::word_of;
 use flt_abs::{Abs, Statuses};
 use flt_explain::Subject;
 use flt_origins::{Fact, VariableStatus};
 use flt_rules::Mode;
 use flt_syntax::Tree;
-
-const CONTEXTS: [&str; 9] = ["c0", "c1", "c2", "c3", "c4", "c5", "c6", "c7", "arg"];
-
-const OPERATIONS: [&str; 5] = ["o0", "o1", "o2", "o3", "data"];
 
 /// The name of a lock; nothing where it isn't there.
 pub(crate) fn lock_name(tree: &Tree, place: usize) -> &[u8] {
@@ -18,21 +20,33 @@ pub(crate) fn lock_name(tree: &Tree, place: usize) -> &[u8] {
     }
 }
 
-/// What a finding is about, in words, and the mark that stands round them where they are those of the text.
-pub(crate) fn subject_words(tree: &Tree, subject: Subject) -> (&[u8], &[u8]) {
+/// What a finding is about that no word of a text names.
+fn phrase(subject: Subject) -> Option<&'static [u8]>
+    ensures { option_copied result ≡ words.phrase subject }
+{
     match subject {
-        Subject::Context(variable) => (b"`", CONTEXTS[variable.place()].as_bytes()),
-        Subject::Operation(variable) => (b"`", OPERATIONS[variable.place()].as_bytes()),
-        Subject::Lock(lock) => (b"`", lock_name(tree, lock.place() as usize)),
-        Subject::Mode => (b"", b"the mode of the operation"),
-        Subject::Draining => (b"", b"FLTFL_POST_OPERATION_DRAINING"),
-        Subject::Call => (b"", b"this call"),
-        Subject::Status => (b"", b"this status"),
+        Subject::Mode => Some(b"the mode of the operation"),
+        Subject::Draining => Some(b"FLTFL_POST_OPERATION_DRAINING"),
+        Subject::Call => Some(b"this call"),
+        Subject::Status => Some(b"this status"),
+        Subject::Context(_) | Subject::Operation(_) | Subject::Lock(_) => None,
+    }
+}
+
+/// What a finding is about, in words, behind the mark that stands round them where they are those of the text.
+pub(crate) fn subject_words(tree: &Tree, subject: Subject) -> (&[u8], &[u8])
+    ensures { shown result.0.now ++ (shown result.1.now ++ shown result.0.now) ≡ words.subject_told tree.now.filter subject }
+{
+    match phrase(subject) {
+        Some(phrase) => (b"", phrase),
+        None => (b"`", word_of(tree, subject)),
     }
 }
 
 /// A single status in a word.
-fn status_word(set: Option<&Statuses>) -> Option<&'static str> {
+fn status_word(set: Option<&Statuses>) -> Option<&'static str>
+    ensures { option_copied result ≡ spec.status_word (option_copied set.entry) }
+{
     match set?.digit() {
         1 => Some("NULL"),
         2 => Some("held"),
@@ -42,7 +56,9 @@ fn status_word(set: Option<&Statuses>) -> Option<&'static str> {
 }
 
 /// What a subject is in a state in which just one status of each variable is possible; none where that isn't told.
-pub(crate) fn state_word(state: &Abs, subject: Subject) -> Option<&'static str> {
+pub(crate) fn state_word(state: &Abs, subject: Subject) -> Option<&'static str>
+    ensures { option_copied result ≡ spec.state_word state.now subject }
+{
     match subject {
         Subject::Context(variable) => status_word(state.contexts().get(variable.place())),
         Subject::Operation(variable) => status_word(state.operations().get(variable.place())),
@@ -68,7 +84,9 @@ pub(crate) fn state_word(state: &Abs, subject: Subject) -> Option<&'static str> 
 }
 
 /// What a fact says, in a word.
-pub fn fact_word(fact: Fact) -> &'static str {
+pub fn fact_word(fact: Fact) -> &'static str
+    ensures { result.now ≡ spec.fact_word fact }
+{
     match fact {
         Fact::Context(_, VariableStatus::Null) | Fact::Operation(_, VariableStatus::Null) => "NULL",
         Fact::Context(_, VariableStatus::Held) | Fact::Operation(_, VariableStatus::Held) => "held",

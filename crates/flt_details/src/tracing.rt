@@ -1,5 +1,9 @@
 //! What shows each finding, where it comes from, and which are put together.
 
+ghost use Rattle.std.specs.Prelude.{◌≡◌, option_copied, slice_get, IfOk};
+ghost use Rattle.flt_details.specs.Tracing as spec;
+ghost use Rattle.flt_origins.specs.Grouping.{groups_of};
+
 use flt_explain::{Finding, Subject};
 use flt_graph::Graph;
 use flt_origins::{
@@ -20,7 +24,8 @@ pub struct Shown {
 /// The findings of a text as they are reported.
 #[derive(Drop)]
 pub struct Traces {
-    shown: Items<Shown>,
+    /// What shows each finding, by its number.
+    pub shown: Items<Shown>,
     pub groups: Items<Group>,
 }
 
@@ -157,7 +162,9 @@ fn trace_all(alloc: Global, graph: &Graph, found: &[Finding]) -> Result<Items<Sh
 }
 
 /// What made an origin's fact.
-fn cause(shown: Option<&Shown>) -> Option<Cause> {
+fn cause(shown: Option<&Shown>) -> Option<Cause>
+    ensures { result ≡ spec.cause_of (option_copied shown.entry) }
+{
     match &shown?.origin {
         Some(origin) => Some(origin.cause),
         None => None,
@@ -169,7 +176,9 @@ fn grouped(
     alloc: Global,
     found: &[Finding],
     shown: &Items<Shown>,
-) -> Result<Items<Group>, AllocError> {
+) -> Result<Items<Group>, AllocError>
+    ensures { IfOk result (λ all. all ≡ groups_of (spec.traced_from 0 found.now shown.now)) }
+{
     let mut all = Items::new(alloc);
     let mut number: usize = 0;
     for finding in found {
@@ -185,7 +194,10 @@ fn grouped(
 
 impl Shown {
     /// The way that shows a finding, and the other one where two do.
-    pub fn ways(&self) -> (Option<&Way>, Option<&Way>) {
+    pub fn ways(&self) -> (Option<&Way>, Option<&Way>)
+        ensures way { option_copied result.0 ≡ spec.way_of self.now.answer }
+        ensures other { option_copied result.1 ≡ spec.other_way self.now.answer }
+    {
         match &self.answer {
             Answer::Clean(found) | Answer::Behind(found) => (
                 Some(&found.way),
@@ -198,24 +210,32 @@ impl Shown {
 
 impl Traces {
     /// What shows the findings of a text, put together by their origins.
-    pub fn of(alloc: Global, graph: &Graph, found: &[Finding]) -> Result<Traces, AllocError> {
+    pub fn of(alloc: Global, graph: &Graph, found: &[Finding]) -> Result<Traces, AllocError>
+        ensures { IfOk result (spec.AreTraces found.now) }
+    {
         let shown = trace_all(alloc, graph, found)?;
         let groups = grouped(alloc, found, &shown)?;
         Ok(Traces { shown, groups })
     }
 
     /// What shows the finding of a number.
-    pub(crate) fn shown_at(&self, number: usize) -> Option<&Shown> {
+    pub(crate) fn shown_at(&self, number: usize) -> Option<&Shown>
+        ensures { option_copied result ≡ slice_get self.now.shown number }
+    {
         self.shown.get(number)
     }
 
     /// What shows a finding.
-    pub fn shown(&self, traced: &Traced) -> Option<&Shown> {
+    pub fn shown(&self, traced: &Traced) -> Option<&Shown>
+        ensures { option_copied result ≡ slice_get self.now.shown traced.now.number }
+    {
         self.shown_at(traced.number)
     }
 
     /// Whether each way to a finding that was found breaks another rule before.
-    pub fn is_behind(&self, traced: &Traced) -> bool {
+    pub fn is_behind(&self, traced: &Traced) -> bool
+        ensures { result ≡ spec.is_behind (slice_get self.now.shown traced.now.number) }
+    {
         match self.shown(traced) {
             Some(shown) => matches!(shown.answer, Answer::Behind(_)),
             None => false,
