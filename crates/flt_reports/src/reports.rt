@@ -1,5 +1,10 @@
 //! Reports of texts, part by part.
 
+ghost use Rattle.std.specs.Prelude.{IfOk};
+ghost use Rattle.std.specs.List.{AllZip};
+ghost use Rattle.flt_reports.specs.Covering.{AreFirsts};
+ghost use Rattle.flt_reports.specs.Reports as spec;
+
 use crate::fault_report::report_fault;
 use crate::finding_report::report_finding;
 use flt_details::{Page, Scene, Source, Traces, words_of};
@@ -55,6 +60,25 @@ fn report_group(
     )
 }
 
+/// The report of a group of findings.
+fn report_of(
+    alloc: Global,
+    coloured: bool,
+    name: &str,
+    scene: &Scene<'_>,
+    traces: &Traces,
+    group: &Group,
+) -> Result<Report, AllocError>
+    ensures { IfOk result (spec.IsReport traces.now group.now) }
+{
+    let lines = group_lines(alloc, coloured, name, scene, traces, group)?;
+    Ok(Report {
+        finding: group.first.number,
+        is_behind: traces.is_behind(&group.first),
+        lines,
+    })
+}
+
 /// The reports of the groups of findings of a text, in their order.
 fn report_groups(
     alloc: Global,
@@ -62,20 +86,19 @@ fn report_groups(
     name: &str,
     scene: &Scene<'_>,
     traces: &Traces,
-) -> Result<Items<Report>, AllocError> {
+) -> Result<Items<Report>, AllocError>
+    ensures { IfOk result (AllZip (spec.IsReport traces.now) traces.now.groups) }
+{
     let mut all = Items::new(alloc);
     for group in traces.groups.as_slice() {
-        all.push(Report {
-            finding: group.first.number,
-            is_behind: traces.is_behind(&group.first),
-            lines: group_lines(alloc, coloured, name, scene, traces, group)?,
-        })?;
+        all.push(report_of(alloc, coloured, name, scene, traces, group)?)?;
     }
     Ok(all)
 }
 
 /// The reports of the findings of a text that parses, in their order, those of one origin in one report: each with the lines that show
-/// it, a way that leads there, and how to mend it. With `coloured`, marks of a terminal colour them.
+/// it, a way that leads there, and how to mend it. Each finding has a report or is akin to one before it that has. With `coloured`, marks of
+/// a terminal colour them.
 ///
 /// # Errors
 ///
@@ -87,7 +110,9 @@ pub fn report_findings(
     tree: &Tree,
     graph: &Graph,
     found: &[Finding],
-) -> Result<Items<Report>, AllocError> {
+) -> Result<Items<Report>, AllocError>
+    ensures { IfOk result (λ all. AreFirsts found.now (spec.numbers_of all)) }
+{
     let lines = Lines::of(alloc, source.text)?;
     let scene = Scene {
         lines: &lines,
@@ -95,7 +120,8 @@ pub fn report_findings(
         graph,
     };
     let traces = Traces::of(alloc, graph, found)?;
-    report_groups(alloc, coloured, source.name, &scene, &traces)
+    let reports = report_groups(alloc, coloured, source.name, &scene, &traces)?;
+    Ok(reports)
 }
 
 /// What is reported of a text of which nothing is found, and what that promises; whole lines.
