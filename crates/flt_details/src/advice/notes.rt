@@ -124,7 +124,7 @@ fn first_unstored(case: &Case<'_>) -> Option<(Step, u64)> {
     None
 }
 
-/// Writes that a test on the path never holds.
+/// Writes that a test on the path asks for a value that no statement stores.
 fn tell_unstored(
     page: &mut Page,
     case: &Case<'_>,
@@ -132,12 +132,12 @@ fn tell_unstored(
     value: u64,
 ) -> Result<(), AllocError> {
     page.say(&[
-        Part::Text("no value "),
+        Part::Text("no statement stores "),
         Part::Value(value),
-        Part::Text(" is ever stored, so line "),
+        Part::Text(", which line "),
         Part::Number(case.step_line(step)),
         Part::Text(
-            " never finds it; the rules don't trace numbers, and `n0 = file data` stands for an unknown one",
+            " asks for; the rules don't trace numbers, and `n0 = file data` stands for an unknown one",
         ),
     ])
 }
