@@ -3,7 +3,9 @@
 #
 #   tools/refuse-allocations.sh program [WORD..] < INPUT
 #       runs the program on these words, or another one that $PROGRAM names. Where a request was refused it must end with status 2, with the line
-#       `out of memory` and nothing else; where none was, as it ends with all memory that it asks for.
+#       `out of memory` and nothing else; where none was, as it ends with all memory that it asks for. `explain` of several files has then
+#       printed what it tells of the first of them, whole, or nothing; at some requests it must have printed some, unless `--journal` or a
+#       document holds all back.
 #   tools/refuse-allocations.sh tests CRATE [WORD]
 #       runs each test of a crate that has WORD in its name. Where a request was refused it must end with the error that
 #       says so, which it carries out by `?`; where none was, it must pass. A failed assertion is a wrong answer.
@@ -72,11 +74,42 @@ said_of() {
     [ "$1" = 0 ] || echo " but $1, of which nothing came"
 }
 
+# How a report for people ends, behind which another one follows.
+closing='^(nothing found|refused .*|syntax .*|(certificate|journal|script) line .*)$'
+
+# file_of: the file of a line of a form for programs.
+file_of() {
+    sed -E 's/^\{"file":"([^"]*)".*/\1/; s/^([^:{]*):.*/\1/'
+}
+
+# has_first_parts WORD..: whether what was printed is what is told of the first files, whole, and others follow.
+has_first_parts() {
+    local size
+    size=$(stat -c %s "$work/out")
+    [ "$1" = explain ] && [ "$size" -lt "$(stat -c %s "$work/wanted-out")" ] && cmp -s -n "$size" "$work/out" "$work/wanted-out" || return 1
+    case " $* " in
+    *" --journal "* | *" sarif "*) return 1 ;;
+    *" --form lines "* | *" --form short "*)
+        [ "$(tail -n 1 "$work/out" | file_of)" != "$(tail -c "+$((size + 1))" "$work/wanted-out" | head -n 1 | file_of)" ] ;;
+    *) [ -z "$(tail -n 1 "$work/out")" ] && tail -n 2 "$work/out" | head -n 1 | grep -qE "$closing" ;;
+    esac
+}
+
+# has_several_parts WORD..: whether something is told of several files, one behind the other.
+has_several_parts() {
+    [ "$1" = explain ] || return 1
+    case " $* " in
+    *" --journal "* | *" sarif "*) return 1 ;;
+    *" --form lines "* | *" --form short "*) [ "$(file_of <"$work/wanted-out" | uniq | wc -l)" -gt 1 ] ;;
+    *) tail -n 1 "$work/wanted-out" | grep -qE ' (in|of) [0-9]+ files$' ;;
+    esac
+}
+
 try_program() {
     local program=${PROGRAM:-$top/crates/fltstack/out/fltstack}
     [ -x "$program" ] || fail "there is no $program: \`rt run\` in crates/fltstack makes it"
     run 0 "$program" "$@"
-    local wanted=$status spared=0
+    local wanted=$status spared=0 begun=0
     cp "$work/out" "$work/wanted-out"
     cp "$work/err" "$work/wanted-err"
     for ((number = 1; number <= most; number++)); do
@@ -84,14 +117,20 @@ try_program() {
         if [ ! -e "$work/mark" ]; then
             ended_as_wanted "$wanted" ||
                 fail "no request refused: status $status in place of $wanted, or another output"
-            echo "fltstack $*: $((number - 1)) requests refused in turn: out of memory each time$(said_of "$spared"), else status $wanted"
+            [ "$begun" -gt 0 ] || ! has_several_parts "$@" || fail "no first part is printed where a later request is refused"
+            echo "fltstack $*: $((number - 1)) requests refused in turn: out of memory each time$(said_of "$spared"), else status $wanted" \
+                "$([ "$begun" = 0 ] || echo "($begun behind first parts)")"
             return
         elif ended_as_wanted "$wanted"; then
             does_with_less "$program" "$(cat "$work/mark")" || fail "request $number refused in $asking: nothing came of it"
             spared=$((spared + 1))
         else
-            [ "$status" = 2 ] && [ ! -s "$work/out" ] && [ "$(cat "$work/err")" = "out of memory" ] ||
-                fail "request $number refused: status $status, and not \`out of memory\` alone"
+            [ "$status" = 2 ] && [ "$(cat "$work/err")" = "out of memory" ] ||
+                fail "request $number refused: status $status, and not \`out of memory\`"
+            if [ -s "$work/out" ]; then
+                has_first_parts "$@" || fail "request $number refused: something else stands there than whole first parts"
+                begun=$((begun + 1))
+            fi
         fi
     done
     fail "$most requests were refused, and there are more"
@@ -147,6 +186,9 @@ runs=(
     "explain no_fast_io_broken.flt gone.flt"
     "explain --form sarif gone.flt no_fast_io_broken.flt"
     "explain --form lines readers_and_a_writer_broken.flt"
+    "explain --form lines no_fast_io_broken.flt stream_context_broken.flt"
+    "explain --form short no_fast_io_broken.flt stream_context_broken.flt"
+    "explain --journal /dev/null no_fast_io_broken.flt pass_through.flt"
     "explain --form sarif stream_context_broken.flt"
     "explain leaked_context.timeline"
     "explain pending_reads_detached.script pending_reads.flt"

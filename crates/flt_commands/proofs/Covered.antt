@@ -18,7 +18,8 @@ use Rattle.flt_forms.specs.Sarif.{AreResults}
 use Rattle.flt_forms.specs.declared.as_lines.Style.{Style}
 use Rattle.flt_forms.specs.declared.unread.UnreadFile.{UnreadFile}
 use Rattle.flt_forms.specs.declared.as_lines.Style.TheVariants.{Object, Sentence}
-use Rattle.flt_notes.specs.Reported.{AreAllReports, AreReportsOf, HasNotice, HasNoticeStatus, HasReport, HasStatus, IsText}
+use Rattle.flt_notes.specs.Reported.{AreAllReports, AreParts, IsNoticeReport, IsText, IsTextReport}
+use Rattle.flt_notes.specs.Reported as reports
 use Rattle.flt_details.specs.Reports.{IsJudged, IsKnown, findings_status, status_of as status_of_judged, texts_of}
 use Rattle.flt_details.specs.declared.sources.Explained.{Explained as Told}
 use Rattle.flt_details.specs.declared.sources.Source.{Source}
@@ -168,15 +169,10 @@ module _ (law : Law) (runs : LawOfRuns) (nowhere : SpelledFailsNowhere) where
   text_well text (Unread f) is good = absurd (omega (arith, good))
   text_well text (Known tree graph found) is good = unfound text tree graph found is good
 
-  report_well : (filters : List Filter) (text : Text) (printed : List ℕ) (status : ℕ) →
-      HasReport text printed status ⊎ HasNotice filters text printed status → status ≡ 0 → BreaksNothing text
-  report_well filters text printed status (inl (j, is, same, ends)) good = text_well text j is (sym same ∙ good)
-  report_well filters text printed status (inr (n, is, same, ends)) good = unspelled text is.other.fault is.other.unread
-
-  status_well : (filters : List Filter) (text : Text) (status : ℕ) → HasStatus text status ⊎ HasNoticeStatus filters text status →
-      status ≡ 0 → BreaksNothing text
-  status_well filters text status (inl (j, is, same)) good = text_well text j is (sym same ∙ good)
-  status_well filters text status (inr (n, is, same)) good = unspelled text is.other.fault is.other.unread
+  report_well : (filters : List Filter) (text : Text) (report : List ℕ) (status count : ℕ) →
+      IsTextReport text report status count ⊎ IsNoticeReport filters text report status count → status ≡ 0 → BreaksNothing text
+  report_well filters text report status count (inl is) good = text_well text is.judged is.is (sym is.own ∙ good)
+  report_well filters text report status count (inr is) good = unspelled text is.other.fault is.other.unread
 
   -- the greatest of two statuses is 0 only where both are
   both_zero : (m n : ℕ) → max m n ≡ 0 → (m ≡ 0) × (n ≡ 0)
@@ -185,13 +181,19 @@ module _ (law : Law) (runs : LawOfRuns) (nowhere : SpelledFailsNowhere) where
   both_zero (suc m) zero good = absurd (omega (arith, good))
   both_zero (suc m) (suc n) good = absurd (omega (arith, good))
 
-  reported : (filters : List Filter) (texts : List Text) (printed : List ℕ) (status : ℕ) → AreReportsOf filters texts printed status →
-      status ≡ 0 → EachBreaksNothing texts
-  reported filters [] printed status said good = tt
-  reported filters (t ∷ []) printed status is good = (report_well filters t printed status is.is good, tt)
-  reported filters (t ∷ u ∷ ts) printed status (first, others, is, rest, greatest) good =
-      let zeros = both_zero first others (sym greatest ∙ good) in
-      (status_well filters t first is.is zeros.0, reported filters (u ∷ ts) printed others rest zeros.1)
+  one_more_breaks_nothing : (texts : List Text) (text : Text) → EachBreaksNothing texts → BreaksNothing text →
+      EachBreaksNothing (texts ++ text ∷ [])
+  one_more_breaks_nothing [] text each own = (own, tt)
+  one_more_breaks_nothing (t ∷ ts) text each own = (each.0, one_more_breaks_nothing ts text each.1 own)
+
+  reported : (filters : List Filter) (texts : List Text) (printed : List ℕ) (status findings files : ℕ) →
+      AreParts filters texts printed status findings files → status ≡ 0 → EachBreaksNothing texts
+  reported filters _ _ _ _ _ reports.none good = tt
+  reported filters _ _ _ _ _ (reports.one_more {texts = texts} {printed = printed} {greatest = greatest} {findings = findings} {files = files}
+      {text = text} {report = report} {status = status} {count = count} are is) good =
+      let zeros = both_zero greatest status good in
+      one_more_breaks_nothing texts text (reported filters texts printed greatest findings files are zeros.0)
+      (report_well filters text report status count is.is zeros.1)
 
   in_lines : (style : Style) (sources : List Source) (before printed : List ℕ) (status : ℕ) → AreLines style sources before printed status → status ≡ 0 →
       EachBreaksNothing (texts_of sources)
@@ -211,8 +213,8 @@ module _ (law : Law) (runs : LawOfRuns) (nowhere : SpelledFailsNowhere) where
   all_reported : (filters : List Filter) (texts : List Text) (printed : List ℕ) (status : ℕ) → AreAllReports filters texts printed status →
       status ≡ 0 → EachBreaksNothing texts
   all_reported filters [] printed status said good = tt
-  all_reported filters (t ∷ []) printed status is good = (report_well filters t printed status is.is good, tt)
-  all_reported filters (t ∷ u ∷ ts) printed status is good = reported filters (t ∷ u ∷ ts) is.reports status is.are good
+  all_reported filters (t ∷ []) printed status is good = (report_well filters t printed status is.count is.is.is good, tt)
+  all_reported filters (t ∷ u ∷ ts) printed status is good = reported filters (t ∷ u ∷ ts) is.reports status is.findings is.files is.are good
 
   told_well : (form : Form) (sources : List Source) (missed : List UnreadFile) (e : Told) → IsTold form sources missed e → e.status ≡ 0 →
       EachBreaksNothing (texts_of sources)
@@ -227,7 +229,7 @@ module _ (law : Law) (runs : LawOfRuns) (nowhere : SpelledFailsNowhere) where
   own_zero status (file ∷ files) good = absurd (omega (arith, good))
 
   explained : (gives : Giving) (form : Form) (colour : Colour) (states : ℕ) (journal : Option Text) (files texts : List Text) (answer : Answer) →
-      IsExplained gives form journal files texts (Ok answer) → status_of answer ≡ 0 → IsClean (Explain form colour states journal files) texts
+      IsExplained gives form states journal files texts (Ok answer) → status_of answer ≡ 0 → IsClean (Explain form colour states journal files) texts
   explained gives form colour states journal files texts (Explained e missed) said good =
       subst EachBreaksNothing said.told.given
       (told_well form said.told.sources missed.items e.explained said.told.told (own_zero e.explained.status missed.items good))
@@ -252,7 +254,7 @@ module _ (law : Law) (runs : LawOfRuns) (nowhere : SpelledFailsNowhere) where
       holds answer said (sym reported.1 ∙ good)
 
   explains_clean : (gives : Giving) (form : Form) (colour : Colour) (states : ℕ) (journal : Option Text) (files texts : List Text)
-      (said : Result Answer Failure) (bytes : List ℕ) (status : ℕ) → IsExplained gives form journal files texts said → IsReported said bytes status →
+      (said : Result Answer Failure) (bytes : List ℕ) (status : ℕ) → IsExplained gives form states journal files texts said → IsReported said bytes status →
       status ≡ 0 → IsClean (Explain form colour states journal files) texts
   explains_clean gives form colour states journal files texts (Ok answer) bytes status said reported good =
       explained gives form colour states journal files texts answer said (sym reported.1 ∙ good)

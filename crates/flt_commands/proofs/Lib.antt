@@ -1,7 +1,10 @@
 pub mod ButOne
 pub mod Covered
 pub mod Ended
+pub mod Explaining
+pub mod Faults
 pub mod Firsts
+pub mod InTurn
 pub mod Lengths
 pub mod OneAnalysis
 pub mod OneAnswer
@@ -14,4 +17,5 @@ pub mod OneVerdict
 pub mod Paged
 pub mod Readings
 pub mod Reported
+pub mod Sent
 pub mod SomeRead

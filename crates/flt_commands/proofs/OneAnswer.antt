@@ -98,11 +98,11 @@ module _ (checked : SaysOne IsChecked) (analysed : SaysOne IsAnalysed) (thinned 
   said_once gives (Pages names) texts more a b has one x y = absurd has
 
   -- one thing is printed at most, with one exit status
-  pub printed_once : (gives : Giving) (written others : Text → Text → Type 0) (request : Option Asked) (r s : Report) → AskForOne request →
-      GivesOne gives → AnswersFor gives written request r → AnswersFor gives others request s →
+  pub printed_once : (gives : Giving) (written others : Text → Text → Type 0) (untouched kept : Type 0) (request : Option Asked) (r s : Report) →
+      AskForOne request → GivesOne gives → AnswersFor gives written untouched request r → AnswersFor gives others kept request s →
       (r.output.items ≡ s.output.items) × (r.status ≡ s.status)
-  printed_once gives written others None r s has one x y = (x.0 ∙ sym y.0, x.1 ∙ sym y.1)
-  printed_once gives written others (Some request) r s has one x y =
+  printed_once gives written others untouched kept None r s has one x y = (x.0.0 ∙ sym y.0.0, x.0.1 ∙ sym y.0.1)
+  printed_once gives written others untouched kept (Some request) r s has one x y =
       reported_once r.output.items s.output.items r.status s.status x.said y.said
       (said_once (giving_for request gives) request x.texts y.texts x.said y.said has (gives_one gives one request) x.is y.is)
       x.reported y.reported

@@ -1,16 +1,18 @@
 -- The report on what is asked for, from what is said of it and how that is printed.
-use Rattle.std.proofs.Common.{◌≡◌, ◌≢◌, ◌∙◌, ℕ, List, [], ◌∷◌, ◌++◌, flat_map, refl, Option, Some, None, Result, Ok, Err, IfOk, OnOk, Vec, Global, map, ap, sym, arith}
+use Rattle.std.proofs.Common.{◌≡◌, ◌≢◌, ◌∙◌, ℕ, List, [], ◌∷◌, ◌++◌, flat_map, refl, Option, Some, None, Result, Ok, Err, IfErr, IfOk, OnOk, Bool, Bor, option_map, Vec, Global, map, ap, sym, arith}
 use Rattle.std.proofs.Math.Path.{subst}
 use Rattle.flt_syntax.specs.TextFails.{SpelledFailsNowhere}
 use Rattle.flt_commands.proofs.Covered.{Law, LawOfRuns, clean_of}
-use Rattle.flt_commands.specs.Commands.{Answers, AreThose, IsBefore, IsKept, IsKeptAs, IsRemarked, NamesNoJournal, IsRemarkedAfter, IsReported, IsSaid, giving_for, texts_in}
-use Rattle.flt_commands.specs.Explain.{ArePaged}
+use Rattle.flt_commands.specs.Commands.{Answers, AnswersFor, AreThose, HoldsBack, IsAnswered, IsBefore, IsCutShort, IsKept, IsKeptAs, IsRemarked, NamesNoJournal, IsRemarkedAfter, IsReported, IsSaid, giving_for, texts_in}
+use Rattle.flt_commands.specs.Explain.{ArePaged, IsSpelledAs, IsWritten}
+use Rattle.flt_notes.specs.Noted.{first_journal}
+use Rattle.std.specs.Prelude.{⊤}
 use Rattle.flt_commands.specs.Inputs.{Giving, Says, Text, given}
 use Rattle.flt_commands.specs.Remarks.{IsFound, unread_in, unread_lines}
 use Rattle.flt_commands.specs.Answer.{status_of, told_status}
 use Rattle.flt_forms.specs.declared.unread.UnreadFile.{UnreadFile}
 use Rattle.flt_model.specs.JournalText.{Entries}
-use Rattle.flt_words.specs.Request.{Asked, Explain}
+use Rattle.flt_words.specs.Request.{Asked, Explain, Show}
 use Rattle.flt_words.specs.Words.{asked}
 use Rattle.flt_words.specs.declared.request.Colour.{Colour}
 use Rattle.flt_words.specs.declared.request.Form.{Form}
@@ -18,6 +20,7 @@ use Rattle.flt_commands.specs.declared.answer.Answer.{Answer}
 use Rattle.flt_commands.specs.declared.answer.Answer.TheVariants.{Accepted, Refused, Certificate, Judged, Explained, Pages, Ran, FileRefused, Shown}
 use Rattle.flt_commands.specs.declared.failure.Failure.{Failure}
 use Rattle.flt_commands.specs.declared.fault.CommandFault.{CommandFault}
+use Rattle.flt_commands.specs.declared.fault.CommandFault.TheVariants.{OutOfMemory}
 use Rattle.flt_commands.specs.declared.report.Report.{Report}
 
 -- ---- what was read is what the report has
@@ -54,6 +57,13 @@ pub remarked_after : (request : Asked) (before : List ℕ) (said : Result Answer
 remarked_after request before said (Ok report) first is = (before, first, is)
 remarked_after request before said (Err f) first is = tt
 
+-- where no picture is named, all that is written stays as it was
+pub kept_shown : (written : Text → Text → Type 0) (untouched : Type 0) (timeline : Bool) (picture : Option (Bor Text)) (journal : Text)
+    (files : List Text) (said : Result Answer Failure) → (picture ≡ None → untouched) →
+    IsKept written untouched (Show timeline (option_map (λ name. name.now) picture) journal files) said
+kept_shown written untouched timeline (Some name) journal files said none = tt
+kept_shown written untouched timeline None journal files said none = none refl
+
 -- ---- with the exit status 0 or 1 nothing is remarked
 
 -- of a journal that is shown
@@ -82,7 +92,7 @@ unread_none (Shown rows v) good = refl
 unread_none (FileRefused n f) good = refl
 
 -- of what `explain` says, where no file is named for a journal
-quiet_for : (form : Form) (colour : Colour) (states : ℕ) (journal : Option Text) (files : List Text) (before : List ℕ) (said : Result Answer Failure)
+pub quiet_for : (form : Form) (colour : Colour) (states : ℕ) (journal : Option Text) (files : List Text) (before : List ℕ) (said : Result Answer Failure)
     (result : Result Report CommandFault) → IsFound journal said before →
     IfOk result (λ report. IsReported said report.output.items report.status) →
     IfOk result (λ report. report.status ≢ 2 → report.remark.items ≡ before) →
@@ -93,33 +103,95 @@ quiet_for form colour states None files before (Ok answer) (Ok report) found rep
 quiet_for form colour states None files before (Err f) (Ok report) found reported same = λ good names. absurd (good reported.1.1)
 quiet_for form colour states journal files before said (Err e) found reported same = tt
 
-pub quiet_explained : (words : List (List ℕ)) (form : Form) (colour : Colour) (states : ℕ) (journal : Option Text) (files : List Text) (before : List ℕ)
-    (said : Result Answer Failure) (result : Result Report CommandFault) → Some (Explain form colour states journal files) ≡ asked words →
-    IsFound journal said before → IfOk result (λ report. IsReported said report.output.items report.status) →
-    IfOk result (λ report. report.status ≢ 2 → report.remark.items ≡ before) →
-    IfOk result (λ report. report.status ≢ 2 → NamesNoJournal (asked words) → report.remark.items ≡ [])
-quiet_explained words form colour states journal files before said result asks found reported same =
-    rw (← asks) (quiet_for form colour states journal files before said result found reported same)
+-- ---- of a request, and of the words that ask for it
+
+module _ (words : List (List ℕ)) (request : Asked) (asks : Some request ≡ asked words) where
+  pub answers_asked : (gives : Giving) (written : Text → Text → Type 0) (untouched : Type 0) (result : Result Report CommandFault) →
+      IfOk result (IsAnswered gives written untouched request) → IfOk result (λ report. Answers gives written untouched words report)
+  answers_asked gives written untouched (Ok report) is = rw (← asks) is
+  answers_asked gives written untouched (Err e) is = tt
+
+  pub quiet_asked : (result : Result Report CommandFault) →
+      IfOk result (λ report. report.status ≢ 2 → NamesNoJournal (Some request) → report.remark.items ≡ []) →
+      IfOk result (λ report. report.status ≢ 2 → NamesNoJournal (asked words) → report.remark.items ≡ [])
+  quiet_asked result quiet = rw (← asks) quiet
+
+  pub cut_asked : (gives : Giving) (old new : Option Text) (result : Result Report CommandFault) →
+      IfErr result (λ e. e ≡ OutOfMemory → IsCutShort gives (Some request) old new) →
+      IfErr result (λ e. e ≡ OutOfMemory → IsCutShort gives (asked words) old new)
+  cut_asked gives old new result cut = rw (← asks) cut
+
+  pub held_asked : {O : Type 0} (old new : O) → (HoldsBack (Some request) → new ≡ old) → HoldsBack (asked words) → new ≡ old
+  held_asked old new held = rw (← asks) held
+
+-- ---- where it isn't known whether what is written stays as it was
+
+spelled_anyway : (written : Text → Text → Type 0) (untouched : Type 0) (name : Text) (journal : Option Entries) →
+    IsSpelledAs written untouched name journal → IsSpelledAs written ⊤ name journal
+spelled_anyway written untouched name (Some entries) is = is
+spelled_anyway written untouched name None is = tt
+
+written_anyway : (written : Text → Text → Type 0) (untouched : Type 0) (journal : Option Text) (answer : Answer) →
+    IsWritten written untouched journal answer → IsWritten written ⊤ journal answer
+written_anyway written untouched None answer is = tt
+written_anyway written untouched (Some name) (Explained e unread) is = spelled_anyway written untouched name (first_journal e.noted) is
+written_anyway written untouched (Some name) _ is = tt
+
+kept_anyway : (written : Text → Text → Type 0) (untouched : Type 0) (request : Asked) (said : Result Answer Failure) →
+    IsKept written untouched request said → IsKept written ⊤ request said
+kept_anyway written untouched (Explain form colour states journal files) (Ok answer) is = written_anyway written untouched journal answer is
+kept_anyway written untouched (Explain form colour states journal files) (Err f) is = tt
+kept_anyway written untouched (Show timeline (Some picture) journal files) said is = tt
+kept_anyway written untouched _ said is = tt
+
+answered_anyway : (gives : Giving) (written : Text → Text → Type 0) (untouched : Type 0) (request : Option Asked) (report : Report) →
+    AnswersFor gives written untouched request report → AnswersFor gives written ⊤ request report
+answered_anyway gives written untouched None report is = (is.0, tt)
+answered_anyway gives written untouched (Some request) report is = record {
+  said = is.said;
+  texts = is.texts;
+  those = is.those;
+  is = is.is;
+  reported = is.reported;
+  remarked = is.remarked;
+  clean = is.clean;
+  kept = kept_anyway written untouched request is.said is.kept;
+}
+
+pub answers_anyway : (gives : Giving) (written : Text → Text → Type 0) (untouched : Type 0) (words : List (List ℕ))
+    (result : Result Report CommandFault) → IfOk result (Answers gives written untouched words) → IfOk result (Answers gives written ⊤ words)
+answers_anyway gives written untouched words (Ok report) is = answered_anyway gives written untouched (asked words) report is
+answers_anyway gives written untouched words (Err e) is = tt
 
 -- ---- all of it
 
-module _ (law : Law) (runs : LawOfRuns) (nowhere : SpelledFailsNowhere) (gives : Giving) (written : Text → Text → Type 0) where
-  -- what is said of what the words ask for, and reported, answers them
-  pub answers_of : (words : List (List ℕ)) (request : Asked) (texts : List Text) (said : Result Answer Failure)
-      (result : Result Report CommandFault) → Some request ≡ asked words → IsSaid (giving_for request gives) request texts said → IsKept written request said →
+module _ (law : Law) (runs : LawOfRuns) (nowhere : SpelledFailsNowhere) (gives : Giving) (written : Text → Text → Type 0)
+    (untouched : Type 0) where
+  -- what is said of what is asked for, and reported, answers it
+  pub answered_of : (request : Asked) (texts : List Text) (said : Result Answer Failure) (result : Result Report CommandFault) →
+      IsSaid (giving_for request gives) request texts said → IsKept written untouched request said →
       IfOk result (λ report. AreThose request report texts said) →
       IfOk result (λ report. IsReported said report.output.items report.status) →
+      IfOk result (λ report. IsRemarked request said report.remark.items) → IfOk result (IsAnswered gives written untouched request)
+  answered_of request texts said (Ok report) is kept those reported remarked = record {
+    said = said;
+    texts = texts;
+    those = those;
+    is = is;
+    reported = reported;
+    remarked = remarked;
+    clean = λ good. clean_of law runs nowhere (giving_for request gives) request texts said report.output.items report.status is reported good;
+    kept = kept;
+  }
+  answered_of request texts said (Err f) is kept those reported remarked = tt
+
+  -- the same of what the words ask for
+  pub answers_of : (words : List (List ℕ)) (request : Asked) (texts : List Text) (said : Result Answer Failure)
+      (result : Result Report CommandFault) → Some request ≡ asked words → IsSaid (giving_for request gives) request texts said →
+      IsKept written untouched request said → IfOk result (λ report. AreThose request report texts said) →
+      IfOk result (λ report. IsReported said report.output.items report.status) →
       IfOk result (λ report. IsRemarked request said report.remark.items) →
-      IfOk result (λ report. Answers gives written words report)
+      IfOk result (λ report. Answers gives written untouched words report)
   answers_of words request texts said (Ok report) asks is kept those reported remarked =
-      rw (← asks) (record {
-        said = said;
-        texts = texts;
-        those = those;
-        is = is;
-        reported = reported;
-        remarked = remarked;
-        clean = λ good. clean_of law runs nowhere (giving_for request gives) request texts said report.output.items report.status is reported good;
-        kept = kept;
-      })
+      rw (← asks) (answered_of request texts said (Ok report) is kept those reported remarked)
   answers_of words request texts said (Err f) asks is kept those reported remarked = tt

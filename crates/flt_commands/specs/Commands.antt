@@ -1,10 +1,12 @@
 -- What a command line comes to: what is read, what is said of it, how that is printed, what it is worth and what is kept. This project's own
 -- program.
+use Rattle.std.specs.Io.KnownBytes.{Appends}
 use Rattle.std.specs.Prelude.{◌≡◌, ◌≢◌, ℕ, List, [], ◌∷◌, ◌++◌, Option, Some, None, Result, Ok, Err, IfOk, OnOk, map, unwrap_or}
 use Rattle.flt_commands.specs.Analyse.{IsAnalysed}
 use Rattle.flt_commands.specs.Answer.{ending_of, output, remark, status_of}
 use Rattle.flt_commands.specs.Check.{IsChecked}
 use Rattle.flt_commands.specs.Clean.{IsClean}
+use Rattle.flt_commands.specs.Explain as explain
 use Rattle.flt_commands.specs.Explain.{ArePaged, IsExplained, IsWritten}
 use Rattle.flt_commands.specs.Failure.{failure_line}
 use Rattle.flt_commands.specs.Inputs.{Giving, Says, Text, gives_but}
@@ -44,7 +46,7 @@ IsSaid gives (Run workers quiet script files) = Says gives (names_of (Run worker
 IsSaid gives (Replay journal files) = Says gives (names_of (Replay journal files)) IsReplayed
 IsSaid gives (Show timeline picture journal files) =
     Says gives (names_of (Show timeline picture journal files)) (IsShown timeline picture)
-IsSaid gives (Explain form colour states journal files) = IsExplained gives form journal files
+IsSaid gives (Explain form colour states journal files) = IsExplained gives form states journal files
 IsSaid gives (Pages names) = Says gives (names_of (Pages names)) (λ texts. ArePaged names)
 
 -- ---- how that is printed
@@ -74,6 +76,19 @@ IsBefore request said bytes = bytes ≡ []
 abbrev pub IsRemarked : Asked → Result Answer Failure → List ℕ → Type 0
 IsRemarked request said bytes = (before : List ℕ) × IsBefore request said before × IsRemarkedAfter before said bytes
 
+-- ---- what goes out before the end
+
+-- nothing goes out before all is known, but of `explain` of files, and there only where a form isn't one document and no file is named
+-- for a journal
+abbrev pub HoldsBack : Option Asked → Type 0
+HoldsBack (Some (Explain form colour states journal files)) = explain.HoldsBack form journal
+HoldsBack request = Unit {0}
+
+-- where memory runs out, nothing went out, or of `explain` what is told of the first files that are read
+abbrev pub IsCutShort : Giving → Option Asked → Option Text → Option Text → Type 0
+IsCutShort gives (Some (Explain form colour states journal files)) old new = explain.IsCutShort gives form states files old new
+IsCutShort gives request old new = Appends old new []
+
 -- no file is named for the journal of a finding
 abbrev pub NamesNoJournal : Option Asked → Type 0
 NamesNoJournal (Some (Explain form colour states (Some journal) files)) = ⊥
@@ -99,15 +114,17 @@ AreThose (Show timeline picture journal files) report texts said =
     (bytes : Text) × (texts ≡ bytes ∷ texts_in report) × IsKeptAs report.journal bytes said
 AreThose request report texts said = texts ≡ texts_in report
 
--- where a file is named for it, the journal of the first finding that has one is written there
-abbrev pub IsKept : (Text → Text → Type 0) → Asked → Result Answer Failure → Type 0
-IsKept written (Explain form colour states journal files) said = IfOk said (IsWritten written journal)
-IsKept written request said = Unit {0}
+-- where a file is named for it, the journal of the first finding that has one is written there; where none is named for a picture or a
+-- journal, all that is written stays as it was
+abbrev pub IsKept : (Text → Text → Type 0) → Type 0 → Asked → Result Answer Failure → Type 0
+IsKept written untouched (Explain form colour states journal files) said = IfOk said (IsWritten written untouched journal)
+IsKept written untouched (Show timeline (Some picture) journal files) said = Unit {0}
+IsKept written untouched request said = untouched
 
 -- the report on what is asked for. All of it speaks of the same texts, which are the report's: they are what the names give; this is said of
 -- them; that is what the report has for the standard output, for the exit status and for the standard error; with the status 0 the filters
--- that they spell break nothing; and what is written for it into a file
-pub record IsAnswered (gives : Giving) (written : Text → Text → Type 0) (request : Asked) (report : Report) : Type 0 where
+-- that they spell break nothing; and what is written for it into a file, or that all that is written stays as it was
+pub record IsAnswered (gives : Giving) (written : Text → Text → Type 0) (untouched : Type 0) (request : Asked) (report : Report) : Type 0 where
   pub said : Result Answer Failure
   pub texts : List Text
   pub those : AreThose request report texts said
@@ -115,12 +132,12 @@ pub record IsAnswered (gives : Giving) (written : Text → Text → Type 0) (req
   pub reported : IsReported said report.output.items report.status
   pub remarked : IsRemarked request said report.remark.items
   pub clean : report.status ≡ 0 → IsClean request texts
-  pub kept : IsKept written request said
+  pub kept : IsKept written untouched request said
 
 -- the report on a command line; of words that ask for nothing there is a text about their use
-abbrev pub AnswersFor : Giving → (Text → Text → Type 0) → Option Asked → Report → Type 0
-AnswersFor gives written None report = IsNothing report.output.items report.status
-AnswersFor gives written (Some request) report = IsAnswered gives written request report
+abbrev pub AnswersFor : Giving → (Text → Text → Type 0) → Type 0 → Option Asked → Report → Type 0
+AnswersFor gives written untouched None report = IsNothing report.output.items report.status × untouched
+AnswersFor gives written untouched (Some request) report = IsAnswered gives written untouched request report
 
-abbrev pub Answers : Giving → (Text → Text → Type 0) → List (List ℕ) → Report → Type 0
-Answers gives written words report = AnswersFor gives written (asked words) report
+abbrev pub Answers : Giving → (Text → Text → Type 0) → Type 0 → List (List ℕ) → Report → Type 0
+Answers gives written untouched words report = AnswersFor gives written untouched (asked words) report

@@ -1,16 +1,18 @@
 -- What `explain` says. This project's own program.
 use Rattle.std.specs.Io.{StartsWith}
+use Rattle.std.specs.Io.KnownBytes.{Appends}
 use Rattle.std.specs.List.{AllZip, list_all}
-use Rattle.std.specs.Prelude.{◌≡◌, List, [], ◌∷◌, ◌++◌, map, true, false, Option, Some, None, Result, Ok, Err}
+use Rattle.std.specs.Prelude.{◌≡◌, ℕ, List, [], ◌∷◌, ◌++◌, map, true, false, Option, Some, None, Result, Ok, Err, length, take}
 use Rattle.flt_pages.specs.Pages.{has_page, title}
 use Rattle.flt_forms.specs.Lines.{AreLines}
 use Rattle.flt_forms.specs.Sarif.{IsSarif}
 use Rattle.flt_forms.specs.declared.unread.UnreadFile.{UnreadFile}
 use Rattle.flt_forms.specs.declared.as_lines.Style.TheVariants.{Object, Sentence}
 use Rattle.flt_model.specs.JournalText.{Entries, spelling}
-use Rattle.flt_notes.specs.Noted.{first_journal}
-use Rattle.flt_notes.specs.Reported.{AreReports}
-use Rattle.flt_notes.specs.Told.{AreNoted, AreSaid}
+use Rattle.flt_notes.specs.Noted.{AreNotes, first_journal}
+use Rattle.flt_notes.specs.Reported.{AreReports, IsAllButLast, IsCut}
+use Rattle.flt_notes.specs.Told.{Tells}
+use Rattle.flt_notes.specs.declared.noted.Noted.{Noted}
 use Rattle.flt_notes.specs.declared.explaining.Told.{Told}
 use Rattle.flt_details.specs.Reports.{texts_of}
 use Rattle.flt_details.specs.declared.sources.Explained.{Explained as Reported}
@@ -18,9 +20,13 @@ use Rattle.flt_details.specs.declared.sources.Source.{Source}
 use Rattle.flt_words.specs.declared.request.Form.{Form}
 use Rattle.flt_words.specs.Shown.{visible}
 use Rattle.flt_words.specs.declared.request.Form.TheVariants.{Human, Lines, Sarif, Short}
+use Rattle.flt_commands.specs.InTurn.{AreFirstLines}
 use Rattle.flt_commands.specs.Inputs.{AreRead, Giving, Text, unread_names}
+use Rattle.flt_commands.specs.Answer.{output, sent_of}
 use Rattle.flt_commands.specs.declared.answer.Answer.{Answer}
 use Rattle.flt_commands.specs.declared.answer.Answer.TheVariants.{Explained, Pages}
+use Rattle.flt_commands.specs.declared.explain.Explanation.{Explanation}
+use Rattle.flt_commands.specs.declared.explain.Explanation.TheVariants.{Told as Said, Unwritten}
 use Rattle.flt_commands.specs.declared.failure.Failure.{Failure}
 use Rattle.flt_commands.specs.declared.failure.Failure.TheVariants.{CannotRead, CannotWrite, OutOfMemory}
 
@@ -41,25 +47,34 @@ IsTold Short sources unread e = AreLines Sentence sources [] e.output.items e.st
 IsTold Lines sources unread e = AreLines Object sources [] e.output.items e.status
 IsTold Sarif sources unread e = IsSarif sources unread e.output.items e.status
 
--- for people it is also told what came of findings in runs
-abbrev pub IsNoteTold : Form → Told → Type 0
-IsNoteTold Human e = AreSaid e.noted e.explained.output.items
-IsNoteTold _ e = Unit {0}
+-- what came of the findings of these texts in runs, of each that is reported by itself; nothing is looked for where that is neither told
+-- nor written into a file
+abbrev pub AreNotedFor : Form → Option Text → List Text → List Noted → Type 0
+AreNotedFor form (Some name) texts noted = AreNotes texts noted
+AreNotedFor Human None texts noted = AreNotes texts noted
+AreNotedFor form None texts noted = noted ≡ []
+
+-- for people it is also told what came of findings in runs: in the notes' lines, and in no others
+abbrev pub IsNoteTold : Form → List Text → ℕ → Told → Type 0
+IsNoteTold Human texts states e = Tells texts states e.noted e.explained.output.items
+IsNoteTold _ texts states e = Unit {0}
 
 -- the same of names and what they give, beside these files, with what came of the findings of these texts
-pub record IsToldUnder (form : Form) (names texts : List Text) (unread : List UnreadFile) (e : Told) : Type 0 where
+pub record IsToldUnder (form : Form) (states : ℕ) (journal : Option Text) (names texts : List Text) (unread : List UnreadFile) (e : Told) :
+    Type 0 where
   pub sources : List Source
   pub named : names_in sources ≡ map (told_name form) names
   pub given : texts_of sources ≡ texts
   pub told : IsTold form sources unread e.explained
-  pub noted : AreNoted texts e.noted
-  pub notes : IsNoteTold form e
+  pub noted : AreNotedFor form journal texts e.noted
+  pub notes : IsNoteTold form texts states e
 
 -- the same of those of these files that are read: they give these texts, and these others aren't read
-pub record IsToldOf (gives : Giving) (form : Form) (files texts : List Text) (unread : List UnreadFile) (e : Told) : Type 0 where
+pub record IsToldOf (gives : Giving) (form : Form) (states : ℕ) (journal : Option Text) (files texts : List Text) (unread : List UnreadFile)
+    (e : Told) : Type 0 where
   pub names : List Text
   pub read : AreRead gives files names texts (unread_names unread)
-  pub told : IsToldUnder form names texts unread e
+  pub told : IsToldUnder form states journal names texts unread e
 
 -- those of these files that are read give these texts
 pub record GiveTexts (gives : Giving) (files texts : List Text) : Type 0 where
@@ -67,25 +82,73 @@ pub record GiveTexts (gives : Giving) (files texts : List Text) : Type 0 where
   pub unread : List Text
   pub read : AreRead gives files names texts unread
 
--- what is said of the bytes of each FILE that is read; memory may run out, and a journal may not be written
-abbrev pub IsExplained : Giving → Form → Option Text → List Text → List Text → Result Answer Failure → Type 0
-IsExplained gives form journal files texts (Ok (Explained e unread)) = IsToldOf gives form files texts unread.items e
-IsExplained gives form journal files texts (Ok _) = ⊥
-IsExplained gives form journal files texts (Err (CannotWrite name why)) = (journal ≡ Some name.now) × GiveTexts gives files texts
-IsExplained gives form journal files texts (Err OutOfMemory) = Unit {0}
-IsExplained gives form journal files texts (Err _) = ⊥
+-- what is said of the bytes of each FILE that is read; a journal may not be written
+abbrev pub IsExplained : Giving → Form → ℕ → Option Text → List Text → List Text → Result Answer Failure → Type 0
+IsExplained gives form states journal files texts (Ok (Explained e unread)) = IsToldOf gives form states journal files texts unread.items e
+IsExplained gives form states journal files texts (Ok _) = ⊥
+IsExplained gives form states journal files texts (Err (CannotWrite name why)) = (journal ≡ Some name.now) × GiveTexts gives files texts
+IsExplained gives form states journal files texts (Err _) = ⊥
+
+-- what is said of it: an answer, or that a file can't be written
+abbrev pub said_of : Explanation → Result Answer Failure
+said_of (Said told unread) = Ok (Explained told unread)
+said_of (Unwritten name why) = Err (CannotWrite name why)
+
+-- this is what is told; or the file that is named for a journal can't be written
+abbrev pub IsToldOrUnwritten : Told → List UnreadFile → Option Text → Explanation → Type 0
+IsToldOrUnwritten told unread journal (Said t others) = (t ≡ told) × (others.items ≡ unread)
+IsToldOrUnwritten told unread journal (Unwritten name why) = journal ≡ Some name.now
 
 -- ---- the journal of the first finding that has one
 
--- a journal's spelling is written under a name
-abbrev pub IsSpelledAs : (Text → Text → Type 0) → Text → Option Entries → Type 0
-IsSpelledAs written name (Some entries) = written name (spelling entries)
-IsSpelledAs written name None = Unit {0}
+-- a journal's spelling is written under a name; where there is none, all that is written stays as it was
+abbrev pub IsSpelledAs : (Text → Text → Type 0) → Type 0 → Text → Option Entries → Type 0
+IsSpelledAs written untouched name (Some entries) = written name (spelling entries)
+IsSpelledAs written untouched name None = untouched
 
--- it is written where a file is named for it
-abbrev pub IsWritten : (Text → Text → Type 0) → Option Text → Answer → Type 0
-IsWritten written (Some name) (Explained e unread) = IsSpelledAs written name (first_journal e.noted)
-IsWritten written _ answer = Unit {0}
+-- it is written where a file is named for it, and nothing else is
+abbrev pub IsWritten : (Text → Text → Type 0) → Type 0 → Option Text → Answer → Type 0
+IsWritten written untouched (Some name) (Explained e unread) = IsSpelledAs written untouched name (first_journal e.noted)
+IsWritten written untouched _ answer = untouched
+
+-- ---- what goes out before the end
+
+-- nothing goes out before all is known: a document is written whole, and a journal before it
+abbrev pub HoldsBack : Form → Option Text → Type 0
+HoldsBack form (Some name) = Unit {0}
+HoldsBack Sarif None = Unit {0}
+HoldsBack form None = ⊥
+
+-- what goes out before the end where nothing is held back: for people the reports of all texts but the last, else all lines
+abbrev pub GoesOutEarly : Form → List Text → ℕ → Told → Type 0
+GoesOutEarly Human texts states e = IsAllButLast texts states (take e.sent e.explained.output.items)
+GoesOutEarly Short texts states e = e.sent ≡ length e.explained.output.items
+GoesOutEarly Lines texts states e = e.sent ≡ length e.explained.output.items
+GoesOutEarly Sarif texts states e = Unit {0}
+
+-- what went out of an answer; where there is none, nothing did
+abbrev pub IsSent : Option Text → Option Text → Result Answer Failure → Type 0
+IsSent old new (Ok answer) = Appends old new (take (sent_of answer) (output answer))
+IsSent old new (Err f) = Appends old new []
+
+-- where memory runs out, what went out is told of the first texts: whole reports, or whole lines of each
+abbrev pub IsCutIn : Form → ℕ → List Source → Option Text → Option Text → Type 0
+IsCutIn Human states sources old new = IsCut (texts_of sources) states old new
+IsCutIn Short states sources old new = AreFirstLines Sentence sources old new
+IsCutIn Lines states sources old new = AreFirstLines Object sources old new
+IsCutIn Sarif states sources old new = Appends old new []
+
+-- the same of names and what they give; or nothing went out
+pub data IsCutUnder (form : Form) (states : ℕ) (names texts : List Text) (old new : Option Text) : Type 0 where
+  none_out : Appends old new [] → IsCutUnder form states names texts old new
+  some_out : (sources : List Source) → names_in sources ≡ map (told_name form) names → texts_of sources ≡ texts →
+      IsCutIn form states sources old new → IsCutUnder form states names texts old new
+
+-- the same of those of these files that are read
+pub data IsCutShort (gives : Giving) (form : Form) (states : ℕ) (files : List Text) (old new : Option Text) : Type 0 where
+  none_read : Appends old new [] → IsCutShort gives form states files old new
+  some_read : (names texts missing : List Text) → AreRead gives files names texts missing → IsCutUnder form states names texts old new →
+      IsCutShort gives form states files old new
 
 -- ---- pages
 

@@ -5,6 +5,8 @@ pub mod Clean
 pub mod Commands
 pub mod Explain
 pub mod Failure
+pub mod Fault
+pub mod InTurn
 pub mod Inputs
 pub mod Names
 pub mod Remarks

@@ -95,7 +95,7 @@ impl Answer {
 }
 
 /// The exit status of reports, beside which these files aren't read.
-fn told_status(status: u8, unread: &[UnreadFile]) -> u8
+pub(crate) fn told_status(status: u8, unread: &[UnreadFile]) -> u8
     ensures { result ≡ spec.told_status status unread.now }
 {
     match unread {

@@ -1,7 +1,7 @@
 //! The commands, over inputs and writers.
 
 ghost use Rattle.std.specs.Io.KnownBytes.{Appends};
-ghost use Rattle.std.specs.Prelude.{◌≡◌, ◌≢◌, ◌⊎◌, [], OnOk, IfOk, IfErr, map, option_map, string_bytes, unwrap_or};
+ghost use Rattle.std.specs.Prelude.{◌≡◌, ◌≢◌, ◌⊎◌, [], OnOk, IfOk, IfErr, drop, map, option_map, string_bytes, take, unwrap_or};
 ghost use Rattle.flt_commands.specs.Commands as spec;
 ghost use Rattle.flt_words.specs.Words.{asked};
 
@@ -9,13 +9,15 @@ use crate::analyse::analyse_file;
 use crate::check::check_files;
 use crate::clean::{covered_texts_break_nothing, driven_texts_break_nothing};
 use crate::deadlock::tell_deadlock;
-use crate::explain::{Asked, explain_files, pages_of};
+use crate::explain::{Asked, pages_of};
+use crate::explained::report_on_files;
 use crate::fault::CommandFault;
 use crate::inputs::{Inputs, Pictures};
-use crate::remarks::{explain_remark, show_remark};
+use crate::remarks::show_remark;
 use crate::replay::replay_files;
 use crate::report::{Contents, Report, report_on};
 use crate::running::run_files;
+use crate::search::{Search, WatchSearch};
 use crate::showing::show_files;
 use crate::texts::Texts;
 use crate::thin::thin_files;
@@ -46,20 +48,28 @@ fn is_coloured(colour: Colour, shown: bool) -> bool {
     }
 }
 
-/// The report on a program's words, its own name left out.
-fn report_of<'a, R: Threads + Wait + Sync, I: Inputs, P: Pictures, W: Watch>(
+/// The report on a program's words, its own name left out. Of `explain` some of it may have gone out.
+#[tactic(auto, using(crate::proofs::Sent::cut_short_for, crate::proofs::Sent::none_sent))]
+fn report_of<'a, R: Threads + Wait + Sync, I: Inputs, P: Pictures, O: Sink, W: Watch + WatchSearch>(
     rt: &R,
     alloc: Global,
     words: &'a [String],
     inputs: &'a I,
     pictures: &mut P,
     coloured: bool,
+    out: &mut O,
     watch: &mut W,
 ) -> Result<Report, CommandFault>
-    ensures answers { IfOk result (spec.Answers (I.gives inputs.now) (P.written pictures.new) (map string_bytes words.now)) }
+    ensures answers { IfOk result (spec.Answers (I.gives inputs.now) (P.written pictures.new) (pictures.new ≡ pictures.old)
+        (map string_bytes words.now)) }
     ensures quiet { IfOk result (λ report. report.status ≢ 2 → spec.NamesNoJournal (asked (map string_bytes words.now)) →
         report.remark.items ≡ []) }
-    ensures err { IfErr result (λ e. e ≡ CommandFault.OutOfMemory) }
+    ensures sent { IfOk result (λ report. Appends (O.taken out.old) (O.taken out.new) (take report.sent report.output.items)) }
+    ensures fine { OnOk result (O.failures out.new ≡ O.failures out.old) }
+    ensures write { IfErr result (λ e. e ≡ CommandFault.Write → O.failures out.new ≢ O.failures out.old) }
+    ensures memory { IfErr result (λ e. e ≡ CommandFault.OutOfMemory →
+        spec.IsCutShort (I.gives inputs.now) (asked (map string_bytes words.now)) (O.taken out.old) (O.taken out.new)) }
+    ensures held { spec.HoldsBack (asked (map string_bytes words.now)) → out.new ≡ out.old }
 {
     covered_texts_break_nothing();
     driven_texts_break_nothing();
@@ -157,22 +167,18 @@ fn report_of<'a, R: Threads + Wait + Sync, I: Inputs, P: Pictures, W: Watch>(
             journal,
             files,
         } => {
-            let asked = Asked { states, journal };
-            let files = files.as_slice();
-            let mut remark = Vec::new(alloc);
-            let said = explain_files(
-                alloc,
-                is_coloured(colour, coloured),
+            let asked = Asked {
                 form,
-                asked,
-                inputs,
-                files,
-                pictures,
-                &mut contents,
-                &mut remark,
-            );
-            let before = explain_remark(alloc, remark, journal, &said)?;
-            report_on(alloc, before, said, contents)
+                coloured: is_coloured(colour, coloured),
+                states,
+                journal,
+            };
+            let mut search = Search {
+                watch,
+                most: states,
+            };
+            let files = files.as_slice();
+            report_on_files(alloc, asked, inputs, files, pictures, out, &mut search)
         }
         Request::Pages { names } => {
             let said = pages_of(alloc, names.as_slice());
@@ -181,20 +187,20 @@ fn report_of<'a, R: Threads + Wait + Sync, I: Inputs, P: Pictures, W: Watch>(
     }
 }
 
-/// Writes a report, what it has for the standard error last.
+/// Writes what of a report hasn't gone out yet, what it has for the standard error last.
 fn write_report<O: Sink, E: Sink>(
     report: &Report,
     out: &mut O,
     err: &mut E,
 ) -> Result<(), CommandFault>
-    ensures prints { OnOk result (Appends (O.taken out.old) (O.taken out.new) report.now.output.items) }
+    ensures prints { OnOk result (Appends (O.taken out.old) (O.taken out.new) (drop report.now.sent report.now.output.items)) }
     ensures remarks { OnOk result (Appends (E.taken err.old) (E.taken err.new) report.now.remark.items) }
     ensures write { IfErr result (λ e. (e ≡ CommandFault.Write) × ((O.failures out.new ≢ O.failures out.old)
         ⊎ (E.failures err.new ≢ E.failures err.old))) }
     ensures fine { OnOk result ((O.failures out.new ≡ O.failures out.old) × (E.failures err.new ≡ E.failures err.old)) }
     ensures quiet { OnOk result (report.now.remark.items ≡ [] → err.new ≡ err.old) }
 {
-    put_all(out, report.output.as_slice())?;
+    put_all(out, report.rest())?;
     if report.remark.is_empty() {
         return Ok(());
     }
@@ -204,14 +210,25 @@ fn write_report<O: Sink, E: Sink>(
 
 /// Runs the command of a program's words, its own name left out, and hands out the report on it once it is written: what answers goes to
 /// `out`, why there is no answer, `full` or `receipts differ` to `err`, and that no run is found for a journal that is asked for; a
-/// picture or a journal goes to `pictures`. Reports of `explain` have
-/// the colours of a terminal where it is `coloured`, unless the words say when. Where it drives filters, `watch` hears of each line of the script, unless the words ask
-/// for quiet. Threads are started by `run` alone, where it has more than one worker.
+/// picture or a journal goes to `pictures`. What `explain` tells of a file goes out as soon as it is made, unless it is told in one document or a
+/// file is named for a journal. Reports of `explain` have the colours of a terminal where it is `coloured`, unless the words say when. Where it
+/// drives filters, `watch` hears of each line of the script, unless the words ask for quiet; and where it looks for runs, of how far the search
+/// has come, where the words ask for more states than there are without them. Threads are started by `run` alone, where it has more than one
+/// worker.
 ///
 /// # Errors
 ///
-/// A growth was refused, and nothing is written; or a write failed.
-pub fn command<'a, R: Threads + Wait + Sync, I: Inputs, P: Pictures, O: Sink, E: Sink, W: Watch>(
+/// A growth was refused, and nothing is written, but what `explain` told of the first files before; or a write failed.
+#[tactic(auto, using(crate::proofs::Sent::rest_sent))]
+pub fn command<
+    'a,
+    R: Threads + Wait + Sync,
+    I: Inputs,
+    P: Pictures,
+    O: Sink,
+    E: Sink,
+    W: Watch + WatchSearch,
+>(
     rt: &R,
     alloc: Global,
     words: &'a [String],
@@ -222,17 +239,21 @@ pub fn command<'a, R: Threads + Wait + Sync, I: Inputs, P: Pictures, O: Sink, E:
     err: &mut E,
     watch: &mut W,
 ) -> Result<Report, CommandFault>
-    ensures answers { IfOk result (spec.Answers (I.gives inputs.now) (P.written pictures.new) (map string_bytes words.now)) }
+    ensures answers { IfOk result (spec.Answers (I.gives inputs.now) (P.written pictures.new) (pictures.new ≡ pictures.old)
+        (map string_bytes words.now)) }
     ensures prints { IfOk result (λ report. Appends (O.taken out.old) (O.taken out.new) report.output.items) }
     ensures remarks { IfOk result (λ report. Appends (E.taken err.old) (E.taken err.new) report.remark.items) }
     ensures write { IfErr result (λ e. e ≡ CommandFault.Write → (O.failures out.new ≢ O.failures out.old)
         ⊎ (E.failures err.new ≢ E.failures err.old)) }
     ensures fine { OnOk result ((O.failures out.new ≡ O.failures out.old) × (E.failures err.new ≡ E.failures err.old)) }
-    ensures memory { IfErr result (λ e. e ≡ CommandFault.OutOfMemory → (out.new ≡ out.old) × (err.new ≡ err.old)) }
+    ensures memory { IfErr result (λ e. e ≡ CommandFault.OutOfMemory → (err.new ≡ err.old)
+        × spec.IsCutShort (I.gives inputs.now) (asked (map string_bytes words.now)) (O.taken out.old) (O.taken out.new)) }
+    ensures held { IfErr result (λ e. e ≡ CommandFault.OutOfMemory → spec.HoldsBack (asked (map string_bytes words.now)) →
+        out.new ≡ out.old) }
     ensures quiet { IfOk result (λ report. report.status ≢ 2 → spec.NamesNoJournal (asked (map string_bytes words.now)) →
         err.new ≡ err.old) }
 {
-    let report = report_of(rt, alloc, words, inputs, pictures, coloured, watch)?;
+    let report = report_of(rt, alloc, words, inputs, pictures, coloured, out, watch)?;
     write_report(&report, out, err)?;
     Ok(report)
 }

@@ -1,22 +1,25 @@
 //! What `explain` says of the names that it is given: reports of files, or a page.
 
-ghost use Rattle.std.specs.Prelude.{◌≡◌, IfOk, OnOk, length, map, option_map, string_bytes};
+ghost use Rattle.std.specs.Io.KnownBytes.{Appends};
+ghost use Rattle.std.specs.Prelude.{◌≡◌, ◌≢◌, [], None, IfErr, IfOk, OnErr, OnOk, length, map, option_map, string_bytes, take};
 ghost use Rattle.flt_commands.specs.Explain as spec;
 ghost use Rattle.flt_commands.specs.Remarks.{unread_in};
-ghost use Rattle.flt_notes.specs.Noted.{first_journal};
-ghost use Rattle.flt_notes.specs.Told.{AreNoted};
+ghost use Rattle.flt_notes.specs.Noted.{AreNotes, first_journal};
 ghost use Rattle.flt_details.specs.Reports.{texts_of};
 
 use crate::answer::Answer;
 use crate::failure::Failure;
+use crate::fault::CommandFault;
+use crate::in_turn::lines_in_turn;
 use crate::inputs::{Inputs, Pictures, read_each};
 use crate::remarks::unread_lines;
 use crate::report::Contents;
 use crate::unwritten::Unwritten;
-use flt_details::Source;
+use flt_details::{Explained, Source};
 use flt_driven::journal_bytes;
 use flt_forms::{Style, UnreadFile, lines, sarif};
-use flt_notes::{Noted, Told, explain, first_journal};
+use flt_model::Sink;
+use flt_notes::{Asking, Noted, SearchWatch, Told, explain, first_journal};
 use flt_pages::page;
 use flt_words::{Form, visible};
 use sqlite_items::Items;
@@ -65,70 +68,176 @@ fn sources<'s>(
     Ok(found)
 }
 
-/// What is asked of texts beside their reports.
+/// What `explain` of files comes to.
+#[derive(Drop)]
+pub enum Explanation<'a> {
+    /// This is told, and these files aren't read.
+    Told(Told, Vec<UnreadFile>),
+    /// The journal isn't written into the file of this name.
+    Unwritten(&'a str, Unwritten),
+}
+
+/// What is asked of texts.
 #[derive(Clone, Copy)]
 pub struct Asked<'a> {
+    pub form: Form,
+    pub coloured: bool,
     /// How many states the search for runs of a text goes on from at most.
     pub states: u32,
     /// The file into which the journal of the first finding that has one is written.
     pub journal: Option<&'a str>,
 }
 
-/// What comes of findings in runs, where a journal is asked for.
-fn noted(
-    alloc: Global,
-    asked: Asked<'_>,
-    sources: &[Source<'_>],
-) -> Result<Items<Noted>, AllocError>
-    ensures { IfOk result (AreNoted (texts_of sources.now)) }
+/// The same, as reports for people are asked for it.
+fn asking(asked: Asked<'_>, is_held: bool) -> Asking
+    ensures states { result.states ≡ asked.entry.states }
+    ensures held { result.is_held ≡ is_held }
 {
-    if asked.journal.is_none() {
-        return Ok(Items::new(alloc));
+    Asking {
+        coloured: asked.coloured,
+        states: asked.states,
+        is_held,
     }
-    let told = explain(alloc, false, sources, asked.states)?;
-    Ok(told.noted)
 }
 
-/// What is found of some texts, in a form, beside files that aren't read.
-fn told(
+/// What is told with no notes, all of which has gone out.
+fn sent(alloc: Global, explained: Explained) -> Told
+    ensures explained { result.explained ≡ explained }
+    ensures noted { result.noted ≡ [] }
+    ensures sent { result.sent ≡ length explained.output.items }
+{
+    Told {
+        sent: explained.output.len(),
+        explained,
+        noted: Items::new(alloc),
+    }
+}
+
+/// What is told, of which nothing has gone out.
+fn unsent(explained: Explained, noted: Items<Noted>) -> Told
+    ensures explained { result.explained ≡ explained }
+    ensures noted { result.noted ≡ noted }
+    ensures sent { result.sent ≡ 0 }
+{
+    Told {
+        explained,
+        noted,
+        sent: 0,
+    }
+}
+
+/// What is found of some texts, in a form, beside files that aren't read. Each text's part goes out as soon as it is made, but where the
+/// form is one document.
+#[tactic(auto, using(crate::proofs::Sent::none_sent, crate::proofs::Faults::write_of, crate::proofs::Faults::memory_of))]
+fn told_in_turn<O: Sink, W: SearchWatch>(
     alloc: Global,
-    coloured: bool,
-    form: Form,
     asked: Asked<'_>,
     sources: &[Source<'_>],
     unread: &[UnreadFile],
-) -> Result<Told, AllocError>
-    ensures told { IfOk result (λ t. spec.IsTold form sources.now unread.now t.explained) }
-    ensures noted { IfOk result (λ t. AreNoted (texts_of sources.now) t.noted) }
-    ensures notes { IfOk result (spec.IsNoteTold form) }
+    out: &mut O,
+    watch: &mut W,
+) -> Result<Told, CommandFault>
+    ensures told { IfOk result (λ t. spec.IsTold asked.entry.form sources.now unread.now t.explained) }
+    ensures noted { IfOk result (λ t. spec.AreNotedFor asked.entry.form None (texts_of sources.now) t.noted) }
+    ensures notes { IfOk result (spec.IsNoteTold asked.entry.form (texts_of sources.now) asked.entry.states) }
+    ensures sent { IfOk result (λ t. Appends (O.taken out.old) (O.taken out.new) (take t.sent t.explained.output.items)) }
+    ensures early { IfOk result (spec.GoesOutEarly asked.entry.form (texts_of sources.now) asked.entry.states) }
+    ensures held { spec.HoldsBack asked.entry.form None → out.new ≡ out.old }
+    ensures fine { OnOk result (O.failures out.new ≡ O.failures out.old) }
+    ensures write { IfErr result (λ e. e ≡ CommandFault.Write → O.failures out.new ≢ O.failures out.old) }
+    ensures memory { IfErr result (λ e. e ≡ CommandFault.OutOfMemory →
+        spec.IsCutIn asked.entry.form asked.entry.states sources.now (O.taken out.old) (O.taken out.new)) }
 {
-    let explained = match form {
-        Form::Human => return explain(alloc, coloured, sources, asked.states),
+    match asked.form {
+        Form::Human => Ok(explain(alloc, asking(asked, false), sources, out, watch)?),
+        Form::Short => Ok(sent(alloc, lines_in_turn(alloc, Style::Sentence, sources, out)?)),
+        Form::Lines => Ok(sent(alloc, lines_in_turn(alloc, Style::Object, sources, out)?)),
+        Form::Sarif => Ok(unsent(sarif(alloc, sources, unread)?, Items::new(alloc))),
+    }
+}
+
+/// The same with what comes of findings in runs, before anything goes out.
+#[tactic(auto, using(crate::proofs::Sent::none_sent, crate::proofs::Faults::memory_alone))]
+fn told_whole<O: Sink, W: SearchWatch>(
+    alloc: Global,
+    asked: Asked<'_>,
+    sources: &[Source<'_>],
+    unread: &[UnreadFile],
+    out: &mut O,
+    watch: &mut W,
+) -> Result<Told, CommandFault>
+    ensures told { IfOk result (λ t. spec.IsTold asked.entry.form sources.now unread.now t.explained) }
+    ensures noted { IfOk result (λ t. AreNotes (texts_of sources.now) t.noted) }
+    ensures notes { IfOk result (spec.IsNoteTold asked.entry.form (texts_of sources.now) asked.entry.states) }
+    ensures sent { IfOk result (λ t. Appends (O.taken out.old) (O.taken out.new) (take t.sent t.explained.output.items)) }
+    ensures held { out.new ≡ out.old }
+    ensures err { IfErr result (λ e. e ≡ CommandFault.OutOfMemory) }
+{
+    let held = asking(asked, true);
+    let explained = match asked.form {
+        Form::Human => return Ok(explain(alloc, held, sources, out, watch)?),
         Form::Short => lines(alloc, Style::Sentence, sources)?,
         Form::Lines => lines(alloc, Style::Object, sources)?,
         Form::Sarif => sarif(alloc, sources, unread)?,
     };
-    let noted = noted(alloc, asked, sources)?;
-    Ok(Told { explained, noted })
+    let told = explain(alloc, held, sources, out, watch)?;
+    Ok(unsent(explained, told.noted))
+}
+
+/// What is found of some texts, in a form, beside files that aren't read. Nothing goes out before all is known where a file is named for a
+/// journal.
+#[tactic(auto, using(crate::proofs::Sent::cut_nowhere))]
+fn told<O: Sink, W: SearchWatch>(
+    alloc: Global,
+    asked: Asked<'_>,
+    sources: &[Source<'_>],
+    unread: &[UnreadFile],
+    out: &mut O,
+    watch: &mut W,
+) -> Result<Told, CommandFault>
+    ensures told { IfOk result (λ t. spec.IsTold asked.entry.form sources.now unread.now t.explained) }
+    ensures noted { IfOk result (λ t. spec.AreNotedFor asked.entry.form (option_map (λ name. name.now) asked.entry.journal)
+        (texts_of sources.now) t.noted) }
+    ensures notes { IfOk result (spec.IsNoteTold asked.entry.form (texts_of sources.now) asked.entry.states) }
+    ensures sent { IfOk result (λ t. Appends (O.taken out.old) (O.taken out.new) (take t.sent t.explained.output.items)) }
+    ensures held { spec.HoldsBack asked.entry.form (option_map (λ name. name.now) asked.entry.journal) → out.new ≡ out.old }
+    ensures fine { OnOk result (O.failures out.new ≡ O.failures out.old) }
+    ensures write { IfErr result (λ e. e ≡ CommandFault.Write → O.failures out.new ≢ O.failures out.old) }
+    ensures memory { IfErr result (λ e. e ≡ CommandFault.OutOfMemory →
+        spec.IsCutIn asked.entry.form asked.entry.states sources.now (O.taken out.old) (O.taken out.new)) }
+{
+    match asked.journal {
+        Some(_) => told_whole(alloc, asked, sources, unread, out, watch),
+        None => told_in_turn(alloc, asked, sources, unread, out, watch),
+    }
 }
 
 /// What is found of the texts of some files, in a form, beside files that aren't read.
-fn explain_read(
+#[tactic(auto, using(crate::proofs::Sent::cut_under))]
+fn explain_read<O: Sink, W: SearchWatch>(
     alloc: Global,
-    coloured: bool,
-    form: Form,
     asked: Asked<'_>,
     names: &[&str],
     texts: &[Vec<u8>],
     unread: &[UnreadFile],
-) -> Result<Told, AllocError>
+    out: &mut O,
+    watch: &mut W,
+) -> Result<Told, CommandFault>
     requires { length texts.now ≡ length names.now }
-    ensures { IfOk result (spec.IsToldUnder form (map (λ name. name.now) names.now) (map (λ text. text.items) texts.now) unread.now) }
+    ensures told { IfOk result (spec.IsToldUnder asked.entry.form asked.entry.states (option_map (λ name. name.now) asked.entry.journal)
+        (map (λ name. name.now) names.now) (map (λ text. text.items) texts.now) unread.now) }
+    ensures sent { IfOk result (λ t. Appends (O.taken out.old) (O.taken out.new) (take t.sent t.explained.output.items)) }
+    ensures held { spec.HoldsBack asked.entry.form (option_map (λ name. name.now) asked.entry.journal) → out.new ≡ out.old }
+    ensures fine { OnOk result (O.failures out.new ≡ O.failures out.old) }
+    ensures write { IfErr result (λ e. e ≡ CommandFault.Write → O.failures out.new ≢ O.failures out.old) }
+    ensures memory { IfErr result (λ e. e ≡ CommandFault.OutOfMemory →
+        spec.IsCutUnder asked.entry.form asked.entry.states (map (λ name. name.now) names.now) (map (λ text. text.items) texts.now)
+        (O.taken out.old) (O.taken out.new)) }
 {
-    let names = told_names(alloc, form, names)?;
+    let names = told_names(alloc, asked.form, names)?;
     let sources = sources(alloc, names.as_slice(), texts)?;
-    let told = told(alloc, coloured, form, asked, sources.as_slice(), unread)?;
-    Ok(told)
+    let sources = sources.as_slice();
+    told(alloc, asked, sources, unread, out, watch)
 }
 
 /// Writes the journal of the first finding that has one, if there is one, into a file that is none of the inputs. Why that couldn't be
@@ -140,7 +249,8 @@ fn write_journal<P: Pictures>(
     noted: &[Noted],
     pictures: &mut P,
 ) -> Result<Result<(), Unwritten>, AllocError>
-    ensures { IfOk result (λ done. OnOk done (spec.IsSpelledAs (P.written pictures.new) name.now (first_journal noted.now))) }
+    ensures { IfOk result (λ done. OnOk done
+        (spec.IsSpelledAs (P.written pictures.new) (pictures.new ≡ pictures.old) name.now (first_journal noted.now))) }
 {
     match first_journal(noted) {
         Some(journal) => {
@@ -151,23 +261,57 @@ fn write_journal<P: Pictures>(
     }
 }
 
-/// What `explain` says of those of the names that it is given which can be read, in a form, and what these give. `remark` becomes whole lines
-/// on the others. The journal of the first finding that has one is written into a file, where one is named.
-pub fn explain_files<'a, I: Inputs, P: Pictures>(
+/// What is said of the texts of some files, behind the journal of the first finding that has one, where a file is named for it.
+fn keep<'a, P: Pictures>(
     alloc: Global,
-    coloured: bool,
-    form: Form,
+    inputs: &[&'a str],
+    journal: Option<&'a str>,
+    told: Told,
+    unread: Vec<UnreadFile>,
+    pictures: &mut P,
+) -> Result<Explanation<'a>, AllocError>
+    ensures said { IfOk result (spec.IsToldOrUnwritten told unread.items (option_map (λ name. name.now) journal.entry)) }
+    ensures written { IfOk result (λ said. IfOk (spec.said_of said) (spec.IsWritten (P.written pictures.new) (pictures.new ≡ pictures.old)
+        (option_map (λ name. name.now) journal.entry))) }
+    ensures none { OnErr result (journal.entry ≢ None) }
+{
+    let Some(name) = journal else {
+        return Ok(Explanation::Told(told, unread));
+    };
+    match write_journal(alloc, inputs, name, told.noted.as_slice(), pictures)? {
+        Ok(()) => Ok(Explanation::Told(told, unread)),
+        Err(why) => Ok(Explanation::Unwritten(name, why)),
+    }
+}
+
+/// What `explain` says of those of the names that it is given which can be read, in a form, and what these give. `remark` becomes whole lines
+/// on the others. The journal of the first finding that has one is written into a file, where one is named; else what is told of each text
+/// goes out as soon as it is made, but where the form is one document.
+#[tactic(auto, using(crate::proofs::Sent::cut_short))]
+pub fn explain_files<'a, I: Inputs, P: Pictures, O: Sink, W: SearchWatch>(
+    alloc: Global,
     asked: Asked<'a>,
     inputs: &I,
     files: &[&'a str],
     pictures: &mut P,
+    out: &mut O,
+    watch: &mut W,
     contents: &mut Contents,
     remark: &mut Vec<u8>,
-) -> Result<Answer, Failure<'a>>
-    ensures said { spec.IsExplained (I.gives inputs.now) form (option_map (λ name. name.now) asked.entry.journal)
-        (map (λ name. name.now) files.now) (map (λ text. text.items) contents.new.texts.items) result }
-    ensures unread { IfOk result (λ answer. remark.new.items ≡ unread_in answer) }
-    ensures written { IfOk result (spec.IsWritten (P.written pictures.new) (option_map (λ name. name.now) asked.entry.journal)) }
+) -> Result<Explanation<'a>, CommandFault>
+    ensures said { IfOk result (λ said. spec.IsExplained (I.gives inputs.now) asked.entry.form asked.entry.states
+        (option_map (λ name. name.now) asked.entry.journal) (map (λ name. name.now) files.now)
+        (map (λ text. text.items) contents.new.texts.items) (spec.said_of said)) }
+    ensures unread { IfOk result (λ said. IfOk (spec.said_of said) (λ answer. remark.new.items ≡ unread_in answer)) }
+    ensures written { IfOk result (λ said. IfOk (spec.said_of said) (spec.IsWritten (P.written pictures.new) (pictures.new ≡ pictures.old)
+        (option_map (λ name. name.now) asked.entry.journal))) }
+    ensures sent { IfOk result (λ said. spec.IsSent (O.taken out.old) (O.taken out.new) (spec.said_of said)) }
+    ensures held { spec.HoldsBack asked.entry.form (option_map (λ name. name.now) asked.entry.journal) → out.new ≡ out.old }
+    ensures fine { OnOk result (O.failures out.new ≡ O.failures out.old) }
+    ensures write { IfErr result (λ e. e ≡ CommandFault.Write → O.failures out.new ≢ O.failures out.old) }
+    ensures memory { IfErr result (λ e. e ≡ CommandFault.OutOfMemory →
+        spec.IsCutShort (I.gives inputs.now) asked.entry.form asked.entry.states (map (λ name. name.now) files.now)
+        (O.taken out.old) (O.taken out.new)) }
 {
     let read = read_each(alloc, inputs, files)?;
     let names = read.names;
@@ -176,20 +320,15 @@ pub fn explain_files<'a, I: Inputs, P: Pictures>(
     *remark = unread_lines(alloc, unread.as_slice())?;
     let told = explain_read(
         alloc,
-        coloured,
-        form,
         asked,
         names.as_slice(),
         contents.texts.as_slice(),
         unread.as_slice(),
+        out,
+        watch,
     )?;
-    if let Some(name) = asked.journal {
-        let noted = told.noted.as_slice();
-        if let Err(why) = write_journal(alloc, files, name, noted, pictures)? {
-            return Err(Failure::CannotWrite(name, why));
-        }
-    }
-    Ok(Answer::Explained(told, unread))
+    let said = keep(alloc, files, asked.journal, told, unread, pictures)?;
+    Ok(said)
 }
 
 /// The pages of some names, in order.

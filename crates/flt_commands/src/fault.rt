@@ -1,6 +1,7 @@
 //! Why a command ended without its answer.
 
 use flt_model::WriteFault;
+use flt_notes::ExplainFault;
 use std::alloc::{AllocError, AllocFailed};
 use thiserror::Error;
 
@@ -43,5 +44,19 @@ impl From<WriteFault> for CommandFault {
 
     fn from(_: WriteFault) -> CommandFault {
         CommandFault::Write
+    }
+}
+
+impl From<ExplainFault> for CommandFault {
+    ghost use Rattle.std.specs.Prelude.{◌≡◌};
+    ghost use Rattle.flt_commands.specs.Fault.{of_explain};
+
+    ghost from_gives = { λ f e. e ≡ of_explain f };
+
+    fn from(fault: ExplainFault) -> CommandFault {
+        match fault {
+            ExplainFault::OutOfMemory => CommandFault::OutOfMemory,
+            ExplainFault::Write => CommandFault::Write,
+        }
     }
 }

@@ -1,6 +1,6 @@
 //! The system that the program runs on: its files, its streams, and the program's own words.
 
-ghost use Rattle.std.specs.Prelude.{◌≡◌, IfNone, IfOk, IfSome, map, string_bytes};
+ghost use Rattle.std.specs.Prelude.{◌≡◌, IfNone, IfOk, IfSome, map, string_bytes, ⊤};
 ghost use Rattle.flt_commands.specs.Commands.{Answers};
 ghost use Rattle.flt_commands.specs.System.{given_by_host, written_by_host};
 
@@ -10,6 +10,7 @@ use crate::folders::with_folders;
 use crate::inputs::is_standard;
 use crate::named::Named;
 use crate::report::Report;
+use crate::search::WatchSearch;
 use crate::system::{Place, Reader, System};
 use crate::unread::Unread;
 use crate::unwritten::Unwritten;
@@ -238,11 +239,14 @@ fn path_of(name: &str) -> &str {
 /// After how many lines of a script a terminal is told how far the run has come.
 const LINES_A_LOOK: u64 = 1_000;
 
-/// Tells on the standard error what a run waits for at its end, and a terminal how far it has come.
+/// After how many states of a search for runs a terminal is told how far it has come.
+const STATES_A_LOOK: u32 = 100_000;
+
+/// Tells on the standard error what a run waits for at its end, and a terminal how far it has come, or a search for runs.
 #[derive(Drop)]
 struct Progress<'a> {
     rt: &'a HostRuntime,
-    /// Whether a terminal hears how far the run has come.
+    /// Whether a terminal hears how far the run or the search has come.
     is_shown: bool,
     lines: u64,
 }
@@ -258,6 +262,14 @@ impl Watch for Progress<'_> {
 
     fn waits(&mut self, lines: &str) {
         let _ = eprintln!(self.rt; "{lines}");
+    }
+}
+
+impl WatchSearch for Progress<'_> {
+    fn searched(&mut self, states: u32, most: u32) {
+        if self.is_shown && states % STATES_A_LOOK == 0 {
+            let _ = eprintln!(self.rt; "{states} of {most} states");
+        }
     }
 }
 
@@ -389,12 +401,13 @@ fn shows_colours(rt: &HostRuntime) -> Result<bool, AllocError> {
 }
 
 /// Runs the command of some words on the system. Why the answer isn't written stands on the standard error.
+#[tactic(auto, using(crate::proofs::Reported::answers_anyway))]
 fn execute<R: Threads + Wait + Sync>(
     rt: &HostRuntime,
     threads: &R,
     words: &[String],
 ) -> Result<Report, CommandFault>
-    ensures { IfOk result (Answers given_by_host written_by_host (map string_bytes words.now)) }
+    ensures { IfOk result (Answers given_by_host written_by_host ⊤ (map string_bytes words.now)) }
 {
     let fault = Cell::new(None);
     let host = Host { rt, fault };
@@ -425,7 +438,7 @@ fn execute<R: Threads + Wait + Sync>(
 /// Runs the command of the program's own words on the system, and hands out the words with what they came to. `threads` is the same runtime
 /// once more: `main` alone can hand out that it starts threads.
 pub fn run<R: Threads + Wait + Sync>(rt: &HostRuntime, threads: &R) -> Execution
-    ensures { IfSome result.report (Answers given_by_host written_by_host (map string_bytes result.words.items)) }
+    ensures { IfSome result.report (Answers given_by_host written_by_host ⊤ (map string_bytes result.words.items)) }
 {
     let Some(words) = words_of(rt) else {
         return Execution {

@@ -1,13 +1,16 @@
 //! What stands on the standard error above the line that says why there is no answer, or beside an answer.
 
-ghost use Rattle.std.specs.Prelude.{◌≡◌, [], IfOk, OnOk, Some, flat_map, option_map, string_bytes};
+ghost use Rattle.std.specs.Prelude.{◌≡◌, ◌≢◌, [], IfOk, None, OnErr, OnOk, Some, flat_map, option_map, string_bytes};
+ghost use Rattle.flt_commands.specs.Explain.{said_of};
 ghost use Rattle.flt_commands.specs.Remarks as spec;
+ghost use Rattle.flt_notes.specs.Noted.{first_journal};
 
 use crate::answer::Answer;
+use crate::explain::Explanation;
 use crate::failure::Failure;
 use crate::unwritten::unwritten_lines;
 use flt_forms::UnreadFile;
-use flt_notes::first_journal;
+use flt_notes::{Noted, first_journal};
 use flt_words::visible;
 use std::alloc::{AllocError, Global};
 use std::fmt;
@@ -66,18 +69,11 @@ pub(crate) fn unread_lines(alloc: Global, files: &[UnreadFile]) -> Result<Vec<u8
     Ok(lines)
 }
 
-/// The line that says that no journal is written into a file where one is asked for, since no run is found; else nothing.
-fn unfound_line(
-    alloc: Global,
-    journal: Option<&str>,
-    answer: &Answer,
-) -> Result<Vec<u8>, AllocError>
-    ensures { IfOk result (λ line. line.items ≡ spec.unfound (option_map (λ name. name.now) journal.entry) answer.now) }
+/// The line that says that no journal is written into the file of a name, where no finding has one; else nothing.
+fn unfound_line(alloc: Global, name: &str, noted: &[Noted]) -> Result<Vec<u8>, AllocError>
+    ensures { IfOk result (λ line. line.items ≡ spec.unfound_for name.now (first_journal noted.now)) }
 {
-    let (Some(name), Answer::Explained(told, _)) = (journal, answer) else {
-        return Ok(Vec::new(alloc));
-    };
-    match first_journal(told.noted.as_slice()) {
+    match first_journal(noted) {
         Some(_) => Ok(Vec::new(alloc)),
         None => {
             let name = visible(alloc, name)?;
@@ -93,15 +89,18 @@ pub(crate) fn explain_remark(
     alloc: Global,
     before: Vec<u8>,
     journal: Option<&str>,
-    said: &Result<Answer, Failure<'_>>,
+    said: &Explanation<'_>,
 ) -> Result<Vec<u8>, AllocError>
-    requires { IfOk said.now (λ answer. before.items ≡ spec.unread_in answer) }
-    ensures { IfOk result (λ lines. spec.IsFound (option_map (λ name. name.now) journal.entry) said.now lines.items) }
+    requires { IfOk (said_of said.now) (λ answer. before.items ≡ spec.unread_in answer) }
+    ensures found { IfOk result (λ lines. spec.IsFound (option_map (λ name. name.now) journal.entry) (said_of said.now) lines.items) }
+    ensures none { OnErr result (journal.entry ≢ None) }
 {
+    let Some(name) = journal else {
+        return Ok(before);
+    };
     let lines = match said {
-        Ok(answer) => unfound_line(alloc, journal, answer)?,
-        Err(Failure::CannotWrite(name, why)) => unwritten_lines(alloc, name, *why)?,
-        Err(_) => Vec::new(alloc),
+        Explanation::Told(told, _) => unfound_line(alloc, name, told.noted.as_slice())?,
+        Explanation::Unwritten(name, why) => unwritten_lines(alloc, name, *why)?,
     };
     let mut all = before;
     all.extend_from_slice(lines.as_slice())?;

@@ -1,15 +1,19 @@
 //! What a command comes to, before it is written.
 
-ghost use Rattle.std.specs.Prelude.{◌≡◌, ◌≢◌, ◌++◌, ◌∷◌, [], None, IfErr, IfOk};
-ghost use Rattle.flt_commands.specs.Answer.{ending_of, output, remark, status_of};
+ghost use Rattle.std.specs.Prelude.{◌≡◌, ◌≢◌, ◌++◌, ◌∷◌, [], None, IfErr, IfOk, IsErr, drop};
+ghost use Rattle.flt_commands.specs.Answer.{ending_of, output, remark, sent_in, status_of, told_status};
 ghost use Rattle.flt_commands.specs.Commands as spec;
+ghost use Rattle.flt_commands.specs.Explain.{said_of};
 ghost use Rattle.flt_commands.specs.Failure.{failure_line};
 
-use crate::answer::Answer;
+use crate::answer::{Answer, told_status};
+use crate::explain::Explanation;
 use crate::failure::Failure;
 use crate::fault::CommandFault;
 use flt_crew::Ending;
+use flt_forms::UnreadFile;
 use flt_model::Journal;
+use flt_notes::Told;
 use std::alloc::{AllocError, Global};
 
 /// What a command comes to: what was read for it, and what goes where.
@@ -21,6 +25,8 @@ pub struct Report {
     pub journal: Option<Journal>,
     /// What goes to the standard output.
     pub output: Vec<u8>,
+    /// How many bytes of it went out before it was whole.
+    pub(crate) sent: usize,
     /// What goes to the standard error.
     pub remark: Vec<u8>,
     /// The exit status: 0 for yes, 1 for no, and 2 where there is no answer, a journal was full before its script had ended, a detach of
@@ -34,6 +40,7 @@ impl Report {
         ensures texts { result.texts ≡ contents.texts }
         ensures journal { result.journal ≡ contents.journal }
         ensures output { result.output ≡ output }
+        ensures sent { result.sent ≡ 0 }
         ensures remark { result.remark ≡ remark }
         ensures status { result.status ≡ status }
     {
@@ -41,22 +48,53 @@ impl Report {
             texts: contents.texts,
             journal: contents.journal,
             output,
+            sent: 0,
             remark,
             status,
+        }
+    }
+
+    /// The report on reports of texts, beside which these files aren't read.
+    fn on_reports(contents: Contents, told: Told, unread: &[UnreadFile], remark: Vec<u8>) -> Report
+        ensures texts { result.texts ≡ contents.texts }
+        ensures journal { result.journal ≡ contents.journal }
+        ensures output { result.output ≡ told.explained.output }
+        ensures sent { result.sent ≡ told.sent }
+        ensures remark { result.remark ≡ remark }
+        ensures status { result.status ≡ told_status told.explained.status unread.now }
+    {
+        let status = told_status(told.explained.status, unread);
+        Report {
+            sent: told.sent,
+            ..Report::on(contents, told.explained.output, remark, status)
         }
     }
 
     /// The report on words that ask for a text about their use.
     pub(crate) fn on_usage(alloc: Global, text: String) -> Report
         ensures output { result.output.items ≡ [] }
+        ensures sent { result.sent ≡ 0 }
         ensures status { result.status ≡ 2 }
     {
         Report {
             texts: Vec::new(alloc),
             journal: None,
             output: Vec::new(alloc),
+            sent: 0,
             remark: text.into_bytes(),
             status: 2,
+        }
+    }
+
+    /// What goes to the standard output and hasn't gone out yet.
+    pub(crate) fn rest(&self) -> &[u8]
+        ensures { result.now ≡ drop self.now.sent self.now.output.items }
+    {
+        let output = self.output.as_slice();
+        if self.sent < output.len() {
+            &output[self.sent..]
+        } else {
+            &[]
         }
     }
 }
@@ -105,6 +143,7 @@ fn report_on_answer(
     ensures texts { IfOk result (λ report. report.texts ≡ contents.texts) }
     ensures journal { IfOk result (λ report. report.journal ≡ contents.journal) }
     ensures output { IfOk result (λ report. report.output.items ≡ output answer) }
+    ensures sent { IfOk result (λ report. report.sent ≡ 0) }
     ensures status { IfOk result (λ report. report.status ≡ status_of answer) }
     ensures remark { IfOk result (λ report. report.remark.items ≡ before.items ++ remark (ending_of answer)) }
     ensures quiet { IfOk result (λ report. report.status ≢ 2 → report.remark.items ≡ before.items) }
@@ -128,6 +167,7 @@ fn report_on_failure(
     ensures texts { IfOk result (λ report. report.texts ≡ contents.texts) }
     ensures journal { IfOk result (λ report. report.journal ≡ contents.journal) }
     ensures output { IfOk result (λ report. report.output.items ≡ []) }
+    ensures sent { IfOk result (λ report. report.sent ≡ 0) }
     ensures status { IfOk result (λ report. report.status ≡ 2) }
     ensures remark { IfOk result (λ report. report.remark.items ≡ before.items ++ (failure_line failure.now ++ 10 ∷ [])) }
     ensures err { IfErr result (λ e. e ≡ CommandFault.OutOfMemory) }
@@ -151,6 +191,7 @@ pub(crate) fn report_on(
     ensures journal { IfOk result (λ report. report.journal ≡ contents.journal) }
     ensures reported { IfOk result (λ report. spec.IsReported said.entry report.output.items report.status) }
     ensures remarked { IfOk result (λ report. spec.IsRemarkedAfter before.items said.entry report.remark.items) }
+    ensures sent { IfOk result (λ report. report.sent ≡ 0) }
     ensures quiet { IfOk result (λ report. report.status ≢ 2 → report.remark.items ≡ before.items) }
     ensures err { IfErr result (λ e. e ≡ CommandFault.OutOfMemory) }
 {
@@ -158,5 +199,34 @@ pub(crate) fn report_on(
         Ok(answer) => report_on_answer(alloc, before, answer, contents),
         Err(Failure::OutOfMemory) => Err(CommandFault::OutOfMemory),
         Err(failure) => report_on_failure(alloc, before, &failure, contents),
+    }
+}
+
+/// The same on what `explain` of files comes to.
+pub(crate) fn report_on_explanation(
+    alloc: Global,
+    before: Vec<u8>,
+    said: Explanation<'_>,
+    contents: Contents,
+) -> Result<Report, CommandFault>
+    ensures texts { IfOk result (λ report. report.texts ≡ contents.texts) }
+    ensures reported { IfOk result (λ report. spec.IsReported (said_of said.entry) report.output.items report.status) }
+    ensures sent { IfOk result (λ report. report.sent ≡ sent_in (said_of said.entry)) }
+    ensures remarked { IfOk result (λ report. spec.IsRemarkedAfter before.items (said_of said.entry) report.remark.items) }
+    ensures quiet { IfOk result (λ report. report.status ≢ 2 → report.remark.items ≡ before.items) }
+    ensures err { IfErr result (λ e. (e ≡ CommandFault.OutOfMemory) × IsErr (said_of said.entry)) }
+{
+    match said {
+        Explanation::Told(told, unread) => {
+            Ok(Report::on_reports(contents, told, unread.as_slice(), before))
+        }
+        Explanation::Unwritten(name, why) => {
+            report_on(
+                alloc,
+                before,
+                Err(Failure::CannotWrite(name, why)),
+                contents,
+            )
+        }
     }
 }

@@ -51,7 +51,8 @@ fn show<'a, P: Pictures>(
     replayed: &Replayed,
     pictures: &mut P,
 ) -> Result<Answer, Failure<'a>>
-    ensures { spec.IsShownOf is_asked (option_map (λ name. name.now) name.entry) replayed.now.verdict result }
+    ensures shown { spec.IsShownOf is_asked (option_map (λ name. name.now) name.entry) replayed.now.verdict result }
+    ensures untouched { name.entry ≡ None → pictures.new ≡ pictures.old }
 {
     let trees = replayed.trees.as_slice();
     let timeline = Timeline::of(alloc, trees, &replayed.journal, replayed.verdict)?;
@@ -79,6 +80,7 @@ fn show_texts<'a, P: Pictures>(
     ensures said { spec.ShownJudges is_asked (option_map (λ name. name.now) name.entry) written
         (map (λ text. text.items) texts.now) result }
     ensures kept { journal.old ≡ None → IsKeptAs journal.new written result }
+    ensures untouched { name.entry ≡ None → pictures.new ≡ pictures.old }
 {
     let replayed = replay_all(alloc, written, texts)?;
     let answer = show(alloc, is_asked, inputs, name, &replayed, pictures)?;
@@ -98,9 +100,10 @@ pub fn show_files<'a, I: Inputs, P: Pictures>(
     pictures: &mut P,
     contents: &mut Contents,
 ) -> Result<Answer, Failure<'a>>
-    ensures { (bytes : List ℕ) × Says (I.gives inputs.now) (journal.entry.now ∷ map (λ name. name.now) files.now)
+    ensures said { (bytes : List ℕ) × Says (I.gives inputs.now) (journal.entry.now ∷ map (λ name. name.now) files.now)
         (spec.IsShown is_asked (option_map (λ name. name.now) name.entry)) (bytes ∷ map (λ text. text.items) contents.new.texts.items) result
         × IsKeptAs contents.new.journal bytes result }
+    ensures untouched { name.entry ≡ None → pictures.new ≡ pictures.old }
 {
     contents.journal = None;
     let mut names = Vec::new(alloc);

@@ -1,4 +1,7 @@
-pub mod Outputs
-pub mod Printed
+pub mod Closing
+pub mod Parts
+pub mod QuietLines
+pub mod Runs
+pub mod Said
+pub mod Several
 pub mod Studied
-pub mod Together

@@ -1,6 +1,9 @@
+pub mod Again
 pub mod Lines
 pub mod Noted
+pub mod Parsed
 pub mod Printing
+pub mod Quiet
 pub mod Readings
 pub mod Reported
 pub mod Told

@@ -1,63 +1,133 @@
 -- Reports and notes, put together. This project's own program.
-use Rattle.std.specs.Prelude.{◌≡◌, ℕ, All, List, [], ◌∷◌, ◌++◌, Some, length, slice_get}
-use Rattle.flt_syntax.specs.declared.fault.SyntaxFault.{SyntaxFault}
-use Rattle.flt_tree.specs.declared.tree.Tree.{Tree}
-use Rattle.flt_graph.specs.Lowering.{IsLowered}
-use Rattle.flt_explain.specs.Findings.{AreFindings}
-use Rattle.flt_explain.specs.declared.finding.Finding.{Finding}
-use Rattle.flt_reasons.specs.Notice as notices
-use Rattle.flt_reasons.specs.declared.notice.Kind.{Kind}
-use Rattle.flt_reasons.specs.declared.notice.Notice.{Notice}
-use Rattle.flt_script.specs.ScriptText.{Stack}
+use Rattle.std.specs.Prelude.{◌≡◌, ◌≤◌, ◌+◌, ℕ, true, false, Bool, List, [], ◌∷◌, ◌++◌, Option, Some, length, max, slice_get, take}
+use Rattle.std.specs.Io.KnownBytes.{Appends}
 use Rattle.flt_tree.specs.Names.{Text}
-use Rattle.flt_details.specs.Closing.{findings_closing, syntax_line}
-use Rattle.flt_details.specs.Reports.{EndsWith, findings_status}
+use Rattle.flt_tree.specs.declared.filter.Filter.{Filter}
+use Rattle.flt_tree.specs.declared.tree.Tree.{Tree}
+use Rattle.flt_explain.specs.declared.finding.Finding.{Finding}
+use Rattle.flt_model.specs.Program.{filters_of}
+use Rattle.flt_details.specs.Reports.{EndsWith, IsKnown}
+use Rattle.flt_reasons.specs.Notice as notices
+use Rattle.flt_reasons.specs.declared.notice.Notice.{Notice}
+use Rattle.flt_reports.specs.declared.reports.Report.{Report}
 use Rattle.flt_schedules.specs.Schedules.{IsScheduled}
 use Rattle.flt_schedules.specs.declared.schedules.Outcome.{Outcome}
 use Rattle.flt_schedules.specs.declared.schedules.Suspect.{Suspect}
-use Rattle.flt_notes.specs.Noted.{IsNoted}
-use Rattle.flt_notes.specs.Reported.{faults_in}
-use Rattle.flt_notes.specs.Told.{AreSaid}
+use Rattle.flt_notes.specs.Noted.{AreNoted, AreNotesIn, AreNotesOf, IsAgain, IsNoted}
+use Rattle.flt_notes.specs.Readings.{known_in, texts_read}
+use Rattle.flt_notes.specs.Reported.{AreParts, IsAllButLast, IsReport, faults_in}
+use Rattle.flt_notes.specs.Told.{Say}
+use Rattle.flt_notes.specs.Totals.{some}
+use Rattle.flt_notes.specs.declared.noted.Again.{Again}
+use Rattle.flt_notes.specs.declared.noted.Noted.{Noted}
+use Rattle.flt_notes.specs.declared.output.Output.{Output}
 use Rattle.flt_notes.specs.declared.printing.Known.{Known}
-use Rattle.flt_notes.specs.declared.printing.Output.{Output}
-use Rattle.flt_notes.specs.declared.totals.Tally.{Tally}
+use Rattle.flt_notes.specs.declared.printing.Part.{Part}
+use Rattle.flt_notes.specs.declared.readings.Reading.{Reading}
+use Rattle.flt_notes.specs.declared.readings.Reading.TheVariants as reading
+use Rattle.flt_notes.specs.declared.readings.Studied.{Studied}
+use Rattle.flt_notes.specs.declared.together.Printed.{Printed}
 
--- what is noted so far came of findings of these filters, and stands in what is printed
-pub record IsOutput (trees : List Tree) (o : Output) : Type 0 where
-  pub noted : All (IsNoted trees) o.noted
-  pub said : AreSaid o.noted o.bytes.items
+-- ---- one text
 
--- the tree of this number has these points and findings
+-- a text that parses has this tree, these points and findings
 pub record IsKnownIn (trees : List Tree) (k : Known) : Type 0 where
-  pub tree : Tree
-  pub own : slice_get trees k.place ≡ Some tree
-  pub lowered : IsLowered tree.filter k.graph.now
-  pub findings : AreFindings k.graph.now k.found.now
+  pub own : slice_get trees k.place ≡ Some k.tree.now
+  pub known : IsKnown k.source.text.now k.tree.now k.graph.now k.found.now
 
--- a finding has this number among these
-abbrev pub IsSuspectOf : List Finding → Suspect → Type 0
-IsSuspectOf found s = slice_get found s.number ≡ Some s.finding
+-- the lines on runs are those of the notes
+abbrev pub IsSaid : List Tree → ℕ → Output → Type 0
+IsSaid trees states o = Say trees states o.noted o.bytes.items
 
--- what comes of a finding of a text that parses
-pub record IsOutcomeIn (trees : List Tree) (k : Known) (o : Outcome) : Type 0 where
+-- nothing is noted, and no line is one on runs
+pub record IsSilent (trees : List Tree) (states : ℕ) (o : Output) : Type 0 where
+  pub none : o.noted ≡ []
+  pub said : IsSaid trees states o
+
+-- the notes are of findings of a text
+abbrev pub HasNotes : List Tree → Known → List Noted → Type 0
+HasNotes trees k notes = AreNoted trees k.source.text.now k.place k.graph.now k.found.now notes
+
+-- a suspect is the finding that a report is of
+pub record IsSuspectOf (found : List Finding) (r : Report) (s : Suspect) : Type 0 where
+  pub number : s.number ≡ r.finding
+  pub is : slice_get found r.finding ≡ Some s.finding
+
+-- what comes of the finding that a report is of
+pub record IsOutcomeOf (trees : List Tree) (k : Known) (r : Report) (o : Outcome) : Type 0 where
+  pub number : o.number ≡ r.finding
   pub finding : Finding
-  pub numbered : slice_get k.found.now o.number ≡ Some finding
+  pub numbered : slice_get k.found.now r.finding ≡ Some finding
   pub scheduled : IsScheduled trees k.place k.graph.now finding o.scheduled
 
--- the status of what is found, how much it is, and what ends what is printed
-abbrev pub ClosesFindings : List Finding → List ℕ → Tally → Type 0
-ClosesFindings found printed tally =
-    (tally.status ≡ findings_status found) × (tally.findings ≡ length found) × EndsWith printed (findings_closing found)
+-- what comes of the finding of a number where one more callback stands behind the text
+abbrev pub IsAgainOf : Known → ℕ → Again → Type 0
+IsAgainOf k number a = (f : Finding) → slice_get k.found.now number ≡ Some f → IsAgain k.source.text.now f a
 
--- the same of what is said of a certificate, a journal or a script
-abbrev pub ClosesNotice : Notice → List ℕ → Tally → Type 0
-ClosesNotice n printed tally =
-    (tally.status ≡ notices.status_of n) × (tally.findings ≡ faults_in n) × EndsWith printed (notices.closing n)
+-- a note of a finding of a text, behind earlier ones
+abbrev pub IsNotedOf : List Tree → Known → List Noted → Noted → Type 0
+IsNotedOf trees k earlier n = IsNoted trees k.source.text.now k.place k.graph.now k.found.now earlier n
 
--- the same of a text that is taken for one of these, of this stack
-abbrev pub ClosesOther : Stack → Kind → Text → List ℕ → Tally → Type 0
-ClosesOther stack kind text printed tally = (n : Notice) × notices.IsNotice stack kind text n × ClosesNotice n printed tally
+-- the report of a text
+abbrev pub HasReport : List Filter → Text → Part → Type 0
+HasReport filters text p = IsReport filters text p.output.bytes.items p.tally.status p.tally.findings
 
--- the same of a text that doesn't parse
-abbrev pub ClosesFault : SyntaxFault → List ℕ → Tally → Type 0
-ClosesFault f printed tally = (tally.status ≡ 2) × (tally.findings ≡ 1) × EndsWith printed (syntax_line f ++ 10 ∷ [])
+-- what is said of a certificate, a journal or a script ends so
+pub record ClosesNotice (n : Notice) (p : Part) : Type 0 where
+  pub status : p.tally.status ≡ notices.status_of n
+  pub count : p.tally.findings ≡ faults_in n
+  pub ends : EndsWith p.output.bytes.items (notices.closing n)
+
+-- the report of a text that parses, with its notes
+pub record IsParsedPart (trees : List Tree) (states : ℕ) (text : Text) (place : ℕ) (p : Part) : Type 0 where
+  pub report : HasReport (filters_of trees) text p
+  pub notes : AreNotesOf trees text place p.output.noted
+  pub said : IsSaid trees states p.output
+
+abbrev pub IsKnownPart : List Tree → ℕ → Known → Part → Type 0
+IsKnownPart trees states k p = IsParsedPart trees states k.source.text.now k.place p
+
+-- the notes are those of a text; none where it doesn't parse
+abbrev pub AreNotesFor : List Tree → Text → Reading → List Noted → Type 0
+AreNotesFor trees text (reading.Known place) notes = AreNotesOf trees text place notes
+AreNotesFor trees text _ notes = notes ≡ []
+
+-- the report of a text, with its notes
+pub record IsPart (trees : List Tree) (states : ℕ) (s : Studied) (p : Part) : Type 0 where
+  pub report : HasReport (filters_of trees) s.source.text.now p
+  pub notes : AreNotesFor trees s.source.text.now s.reading p.output.noted
+  pub said : IsSaid trees states p.output
+
+-- ---- several texts
+
+-- the reports of texts, each with an empty line behind it, and their notes
+pub record ArePrinted (trees : List Tree) (states : ℕ) (each : List Studied) (p : Printed) : Type 0 where
+  pub parts : AreParts (filters_of trees) (texts_read each) p.output.bytes.items p.total.status p.total.findings p.total.files
+  pub notes : AreNotesIn trees (known_in each) (texts_read each) p.output.noted
+  pub said : IsSaid trees states p.output
+
+-- the reports with that of one more text, and an empty line behind it
+pub record IsMore (trees : List Tree) (states : ℕ) (s : Studied) (old new : Printed) : Type 0 where
+  pub part : Part
+  pub is : IsPart trees states s part
+  pub bytes : new.output.bytes.items ≡ old.output.bytes.items ++ part.output.bytes.items ++ 10 ∷ []
+  pub noted : new.output.noted ≡ old.output.noted ++ part.output.noted
+  pub status : new.total.status ≡ max old.total.status part.tally.status
+  pub findings : new.total.findings ≡ old.total.findings + part.tally.findings
+  pub files : new.total.files ≡ old.total.files + some part.tally.findings
+
+-- all or nothing is put out
+pub record HoldsBack (is_held : Bool) (p : Printed) : Type 0 where
+  pub none : is_held ≡ true → p.sent ≡ 0
+  pub all : is_held ≡ false → p.sent ≡ length p.output.bytes.items
+
+-- so much of what is printed is put out: the reports of all texts but the last, or nothing where that is held back
+pub record IsPutOut (texts : List Text) (states : ℕ) (is_held : Bool) (old new : Option (List ℕ)) (p : Printed) : Type 0 where
+  pub within : p.sent ≤ length p.output.bytes.items
+  pub added : Appends old new (take p.sent p.output.bytes.items)
+  pub early : is_held ≡ false → IsAllButLast texts states (take p.sent p.output.bytes.items)
+  pub late : is_held ≡ true → p.sent ≡ 0
+
+-- the report of the only text
+abbrev pub part_of : Printed → Part
+part_of p = record { output = p.output; tally = record { status = p.total.status; findings = p.total.findings } }

@@ -1,8 +1,11 @@
 -- What is reported of files: of texts, and of certificates, journals and scripts. This project's own program.
-use Rattle.std.specs.Prelude.{◌≡◌, ◌⊎◌, ℕ, ◌+◌, List, [], ◌∷◌, ◌++◌, Some, None, length, max}
+use Rattle.std.specs.Prelude.{◌≡◌, ◌⊎◌, ℕ, ◌+◌, List, [], ◌∷◌, ◌++◌, Option, Some, None, length, max}
+use Rattle.std.specs.Io.KnownBytes.{Appends}
 use Rattle.flt_script.specs.ScriptText.{Stack}
 use Rattle.flt_tree.specs.Names.{Text}
 use Rattle.flt_tree.specs.declared.filter.Filter.{Filter}
+use Rattle.flt_tree.specs.declared.tree.Tree.{Tree}
+use Rattle.flt_model.specs.Program.{filters_of}
 use Rattle.flt_reasons.specs.Notice as notices
 use Rattle.flt_reasons.specs.declared.notice.Kind.{Kind}
 use Rattle.flt_reasons.specs.declared.notice.Notice.{Notice}
@@ -11,56 +14,18 @@ use Rattle.flt_details.specs.Closing as texts
 use Rattle.flt_details.specs.Reports.{EndsWith, IsJudged, status_of}
 use Rattle.flt_details.specs.declared.judged.Judged.{Judged}
 use Rattle.flt_details.specs.declared.judged.Judged.TheVariants.{Unread, Known}
-use Rattle.flt_notes.specs.Readings.{AreParsed, IsOther, IsUnread}
+use Rattle.flt_notes.specs.Noted.{AreNotesIn}
+use Rattle.flt_notes.specs.Parsed.{AreParsed, IsOther, IsUnread}
+use Rattle.flt_notes.specs.Told.{Say}
 use Rattle.flt_notes.specs.Totals.{some, summary}
+use Rattle.flt_notes.specs.declared.noted.Noted.{Noted}
+
+-- ---- one file
 
 -- what a text is that isn't taken for anything else: it has this first fault, or it is known
 abbrev pub IsText : Text → Judged → Type 0
 IsText text (Unread f) = IsUnread text f
 IsText text (Known tree graph found) = IsJudged text (Known tree graph found)
-
--- the status of a text: 0 where it parses and a certificate covers it, 1 where it parses and none does, 2 where it doesn't parse
-abbrev pub HasStatus : Text → ℕ → Type 0
-HasStatus text status = (j : Judged) × IsText text j × (status ≡ status_of j)
-
--- the stack of these filters, where there are any
-abbrev pub stack_of : List Filter → Stack
-stack_of [] = None
-stack_of (f ∷ fs) = Some (f ∷ fs)
-
--- a text is taken for a certificate, a journal or a script, and this is said of it, where these are the filters of the texts that parse
-pub record IsNoticeOf (filters : List Filter) (text : Text) (notice : Notice) : Type 0 where
-  pub kind : Kind
-  pub other : IsOther text kind
-  pub is : notices.IsNotice (stack_of filters) kind text notice
-
--- the status of a certificate, a journal or a script: 0 where it is well-formed, else 2
-abbrev pub HasNoticeStatus : List Filter → Text → ℕ → Type 0
-HasNoticeStatus filters text status = (n : Notice) × IsNoticeOf filters text n × (status ≡ notices.status_of n)
-
--- the status of a file
-pub record IsStatus (filters : List Filter) (text : Text) (status : ℕ) : Type 0 where
-  pub is : HasStatus text status ⊎ HasNoticeStatus filters text status
-
--- a text has this status, and its last line ends what is printed
-abbrev pub HasReport : Text → List ℕ → ℕ → Type 0
-HasReport text printed status = (j : Judged) × IsText text j × (status ≡ status_of j) × EndsWith printed (texts.closing j)
-
--- the same of a certificate, a journal or a script
-abbrev pub HasNotice : List Filter → Text → List ℕ → ℕ → Type 0
-HasNotice filters text printed status =
-    (n : Notice) × IsNoticeOf filters text n × (status ≡ notices.status_of n) × EndsWith printed (notices.closing n)
-
--- the same of a file
-pub record IsReport (filters : List Filter) (text : Text) (printed : List ℕ) (status : ℕ) : Type 0 where
-  pub is : HasReport text printed status ⊎ HasNotice filters text printed status
-
--- the status of several files is the greatest of theirs, and the last one's line ends what is printed
-abbrev pub AreReportsOf : List Filter → List Text → List ℕ → ℕ → Type 0
-AreReportsOf filters [] printed status = status ≡ 0
-AreReportsOf filters (t ∷ []) printed status = IsReport filters t printed status
-AreReportsOf filters (t ∷ u ∷ ts) printed status =
-    (first : ℕ) × (others : ℕ) × IsStatus filters t first × AreReportsOf filters (u ∷ ts) printed others × (status ≡ max first others)
 
 -- how many findings a text has; one that doesn't parse has its first fault
 abbrev pub findings_in : Judged → ℕ
@@ -72,35 +37,60 @@ abbrev pub faults_in : Notice → ℕ
 faults_in (Whole kind count) = 0
 faults_in (Malformed kind reason) = 1
 
-abbrev pub HasFindings : Text → ℕ → Type 0
-HasFindings text count = (j : Judged) × IsText text j × (count ≡ findings_in j)
+-- the report of a text ends with its last line. Its status is 0 where it parses and a certificate covers it, 1 where it parses and none
+-- does, 2 where it doesn't parse
+pub record IsTextReport (text : Text) (report : List ℕ) (status count : ℕ) : Type 0 where
+  pub judged : Judged
+  pub is : IsText text judged
+  pub own : status ≡ status_of judged
+  pub counted : count ≡ findings_in judged
+  pub ends : EndsWith report (texts.closing judged)
 
-abbrev pub HasFaults : List Filter → Text → ℕ → Type 0
-HasFaults filters text count = (n : Notice) × IsNoticeOf filters text n × (count ≡ faults_in n)
+-- the stack of these filters, where there are any
+abbrev pub stack_of : List Filter → Stack
+stack_of [] = None
+stack_of (f ∷ fs) = Some (f ∷ fs)
 
--- how many findings a file has
-pub record IsCount (filters : List Filter) (text : Text) (count : ℕ) : Type 0 where
-  pub is : HasFindings text count ⊎ HasFaults filters text count
+-- the same of a certificate, a journal or a script: 0 where it is well-formed, else 2. These are the filters of the texts that parse
+pub record IsNoticeReport (filters : List Filter) (text : Text) (report : List ℕ) (status count : ℕ) : Type 0 where
+  pub kind : Kind
+  pub other : IsOther text kind
+  pub notice : Notice
+  pub is : notices.IsNotice (stack_of filters) kind text notice
+  pub own : status ≡ notices.status_of notice
+  pub counted : count ≡ faults_in notice
+  pub ends : EndsWith report (notices.closing notice)
 
--- how many findings files have, and how many of these have some
-pub data AreCounted (filters : List Filter) : List Text → ℕ → ℕ → Type 0 where
-  none : AreCounted filters [] 0 0
-  one_more : {texts : List Text} {findings files : ℕ} (text : Text) (count : ℕ) → AreCounted filters texts findings files →
-      IsCount filters text count → AreCounted filters (texts ++ text ∷ []) (findings + count) (files + some count)
+-- the report of a file, with its status and how many findings it has
+pub record IsReport (filters : List Filter) (text : Text) (report : List ℕ) (status count : ℕ) : Type 0 where
+  pub is : IsTextReport text report status count ⊎ IsNoticeReport filters text report status count
 
--- behind the reports of several files stand an empty line and one that says how much is found
+-- ---- several files
+
+-- each file has its report, with an empty line behind it. Together they have the greatest status, and so many findings in so many files
+pub data AreParts (filters : List Filter) : List Text → List ℕ → ℕ → ℕ → ℕ → Type 0 where
+  none : AreParts filters [] [] 0 0 0
+  one_more : {texts : List Text} {printed : List ℕ} {greatest findings files : ℕ} {text : Text} {report : List ℕ} {status count : ℕ} →
+      AreParts filters texts printed greatest findings files → IsReport filters text report status count →
+      AreParts filters (texts ++ text ∷ []) (printed ++ report ++ 10 ∷ []) (max greatest status) (findings + count) (files + some count)
+
+-- the reports of several files, and a line that says how much is found
 pub record AreSummed (filters : List Filter) (texts : List Text) (printed : List ℕ) (status : ℕ) : Type 0 where
   pub reports : List ℕ
-  pub are : AreReportsOf filters texts reports status
   pub findings : ℕ
   pub files : ℕ
-  pub counted : AreCounted filters texts findings files
-  pub whole : printed ≡ reports ++ (10 ∷ (summary findings files (length texts) ++ 10 ∷ []))
+  pub are : AreParts filters texts reports status findings files
+  pub whole : printed ≡ reports ++ summary findings files (length texts) ++ 10 ∷ []
+
+-- the report of one file
+pub record IsAlone (filters : List Filter) (text : Text) (printed : List ℕ) (status : ℕ) : Type 0 where
+  pub count : ℕ
+  pub is : IsReport filters text printed status count
 
 -- what is reported of files, where there are none, one or several
 abbrev pub AreAllReports : List Filter → List Text → List ℕ → ℕ → Type 0
 AreAllReports filters [] printed status = (printed ≡ []) × (status ≡ 0)
-AreAllReports filters (t ∷ []) printed status = IsReport filters t printed status
+AreAllReports filters (t ∷ []) printed status = IsAlone filters t printed status
 AreAllReports filters (t ∷ u ∷ ts) printed status = AreSummed filters (t ∷ u ∷ ts) printed status
 
 -- the same, where the filters are those of the texts that parse
@@ -108,3 +98,48 @@ pub record AreReports (texts : List Text) (printed : List ℕ) (status : ℕ) : 
   pub filters : List Filter
   pub parsed : AreParsed texts filters
   pub are : AreAllReports filters texts printed status
+
+-- ---- the first files
+
+-- each of these files, which come before others, has its whole report, with an empty line behind it, and the lines on runs in these are
+-- those of the notes of these files
+pub record AreFirst (before others : List Text) (states : ℕ) (printed : List ℕ) : Type 0 where
+  pub trees : List Tree
+  pub parsed : AreParsed (before ++ others) (filters_of trees)
+  pub status : ℕ
+  pub findings : ℕ
+  pub files : ℕ
+  pub reports : AreParts (filters_of trees) before printed status findings files
+  pub place : ℕ
+  pub notes : List Noted
+  pub noted : AreNotesIn trees place before notes
+  pub said : Say trees states notes printed
+
+-- what is printed is the whole reports of the first of some files
+pub record IsBegun (texts : List Text) (states : ℕ) (printed : List ℕ) : Type 0 where
+  pub before : List Text
+  pub others : List Text
+  pub whole : texts ≡ before ++ others
+  pub are : AreFirst before others states printed
+
+-- nothing is printed, or whole reports of the first of some files
+abbrev pub AreWhole : List Text → ℕ → List ℕ → Type 0
+AreWhole texts states printed = (printed ≡ []) ⊎ IsBegun texts states printed
+
+-- the same of what is put out
+pub record IsCut (texts : List Text) (states : ℕ) (old new : Option (List ℕ)) : Type 0 where
+  pub printed : List ℕ
+  pub added : Appends old new printed
+  pub are : AreWhole texts states printed
+
+-- the reports of all files but the last
+pub record IsAllButOne (texts : List Text) (states : ℕ) (printed : List ℕ) : Type 0 where
+  pub before : List Text
+  pub last : Text
+  pub whole : texts ≡ before ++ last ∷ []
+  pub are : AreFirst before (last ∷ []) states printed
+
+-- the same, where there are files
+abbrev pub IsAllButLast : List Text → ℕ → List ℕ → Type 0
+IsAllButLast [] states printed = printed ≡ []
+IsAllButLast (t ∷ ts) states printed = IsAllButOne (t ∷ ts) states printed

@@ -1,20 +1,24 @@
 //! What comes of a finding where one more callback sets the contexts that nothing in its text sets: a run of another text, which is shown as
-//! that and kept nowhere.
+//! that.
 
-use crate::lines::{LEGEND, put_counts, put_rows, violation_number};
-use crate::noted::schedule_of;
+ghost use Rattle.std.specs.Prelude.{◌≡◌, Some, All, IfOk, IfSome, slice_get};
+ghost use Rattle.flt_notes.specs.Again as spec;
+ghost use Rattle.flt_notes.specs.Noted.{IsAgain};
+
+use crate::lines::run_rows;
+use crate::noted::{Again, schedule_of};
 use crate::setters::{Setter, is_same};
 use flt_explain::Finding;
 use flt_schedules::{Outcome, Outlook, Schedule, Suspect, Suspects, outcomes_among};
-use flt_search::{Broken, UnwatchedSearch};
+use flt_search::SearchWatch;
 use std::alloc::{AllocError, Global};
 use std::fmt::Write;
 
 /// A text that sets what another doesn't, and what comes there of the other's findings for which that would be needed.
 #[derive(Drop)]
-pub(crate) struct Again {
-    setter: Setter,
-    outcomes: Vec<Outcome>,
+pub(crate) struct Setting {
+    pub(crate) setter: Setter,
+    pub(crate) outcomes: Vec<Outcome>,
 }
 
 /// The lines of the added callback, by their numbers.
@@ -27,30 +31,18 @@ fn put_added(out: &mut String, setter: &Setter) -> Result<(), AllocError> {
     Ok(())
 }
 
-/// A run of the text with the added callback.
-fn put_run(
-    alloc: Global,
-    out: &mut String,
-    setter: &Setter,
-    broken: &Broken,
-) -> Result<(), AllocError> {
-    let number = violation_number(broken.violation);
-    let entry = broken.entry;
-    write!(
-        out,
-        "   = with a callback that sets one, a run breaks V{number} at entry {entry}"
-    )?;
-    put_counts(out, &broken.journal)?;
-    out.push_str("; it is no run of this text, and `--journal` doesn't keep it:\n")?;
-    put_added(out, setter)?;
-    out.push_str(LEGEND)?;
-    put_rows(alloc, out, setter.trees.as_slice(), broken)
-}
-
-/// The finding of a number, where it is found in the text with the callback too.
-fn found_again(setter: &Setter, found: &[Finding], number: usize) -> Option<Finding> {
+/// The finding of a number, where it is found in the text with the callback too: with the rule that it is of without it.
+fn suspect_again(setter: &Setter, found: &[Finding], number: usize) -> Option<Suspect>
+    ensures { IfSome result (spec.IsSuspectAgain found.now) }
+{
     match (setter.found.get(number), found.get(number)) {
-        (Some(own), Some(finding)) if is_same(own, finding) => Some(*own),
+        (Some(own), Some(finding)) if is_same(own, finding) => Some(Suspect {
+            number,
+            finding: Finding {
+                rule: finding.rule,
+                ..*own
+            },
+        }),
         _ => None,
     }
 }
@@ -61,13 +53,14 @@ fn suspects_of(
     setter: &Setter,
     found: &[Finding],
     outcomes: &[Outcome],
-) -> Result<Vec<Suspect>, AllocError> {
+) -> Result<Vec<Suspect>, AllocError>
+    ensures { IfOk result (λ all. All (spec.IsSuspectAgain found.now) all.items) }
+{
     let mut all = Vec::new(alloc);
     for outcome in outcomes {
         if let Schedule::NeverGot(_) = schedule_of(&outcome.scheduled) {
-            let number = outcome.number;
-            if let Some(finding) = found_again(setter, found, number) {
-                all.push(Suspect { number, finding })?;
+            if let Some(suspect) = suspect_again(setter, found, outcome.number) {
+                all.push(suspect)?;
             }
         }
     }
@@ -75,13 +68,17 @@ fn suspects_of(
 }
 
 /// What comes of them in runs of that text.
-fn outcomes_of(
+fn outcomes_of<W: SearchWatch>(
     alloc: Global,
     setter: &Setter,
     found: &[Finding],
     outcomes: &[Outcome],
     states: u32,
-) -> Result<Vec<Outcome>, AllocError> {
+    watch: &mut W,
+) -> Result<Vec<Outcome>, AllocError>
+    requires alone { spec.IsAlone setter.now.trees }
+    ensures { IfOk result (λ all. All (spec.IsOutcomeAgain setter.now.trees found.now) all.items) }
+{
     let again = suspects_of(alloc, setter, found, outcomes)?;
     let outlook = Outlook::of(alloc, &setter.graph)?;
     let suspects = Suspects {
@@ -89,52 +86,86 @@ fn outcomes_of(
         outlook: &outlook,
         found: again.as_slice(),
     };
-    outcomes_among(
-        alloc,
-        setter.trees.as_slice(),
-        &suspects,
-        states,
-        &mut UnwatchedSearch,
-    )
+    let all = outcomes_among(alloc, setter.trees.as_slice(), &suspects, states, watch)?;
+    Ok(all)
 }
 
-impl Again {
+/// What comes of a finding in runs of a text with one more callback.
+fn again_by(alloc: Global, outcome: &Outcome) -> Result<Again, AllocError>
+    ensures { IfOk result (spec.IsAgainBy outcome.now) }
+{
+    match schedule_of(&outcome.scheduled) {
+        Schedule::Breaks(broken) => Ok(Again::Runs(broken.copy(alloc)?)),
+        _ => Ok(Again::RunsNowhere),
+    }
+}
+
+impl Setting {
     /// What comes of a text's findings, of which this comes without the callback: one search for all of them, up to so many states.
     ///
     /// # Errors
     ///
     /// Where a growth was refused, or a number or a count would reach 2^32.
-    pub(crate) fn of(
+    pub(crate) fn of<W: SearchWatch>(
         alloc: Global,
         setter: Setter,
+        _text: &[u8],
         found: &[Finding],
         outcomes: &[Outcome],
         states: u32,
-    ) -> Result<Again, AllocError> {
-        let outcomes = outcomes_of(alloc, &setter, found, outcomes, states)?;
-        Ok(Again { setter, outcomes })
+        watch: &mut W,
+    ) -> Result<Setting, AllocError>
+        requires setter { spec.IsSetter _text.now setter }
+        ensures { IfOk result (spec.IsSetting _text.now found.now) }
+    {
+        let outcomes = outcomes_of(alloc, &setter, found, outcomes, states, watch)?;
+        Ok(Setting { setter, outcomes })
     }
 
     /// What comes of the finding of a number, from 0; none where it isn't found in the text with the callback.
-    fn outcome(&self, number: usize) -> Option<&Outcome> {
-        self.outcomes
-            .iter()
-            .find(|outcome| outcome.number == number)
+    fn outcome(&self, number: usize) -> Option<&Outcome>
+        ensures { IfSome result (λ o. spec.IsOutcomeOf self.now number o.now) }
+    {
+        for outcome in &self.outcomes {
+            if outcome.number == number {
+                return Some(outcome);
+            }
+        }
+        None
     }
 
-    /// What is said of the finding of a number, from 0; nothing where it isn't found in the text with the callback.
+    /// What comes of the finding of a number, from 0; none where it isn't found in the text with the callback.
     ///
     /// # Errors
     ///
     /// Where a growth was refused.
-    pub(crate) fn lines(&self, alloc: Global, number: usize) -> Result<String, AllocError> {
+    pub(crate) fn again(
+        &self,
+        alloc: Global,
+        _text: &[u8],
+        found: &[Finding],
+        number: usize,
+    ) -> Result<Option<Again>, AllocError>
+        requires setting { spec.IsSetting _text.now found.now self.now }
+        ensures { IfOk result (λ a. IfSome a (λ a. (f : Finding) → slice_get found.now number ≡ Some f → IsAgain _text.now f a)) }
+    {
+        match self.outcome(number) {
+            Some(outcome) => Ok(Some(again_by(alloc, outcome)?)),
+            None => Ok(None),
+        }
+    }
+
+    /// What stands behind the line on a run: the lines of the callback, and the run as rows.
+    ///
+    /// # Errors
+    ///
+    /// Where a growth was refused.
+    pub(crate) fn rows(&self, alloc: Global, again: &Again) -> Result<String, AllocError> {
         let mut out = String::new(alloc);
-        let Some(outcome) = self.outcome(number) else {
-            return Ok(out);
-        };
-        match schedule_of(&outcome.scheduled) {
-            Schedule::Breaks(broken) => put_run(alloc, &mut out, &self.setter, broken)?,
-            _ => out.push_str("   = with a callback that sets one: no run was found either\n")?,
+        if let Again::Runs(broken) = again {
+            put_added(&mut out, &self.setter)?;
+            let rows = run_rows(alloc, self.setter.trees.as_slice(), broken)?;
+            out.push_str(rows.as_str())?;
         }
         Ok(out)
     }

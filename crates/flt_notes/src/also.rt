@@ -1,40 +1,83 @@
 //! What a run that was shown before breaks too: by its last entry, beside the least violation, which alone its verdict says.
 
-use crate::lines::violation_number;
+ghost use Rattle.std.specs.Prelude.{◌≡◌, Some, Contains, IfOk, IfSome, IsTrue};
+ghost use Rattle.flt_notes.specs.Noted as spec;
+ghost use Rattle.flt_schedules.specs.Violations.{violations_of as prevented_by};
+
+use crate::lines::{own_trees, violation_number};
 use crate::noted::{Noted, schedule_of};
 use flt_explain::Finding;
 use flt_model::Violation;
 use flt_replay::broken_rule_at_last;
-use flt_schedules::{Schedule, Scheduled, only, violations_of};
+use flt_schedules::{Schedule, violations_of};
 use flt_tree::Tree;
 use std::alloc::{AllocError, Global};
 
 /// Whether two findings stand at one point.
-fn are_at_one_point(one: &Finding, other: &Finding) -> bool {
+fn are_at_one_point(one: &Finding, other: &Finding) -> bool
+    ensures { IsTrue result → (one.now.callback ≡ other.now.callback) × (one.now.point ≡ other.now.point) }
+{
     one.callback == other.callback && one.point == other.point
 }
 
-/// What the run of a finding that was told before breaks by its last entry, of the last four violations the least.
-fn rule_of(alloc: Global, trees: &[Tree], noted: &Noted) -> Result<Option<Violation>, AllocError> {
-    let own = match noted.scheduled {
-        Scheduled::Together(_) => trees,
-        Scheduled::Alone(_) => only(trees, noted.filter),
-    };
+/// What the run of a finding that was noted before breaks by its last entry, of the last four violations the least.
+fn rule_of(alloc: Global, trees: &[Tree], noted: &Noted) -> Result<Option<Violation>, AllocError>
+    ensures { IfOk result (λ o. IfSome o (spec.IsBrokenBy trees.now noted.now)) }
+{
+    let own = own_trees(trees, noted.filter, &noted.scheduled);
     match schedule_of(&noted.scheduled) {
         Schedule::Breaks(broken) => broken_rule_at_last(alloc, own, &broken.journal),
         _ => Ok(None),
     }
 }
 
-/// What the finding's rule prevents, if it is this.
-fn prevented(finding: &Finding, violation: Option<Violation>) -> Option<Violation> {
-    let number = violation_number(violation?);
+/// Whether a finding's rule prevents a violation.
+fn is_prevented(finding: &Finding, violation: Violation) -> bool
+    ensures { IsTrue result → Contains (prevented_by finding.now.rule) violation }
+{
+    let number = violation_number(violation);
     for own in violations_of(finding.rule) {
         if violation_number(*own) == number {
-            return violation;
+            return true;
         }
     }
-    None
+    false
+}
+
+/// What the finding's rule prevents, if it is this.
+fn prevented(finding: &Finding, violation: Option<Violation>) -> Option<Violation>
+    ensures { IfSome result (λ v. (violation ≡ Some v) × Contains (prevented_by finding.now.rule) v) }
+{
+    match violation {
+        Some(own) if is_prevented(finding, own) => violation,
+        _ => None,
+    }
+}
+
+/// Whether a note of the filter of this number, whose findings these are, is of a finding at the same point.
+fn is_near(filter: usize, found: &[Finding], finding: &Finding, noted: &Noted) -> bool
+    ensures { IsTrue result → spec.IsNear filter found.now finding.now noted.now }
+{
+    if noted.filter != filter {
+        return false;
+    }
+    match found.get(noted.finding) {
+        Some(other) => are_at_one_point(other, finding),
+        None => false,
+    }
+}
+
+/// What the run of a note breaks too that a finding's rule prevents.
+fn broken_too(
+    alloc: Global,
+    trees: &[Tree],
+    finding: &Finding,
+    noted: &Noted,
+) -> Result<Option<Violation>, AllocError>
+    ensures { IfOk result (λ o. IfSome o (λ v. spec.IsBrokenBy trees.now noted.now v × Contains (prevented_by finding.now.rule) v)) }
+{
+    let violation = rule_of(alloc, trees, noted)?;
+    Ok(prevented(finding, violation))
 }
 
 /// What a run of another finding at the same point breaks too that a finding's rule prevents: of the filter of this number, whose findings
@@ -46,16 +89,15 @@ pub(crate) fn also_broken(
     filter: usize,
     found: &[Finding],
     finding: &Finding,
-) -> Result<Option<Violation>, AllocError> {
-    for noted in earlier.iter().rev() {
-        let is_near = match found.get(noted.finding) {
-            Some(other) => noted.filter == filter && are_at_one_point(other, finding),
-            None => false,
-        };
-        if !is_near {
+) -> Result<Option<Violation>, AllocError>
+    ensures { IfOk result (λ o. IfSome o (spec.IsAlso trees.now filter found.now earlier.now finding.now)) }
+{
+    for back in 0..earlier.len() {
+        let noted = &earlier[earlier.len() - 1 - back];
+        if !is_near(filter, found, finding, noted) {
             return Ok(None);
         }
-        let violation = prevented(finding, rule_of(alloc, trees, noted)?);
+        let violation = broken_too(alloc, trees, finding, noted)?;
         if violation.is_some() {
             return Ok(violation);
         }

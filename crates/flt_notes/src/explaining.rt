@@ -1,22 +1,60 @@
 //! What is wrong with some texts, and what comes of it in runs.
 
-ghost use Rattle.std.specs.Prelude.{◌≡◌, IfOk};
-ghost use Rattle.flt_notes.specs.Reported.{AreReports};
-ghost use Rattle.flt_notes.specs.Told as spec;
+ghost use Rattle.std.specs.Prelude.{◌≡◌, ◌≢◌, ◌≤◌, true, false, IfOk, IfErr, OnOk, length, take};
+ghost use Rattle.std.specs.Io.KnownBytes.{Appends};
 ghost use Rattle.flt_details.specs.Reports.{texts_of};
+ghost use Rattle.flt_notes.specs.Noted.{AreNotes};
+ghost use Rattle.flt_notes.specs.Reported as spec;
+ghost use Rattle.flt_notes.specs.Told.{Tells};
 
+use crate::fault::ExplainFault;
 use crate::noted::Noted;
-use crate::printing::{Output, Stage};
+use crate::output::Output;
+use crate::printing::Stage;
 use crate::readings::read_all;
+use crate::together::Printed;
 use flt_details::{Explained, Source};
+use flt_model::Sink;
+use flt_search::SearchWatch;
 use sqlite_items::Items;
-use std::alloc::{AllocError, Global};
+use std::alloc::Global;
+
+/// What is asked of texts beside their reports.
+#[derive(Clone, Copy)]
+pub struct Asking {
+    /// Marks of a terminal colour the reports.
+    pub coloured: bool,
+    /// How many states the search for runs of a text goes on from at most.
+    pub states: u32,
+    /// Nothing is put out before all is known.
+    pub is_held: bool,
+}
 
 /// What is printed, and what came of the findings in it: for each that is reported by itself, in their order.
 #[derive(Drop)]
 pub struct Told {
     pub explained: Explained,
     pub noted: Items<Noted>,
+    /// How many bytes of the output are put out already.
+    pub sent: usize,
+}
+
+/// What is printed of texts, with its status.
+fn finished(printed: Printed) -> Told
+    ensures output { result.explained.output.items ≡ printed.output.bytes.items }
+    ensures status { result.explained.status ≡ printed.total.status }
+    ensures noted { result.noted ≡ printed.output.noted }
+    ensures sent { result.sent ≡ printed.sent }
+{
+    let Output { bytes, noted } = printed.output;
+    Told {
+        explained: Explained {
+            output: bytes,
+            status: printed.total.status,
+        },
+        noted,
+        sent: printed.sent,
+    }
 }
 
 /// What is wrong with some texts, for people to read: each finding with the lines that show it, a way that leads there, how to mend it, and
@@ -26,38 +64,42 @@ pub struct Told {
 /// those of several texts a line says how many findings there are, and in how many of the texts. A text that doesn't parse and begins as a
 /// certificate, a journal or a script is taken for one: what is said of it is why a line of it is malformed, and its last line is what
 /// `check`, `replay` or `run` say of it, or `nothing found`. A script is taken for one for the filters of the texts that parse, or, where
-/// none does, for whichever filters it detaches. With `coloured`, marks of a terminal colour it.
+/// none does, for whichever filters it detaches.
+///
+/// Unless it is held back, the report of each text but the last is put out before the next one's findings are looked for.
 ///
 /// # Errors
 ///
-/// Where a growth was refused, or a number or a count would reach 2^32.
-pub fn explain(
+/// Where a growth was refused, or a number or a count would reach 2^32: then whole reports of the first texts are put out. Where a report
+/// can't be put out.
+pub fn explain<O: Sink, W: SearchWatch>(
     alloc: Global,
-    coloured: bool,
+    asking: Asking,
     sources: &[Source<'_>],
-    states: u32,
-) -> Result<Told, AllocError>
-    ensures reports { IfOk result (λ t. AreReports (texts_of sources.now) t.explained.output.items t.explained.status) }
-    ensures noted { IfOk result (λ t. spec.AreNoted (texts_of sources.now) t.noted) }
-    ensures said { IfOk result (λ t. spec.AreSaid t.noted t.explained.output.items) }
+    out: &mut O,
+    watch: &mut W,
+) -> Result<Told, ExplainFault>
+    ensures reports { IfOk result (λ t. spec.AreReports (texts_of sources.now) t.explained.output.items t.explained.status) }
+    ensures noted { IfOk result (λ t. AreNotes (texts_of sources.now) t.noted) }
+    ensures said { IfOk result (λ t. Tells (texts_of sources.now) asking.states t.noted t.explained.output.items) }
+    ensures within { IfOk result (λ t. t.sent ≤ length t.explained.output.items) }
+    ensures sent { IfOk result (λ t. Appends (O.taken out.old) (O.taken out.new) (take t.sent t.explained.output.items)) }
+    ensures early { IfOk result (λ t. asking.is_held ≡ false →
+        spec.IsAllButLast (texts_of sources.now) asking.states (take t.sent t.explained.output.items)) }
+    ensures late { IfOk result (λ t. asking.is_held ≡ true → t.sent ≡ 0) }
+    ensures held { asking.is_held ≡ true → out.new ≡ out.old }
+    ensures fine { OnOk result (O.failures out.new ≡ O.failures out.old) }
+    ensures write { IfErr result (λ e. e ≡ ExplainFault.Write → O.failures out.new ≢ O.failures out.old) }
+    ensures memory { IfErr result (λ e. e ≡ ExplainFault.OutOfMemory →
+        spec.IsCut (texts_of sources.now) asking.states (O.taken out.old) (O.taken out.new)) }
 {
     let readings = read_all(alloc, sources)?;
     let stage = Stage {
         alloc,
-        coloured,
+        coloured: asking.coloured,
         trees: readings.trees.as_slice(),
-        states,
+        states: asking.states,
     };
-    let mut output = Output {
-        bytes: Vec::new(alloc),
-        noted: Items::new(alloc),
-    };
-    let status = stage.put_all(&mut output, readings.each.as_slice())?;
-    Ok(Told {
-        explained: Explained {
-            output: output.bytes,
-            status,
-        },
-        noted: output.noted,
-    })
+    let printed = stage.put_all(readings.each.as_slice(), asking.is_held, out, watch)?;
+    Ok(finished(printed))
 }

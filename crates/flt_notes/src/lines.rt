@@ -1,35 +1,31 @@
-//! What is said of what comes of a finding.
+//! What is said of what comes of a finding: the line that says it, and the rows behind it.
 
-ghost use Rattle.std.specs.Prelude.{◌≡◌, Some, IfOk, string_bytes};
+ghost use Rattle.std.specs.Prelude.{◌≡◌, ◌++◌, Some, IfOk, OnOk, codes, map, string_bytes};
 ghost use Rattle.flt_notes.specs.Lines as spec;
+ghost use Rattle.flt_notes.specs.Noted.{own_of, schedule_of as schedule_in};
 
-use crate::noted::schedule_of;
+use crate::noted::{Again, Noted, schedule_of};
 use flt_graph::Place;
-use flt_model::{Journal, JournalEntry, Move, Verdict, Violation};
+use flt_model::{JournalEntry, Move, Verdict, Violation};
 use flt_schedules::{Schedule, Scheduled, Unset, only};
 use flt_search::Broken;
 use flt_timeline::Timeline;
 use flt_tree::Tree;
 use std::alloc::{AllocError, Global};
 use std::fmt;
-use std::fmt::Write;
 
 /// How many blanks stand before a timeline's rows.
 const INDENT: usize = 4;
 
 /// How the rows of a journal are read.
-pub(crate) const LEGEND: &str =
+const LEGEND: &str =
     "    (in front: entries; behind: lines, without those that nobody else sees; `yes` and `no`: how a call went)\n";
 
-/// Why `arg` is never held.
-const NEVER_HANDED: &str =
-    ": nothing hands this callback a context, so `arg` is never held in it\n";
-
-/// That the rule asks for its release all the same.
+/// That the rule asks for the release of `arg`, which is never held, all the same.
 const IS_STRICTER: &str =
     "   = note: stricter than the driver kit: this rule takes `arg` as possibly held in each callback that has one\n";
 
-// ---- how a note begins
+// ---- a run
 
 /// What a journal breaks, and where, as `replay` says it.
 #[derive(Drop)]
@@ -60,218 +56,375 @@ impl fmt::Display for BreakWords {
     }
 }
 
-/// What a note says first: what is broken, or that there is no journal.
-fn beginning(alloc: Global, schedule: &Schedule) -> Result<String, AllocError>
-    ensures { IfOk result (λ line. string_bytes line ≡ spec.beginning schedule.now) }
+/// Whether an operation arrives.
+fn is_arrival(entry: &JournalEntry) -> bool
+    ensures { result ≡ spec.is_arrival entry.now }
 {
-    match schedule {
-        Schedule::Breaks(broken) => {
-            let words = BreakWords(broken.violation, broken.entry);
-            format!(in alloc; "   = journal: {words}")
-        }
-        Schedule::NotWithin
-        | Schedule::Cut
-        | Schedule::NeverHanded
-        | Schedule::NeverStarted
-        | Schedule::NeverGot(_) => { String::from_str(alloc, "   = journal: none") }
-    }
+    matches!(entry, JournalEntry::Move(Move::Arrive { .. }))
 }
 
-// ---- a journal
-
 /// How many operations arrive.
-fn operations_of(journal: &Journal) -> usize {
-    let mut count: usize = 0;
-    for entry in journal.entries() {
-        if matches!(entry, JournalEntry::Move(Move::Arrive { .. })) {
-            count = count.saturating_add(1);
+fn arrivals(entries: &[JournalEntry]) -> usize
+    ensures { result ≡ spec.arrivals entries.now }
+{
+    let mut count = 0;
+    for entry in entries {
+        if is_arrival(entry) {
+            count += 1;
         }
     }
     count
 }
 
-/// How long a journal is.
-pub(crate) fn put_counts(out: &mut String, journal: &Journal) -> Result<(), AllocError> {
-    let operations = operations_of(journal);
-    let entries = journal.len();
-    let many = if operations == 1 { "" } else { "s" };
-    write!(
-        out,
-        ", with {operations} operation{many} and {entries} entries"
-    )
+/// The ending of a word for so many things.
+fn plural(count: usize) -> &'static str
+    ensures { result.now ≡ spec.plural count }
+{
+    if count == 1 { "" } else { "s" }
 }
 
-/// A filter's name.
-fn put_name(out: &mut String, tree: &Tree) -> Result<(), AllocError> {
-    for byte in tree.filter.name.as_slice() {
-        let shown = if byte.is_ascii_graphic() { *byte } else { b'?' };
-        out.push(shown as char)?;
+/// How many operations and entries a journal has.
+#[derive(Clone, Copy)]
+struct Lengths {
+    operations: usize,
+    entries: usize,
+}
+
+impl fmt::Display for Lengths {
+    ghost output = { λ l. Some (spec.lengths_of l.operations l.entries) };
+
+    fn fmt<W: fmt::Write>(&self, f: &mut fmt::Formatter<W>) -> fmt::Result {
+        let operations = self.operations;
+        let many = plural(operations);
+        let entries = self.entries;
+        write!(
+            f,
+            ", with {operations} operation{many} and {entries} entries"
+        )
+    }
+}
+
+/// How long the journal of a run is.
+fn lengths_of(broken: &Broken) -> Lengths
+    ensures { spec.lengths_of result.operations result.entries ≡ spec.lengths broken.now.journal }
+{
+    Lengths {
+        operations: arrivals(broken.journal.entries()),
+        entries: broken.journal.len(),
+    }
+}
+
+/// A byte of a name; `?` for what isn't printed.
+fn shown(byte: u8) -> u8
+    ensures { result ≡ spec.shown byte }
+{
+    if byte.is_ascii_graphic() { byte } else { b'?' }
+}
+
+/// Writes a name.
+fn put_name(out: &mut Vec<u8>, name: &[u8]) -> Result<(), AllocError>
+    ensures { OnOk result (out.new.items ≡ out.old.items ++ map spec.shown name.now) }
+{
+    for byte in name {
+        out.push(shown(*byte))?;
     }
     Ok(())
 }
 
-/// The filters on which a journal runs, where there are others beside it.
-fn put_filters(out: &mut String, trees: &[Tree], own: &[Tree]) -> Result<(), AllocError> {
-    if trees.len() <= 1 {
-        return Ok(());
-    }
-    let mut word = ", on ";
+/// Writes the names of filters.
+fn put_names(out: &mut Vec<u8>, own: &[Tree]) -> Result<(), AllocError>
+    ensures { OnOk result (out.new.items ≡ out.old.items ++ spec.names (codes ", on ") own.now) }
+{
+    let mut word: &[u8] = b", on ";
     for tree in own {
-        out.push_str(word)?;
-        put_name(out, tree)?;
-        word = " and ";
+        out.extend_from_slice(word)?;
+        put_name(out, tree.filter.name.as_slice())?;
+        word = b" and ";
     }
     Ok(())
 }
 
-/// A journal as rows.
-pub(crate) fn put_rows(
-    alloc: Global,
-    out: &mut String,
-    own: &[Tree],
-    broken: &Broken,
-) -> Result<(), AllocError> {
-    let verdict = Verdict::Breaks(broken.violation, broken.entry);
-    let timeline = Timeline::of(alloc, own, &broken.journal, verdict)?;
-    let rows = timeline.text(alloc, INDENT)?;
-    out.push_str(rows.as_str())
+/// Writes the names of the filters of a run, where there are others beside them.
+fn put_filters(out: &mut Vec<u8>, trees: &[Tree], own: &[Tree]) -> Result<(), AllocError>
+    ensures { OnOk result (out.new.items ≡ out.old.items ++ spec.on trees.now own.now) }
+{
+    if 1 < trees.len() {
+        return put_names(out, own);
+    }
+    Ok(())
 }
 
-fn put_journal(
+/// What a run breaks, and how long it is.
+fn broken_words(alloc: Global, broken: &Broken) -> Result<String, AllocError>
+    ensures { IfOk result (λ words. string_bytes words
+        ≡ spec.break_words broken.now.violation broken.now.entry ++ spec.lengths broken.now.journal) }
+{
+    let words = BreakWords(broken.violation, broken.entry);
+    let lengths = lengths_of(broken);
+    format!(in alloc; "{words}{lengths}")
+}
+
+/// What is said of a run of some of the filters of these trees.
+fn run_words(
     alloc: Global,
-    out: &mut String,
     trees: &[Tree],
     own: &[Tree],
     broken: &Broken,
-) -> Result<(), AllocError> {
-    put_counts(out, &broken.journal)?;
-    put_filters(out, trees, own)?;
-    out.push_str("\n")?;
-    out.push_str(LEGEND)?;
-    put_rows(alloc, out, own, broken)
+) -> Result<Vec<u8>, AllocError>
+    ensures { IfOk result (λ words. words.items ≡ spec.run_words trees.now own.now broken.now) }
+{
+    let mut words = broken_words(alloc, broken)?.into_bytes();
+    put_filters(&mut words, trees, own)?;
+    Ok(words)
 }
 
-// ---- no journal
-
-/// What the words for a finding without a run depend on.
-#[derive(Clone, Copy)]
-pub(crate) struct Case {
-    /// Each way to the finding that is known breaks another rule before.
-    pub(crate) is_behind: bool,
-    /// How many states the search goes on from at most.
-    pub(crate) states: u32,
-    /// Where the finding's callback is.
-    pub(crate) place: Place,
-    /// What the run of a finding that was told before breaks too, by the same entry, that this finding's rule prevents.
-    pub(crate) also: Option<Violation>,
-}
+// ---- no run
 
 /// Why a callback at this place never runs.
-fn never_started(place: Place) -> &'static str {
+fn never_started(place: Place) -> &'static str
+    ensures { result.now ≡ spec.never_started place }
+{
     match place {
         Place::Post(_) => {
-            ": nothing that runs asks for this callback by WITH_CALLBACK or SYNCHRONIZE, so it never runs\n"
+            "nothing that runs asks for this callback by WITH_CALLBACK or SYNCHRONIZE, so it never runs"
         }
-        Place::Canceled =>
-            ": nothing that runs puts an operation into the queue, so `canceled` never runs\n",
-        _ => ": nothing that runs queues a work item for this routine, so it never runs\n",
+        Place::Canceled => {
+            "nothing that runs puts an operation into the queue, so `canceled` never runs"
+        }
+        _ => "nothing that runs queues a work item for this routine, so it never runs",
     }
 }
 
 /// Which calls never succeed, and why.
-fn never_got(unset: Unset) -> &'static str {
+fn never_got(unset: Unset) -> &'static str
+    ensures { result.now ≡ spec.never_got unset.stream unset.instance }
+{
     match (unset.stream, unset.instance) {
         (true, true) => {
-            ": no callback of this text sets a stream or an instance context, so neither `FltGetStreamContext` nor `FltGetInstanceContext` ever succeeds in a run\n"
+            "no callback of this text sets a stream or an instance context, so neither `FltGetStreamContext` nor `FltGetInstanceContext` ever succeeds in a run"
         }
         (true, false) => {
-            ": no callback of this text sets a stream context, so `FltGetStreamContext` never succeeds in a run\n"
+            "no callback of this text sets a stream context, so `FltGetStreamContext` never succeeds in a run"
         }
         _ => {
-            ": no callback of this text sets an instance context, so `FltGetInstanceContext` never succeeds in a run\n"
+            "no callback of this text sets an instance context, so `FltGetInstanceContext` never succeeds in a run"
         }
     }
 }
 
 /// That a run which was shown before breaks this too.
-fn put_also(out: &mut String, violation: Violation) -> Result<(), AllocError> {
-    let number = violation_number(violation);
-    write!(
-        out,
-        ": the run above breaks V{number} by the same entry, too; `replay` says the least of what an entry breaks\n"
-    )
+#[derive(Drop)]
+struct AlsoWords(Violation);
+
+impl fmt::Display for AlsoWords {
+    ghost output = { λ a. Some (spec.also_words a.0) };
+
+    fn fmt<W: fmt::Write>(&self, f: &mut fmt::Formatter<W>) -> fmt::Result {
+        let number = violation_number(self.0);
+        write!(
+            f,
+            "the run above breaks V{number} by the same entry, too; `replay` says the least of what an entry breaks"
+        )
+    }
+}
+
+/// That the search was ended at so many states.
+#[derive(Drop)]
+struct CutWords(u32);
+
+impl fmt::Display for CutWords {
+    ghost output = { λ c. Some (spec.cut_words c.0) };
+
+    fn fmt<W: fmt::Write>(&self, f: &mut fmt::Formatter<W>) -> fmt::Result {
+        let states = self.0;
+        let many = plural(states as usize);
+        write!(
+            f,
+            "no run was found in {states} state{many}; `--states N` sets another bound"
+        )
+    }
+}
+
+/// What is said where a search found no run, with the bound that it came to.
+fn searched(alloc: Global, is_behind: bool, cut: Option<u32>) -> Result<String, AllocError>
+    ensures { IfOk result (λ words. string_bytes words ≡ spec.searched is_behind cut) }
+{
+    if is_behind {
+        return String::from_str(
+            alloc,
+            "each path there that is known breaks another rule first, and a run ends where it breaks something",
+        );
+    }
+    match cut {
+        Some(states) => {
+            let words = CutWords(states);
+            format!(in alloc; "{words}")
+        }
+        None => String::from_str(
+            alloc,
+            "no run was found among those that are tried, of up to 3 operations at once and 1,100 one after the other",
+        ),
+    }
 }
 
 /// Why no run is shown. That the search ended is never taken for more than that.
-fn put_missing(out: &mut String, case: Case, is_cut: bool) -> Result<(), AllocError> {
-    if let Some(violation) = case.also {
-        return put_also(out, violation);
+fn missing(alloc: Global, noted: &Noted, cut: Option<u32>) -> Result<String, AllocError>
+    ensures { IfOk result (λ words. string_bytes words ≡ spec.missing noted.now.also noted.now.is_behind cut) }
+{
+    match noted.also {
+        Some(violation) => {
+            let words = AlsoWords(violation);
+            format!(in alloc; "{words}")
+        }
+        None => searched(alloc, noted.is_behind, cut),
     }
-    if case.is_behind {
-        return out.push_str(
-            ": each path there that is known breaks another rule first, and a run ends where it breaks something\n",
-        );
-    }
-    if is_cut {
-        let states = case.states;
-        let many = if states == 1 { "" } else { "s" };
-        return write!(
-            out,
-            ": no run was found in {states} state{many}; `--states N` sets another bound\n"
-        );
-    }
-    out.push_str(
-        ": no run was found among those that are tried, of up to 3 operations at once and 1,100 one after the other\n",
-    )
 }
 
-// ---- both
+/// Why there is no run, where a search goes on from so many states; nothing where there is one.
+fn reason(alloc: Global, states: u32, noted: &Noted) -> Result<String, AllocError>
+    ensures { IfOk result (λ words. string_bytes words ≡ spec.reason states noted.now (schedule_in noted.now.scheduled)) }
+{
+    match schedule_of(&noted.scheduled) {
+        Schedule::Breaks(_) => Ok(String::new(alloc)),
+        Schedule::NotWithin => missing(alloc, noted, None),
+        Schedule::Cut => missing(alloc, noted, Some(states)),
+        Schedule::NeverHanded => String::from_str(
+            alloc,
+            "nothing hands this callback a context, so `arg` is never held in it",
+        ),
+        Schedule::NeverStarted => String::from_str(alloc, never_started(noted.place)),
+        Schedule::NeverGot(unset) => String::from_str(alloc, never_got(*unset)),
+    }
+}
 
-/// The filters on which what comes of the finding of the filter of a number was looked for.
-fn own_trees<'t>(trees: &'t [Tree], number: usize, scheduled: &Scheduled) -> &'t [Tree] {
+/// The same, behind the word that says so.
+fn none_words(alloc: Global, states: u32, noted: &Noted) -> Result<Vec<u8>, AllocError>
+    ensures { IfOk result (λ words. words.items
+        ≡ codes "none: " ++ spec.reason states noted.now (schedule_in noted.now.scheduled)) }
+{
+    let reason = reason(alloc, states, noted)?;
+    let mut words = Vec::from_slice(alloc, b"none: ")?;
+    words.extend_from_slice(reason.as_bytes())?;
+    Ok(words)
+}
+
+// ---- notes
+
+/// The trees of the filters in whose runs something came of a finding of the filter of a number.
+pub(crate) fn own_trees<'t>(trees: &'t [Tree], number: usize, scheduled: &Scheduled) -> &'t [Tree]
+    ensures { result.now ≡ own_of trees.now number scheduled.now }
+{
     match scheduled {
         Scheduled::Together(_) => trees,
         Scheduled::Alone(_) => only(trees, number),
     }
 }
 
-/// Writes what stands behind the beginning.
-fn put_rest(
+/// What a note says, where these are the trees of the texts that parse.
+fn note_words(
     alloc: Global,
-    out: &mut String,
     trees: &[Tree],
-    own: &[Tree],
-    schedule: &Schedule,
-    case: Case,
-) -> Result<(), AllocError> {
-    match schedule {
-        Schedule::Breaks(broken) => put_journal(alloc, out, trees, own, broken),
-        Schedule::NotWithin => put_missing(out, case, false),
-        Schedule::Cut => put_missing(out, case, true),
-        Schedule::NeverHanded => {
-            out.push_str(NEVER_HANDED)?;
-            out.push_str(IS_STRICTER)
+    states: u32,
+    noted: &Noted,
+) -> Result<Vec<u8>, AllocError>
+    ensures { IfOk result (λ words. words.items ≡ spec.words_of trees.now states noted.now (schedule_in noted.now.scheduled)) }
+{
+    match schedule_of(&noted.scheduled) {
+        Schedule::Breaks(broken) => {
+            let own = own_trees(trees, noted.filter, &noted.scheduled);
+            run_words(alloc, trees, own, broken)
         }
-        Schedule::NeverStarted => out.push_str(never_started(case.place)),
-        Schedule::NeverGot(unset) => out.push_str(never_got(*unset)),
+        Schedule::NotWithin
+        | Schedule::Cut
+        | Schedule::NeverHanded
+        | Schedule::NeverStarted
+        | Schedule::NeverGot(_) => none_words(alloc, states, noted),
     }
 }
 
-/// What is said of what comes of a finding of the filter of a number, from 0: whole lines.
-pub(crate) fn note_lines(
+/// The line of a note.
+pub(crate) fn note_line(
     alloc: Global,
     trees: &[Tree],
-    number: usize,
-    scheduled: &Scheduled,
-    case: Case,
+    states: u32,
+    noted: &Noted,
 ) -> Result<Vec<u8>, AllocError>
-    ensures { IfOk result (λ lines. spec.BeginsWith lines.items (spec.said scheduled.now)) }
+    ensures { IfOk result (λ line. line.items ≡ spec.note_line trees.now states noted.now) }
 {
-    let schedule = schedule_of(scheduled);
-    let own = own_trees(trees, number, scheduled);
-    let mut lines = beginning(alloc, schedule)?.into_bytes();
-    let mut rest = String::new(alloc);
-    put_rest(alloc, &mut rest, trees, own, schedule, case)?;
-    lines.extend_from_slice(rest.as_bytes())?;
-    Ok(lines)
+    let words = note_words(alloc, trees, states, noted)?;
+    let mut line = Vec::from_slice(alloc, b"   = journal: ")?;
+    line.extend_from_slice(words.as_slice())?;
+    line.push(b'\n')?;
+    Ok(line)
+}
+
+/// What is said of a run of a text with one more callback.
+#[derive(Drop)]
+struct AgainWords(Violation, usize);
+
+impl fmt::Display for AgainWords {
+    ghost output = { λ a. Some (spec.again_words a.0 a.1) };
+
+    fn fmt<W: fmt::Write>(&self, f: &mut fmt::Formatter<W>) -> fmt::Result {
+        let number = violation_number(self.0);
+        let entry = self.1;
+        write!(
+            f,
+            "   = with a callback that sets one, a run breaks V{number} at entry {entry}"
+        )
+    }
+}
+
+/// The line on what comes of a finding where one more callback sets what nothing in its text sets.
+fn run_again(alloc: Global, broken: &Broken) -> Result<String, AllocError>
+    ensures { IfOk result (λ line. string_bytes line ≡ spec.run_again broken.now) }
+{
+    let words = AgainWords(broken.violation, broken.entry);
+    let lengths = lengths_of(broken);
+    let line = format!(in alloc;
+        "{words}{lengths}; it is no run of this text, and `--journal` doesn't keep it:\n"
+    )?;
+    Ok(line)
+}
+
+/// The same; nothing where that wasn't looked for.
+pub(crate) fn again_line(alloc: Global, again: &Option<Again>) -> Result<String, AllocError>
+    ensures { IfOk result (λ line. string_bytes line ≡ spec.again_line again.now) }
+{
+    match again {
+        None => Ok(String::new(alloc)),
+        Some(Again::Runs(broken)) => run_again(alloc, broken),
+        Some(Again::RunsNowhere) => String::from_str(
+            alloc,
+            "   = with a callback that sets one: no run was found either\n",
+        ),
+    }
+}
+
+// ---- rows
+
+/// A run of these filters as rows, and how these are read.
+pub(crate) fn run_rows(alloc: Global, own: &[Tree], broken: &Broken) -> Result<String, AllocError> {
+    let verdict = Verdict::Breaks(broken.violation, broken.entry);
+    let timeline = Timeline::of(alloc, own, &broken.journal, verdict)?;
+    let rows = timeline.text(alloc, INDENT)?;
+    let mut out = String::from_str(alloc, LEGEND)?;
+    out.push_str(rows.as_str())?;
+    Ok(out)
+}
+
+/// What stands behind the line of a note.
+pub(crate) fn note_rows(
+    alloc: Global,
+    trees: &[Tree],
+    noted: &Noted,
+) -> Result<String, AllocError> {
+    match schedule_of(&noted.scheduled) {
+        Schedule::Breaks(broken) => {
+            let own = own_trees(trees, noted.filter, &noted.scheduled);
+            run_rows(alloc, own, broken)
+        }
+        Schedule::NeverHanded => String::from_str(alloc, IS_STRICTER),
+        _ => Ok(String::new(alloc)),
+    }
 }

@@ -4,8 +4,19 @@ ghost use Rattle.std.specs.Prelude.{◌≡◌};
 ghost use Rattle.std.specs.Option.{option_copied};
 ghost use Rattle.flt_notes.specs.Noted as spec;
 
-use flt_model::Journal;
+use flt_graph::Place;
+use flt_model::{Journal, Violation};
 use flt_schedules::{Schedule, Scheduled};
+use flt_search::Broken;
+
+/// What comes of a finding where one more callback sets the contexts that nothing in its text sets.
+#[derive(Drop)]
+pub enum Again {
+    /// This is a run of the text with that callback.
+    Runs(Broken),
+    /// No run was found there either.
+    RunsNowhere,
+}
 
 /// What comes of a finding in runs.
 #[derive(Drop)]
@@ -14,7 +25,15 @@ pub struct Noted {
     pub filter: usize,
     /// The number of the finding among those of its text, from 0.
     pub finding: usize,
+    /// Where its callback is.
+    pub place: Place,
+    /// Whether each way to it that is known breaks another rule before.
+    pub is_behind: bool,
     pub scheduled: Scheduled,
+    /// What the run of a finding that was noted before, at the same point, breaks too, where this one has none.
+    pub also: Option<Violation>,
+    /// What comes of it where one more callback sets what nothing in its text sets, if that was looked for.
+    pub again: Option<Again>,
 }
 
 /// What comes of a finding, in whichever runs.

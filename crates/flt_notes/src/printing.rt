@@ -1,47 +1,44 @@
-//! Reports and notes, put together.
+//! The report of a text, with its notes.
 
-ghost use Rattle.std.specs.Prelude.{◌≡◌, [], ◌++◌, All, IfOk, OnOk, option_map, option_to_list, slice_get};
+ghost use Rattle.std.specs.Prelude.{◌≡◌, ◌≢◌, ◌<◌, ◌++◌, ◌∷◌, [], All, IfOk, IfSome, Some, length, map, option_map, reverse, slice_get, OnOk};
+ghost use Rattle.std.specs.List.{AllZip};
+ghost use Rattle.flt_details.specs.Reports.{findings_status};
 ghost use Rattle.flt_model.specs.Program.{filters_of};
-ghost use Rattle.flt_notes.specs.Lines.{BeginsWith, said};
+ghost use Rattle.flt_reports.specs.Covering.{AreFirsts};
+ghost use Rattle.flt_notes.specs.Again.{IsSetting};
+ghost use Rattle.flt_notes.specs.Noted.{IsAlso, numbers_in};
+ghost use Rattle.flt_notes.specs.Parsed.{IsOther, IsUnread};
 ghost use Rattle.flt_notes.specs.Printing as spec;
-ghost use Rattle.flt_notes.specs.Readings.{AreStudied, IsStudied, texts_read};
-ghost use Rattle.flt_notes.specs.Reported.{AreAllReports, AreCounted, AreReportsOf, AreSummed, IsCount, IsReport, IsStatus, faults_in as faults, stack_of};
+ghost use Rattle.flt_notes.specs.Readings.{IsStudied, IsTreeOf};
+ghost use Rattle.flt_notes.specs.Reported.{faults_in as faults, stack_of};
 
-use crate::again::Again;
+use crate::again::Setting;
 use crate::also::also_broken;
-use crate::lines::{Case, note_lines};
-use crate::noted::{Noted, schedule_of};
+use crate::lines::note_rows;
+use crate::noted::{Again, Noted, schedule_of};
 use crate::notices::{detaches, notice_lines};
+use crate::output::Output;
 use crate::readings::{Reading, Studied};
 use crate::setters::Setter;
-use crate::totals::{Summary, Tally, Total};
+use crate::totals::Tally;
 use flt_details::{Source, fault_line, findings_line};
-use flt_explain::Finding;
-use flt_graph::{Graph, Place};
+use flt_explain::{Finding, findings};
+use flt_graph::{Graph, lower};
 use flt_model::Violation;
 use flt_reasons::{Kind, Notice, describe};
 use flt_reports::{Report, report_findings, report_nothing, report_unread};
-use flt_schedules::{Outcome, Outlook, Schedule, Suspect, Suspects, outcomes_among};
-use flt_search::UnwatchedSearch;
+use flt_schedules::{Outcome, Outlook, Schedule, Scheduled, Suspect, Suspects, outcomes_among};
+use flt_search::SearchWatch;
 use flt_syntax::SyntaxFault;
 use flt_tree::Tree;
 use sqlite_items::Items;
 use std::alloc::{AllocError, Global};
 
-/// What is printed so far, and what came of the findings in it.
+/// The report of a text with its notes, and what it comes to.
 #[derive(Drop)]
-pub(crate) struct Output {
-    pub(crate) bytes: Vec<u8>,
-    pub(crate) noted: Items<Noted>,
-}
-
-impl Output {
-    /// Lines as they stand.
-    fn lines(&mut self, lines: &[u8]) -> Result<(), AllocError>
-        ensures { OnOk result ((self.new.bytes.items ≡ self.old.bytes.items ++ lines.now) × (self.new.noted ≡ self.old.noted)) }
-    {
-        self.bytes.extend_from_slice(lines)
-    }
+pub(crate) struct Part {
+    pub(crate) output: Output,
+    pub(crate) tally: Tally,
 }
 
 /// What all reports have in common.
@@ -55,34 +52,22 @@ pub(crate) struct Stage<'a> {
     pub(crate) states: u32,
 }
 
-/// A text that parses: the number of its tree, its points and its findings.
+/// A text that parses: the number of its tree, its tree, its points and its findings.
 #[derive(Clone, Copy)]
-struct Known<'a> {
-    place: usize,
-    graph: &'a Graph,
-    found: &'a [Finding],
-}
-
-/// The same, with what is said of it with the callback that sets the contexts which nothing in it sets.
-#[derive(Clone, Copy)]
-struct Looked<'a> {
-    known: Known<'a>,
-    again: Option<&'a Again>,
+pub(crate) struct Known<'a> {
+    pub(crate) source: Source<'a>,
+    pub(crate) place: usize,
+    pub(crate) tree: &'a Tree,
+    pub(crate) graph: &'a Graph,
+    pub(crate) found: &'a [Finding],
 }
 
 /// The finding of a number, from 0.
-fn finding_at(found: &[Finding], number: usize) -> Option<Finding>
-    ensures { result ≡ slice_get found.now number }
+fn finding_at(found: &[Finding], number: usize) -> Finding
+    requires within { number < length found.now }
+    ensures { slice_get found.now number ≡ Some result }
 {
-    found.get(number).copied()
-}
-
-/// Where the callback of the finding of a number is.
-fn place_of(known: Known<'_>, number: usize) -> Place {
-    match finding_at(known.found, number) {
-        Some(finding) => known.graph.place(finding.callback),
-        None => Place::Generic,
-    }
+    found[number]
 }
 
 /// The findings of a text that are reported by themselves.
@@ -91,41 +76,65 @@ fn suspects_of(
     found: &[Finding],
     reports: &[Report],
 ) -> Result<Vec<Suspect>, AllocError>
-    ensures { IfOk result (λ all. All (spec.IsSuspectOf found.now) all.items) }
+    requires within { All (λ r. r.finding < length found.now) reports.now }
+    ensures { IfOk result (λ all. AllZip (spec.IsSuspectOf found.now) reports.now all.items) }
 {
     let mut all = Vec::new(alloc);
     for report in reports {
-        if let Some(finding) = finding_at(found, report.finding) {
-            all.push(Suspect {
-                number: report.finding,
-                finding,
-            })?;
-        }
+        let number = report.finding;
+        let finding = finding_at(found, number);
+        all.push(Suspect { number, finding })?;
     }
     Ok(all)
 }
 
-/// What comes of the finding of a number, if that is the last one.
-fn take_outcome(outcomes: &mut Vec<Outcome>, number: usize) -> Option<Outcome>
-    ensures { outcomes.old.items ≡ outcomes.new.items ++ option_to_list result }
+/// The status where these are found.
+fn status_of(found: &[Finding]) -> u8
+    ensures { result ≡ findings_status found.now }
 {
-    match outcomes.last() {
-        Some(outcome) if outcome.number == number => outcomes.pop(),
-        _ => None,
+    match found {
+        [] => 0,
+        [_, ..] => 1,
+    }
+}
+
+/// The last of what came of findings.
+fn last_of(outcomes: &mut Vec<Outcome>) -> Outcome
+    requires some { outcomes.old.items ≢ [] }
+    ensures { outcomes.old.items ≡ outcomes.new.items ++ result ∷ [] }
+{
+    match outcomes.pop() {
+        Some(outcome) => outcome,
+        None => unreachable!(),
     }
 }
 
 impl Stage<'_> {
-    /// What comes of the findings of a text that are reported by themselves, the last one first.
-    fn outcomes(
+    /// The reports of the findings of a text that parses.
+    fn reports(&self, known: Known<'_>) -> Result<Items<Report>, AllocError>
+        ensures { IfOk result (λ all. AreFirsts known.entry.found.now (map (λ r. r.finding) all)) }
+    {
+        report_findings(
+            self.alloc,
+            self.coloured,
+            known.source,
+            known.tree,
+            known.graph,
+            known.found,
+        )
+    }
+
+    /// What comes of the findings of a text that are reported by themselves.
+    fn outcomes<W: SearchWatch>(
         &self,
         known: Known<'_>,
         outlook: &Outlook<'_>,
         reports: &[Report],
+        watch: &mut W,
     ) -> Result<Vec<Outcome>, AllocError>
-        requires known { spec.IsKnownIn self.now.trees.now known }
         requires same { outlook.now ≡ known.graph.now }
-        ensures { IfOk result (λ all. All (spec.IsOutcomeIn self.now.trees.now known.entry) all.items) }
+        requires within { All (λ r. r.finding < length known.found.now) reports.now }
+        ensures { IfOk result (λ all. AllZip (spec.IsOutcomeOf self.now.trees.now known.entry) reports.now all.items) }
     {
         let found = suspects_of(self.alloc, known.found, reports)?;
         let suspects = Suspects {
@@ -133,242 +142,290 @@ impl Stage<'_> {
             outlook,
             found: found.as_slice(),
         };
-        let mut outcomes = outcomes_among(
-            self.alloc,
-            self.trees,
-            &suspects,
-            self.states,
-            &mut UnwatchedSearch,
-        )?;
-        outcomes.reverse();
+        let outcomes = outcomes_among(self.alloc, self.trees, &suspects, self.states, watch)?;
         Ok(outcomes)
     }
 
-    /// What the run of a finding that was told before breaks too, where this one has none.
-    fn also(
-        &self,
-        earlier: &[Noted],
-        known: Known<'_>,
-        noted: &Noted,
-    ) -> Result<Option<Violation>, AllocError> {
-        match (
-            schedule_of(&noted.scheduled),
-            finding_at(known.found, noted.finding),
-        ) {
-            (Schedule::NotWithin | Schedule::Cut, Some(finding)) => {
-                also_broken(
-                    self.alloc,
-                    self.trees,
-                    earlier,
-                    known.place,
-                    known.found,
-                    &finding,
-                )
-            }
-            _ => Ok(None),
-        }
-    }
-
     /// What comes of the findings for which contexts would be needed that nothing sets, where one more callback sets them.
-    fn again(
+    fn setting<W: SearchWatch>(
         &self,
-        source: Source<'_>,
-        tree: &Tree,
         known: Known<'_>,
         outlook: &Outlook<'_>,
         outcomes: &[Outcome],
-    ) -> Result<Option<Again>, AllocError> {
-        match Setter::of(self.alloc, source, tree, known.found, outlook.unset())? {
+        watch: &mut W,
+    ) -> Result<Option<Setting>, AllocError>
+        ensures { IfOk result (λ s. IfSome s (IsSetting known.entry.source.text.now known.entry.found.now)) }
+    {
+        let setter = Setter::of(
+            self.alloc,
+            known.source,
+            known.tree,
+            known.found,
+            outlook.unset(),
+        )?;
+        match setter {
             Some(setter) => {
-                let again = Again::of(self.alloc, setter, known.found, outcomes, self.states)?;
-                Ok(Some(again))
+                let text = known.source.text;
+                let setting = Setting::of(
+                    self.alloc,
+                    setter,
+                    text,
+                    known.found,
+                    outcomes,
+                    self.states,
+                    watch,
+                )?;
+                Ok(Some(setting))
             }
             None => Ok(None),
         }
     }
 
-    /// What is said of a finding where one more callback sets the contexts that nothing in its text sets.
-    fn again_lines(&self, looked: Looked<'_>, noted: &Noted) -> Result<String, AllocError> {
-        match (schedule_of(&noted.scheduled), looked.again) {
-            (Schedule::NeverGot(_), Some(again)) => again.lines(self.alloc, noted.finding),
+    /// What the run of a finding that was noted before breaks too, where this one has none.
+    fn also(
+        &self,
+        earlier: &[Noted],
+        known: Known<'_>,
+        scheduled: &Scheduled,
+        finding: &Finding,
+    ) -> Result<Option<Violation>, AllocError>
+        ensures { IfOk result (λ o. IfSome o (IsAlso self.now.trees.now known.entry.place known.entry.found.now earlier.now finding.now)) }
+    {
+        match schedule_of(scheduled) {
+            Schedule::NotWithin | Schedule::Cut => also_broken(
+                self.alloc,
+                self.trees,
+                earlier,
+                known.place,
+                known.found,
+                finding,
+            ),
+            _ => Ok(None),
+        }
+    }
+
+    /// What comes of a finding where one more callback sets the contexts that nothing in its text sets.
+    fn again(
+        &self,
+        known: Known<'_>,
+        setting: &Option<Setting>,
+        scheduled: &Scheduled,
+        number: usize,
+    ) -> Result<Option<Again>, AllocError>
+        requires setting { IfSome setting.now (IsSetting known.source.text.now known.found.now) }
+        ensures { IfOk result (λ a. IfSome a (spec.IsAgainOf known.entry number)) }
+    {
+        match (schedule_of(scheduled), setting) {
+            (Schedule::NeverGot(_), Some(setting)) => {
+                setting.again(self.alloc, known.source.text, known.found, number)
+            }
+            _ => Ok(None),
+        }
+    }
+
+    /// The note of the finding that a report is of, behind earlier ones.
+    fn noted(
+        &self,
+        earlier: &[Noted],
+        known: Known<'_>,
+        setting: &Option<Setting>,
+        report: &Report,
+        outcome: Outcome,
+    ) -> Result<Noted, AllocError>
+        requires outcome { spec.IsOutcomeOf self.now.trees.now known report.now outcome }
+        requires setting { IfSome setting.now (IsSetting known.source.text.now known.found.now) }
+        ensures noted { IfOk result (spec.IsNotedOf self.now.trees.now known.entry earlier.now) }
+        ensures number { IfOk result (λ n. n.finding ≡ report.now.finding) }
+    {
+        let number = report.finding;
+        let finding = finding_at(known.found, number);
+        let also = self.also(earlier, known, &outcome.scheduled, &finding)?;
+        let again = self.again(known, setting, &outcome.scheduled, number)?;
+        Ok(Noted {
+            filter: known.place,
+            finding: number,
+            place: known.graph.place(finding.callback),
+            is_behind: report.is_behind,
+            scheduled: outcome.scheduled,
+            also,
+            again,
+        })
+    }
+
+    /// What stands behind the line of a note on one more callback.
+    fn again_rows(&self, setting: &Option<Setting>, noted: &Noted) -> Result<String, AllocError> {
+        match (setting, &noted.again) {
+            (Some(setting), Some(again)) => setting.rows(self.alloc, again),
             _ => Ok(String::new(self.alloc)),
         }
     }
 
-    /// What is said of what comes of a finding.
-    #[tactic(auto, using(crate::proofs::Outputs::begins_more))]
-    fn note_lines(
-        &self,
-        looked: Looked<'_>,
-        noted: &Noted,
-        case: Case,
-    ) -> Result<Vec<u8>, AllocError>
-        ensures { IfOk result (λ lines. BeginsWith lines.items (said noted.now.scheduled)) }
-    {
-        let number = looked.known.place;
-        let mut lines = note_lines(self.alloc, self.trees, number, &noted.scheduled, case)?;
-        let again = self.again_lines(looked, noted)?;
-        lines.extend_from_slice(again.as_bytes())?;
-        Ok(lines)
-    }
-
-    /// Writes what comes of a finding.
+    /// Writes a note.
     fn put_note(
         &self,
         output: &mut Output,
-        looked: Looked<'_>,
-        outcome: Outcome,
-        is_behind: bool,
+        setting: &Option<Setting>,
+        noted: Noted,
     ) -> Result<(), AllocError>
-        requires known { spec.IsKnownIn self.now.trees.now looked.known }
-        requires outcome { spec.IsOutcomeIn self.now.trees.now looked.known outcome }
-        requires old { spec.IsOutput self.now.trees.now output.old }
-        ensures { OnOk result (spec.IsOutput self.now.trees.now output.new) }
+        requires said { spec.IsSaid self.now.trees.now self.now.states output.old }
+        ensures said { OnOk result (spec.IsSaid self.now.trees.now self.now.states output.new) }
+        ensures noted { OnOk result (output.new.noted ≡ output.old.noted ++ noted ∷ []) }
     {
-        let noted = Noted {
-            filter: looked.known.place,
-            finding: outcome.number,
-            scheduled: outcome.scheduled,
-        };
-        let case = Case {
-            is_behind,
-            states: self.states,
-            place: place_of(looked.known, noted.finding),
-            also: self.also(output.noted.as_slice(), looked.known, &noted)?,
-        };
-        let lines = self.note_lines(looked, &noted, case)?;
-        output.lines(lines.as_slice())?;
-        output.noted.push(noted)?;
-        Ok(())
+        let rows = note_rows(self.alloc, self.trees, &noted)?;
+        let again = self.again_rows(setting, &noted)?;
+        output.note(
+            self.alloc,
+            self.trees,
+            self.states,
+            noted,
+            rows.as_bytes(),
+            again.as_bytes(),
+        )
     }
 
     /// Writes the report of a finding, and what comes of it.
     fn put_report(
         &self,
         output: &mut Output,
-        looked: Looked<'_>,
-        outcomes: &mut Vec<Outcome>,
+        known: Known<'_>,
+        setting: &Option<Setting>,
         report: &Report,
+        outcome: Outcome,
     ) -> Result<(), AllocError>
-        requires known { spec.IsKnownIn self.now.trees.now looked.known }
-        requires outcomes { All (spec.IsOutcomeIn self.now.trees.now looked.known) outcomes.old.items }
-        requires old { spec.IsOutput self.now.trees.now output.old }
-        ensures output { OnOk result (spec.IsOutput self.now.trees.now output.new) }
-        ensures outcomes { OnOk result (All (spec.IsOutcomeIn self.now.trees.now looked.entry.known) outcomes.new.items) }
+        requires outcome { spec.IsOutcomeOf self.now.trees.now known report.now outcome }
+        requires setting { IfSome setting.now (IsSetting known.source.text.now known.found.now) }
+        requires said { spec.IsSaid self.now.trees.now self.now.states output.old }
+        requires noted { spec.HasNotes self.now.trees.now known output.old.noted }
+        ensures said { OnOk result (spec.IsSaid self.now.trees.now self.now.states output.new) }
+        ensures noted { OnOk result (spec.HasNotes self.now.trees.now known.entry output.new.noted) }
+        ensures numbers { OnOk result (numbers_in output.new.noted ≡ numbers_in output.old.noted ++ report.now.finding ∷ []) }
     {
         output.lines(report.lines.as_slice())?;
-        match take_outcome(outcomes, report.finding) {
-            Some(outcome) => self.put_note(output, looked, outcome, report.is_behind),
-            None => Ok(()),
-        }
+        let noted = self.noted(output.noted.as_slice(), known, setting, report, outcome)?;
+        self.put_note(output, setting, noted)?;
+        Ok(())
     }
 
-    /// Writes the reports of a text's findings.
+    /// Writes the reports of a text's findings, of which this came, the last one first.
     fn put_reports(
         &self,
         output: &mut Output,
-        looked: Looked<'_>,
-        outcomes: &mut Vec<Outcome>,
+        known: Known<'_>,
+        setting: &Option<Setting>,
         reports: &[Report],
+        outcomes: &mut Vec<Outcome>,
     ) -> Result<(), AllocError>
-        requires known { spec.IsKnownIn self.now.trees.now looked.known }
-        requires outcomes { All (spec.IsOutcomeIn self.now.trees.now looked.known) outcomes.old.items }
-        requires old { spec.IsOutput self.now.trees.now output.old }
-        ensures { OnOk result (spec.IsOutput self.now.trees.now output.new) }
+        requires outcomes { AllZip (spec.IsOutcomeOf self.now.trees.now known) reports.now (reverse outcomes.old.items) }
+        requires setting { IfSome setting.now (IsSetting known.source.text.now known.found.now) }
+        requires silent { spec.IsSilent self.now.trees.now self.now.states output.old }
+        ensures said { OnOk result (spec.IsSaid self.now.trees.now self.now.states output.new) }
+        ensures noted { OnOk result (spec.HasNotes self.now.trees.now known.entry output.new.noted) }
+        ensures numbers { OnOk result (numbers_in output.new.noted ≡ map (λ r. r.finding) reports.now) }
     {
         for report in reports {
-            self.put_report(output, looked, outcomes, report)?;
+            let outcome = last_of(outcomes);
+            self.put_report(output, known, setting, report, outcome)?;
         }
         Ok(())
     }
 
     /// Writes what is found of a text that parses, where something is found.
-    fn put_found(
+    fn put_found<W: SearchWatch>(
         &self,
         output: &mut Output,
-        source: Source<'_>,
         known: Known<'_>,
+        watch: &mut W,
     ) -> Result<(), AllocError>
-        requires known { spec.IsKnownIn self.now.trees.now known }
-        requires old { spec.IsOutput self.now.trees.now output.old }
-        ensures { OnOk result (spec.IsOutput self.now.trees.now output.new) }
+        requires silent { spec.IsSilent self.now.trees.now self.now.states output.old }
+        ensures said { OnOk result (spec.IsSaid self.now.trees.now self.now.states output.new) }
+        ensures noted { OnOk result (spec.HasNotes self.now.trees.now known.entry output.new.noted) }
+        ensures firsts { OnOk result (AreFirsts known.entry.found.now (numbers_in output.new.noted)) }
     {
-        let Some(tree) = self.trees.get(known.place) else {
-            return Ok(());
-        };
-        let reports = report_findings(
-            self.alloc,
-            self.coloured,
-            source,
-            tree,
-            known.graph,
-            known.found,
-        )?;
+        let reports = self.reports(known)?;
+        let reports = reports.as_slice();
         let outlook = Outlook::of(self.alloc, known.graph)?;
-        let mut outcomes = self.outcomes(known, &outlook, reports.as_slice())?;
-        let again = self.again(source, tree, known, &outlook, outcomes.as_slice())?;
-        let looked = Looked {
-            known,
-            again: again.as_ref(),
-        };
-        self.put_reports(output, looked, &mut outcomes, reports.as_slice())
-    }
-
-    /// Writes what is found of a text that parses.
-    fn put_findings(
-        &self,
-        output: &mut Output,
-        source: Source<'_>,
-        known: Known<'_>,
-    ) -> Result<(), AllocError>
-        requires known { spec.IsKnownIn self.now.trees.now known }
-        requires old { spec.IsOutput self.now.trees.now output.old }
-        ensures { OnOk result (spec.IsOutput self.now.trees.now output.new) }
-    {
-        if !known.found.is_empty() {
-            return self.put_found(output, source, known);
-        }
-        output.lines(report_nothing(self.alloc, source)?.as_slice())?;
+        let mut outcomes = self.outcomes(known, &outlook, reports, watch)?;
+        let setting = self.setting(known, &outlook, outcomes.as_slice(), watch)?;
+        outcomes.reverse();
+        self.put_reports(output, known, &setting, reports, &mut outcomes)?;
         Ok(())
     }
 
-    /// Writes what is found of a text that parses, and the line that ends its reports.
-    fn put_known(
+    /// Writes what is found of a text that parses.
+    fn put_findings<W: SearchWatch>(
         &self,
         output: &mut Output,
-        source: Source<'_>,
         known: Known<'_>,
-    ) -> Result<Tally, AllocError>
-        requires known { spec.IsKnownIn self.now.trees.now known }
-        requires old { spec.IsOutput self.now.trees.now output.old }
-        ensures output { OnOk result (spec.IsOutput self.now.trees.now output.new) }
-        ensures report { IfOk result (spec.ClosesFindings known.entry.found.now output.new.bytes.items) }
+        watch: &mut W,
+    ) -> Result<(), AllocError>
+        requires silent { spec.IsSilent self.now.trees.now self.now.states output.old }
+        ensures said { OnOk result (spec.IsSaid self.now.trees.now self.now.states output.new) }
+        ensures noted { OnOk result (spec.HasNotes self.now.trees.now known.entry output.new.noted) }
+        ensures firsts { OnOk result (AreFirsts known.entry.found.now (numbers_in output.new.noted)) }
     {
-        self.put_findings(output, source, known)?;
-        output.lines(findings_line(self.alloc, known.found)?.as_bytes())?;
-        Ok(Tally {
-            status: u8::from(!known.found.is_empty()),
-            findings: known.found.len(),
-        })
+        if !known.found.is_empty() {
+            return self.put_found(output, known, watch);
+        }
+        output.lines(report_nothing(self.alloc, known.source)?.as_slice())?;
+        Ok(())
     }
 
-    /// Writes what is reported of a text that doesn't parse.
-    fn put_unread(
+    /// The report of a text that parses, and the line that ends it.
+    fn known_part<W: SearchWatch>(
         &self,
-        output: &mut Output,
-        source: Source<'_>,
-        fault: SyntaxFault,
-    ) -> Result<Tally, AllocError>
-        requires old { spec.IsOutput self.now.trees.now output.old }
-        ensures output { OnOk result (spec.IsOutput self.now.trees.now output.new) }
-        ensures report { IfOk result (spec.ClosesFault fault output.new.bytes.items) }
+        known: Known<'_>,
+        watch: &mut W,
+    ) -> Result<Part, AllocError>
+        requires known { spec.IsKnownIn self.now.trees.now known }
+        ensures { IfOk result (spec.IsKnownPart self.now.trees.now self.now.states known.entry) }
     {
+        let mut output = Output::new(self.alloc);
+        self.put_findings(&mut output, known, watch)?;
+        output.lines(findings_line(self.alloc, known.found)?.as_bytes())?;
+        let tally = Tally {
+            status: status_of(known.found),
+            findings: known.found.len(),
+        };
+        Ok(Part { output, tally })
+    }
+
+    /// The report of a text that parses. Its points and its findings are looked for now.
+    fn parsed_part<W: SearchWatch>(
+        &self,
+        source: Source<'_>,
+        place: usize,
+        watch: &mut W,
+    ) -> Result<Part, AllocError>
+        requires tree { IsTreeOf self.now.trees.now source.text.now place }
+        ensures { IfOk result (spec.IsParsedPart self.now.trees.now self.now.states source.entry.text.now place) }
+    {
+        let tree = &self.trees[place];
+        let graph = lower(self.alloc, tree)?;
+        let found = findings(self.alloc, &graph)?;
+        let known = Known {
+            source,
+            place,
+            tree,
+            graph: &graph,
+            found: found.as_slice(),
+        };
+        self.known_part(known, watch)
+    }
+
+    /// The report of a text that doesn't parse.
+    fn unread_part(&self, source: Source<'_>, fault: SyntaxFault) -> Result<Part, AllocError>
+        requires unread { IsUnread source.text.now fault }
+        ensures report { IfOk result (spec.HasReport (filters_of self.now.trees.now) source.entry.text.now) }
+        ensures silent { IfOk result (λ p. spec.IsSilent self.now.trees.now self.now.states p.output) }
+    {
+        let mut output = Output::new(self.alloc);
         output.lines(report_unread(self.alloc, self.coloured, source)?.as_slice())?;
         output.lines(fault_line(self.alloc, fault)?.as_bytes())?;
-        Ok(Tally {
+        let tally = Tally {
             status: 2,
             findings: 1,
-        })
+        };
+        Ok(Part { output, tally })
     }
 
     /// The filters of a stack, where there are any.
@@ -381,141 +438,46 @@ impl Stage<'_> {
         }
     }
 
-    /// Writes what is said of a certificate, a journal or a script.
-    fn put_notice(
-        &self,
-        output: &mut Output,
-        source: Source<'_>,
-        notice: &Notice<'_>,
-    ) -> Result<Tally, AllocError>
-        requires old { spec.IsOutput self.now.trees.now output.old }
-        ensures output { OnOk result (spec.IsOutput self.now.trees.now output.new) }
-        ensures report { IfOk result (spec.ClosesNotice notice.now output.new.bytes.items) }
+    /// What is said of a certificate, a journal or a script.
+    fn notice_part(&self, source: Source<'_>, notice: &Notice<'_>) -> Result<Part, AllocError>
+        ensures report { IfOk result (spec.ClosesNotice notice.now) }
+        ensures silent { IfOk result (λ p. spec.IsSilent self.now.trees.now self.now.states p.output) }
     {
         let is_alone = self.trees.is_empty() && detaches(source.text);
         let said = notice_lines(self.alloc, self.coloured, is_alone, source.name, notice)?;
+        let mut output = Output::new(self.alloc);
         output.lines(said.as_slice())?;
         output.lines(notice.closing(self.alloc)?.as_bytes())?;
-        Ok(Tally {
+        let tally = Tally {
             status: notice.status(),
             findings: faults_in(notice),
-        })
+        };
+        Ok(Part { output, tally })
     }
 
-    /// Writes what is said of what is taken for a certificate, a journal or a script.
-    fn put_other(
-        &self,
-        output: &mut Output,
-        source: Source<'_>,
-        kind: Kind,
-    ) -> Result<Tally, AllocError>
-        requires old { spec.IsOutput self.now.trees.now output.old }
-        ensures output { OnOk result (spec.IsOutput self.now.trees.now output.new) }
-        ensures report { IfOk result
-            (spec.ClosesOther (stack_of (filters_of self.now.trees.now)) kind source.entry.text.now output.new.bytes.items) }
+    /// What is said of what is taken for a certificate, a journal or a script.
+    fn other_part(&self, source: Source<'_>, kind: Kind) -> Result<Part, AllocError>
+        requires other { IsOther source.text.now kind }
+        ensures report { IfOk result (spec.HasReport (filters_of self.now.trees.now) source.entry.text.now) }
+        ensures silent { IfOk result (λ p. spec.IsSilent self.now.trees.now self.now.states p.output) }
     {
         let notice = describe(self.alloc, kind, self.stack(), 0, source.text)?;
-        self.put_notice(output, source, &notice)
+        self.notice_part(source, &notice)
     }
 
-    /// Writes what is found of a text, and gives its status and how many findings it has.
-    fn put_text(&self, output: &mut Output, studied: &Studied<'_>) -> Result<Tally, AllocError>
-        requires text { IsStudied self.now.trees.now studied.now }
-        requires old { spec.IsOutput self.now.trees.now output.old }
-        ensures output { OnOk result (spec.IsOutput self.now.trees.now output.new) }
-        ensures report { IfOk result (λ tally.
-            IsReport (filters_of self.now.trees.now) studied.now.source.text.now output.new.bytes.items tally.status) }
-        ensures count { IfOk result (λ tally.
-            IsCount (filters_of self.now.trees.now) studied.now.source.text.now tally.findings) }
-    {
-        match &studied.reading {
-            Reading::Unread(fault) => self.put_unread(output, studied.source, *fault),
-            Reading::Other(kind) => self.put_other(output, studied.source, *kind),
-            Reading::Known(place, graph, found) => {
-                let known = Known {
-                    place: *place,
-                    graph,
-                    found: found.as_slice(),
-                };
-                self.put_known(output, studied.source, known)
-            }
-        }
-    }
-
-    /// Writes what is found of a text, with an empty line behind it, and gives its status and how many findings it has.
-    fn put_before(&self, output: &mut Output, studied: &Studied<'_>) -> Result<Tally, AllocError>
-        requires text { IsStudied self.now.trees.now studied.now }
-        requires old { spec.IsOutput self.now.trees.now output.old }
-        ensures output { OnOk result (spec.IsOutput self.now.trees.now output.new) }
-        ensures status { IfOk result (λ tally. IsStatus (filters_of self.now.trees.now) studied.now.source.text.now tally.status) }
-        ensures count { IfOk result (λ tally. IsCount (filters_of self.now.trees.now) studied.now.source.text.now tally.findings) }
-    {
-        let tally = self.put_text(output, studied)?;
-        output.lines(b"\n")?;
-        Ok(tally)
-    }
-
-    /// Writes what is found of each text, and gives what they come to.
-    #[tactic(auto, using(crate::proofs::Together::begun))]
-    fn put_each(&self, output: &mut Output, each: &[Studied<'_>]) -> Result<Total, AllocError>
-        requires texts { AreStudied self.now.trees.now each.now }
-        requires old { spec.IsOutput self.now.trees.now output.old }
-        ensures output { OnOk result (spec.IsOutput self.now.trees.now output.new) }
-        ensures reports { IfOk result (λ total.
-            AreReportsOf (filters_of self.now.trees.now) (texts_read each.now) output.new.bytes.items total.status) }
-        ensures counted { IfOk result (λ total.
-            AreCounted (filters_of self.now.trees.now) (texts_read each.now) total.findings total.files) }
-    {
-        let mut total = Total {
-            status: 0,
-            findings: 0,
-            files: 0,
-        };
-        let [before @ .., last] = each else {
-            return Ok(total);
-        };
-        for studied in before {
-            let tally = self.put_before(output, studied)?;
-            total = total.and(tally)?;
-        }
-        let tally = self.put_text(output, last)?;
-        Ok(total.and(tally)?)
-    }
-
-    /// Writes the same, and behind it how much is found. It gives the greatest status.
-    fn put_several(&self, output: &mut Output, each: &[Studied<'_>]) -> Result<u8, AllocError>
-        requires texts { AreStudied self.now.trees.now each.now }
-        requires old { spec.IsOutput self.now.trees.now output.old }
-        ensures output { OnOk result (spec.IsOutput self.now.trees.now output.new) }
-        ensures reports { IfOk result (AreSummed (filters_of self.now.trees.now) (texts_read each.now) output.new.bytes.items) }
-    {
-        let total = self.put_each(output, each)?;
-        let summary = Summary {
-            findings: total.findings,
-            files: total.files,
-            all: each.len(),
-        };
-        let line = format!(in self.alloc; "\n{summary}\n")?;
-        output.lines(line.as_bytes())?;
-        Ok(total.status)
-    }
-
-    /// Writes what is found of each text, and behind several of them how much it is. It gives the greatest status.
-    pub(crate) fn put_all(
+    /// The report of a text.
+    pub(crate) fn part<W: SearchWatch>(
         &self,
-        output: &mut Output,
-        each: &[Studied<'_>],
-    ) -> Result<u8, AllocError>
-        requires texts { AreStudied self.now.trees.now each.now }
-        requires old { spec.IsOutput self.now.trees.now output.old }
-        requires none { output.old.bytes.items ≡ [] }
-        ensures output { OnOk result (spec.IsOutput self.now.trees.now output.new) }
-        ensures reports { IfOk result (AreAllReports (filters_of self.now.trees.now) (texts_read each.now) output.new.bytes.items) }
+        studied: &Studied<'_>,
+        watch: &mut W,
+    ) -> Result<Part, AllocError>
+        requires text { IsStudied self.now.trees.now studied.now }
+        ensures { IfOk result (spec.IsPart self.now.trees.now self.now.states studied.now) }
     {
-        match each {
-            [] => Ok(0),
-            [only] => Ok(self.put_text(output, only)?.status),
-            [_, _, ..] => self.put_several(output, each),
+        match studied.reading {
+            Reading::Unread(fault) => self.unread_part(studied.source, fault),
+            Reading::Other(kind) => self.other_part(studied.source, kind),
+            Reading::Known(place) => self.parsed_part(studied.source, place, watch),
         }
     }
 }

@@ -2,30 +2,30 @@
 //! for all these trees.
 
 ghost use Rattle.std.specs.Prelude.{◌≡◌, ◌++◌, ◌∷◌, [], IfOk, OnOk};
-ghost use Rattle.flt_details.specs.Reports.{IsJudged, IsKnown, texts_of};
+ghost use Rattle.flt_details.specs.Reports.{texts_of};
+ghost use Rattle.flt_syntax.specs.Spelling.{Spells};
 ghost use Rattle.flt_syntax.specs.TextFails.{Fails};
+ghost use Rattle.flt_notes.specs.Parsed.{IsOther, IsUnread};
 ghost use Rattle.flt_notes.specs.Readings as spec;
 
-use flt_details::{Judged, Source, judge};
-use flt_explain::Finding;
-use flt_graph::Graph;
+use flt_details::Source;
 use flt_reasons::{Kind, kind_of};
-use flt_syntax::{SyntaxFault, Tree};
+use flt_syntax::{ParseError, SyntaxFault, Tree, parse};
 use sqlite_items::Items;
 use std::alloc::{AllocError, Global};
 
 /// What a text is found to be, but for its tree.
-#[derive(Drop)]
+#[derive(Clone, Copy)]
 pub(crate) enum Reading {
     Unread(SyntaxFault),
     /// It is taken for a certificate, a journal or a script.
     Other(Kind),
-    /// The number of its tree, from 0, its points and its findings.
-    Known(usize, Graph, Items<Finding>),
+    /// It parses: the number of its tree, from 0.
+    Known(usize),
 }
 
 /// A text, and what it is found to be.
-#[derive(Drop)]
+#[derive(Clone, Copy)]
 pub(crate) struct Studied<'a> {
     pub(crate) source: Source<'a>,
     pub(crate) reading: Reading,
@@ -41,7 +41,7 @@ pub(crate) struct Readings<'a> {
 impl<'a> Readings<'a> {
     /// One more text, which doesn't parse and is taken for a certificate, a journal or a script.
     fn add_other(&mut self, source: Source<'a>, kind: Kind) -> Result<(), AllocError>
-        requires other { spec.IsOther source.text.now kind }
+        requires other { IsOther source.text.now kind }
         requires old { spec.AreReadings self.old }
         ensures new { OnOk result (spec.AreReadings self.new) }
         ensures text { OnOk result (spec.texts_read self.new.each.items
@@ -54,7 +54,7 @@ impl<'a> Readings<'a> {
 
     /// One more text, which doesn't parse and isn't taken for anything else.
     fn add_unread(&mut self, source: Source<'a>, fault: SyntaxFault) -> Result<(), AllocError>
-        requires fault { spec.IsUnread source.text.now fault }
+        requires fault { IsUnread source.text.now fault }
         requires old { spec.AreReadings self.old }
         ensures new { OnOk result (spec.AreReadings self.new) }
         ensures text { OnOk result (spec.texts_read self.new.each.items
@@ -66,20 +66,14 @@ impl<'a> Readings<'a> {
     }
 
     /// One more text, which parses.
-    fn add_known(
-        &mut self,
-        source: Source<'a>,
-        tree: Tree,
-        graph: Graph,
-        found: Items<Finding>,
-    ) -> Result<(), AllocError>
-        requires known { IsKnown source.text.now tree graph found }
+    fn add_known(&mut self, source: Source<'a>, tree: Tree) -> Result<(), AllocError>
+        requires spelled { Spells source.text.now tree.filter }
         requires old { spec.AreReadings self.old }
         ensures new { OnOk result (spec.AreReadings self.new) }
         ensures text { OnOk result (spec.texts_read self.new.each.items
             ≡ spec.texts_read self.old.each.items ++ source.entry.text.now ∷ []) }
     {
-        let reading = Reading::Known(self.trees.len(), graph, found);
+        let reading = Reading::Known(self.trees.len());
         self.trees.push(tree)?;
         self.each.push(Studied { source, reading })?;
         Ok(())
@@ -100,16 +94,16 @@ impl<'a> Readings<'a> {
     }
 
     /// One more text.
-    fn add(&mut self, source: Source<'a>, judged: Judged) -> Result<(), AllocError>
-        requires judged { IsJudged source.text.now judged }
+    fn add(&mut self, alloc: Global, source: Source<'a>) -> Result<(), AllocError>
         requires old { spec.AreReadings self.old }
         ensures new { OnOk result (spec.AreReadings self.new) }
         ensures text { OnOk result (spec.texts_read self.new.each.items
             ≡ spec.texts_read self.old.each.items ++ source.entry.text.now ∷ []) }
     {
-        match judged {
-            Judged::Unread(fault) => self.add_unparsed(source, fault),
-            Judged::Known(tree, graph, found) => self.add_known(source, tree, graph, found),
+        match parse(alloc, source.text) {
+            Ok(tree) => self.add_known(source, tree),
+            Err(ParseError::Syntax(fault)) => self.add_unparsed(source, fault),
+            Err(ParseError::OutOfMemory) => Err(AllocError),
         }
     }
 }
@@ -127,8 +121,7 @@ pub(crate) fn read_all<'a>(
         each: Vec::new(alloc),
     };
     for source in sources {
-        let judged = judge(alloc, source.text)?;
-        readings.add(*source, judged)?;
+        readings.add(alloc, *source)?;
     }
     Ok(readings)
 }

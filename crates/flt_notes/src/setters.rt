@@ -1,6 +1,9 @@
 //! A text with one more callback, which sets contexts that nothing in the text sets: as the driver kit's InstanceSetupCallback does, which the
 //! language leaves out.
 
+ghost use Rattle.std.specs.Prelude.{◌≡◌, IfOk, IfSome};
+ghost use Rattle.flt_notes.specs.Again as spec;
+
 use flt_details::{Judged, Source, judge};
 use flt_explain::Finding;
 use flt_graph::Graph;
@@ -104,6 +107,60 @@ fn begin_alike(found: &[Finding], other: &[Finding]) -> bool {
     }
 }
 
+/// A text with a line end behind its last line.
+fn whole_lines(alloc: Global, text: &[u8]) -> Result<Vec<u8>, AllocError>
+    ensures { IfOk result (λ whole. spec.GoesOn text.now whole.items) }
+{
+    let mut whole = Vec::from_slice(alloc, text)?;
+    if whole.last() != Some(&b'\n') {
+        whole.push(b'\n')?;
+    }
+    Ok(whole)
+}
+
+/// The setter of a text that is judged so, where the same is found first.
+fn setter_of(
+    alloc: Global,
+    found: &[Finding],
+    judged: Judged,
+    added: String,
+    line: usize,
+) -> Result<Option<Setter>, AllocError>
+    ensures { IfOk result (λ s. IfSome s (spec.IsOfJudged judged)) }
+{
+    match judged {
+        Judged::Known(tree, graph, own) if begin_alike(found, own.as_slice()) => {
+            let mut trees = Items::new(alloc);
+            trees.push(tree)?;
+            Ok(Some(Setter {
+                trees,
+                graph,
+                found: own,
+                added,
+                line,
+            }))
+        }
+        _ => Ok(None),
+    }
+}
+
+/// A text with these lines more.
+fn setter_with(
+    alloc: Global,
+    text: &[u8],
+    found: &[Finding],
+    added: String,
+) -> Result<Option<Setter>, AllocError>
+    ensures { IfOk result (λ s. IfSome s (spec.IsSetter text.now)) }
+{
+    let mut whole = whole_lines(alloc, text)?;
+    let line = line_ends(&whole).saturating_add(1);
+    whole.extend_from_slice(added.as_bytes())?;
+    let judged = judge(alloc, &whole)?;
+    let setter = setter_of(alloc, found, judged, added, line)?;
+    Ok(setter)
+}
+
 impl Setter {
     /// A text with a callback that sets contexts on these anchors; none where there is none to set, no place for one, or something else is
     /// found first then.
@@ -117,32 +174,15 @@ impl Setter {
         tree: &Tree,
         found: &[Finding],
         unset: Unset,
-    ) -> Result<Option<Setter>, AllocError> {
+    ) -> Result<Option<Setter>, AllocError>
+        ensures { IfOk result (λ s. IfSome s (spec.IsSetter source.entry.text.now)) }
+    {
         if !unset.stream && !unset.instance {
             return Ok(None);
         }
-        let Some(added) = added_lines(alloc, &tree.filter, unset)? else {
-            return Ok(None);
-        };
-        let mut text = Vec::from_slice(alloc, source.text)?;
-        if text.last() != Some(&b'\n') {
-            text.push(b'\n')?;
-        }
-        let line = line_ends(&text).saturating_add(1);
-        text.extend_from_slice(added.as_bytes())?;
-        match judge(alloc, &text)? {
-            Judged::Known(tree, graph, own) if begin_alike(found, own.as_slice()) => {
-                let mut trees = Items::new(alloc);
-                trees.push(tree)?;
-                Ok(Some(Setter {
-                    trees,
-                    graph,
-                    found: own,
-                    added,
-                    line,
-                }))
-            }
-            _ => Ok(None),
+        match added_lines(alloc, &tree.filter, unset)? {
+            Some(added) => setter_with(alloc, source.text, found, added),
+            None => Ok(None),
         }
     }
 }

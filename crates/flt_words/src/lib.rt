@@ -9,5 +9,5 @@ mod workers;
 
 pub use request::{Colour, Form, Request};
 pub use shown::visible;
-pub use words::read_words;
+pub use words::{DEFAULT_STATES, read_words};
 pub use workers::Workers;

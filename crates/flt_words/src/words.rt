@@ -22,8 +22,8 @@ use std::alloc::{AllocError, Global};
 const FEW_WORKERS: &str =
     "error: `--workers` takes 1 to 16\n\nUsage: fltstack run [--workers <N>] [--quiet] <SCRIPT> <FILE>...\n\nFor more information, try '--help'.\n";
 
-/// How many states a search goes on from where nothing is said.
-const STATES: u32 = 40_000;
+/// How many states the search for runs of a text goes on from at most, where the words say nothing of it.
+pub const DEFAULT_STATES: u32 = 40_000;
 
 /// What is said where a form is asked for that there isn't.
 const NO_FORM: &str =
@@ -79,7 +79,7 @@ fn states_of(matches: &ArgMatches) -> u32
 {
     match matches.get_str("states") {
         Some(text) => text.parse::<u32>().unwrap_or(0),
-        None => STATES,
+        None => DEFAULT_STATES,
     }
 }
 

@@ -1,19 +1,20 @@
-use Rattle.std.proofs.Common.{◌≡◌, ℕ, List, Bor, Vec, Global, map, string_bytes, ap, sym, ◌∙◌}
-use Rattle.std.proofs.Math.Path.{subst}
-use Rattle.flt_notes.specs.Told.{AreNoted}
+use Rattle.std.proofs.Common.{◌≡◌, ◌∙◌, ℕ, List, Bor, ap, map, string_bytes, sym}
+use Rattle.flt_commands.proofs.Explaining.{cut_some, told_under}
 use Rattle.flt_commands.proofs.Firsts.{mapped_twice}
-use Rattle.flt_commands.specs.Explain.{told_name}
+use Rattle.flt_commands.specs.Explain.{names_in, told_name}
 use Rattle.flt_commands.proofs.explain.explain_read.Goals as goal
 
-pub returns : goal.returns
-returns c =
-    let texts = c.in_ok-sources.ensures.texts in
-    let names = c.in_ok-sources.ensures.names ∙ ap (λ ns. map string_bytes ns) c.as_slice.ensures.value ∙ c.in_ok-names.ensures in
-    record {
-      sources = c.in_ok-sources.sources.items;
-      named = names ∙ sym (mapped_twice (λ (n : Bor (List ℕ)). n.now) (told_name c.args.form) c.args.names.now);
-      given = texts;
-      told = rw c.as_slice-2.ensures.value at c.in_ok-told.ensures.told;
-      noted = subst (λ ts. AreNoted ts c.in_ok-told.told.noted) texts (rw c.as_slice-2.ensures.value at c.in_ok-told.ensures.noted);
-      notes = c.in_ok-told.ensures.notes;
-    }
+pub returns-clause-told : goal.returns-clause-told
+returns-clause-told g c =
+    let named : names_in c.in_ok-sources.sources.items ≡ map (told_name c.args.asked.form) (map (λ (n : Bor (List ℕ)). n.now) c.args.names.now) =
+    c.in_ok-sources.ensures.names ∙ ap (λ ns. map string_bytes ns) c.as_slice.ensures.value ∙ c.in_ok-names.ensures
+    ∙ sym (mapped_twice (λ (n : Bor (List ℕ)). n.now) (told_name c.args.asked.form) c.args.names.now) in
+    told_under _ _ _ _ _ _ _ _ named c.in_ok-sources.ensures.texts (rw c.as_slice-sources.ensures.value at c.told.ensures.told)
+    (rw c.as_slice-sources.ensures.value at c.told.ensures.noted) (rw c.as_slice-sources.ensures.value at c.told.ensures.notes)
+
+pub returns-clause-memory : goal.returns-clause-memory
+returns-clause-memory g c =
+    let named : names_in c.in_ok-sources.sources.items ≡ map (told_name c.args.asked.form) (map (λ (n : Bor (List ℕ)). n.now) c.args.names.now) =
+    c.in_ok-sources.ensures.names ∙ ap (λ ns. map string_bytes ns) c.as_slice.ensures.value ∙ c.in_ok-names.ensures
+    ∙ sym (mapped_twice (λ (n : Bor (List ℕ)). n.now) (told_name c.args.asked.form) c.args.names.now) in
+    cut_some _ _ _ _ _ _ _ _ named c.in_ok-sources.ensures.texts (rw c.as_slice-sources.ensures.value at c.told.ensures.memory)

@@ -1,3 +1,4 @@
+use Rattle.std.proofs.Common.{◌≡◌}
 use Rattle.flt_commands.proofs.OneAnswer.{printed_once, said_once}
 use Rattle.flt_words.specs.Words.{asked}
 use Rattle.flt_commands.proofs.single.one_answer_at_most.Goals as goal
@@ -9,7 +10,7 @@ returns g c =
     let thinned = c.one_thin_at_most.ensures in
     let replayed = c.one_verdict_at_most.ensures in
     record {
-      one = λ inputs pictures others words. printed_once checked analysed thinned replayed (g.I.Inputs.gives inputs) (g.P.Pictures.written pictures)
-          (g.P.Pictures.written others) (asked words);
+      one = λ inputs before pictures past others words. printed_once checked analysed thinned replayed (g.I.Inputs.gives inputs)
+          (g.P.Pictures.written pictures) (g.P.Pictures.written others) (pictures ≡ before) (others ≡ past) (asked words);
       said = λ inputs. said_once checked analysed thinned replayed (g.I.Inputs.gives inputs);
     }

@@ -1,16 +1,32 @@
 use Rattle.flt_model.specs.Program.{filters_of}
-use Rattle.flt_notes.proofs.Outputs.{all_noted}
+use Rattle.flt_notes.specs.Readings.{known_in}
 use Rattle.flt_notes.proofs.explaining.explain.Goals as goal
 
+pub put_all-requires-clause-texts : goal.put_all-requires-clause-texts
+put_all-requires-clause-texts g c = rw (c.as_slice.ensures, c.as_slice-2.ensures.value) c.in_ok-readings.ensures.readings.each
+
+pub put_all-requires-clause-parsed : goal.put_all-requires-clause-parsed
+put_all-requires-clause-parsed g c = rw (c.as_slice.ensures, c.as_slice-2.ensures.value) c.in_ok-readings.ensures.readings.filters
+
 pub returns-clause-reports : goal.returns-clause-reports
-returns-clause-reports c = record {
+returns-clause-reports g c = record {
   filters = filters_of c.as_slice.result.now;
   parsed = rw c.as_slice.ensures (rw c.in_ok-readings.ensures.texts at c.in_ok-readings.ensures.readings.filters);
-  are = rw (c.as_slice-2.ensures.value, c.in_ok-readings.ensures.texts) at c.in_ok-status.ensures.reports;
+  are = rw (c.finished.ensures.output, c.finished.ensures.status)
+      (rw (c.as_slice-2.ensures.value, c.in_ok-readings.ensures.texts) at c.in_ok-printed.ensures.reports);
 }
 
 pub returns-clause-noted : goal.returns-clause-noted
-returns-clause-noted c =
-    all_noted _ c.as_slice.result.now _
-    (rw c.as_slice.ensures (rw c.in_ok-readings.ensures.texts at c.in_ok-readings.ensures.readings.filters))
-    c.in_ok-status.ensures.output.noted
+returns-clause-noted g c = record {
+  trees = c.as_slice.result.now;
+  parsed = rw c.as_slice.ensures (rw c.in_ok-readings.ensures.texts at c.in_ok-readings.ensures.readings.filters);
+  place = known_in c.in_ok-readings.readings.each.items;
+  are = rw c.finished.ensures.noted (rw (c.as_slice-2.ensures.value, c.in_ok-readings.ensures.texts) at c.in_ok-printed.ensures.notes);
+}
+
+pub returns-clause-said : goal.returns-clause-said
+returns-clause-said g c = record {
+  trees = c.as_slice.result.now;
+  parsed = rw c.as_slice.ensures (rw c.in_ok-readings.ensures.texts at c.in_ok-readings.ensures.readings.filters);
+  said = rw (c.finished.ensures.noted, c.finished.ensures.output) c.in_ok-printed.ensures.said;
+}

@@ -1,56 +1,87 @@
-use Rattle.std.proofs.Common.{◌-◌, length, take, arith, sym, subst}
-use Rattle.std.specs.Prelude.{max}
-use Rattle.flt_model.specs.Program.{filters_of}
-use Rattle.flt_notes.specs.Readings.{IsStudied, texts_read}
-use Rattle.flt_notes.specs.Reported.{AreReportsOf, none}
-use Rattle.flt_notes.proofs.Together.{GoesOn, begun, counted_last, counted_more, none_counted, one_more, studied_at, studied_taken, with_last}
+use Rattle.std.proofs.Common.{Err, rules, ◌≡◌, ◌-◌, arith, length, take, refl, sym, subst, ap, ◌∙◌}
+use Rattle.flt_notes.specs.Printing.{ArePrinted}
+use Rattle.flt_notes.specs.Readings.{texts_read}
+use Rattle.flt_notes.specs.Reported.{IsCut}
+use Rattle.flt_notes.specs.declared.fault.ExplainFault.TheVariants.{OutOfMemory}
+use Rattle.flt_notes.proofs.Several.{appends_none, cut_here, printed_empty, printed_more, printed_none, rest_out, whole_printed, whole_sent}
+use Rattle.flt_notes.proofs.Studied.{here, one_taken, placed_here, studied_at, studied_here, studied_taken}
 use Rattle.flt_notes.proofs.printing.Stage.put_each.Goals as goal
 
-pub put_before-requires-clause-text : goal.put_before-requires-clause-text
-put_before-requires-clause-text c =
-    let before = take (length c.args.each.now - 1) c.args.each.now in
-    subst (IsStudied c.args.self.now.trees.now) (sym c.studied-item.is)
-    (studied_at _ before c.loop-studied.studied-index c.studied-item.result (studied_taken _ c.args.each.now _ c.requires.texts)
-    c.loop-studied-test.true)
+pub put_part-requires-clause-text : goal.put_part-requires-clause-text
+put_part-requires-clause-text g c =
+    studied_at c.args.self.now.trees.now 0 (take (length c.args.each.now - 1) c.args.each.now) c.loop-studied.studied-index _
+    (studied_taken _ 0 c.args.each.now _ c.requires.texts) c.loop-studied-test.true
 
-pub loop-studied-preserved : goal.loop-studied-preserved
-loop-studied-preserved c =
-    let all = texts_read c.args.each.now in
-    let before = take (length c.args.each.now - 1) c.args.each.now in
-    let filters = filters_of c.args.self.now.trees.now in
-    record {
-      output = c.in_ok-tally.ensures.output;
-      reports = λ printed status are.
-          subst (λ n. AreReportsOf filters all printed (max n status)) (sym c.in_ok-total.ensures.status)
-          (one_more filters all before c.loop-studied.studied-index c.studied-item.result c.last-item.result.source.text.now
-          c.loop-studied.total.status c.in_ok-tally.tally.status c.loop-studied-test.true c.studied-item.is
-          c.in_ok-tally.ensures.status c.loop-studied.invariant.reports printed status are);
-      counted = counted_more filters before c.loop-studied.studied-index c.studied-item.result _ _ _ _ _ c.loop-studied-test.true c.studied-item.is
-          c.loop-studied.invariant.counted c.in_ok-tally.ensures.count c.in_ok-total.ensures.findings c.in_ok-total.ensures.files;
-    }
+pub add_part-requires : goal.add_part-requires
+add_part-requires g c = record {
+  text = studied_at c.args.self.now.trees.now 0 c.args.each.now (length c.args.each.now - 1) _ c.requires.texts
+      (omega (arith, c.in-len1-up.len_at_least));
+}
 
-pub put_text-requires-clause-text : goal.put_text-requires-clause-text
-put_text-requires-clause-text c =
-    subst (IsStudied c.args.self.now.trees.now) (sym c.last-item.is)
-    (studied_at _ c.args.each.now (length c.args.each.now - 1) c.last-item.result c.requires.texts
-    (omega (arith, c.in-len1-up.len_at_least)))
+pub returns-in_default-clause-printed : goal.returns-in_default-clause-printed
+returns-in_default-clause-printed g c =
+    printed_empty _ _ c.args.each.now c.new-printed.result c.in_default.len_below c.new-printed.ensures.bytes c.new-printed.ensures.noted
+    c.new-printed.ensures.total.0 c.new-printed.ensures.total.1 c.new-printed.ensures.total.2
+
+pub returns-clause-printed : goal.returns-clause-printed
+returns-clause-printed g c =
+    whole_printed c.args.self.now.trees.now c.args.self.now.states c.args.each.now c.loop-studied.studied-index _ c.loop-studied.printed
+    c.add_part.new.printed c.in-len1-up.len_at_least c.requires.texts c.loop-studied-test.false c.loop-studied.invariant.printed
+    c.in_ok-add_part.ensures.added
+
+pub returns-clause-sent : goal.returns-clause-sent
+returns-clause-sent g c =
+    whole_sent c.args.self.now.trees.now c.args.self.now.states c.args.each.now c.loop-studied.studied-index _ c.loop-studied.printed
+    c.add_part.new.printed c.args.is_held _ _ c.in-len1-up.len_at_least c.requires.parsed c.loop-studied-test.false
+    c.loop-studied.invariant.printed c.in_ok-add_part.ensures.added c.in_ok-add_part.ensures.sent c.loop-studied.invariant.holds
+    (λ h. ap g.O.Sink.taken (c.loop-studied.invariant.held h)) c.loop-studied.invariant.out
 
 pub loop-studied-init : goal.loop-studied-init
-loop-studied-init c =
-    let filters = filters_of c.args.self.now.trees.now in
-    let all = texts_read c.args.each.now in
-    let whole = with_last c.args.each.now c.last-item.result c.in-len1-up.len_at_least c.last-item.is in
+loop-studied-init g c = record {
+  printed = printed_none _ _ c.new-printed.result c.new-printed.ensures.bytes c.new-printed.ensures.noted c.new-printed.ensures.total.0
+      c.new-printed.ensures.total.1 c.new-printed.ensures.total.2;
+  holds = record { none = λ h. c.new-printed.ensures.sent; all = λ h. rw (c.new-printed.ensures.sent, c.new-printed.ensures.bytes) refl };
+  held = λ h. refl;
+  out = λ h. rw c.new-printed.ensures.bytes (appends_none _);
+  fine = refl;
+}
+
+pub loop-studied-preserved : goal.loop-studied-preserved
+loop-studied-preserved g c =
+    let trees = c.args.self.now.trees.now in
+    let states = c.args.self.now.states in
+    let n = length c.args.each.now - 1 in
+    let before = take n c.args.each.now in
+    let i = c.loop-studied.studied-index in
+    let h = c.loop-studied-test.true in
+    let old = c.loop-studied.printed in
+    let new = c.put_part.new.printed in
     record {
-      output = c.requires.old;
-      reports = subst (λ ts. GoesOn filters all ts 0) whole (begun filters all);
-      counted = none;
+      printed = subst (λ e. ArePrinted trees states e new) (sym (one_taken before i _ h (here before i _ h)))
+          (printed_more trees states (take i before) _ old new c.loop-studied.invariant.printed
+          (studied_here trees c.args.each.now n i _ c.requires.texts h (here before i _ h))
+          (placed_here trees c.args.each.now n i _ c.requires.texts h (here before i _ h)) c.in_ok-put_part.ensures.added);
+      holds = c.in_ok-put_part.ensures.sent;
+      held = λ e. c.put_part.ensures.held e ∙ c.loop-studied.invariant.held e;
+      out = λ e. rest_out trees states _ old new _ _ _ c.in_ok-put_part.ensures.added (c.loop-studied.invariant.holds.all e)
+          (c.loop-studied.invariant.out e) (c.in_ok-put_part.ensures.out e);
+      fine = c.in_ok-put_part.ensures.fine ∙ c.loop-studied.invariant.fine;
     }
 
-pub returns-in_default-clause-counted : goal.returns-in_default-clause-counted
-returns-in_default-clause-counted c = none_counted _ c.args.each.now c.in_default.len_below
+pub returns-in_err-put_part-clause-memory : goal.returns-in_err-put_part-clause-memory
+returns-in_err-put_part-clause-memory g c =
+    let fails : c.from_residual.result ≡ Err c.in_err-put_part.field-0.0 = search rules in
+    let states = c.args.self.now.states in
+    let texts = texts_read c.args.each.now in
+    rw fails (λ e. subst (λ o. IsCut texts states (g.O.Sink.taken c.args.out.now) (g.O.Sink.taken o)) (sym (c.in_err-put_part.ensures.memory e))
+    (cut_here c.args.self.now.trees.now states c.args.each.now (length c.args.each.now - 1) c.loop-studied.studied-index c.loop-studied.printed
+    c.args.is_held (g.O.Sink.taken c.args.out.now) (g.O.Sink.taken c.loop-studied.out) c.requires.parsed c.loop-studied.invariant.printed
+    (λ h. ap g.O.Sink.taken (c.loop-studied.invariant.held h)) c.loop-studied.invariant.out))
 
-pub returns-clause-counted : goal.returns-clause-counted
-returns-clause-counted c =
-    counted_last _ c.args.each.now c.loop-studied.studied-index c.last-item.result _ _ _ _ _ c.in-len1-up.len_at_least
-    (omega (arith, c.loop-studied-test.false)) c.last-item.is c.loop-studied.invariant.counted c.in_ok-tally-2.ensures.count
-    c.in_ok-and.ensures.findings c.in_ok-and.ensures.files
+pub returns-in_err-add_part-clause-memory : goal.returns-in_err-add_part-clause-memory
+returns-in_err-add_part-clause-memory g c =
+    let fails : c.from_residual-in_err-add_part.result ≡ Err OutOfMemory = search rules in
+    rw fails (λ e. cut_here c.args.self.now.trees.now c.args.self.now.states c.args.each.now (length c.args.each.now - 1)
+    c.loop-studied.studied-index c.loop-studied.printed c.args.is_held (g.O.Sink.taken c.args.out.now) (g.O.Sink.taken c.loop-studied.out)
+    c.requires.parsed c.loop-studied.invariant.printed (λ h. ap g.O.Sink.taken (c.loop-studied.invariant.held h))
+    c.loop-studied.invariant.out)

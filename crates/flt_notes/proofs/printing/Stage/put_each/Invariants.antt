@@ -1,15 +1,13 @@
-use Rattle.std.proofs.Common.{drop, take, [], ◌∷◌, ◌++◌}
-use Rattle.flt_model.specs.Program.{filters_of}
-use Rattle.flt_notes.specs.Printing.{IsOutput}
-use Rattle.flt_notes.specs.Readings.{texts_read}
-use Rattle.flt_notes.specs.Reported.{AreCounted}
-use Rattle.flt_notes.proofs.Together.{GoesOn}
+use Rattle.std.proofs.Common.{◌≡◌, true, false, take}
+use Rattle.std.specs.Io.KnownBytes.{Appends}
+use Rattle.flt_notes.specs.Printing.{ArePrinted, HoldsBack}
 use Rattle.flt_notes.proofs.printing.Stage.put_each.Given as goal
 
 abbrev pub invariant-loop-studied : goal.invariant-loop-studied
-invariant-loop-studied l = record {
-  output : IsOutput l.self.trees.now l.output;
-  reports : GoesOn (filters_of l.self.trees.now) (texts_read l.each)
-      (texts_read (drop l.studied-index l.before) ++ l.last.source.text.now ∷ []) l.total.status;
-  counted : AreCounted (filters_of l.self.trees.now) (texts_read (take l.studied-index l.before)) l.total.findings l.total.files;
+invariant-loop-studied g l = record {
+  printed : ArePrinted l.self.trees.now l.self.states (take l.studied-index l.before) l.printed;
+  holds : HoldsBack l.is_held l.printed;
+  held : l.is_held ≡ true → l.out ≡ l.fn.out;
+  out : l.is_held ≡ false → Appends (g.O.Sink.taken l.fn.out) (g.O.Sink.taken l.out) l.printed.output.bytes.items;
+  fine : g.O.Sink.failures l.out ≡ g.O.Sink.failures l.fn.out;
 }

@@ -1,25 +1,25 @@
-use Rattle.std.proofs.Common.{◌≡◌, ◌∷◌, [], ◌++◌, ◌∙◌, ap, length, sym}
+use Rattle.std.proofs.Common.{◌∙◌, sym}
 use Rattle.std.proofs.lemmas.List.{length-map}
-use Rattle.flt_notes.specs.Readings.{texts_read}
-use Rattle.flt_notes.specs.Totals.{summary}
 use Rattle.flt_notes.specs.declared.readings.Studied.{Studied}
-use Rattle.flt_notes.proofs.Outputs.{output_more}
+use Rattle.flt_notes.proofs.Said.{said_more}
+use Rattle.flt_notes.proofs.Several.{summed}
 use Rattle.flt_notes.proofs.printing.Stage.put_several.Goals as goal
 
-pub returns-clause-output : goal.returns-clause-output
-returns-clause-output c = output_more _ _ _ _ c.in_ok-total.ensures.output c.in_ok-lines.ensures.0 c.in_ok-lines.ensures.1
-
 pub returns-clause-reports : goal.returns-clause-reports
-returns-clause-reports c =
-    let before = c.put_each.new.output.bytes.items in
-    let total = c.in_ok-total.total in
-    let many : length (texts_read c.args.each.now) ≡ length c.args.each.now = length-map c.args.each.now (λ (s : Studied). s.source.text.now) in
-    record {
-      reports = before;
-      are = c.in_ok-total.ensures.reports;
-      findings = total.findings;
-      files = total.files;
-      counted = c.in_ok-total.ensures.counted;
-      whole = c.in_ok-lines.ensures.0 ∙ ap (λ more. before ++ more) (c.as_bytes.ensures.value ∙ c.in_ok-line.ensures.ok)
-          ∙ ap (λ n. before ++ (10 ∷ (summary total.findings total.files n ++ 10 ∷ []))) (sym many);
-    }
+returns-clause-reports g c = record {
+  reports = c.in_ok-printed.printed.output.bytes.items;
+  findings = c.in_ok-printed.printed.total.findings;
+  files = c.in_ok-printed.printed.total.files;
+  are = c.in_ok-printed.ensures.printed.parts;
+  whole = summed c.in_ok-printed.printed.output.bytes.items c.as_bytes.result.now c.lines.new.self.bytes.items _ _ _ _
+      c.in_ok-lines.ensures.bytes (c.as_bytes.ensures.value ∙ c.in_ok-line.ensures.ok)
+      (sym (length-map c.args.each.now (λ (s : Studied). s.source.text.now)));
+}
+
+pub returns-clause-notes : goal.returns-clause-notes
+returns-clause-notes g c = rw c.in_ok-lines.ensures.noted c.in_ok-printed.ensures.printed.notes
+
+pub returns-clause-said : goal.returns-clause-said
+returns-clause-said g c =
+    said_more _ _ c.in_ok-printed.printed.output c.lines.new.self c.as_bytes.result.now c.in_ok-printed.ensures.printed.said c.in_ok-lines.ensures.bytes
+    c.in_ok-lines.ensures.noted

@@ -1,0 +1,122 @@
+-- What `explain` of files comes to, and what went out of it.
+use Rattle.std.proofs.Common.{◌≡◌, ◌≢◌, ℕ, true, false, List, Bor, Option, Some, None, Result, Ok, Err, IfErr, IfOk, IsErr, flat_map, map, option_map, refl, take}
+use Rattle.std.proofs.Math.Path.{subst}
+use Rattle.std.proofs.KnownBytes.{Appends-nil}
+use Rattle.std.specs.Io.KnownBytes.{Appends}
+use Rattle.flt_details.specs.Reports.{texts_of}
+use Rattle.flt_details.specs.declared.sources.Source.{Source}
+use Rattle.flt_forms.specs.declared.unread.UnreadFile.{UnreadFile}
+use Rattle.flt_notes.specs.declared.explaining.Told.{Told}
+use Rattle.flt_words.specs.declared.request.Form.{Form}
+use Rattle.flt_commands.proofs.Sent.{cut_short}
+use Rattle.flt_commands.specs.Answer.{sent_in}
+use Rattle.flt_commands.specs.Commands.{IsReported}
+use Rattle.flt_commands.specs.Explain.{AreNotedFor, HoldsBack, IsCutIn, IsCutShort, IsCutUnder, IsExplained, IsNoteTold, IsSent, IsTold, IsToldOrUnwritten, IsToldUnder, names_in, said_of, told_name}
+use Rattle.flt_commands.specs.Explain as explain
+use Rattle.flt_commands.specs.Inputs.{AreReadIn, Giving, Text}
+use Rattle.flt_commands.specs.Remarks.{unread_in, unread_lines}
+use Rattle.flt_commands.specs.declared.answer.Answer.{Answer}
+use Rattle.flt_commands.specs.declared.explain.Explanation.{Explanation}
+use Rattle.flt_commands.specs.declared.explain.Explanation.TheVariants.{Told as Said, Unwritten}
+use Rattle.flt_commands.specs.declared.failure.Failure.{Failure}
+use Rattle.flt_commands.specs.declared.fault.CommandFault.{CommandFault}
+use Rattle.flt_commands.specs.declared.fault.CommandFault.TheVariants.{OutOfMemory}
+use Rattle.flt_commands.specs.declared.inputs.ReadFiles.{ReadFiles}
+use Rattle.flt_commands.specs.declared.report.Report.{Report}
+
+-- ---- what is held back
+
+-- where a file is named for a journal, nothing goes out before all is known
+pub holds_named : (form : Form) (journal : Option (Bor Text)) → journal ≢ None → HoldsBack form (option_map (λ name. name.now) journal)
+holds_named form None named = absurd (named refl)
+holds_named form (Some name) named = tt
+
+holds_some : (form : Form) (journal : Option Text) (name : Text) → journal ≡ Some name → HoldsBack form journal
+holds_some form journal name same = rw same tt
+
+-- ---- of names and what they give
+
+pub told_under : (form : Form) (states : ℕ) (journal : Option Text) (names texts : List Text) (unread : List UnreadFile) (sources : List Source)
+    (result : Result Told CommandFault) → names_in sources ≡ map (told_name form) names → texts_of sources ≡ texts →
+    IfOk result (λ t. IsTold form sources unread t.explained) → IfOk result (λ t. AreNotedFor form journal (texts_of sources) t.noted) →
+    IfOk result (IsNoteTold form (texts_of sources) states) → IfOk result (IsToldUnder form states journal names texts unread)
+told_under form states journal names texts unread sources (Ok t) named given told noted notes = record {
+  sources = sources;
+  named = named;
+  given = given;
+  told = told;
+  noted = subst (λ ts. AreNotedFor form journal ts t.noted) given noted;
+  notes = subst (λ ts. IsNoteTold form ts states t) given notes;
+}
+told_under form states journal names texts unread sources (Err e) named given told noted notes = tt
+
+pub cut_some : (form : Form) (states : ℕ) (names texts : List Text) (sources : List Source) (result : Result Told CommandFault)
+    (old new : Option Text) → names_in sources ≡ map (told_name form) names → texts_of sources ≡ texts →
+    IfErr result (λ e. e ≡ OutOfMemory → IsCutIn form states sources old new) →
+    IfErr result (λ e. e ≡ OutOfMemory → IsCutUnder form states names texts old new)
+cut_some form states names texts sources (Ok t) old new named given cut = tt
+cut_some form states names texts sources (Err e) old new named given cut = λ short. explain.some_out sources named given (cut short)
+
+-- ---- of files
+
+module _ (gives : Giving) (form : Form) (states : ℕ) (files : List Text) where
+  -- what is told of those that are read is cut short
+  pub cut_read : (r : ReadFiles) (old new : Option Text) → AreReadIn gives files r →
+      IsCutUnder form states (map (λ name. name.now) r.names.items) (map (λ text. text.items) r.texts.items) old new →
+      IsCutShort gives form states files old new
+  cut_read r old new are cut = explain.some_read _ _ _ are cut
+
+  -- nothing went out where a file is named for a journal
+  pub cut_named : {O : Type 0} (taken : O → Option Text) (old new : O) (journal : Option (Bor Text)) → journal ≢ None →
+      (HoldsBack form (option_map (λ name. name.now) journal) → new ≡ old) → IsCutShort gives form states files (taken old) (taken new)
+  cut_named taken old new journal named held =
+      rw (held (holds_named form journal named)) (cut_short gives form states files (taken old))
+
+  -- nor where its journal isn't written
+  pub cut_unwritten : {O : Type 0} (taken : O → Option Text) (old new : O) (journal : Option Text) (texts : List Text) (said : Explanation) →
+      IsErr (said_of said) → IsExplained gives form states journal files texts (said_of said) → (HoldsBack form journal → new ≡ old) →
+      IsCutShort gives form states files (taken old) (taken new)
+  cut_unwritten taken old new journal texts (Said t unread) err is held =
+      let e : false ≡ true = err in let no : ⊥ = cc in absurd no
+  cut_unwritten taken old new journal texts (Unwritten name why) err is held =
+      rw (held (holds_some form journal name.now is.0)) (cut_short gives form states files (taken old))
+
+  -- the same of a report
+  pub cut_reported : {O : Type 0} (taken : O → Option Text) (old new : O) (journal : Option Text) (texts : List Text) (said : Explanation)
+      (result : Result Report CommandFault) → IfErr result (λ e. (e ≡ OutOfMemory) × IsErr (said_of said)) →
+      IsExplained gives form states journal files texts (said_of said) → (HoldsBack form journal → new ≡ old) →
+      IfErr result (λ e. e ≡ OutOfMemory → IsCutShort gives form states files (taken old) (taken new))
+  cut_reported taken old new journal texts said (Ok report) err is held = tt
+  cut_reported taken old new journal texts said (Err e) err is held =
+      λ short. cut_unwritten taken old new journal texts said err.1 is held
+
+  -- what is said of them
+  pub explained_of : (journal : Option Text) (r : ReadFiles) (told : Told) (said : Explanation) → AreReadIn gives files r →
+      IsToldUnder form states journal (map (λ name. name.now) r.names.items) (map (λ text. text.items) r.texts.items) r.unread.items told →
+      IsToldOrUnwritten told r.unread.items journal said →
+      IsExplained gives form states journal files (map (λ text. text.items) r.texts.items) (said_of said)
+  explained_of journal r told (Said t unread) are is (same, all) = rw (same, all) (record { names = _; read = are; told = is })
+  explained_of journal r told (Unwritten name why) are is same = (same, record { names = _; unread = _; read = are })
+
+-- what went out of it
+pub sent_of_said : {O : Type 0} (taken : O → Option Text) (old new : O) (form : Form) (journal : Option Text) (told : Told)
+    (unread : List UnreadFile) (said : Explanation) → Appends (taken old) (taken new) (take told.sent told.explained.output.items) →
+    (HoldsBack form journal → new ≡ old) → IsToldOrUnwritten told unread journal said → IsSent (taken old) (taken new) (said_of said)
+sent_of_said taken old new form journal told unread (Said t others) sent held (same, all) = rw same sent
+sent_of_said taken old new form journal told unread (Unwritten name why) sent held same =
+    rw (held (holds_some form journal name.now same)) (Appends-nil (taken old))
+
+-- which files aren't read
+pub unread_of_said : (journal : Option Text) (told : Told) (unread : List UnreadFile) (lines : List ℕ) (said : Explanation) →
+    lines ≡ flat_map unread_lines unread → IsToldOrUnwritten told unread journal said →
+    IfOk (said_of said) (λ answer. lines ≡ unread_in answer)
+unread_of_said journal told unread lines (Said t others) are (same, all) = rw all are
+unread_of_said journal told unread lines (Unwritten name why) are same = tt
+
+-- what went out of a report
+pub sent_of_report : (old new : Option Text) (said : Result Answer Failure) (result : Result Report CommandFault) → IsSent old new said →
+    IfOk result (λ report. IsReported said report.output.items report.status) → IfOk result (λ report. report.sent ≡ sent_in said) →
+    IfOk result (λ report. Appends old new (take report.sent report.output.items))
+sent_of_report old new (Ok answer) (Ok report) sent reported same = rw (same, reported.0) sent
+sent_of_report old new (Err f) (Ok report) sent reported same = rw same sent
+sent_of_report old new said (Err e) sent reported same = tt

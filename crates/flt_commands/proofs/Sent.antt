@@ -1,0 +1,52 @@
+-- What went out of what is said, and when.
+use Rattle.std.proofs.Common.{◌≡◌, ℕ, List, [], Option, Some, None, take, take-append-drop, drop, inl, refl}
+use Rattle.std.proofs.Math.Path.{subst}
+use Rattle.std.proofs.KnownBytes.{Appends-nil, Appends-trans}
+use Rattle.std.specs.Io.KnownBytes.{Appends}
+use Rattle.flt_commands.proofs.InTurn.{no_lines}
+use Rattle.flt_commands.specs.Explain.{IsCutIn, IsCutShort, IsCutUnder}
+use Rattle.flt_commands.specs.Commands.{IsCutShort as IsCutShortFor}
+use Rattle.flt_commands.specs.Explain as explain
+use Rattle.flt_commands.specs.Inputs.{Giving, Text}
+use Rattle.flt_details.specs.declared.sources.Source.{Source}
+use Rattle.flt_forms.specs.declared.as_lines.Style.TheVariants.{Object, Sentence}
+use Rattle.flt_words.specs.Request.{Asked, Check, Analyse, Thin, Run, Replay, Show, Explain, Pages}
+use Rattle.flt_words.specs.declared.request.Form.{Form}
+use Rattle.flt_words.specs.declared.request.Form.TheVariants.{Human, Lines, Sarif, Short}
+
+-- nothing goes out at once
+pub none_sent : (old : Option Text) (sent : ℕ) (bytes : Text) → sent ≡ 0 → Appends old old (take sent bytes)
+none_sent old sent bytes none = rw none (Appends-nil old)
+
+-- what went out before the end, and the rest, are all of it
+pub rest_sent : (old between new : Option Text) (sent : ℕ) (bytes : Text) → Appends old between (take sent bytes) →
+    Appends between new (drop sent bytes) → Appends old new bytes
+rest_sent old between new sent bytes first rest =
+    subst (Appends old new) (take-append-drop sent bytes)
+    (Appends-trans old between new (take sent bytes) (drop sent bytes) first rest)
+
+-- where nothing went out, no text is told of
+pub cut_nowhere : (form : Form) (states : ℕ) (sources : List Source) (old : Option Text) → IsCutIn form states sources old old
+cut_nowhere Human states sources old = record { printed = []; added = Appends-nil old; are = inl refl }
+cut_nowhere Short states sources old = no_lines Sentence sources old
+cut_nowhere Lines states sources old = no_lines Object sources old
+cut_nowhere Sarif states sources old = Appends-nil old
+
+-- where nothing went out, nothing is cut short
+pub cut_under : (form : Form) (states : ℕ) (names texts : List Text) (old : Option Text) → IsCutUnder form states names texts old old
+cut_under form states names texts old = explain.none_out (Appends-nil old)
+
+pub cut_short : (gives : Giving) (form : Form) (states : ℕ) (files : List Text) (old : Option Text) → IsCutShort gives form states files old old
+cut_short gives form states files old = explain.none_read (Appends-nil old)
+
+-- the same of whatever is asked for
+pub cut_short_for : (gives : Giving) (request : Option Asked) (old : Option Text) → IsCutShortFor gives request old old
+cut_short_for gives None old = Appends-nil old
+cut_short_for gives (Some (Check file cert)) old = Appends-nil old
+cut_short_for gives (Some (Analyse file)) old = Appends-nil old
+cut_short_for gives (Some (Thin file cert)) old = Appends-nil old
+cut_short_for gives (Some (Run workers quiet script files)) old = Appends-nil old
+cut_short_for gives (Some (Replay journal files)) old = Appends-nil old
+cut_short_for gives (Some (Show timeline picture journal files)) old = Appends-nil old
+cut_short_for gives (Some (Explain form colour states journal files)) old = cut_short gives form states files old
+cut_short_for gives (Some (Pages names)) old = Appends-nil old

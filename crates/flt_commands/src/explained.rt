@@ -1,0 +1,61 @@
+//! The report on what `explain` of files comes to.
+
+ghost use Rattle.std.specs.Io.KnownBytes.{Appends};
+ghost use Rattle.std.specs.Prelude.{◌≡◌, ◌≢◌, [], IfErr, IfOk, OnOk, Some, map, option_map, take};
+ghost use Rattle.flt_commands.specs.Commands.{IsAnswered, NamesNoJournal};
+ghost use Rattle.flt_commands.specs.Explain as spec;
+ghost use Rattle.flt_words.specs.Request.{Explain};
+ghost use Rattle.flt_words.specs.declared.request.Colour.{Colour};
+
+use crate::clean::{covered_texts_break_nothing, driven_texts_break_nothing};
+use crate::explain::{Asked, explain_files};
+use crate::fault::CommandFault;
+use crate::inputs::{Inputs, Pictures};
+use crate::remarks::explain_remark;
+use crate::report::{Contents, Report, report_on_explanation};
+use flt_model::Sink;
+use flt_notes::SearchWatch;
+use flt_syntax::fails_exactly_where_nothing_is_spelled;
+use std::alloc::Global;
+
+/// The report on `explain` of some files. What is told of a file goes out as soon as it is made, unless all of it is held back.
+pub(crate) fn report_on_files<'a, I: Inputs, P: Pictures, O: Sink, W: SearchWatch>(
+    alloc: Global,
+    asked: Asked<'a>,
+    inputs: &I,
+    files: &[&'a str],
+    pictures: &mut P,
+    out: &mut O,
+    watch: &mut W,
+) -> Result<Report, CommandFault>
+    ensures answered { (colour : Colour) → IfOk result (IsAnswered (I.gives inputs.now) (P.written pictures.new) (pictures.new ≡ pictures.old)
+        (Explain asked.entry.form colour asked.entry.states (option_map (λ name. name.now) asked.entry.journal) (map (λ name. name.now) files.now))) }
+    ensures quiet { (colour : Colour) → IfOk result (λ report. report.status ≢ 2 → NamesNoJournal (Some (Explain asked.entry.form colour
+        asked.entry.states (option_map (λ name. name.now) asked.entry.journal) (map (λ name. name.now) files.now))) → report.remark.items ≡ []) }
+    ensures sent { IfOk result (λ report. Appends (O.taken out.old) (O.taken out.new) (take report.sent report.output.items)) }
+    ensures held { spec.HoldsBack asked.entry.form (option_map (λ name. name.now) asked.entry.journal) → out.new ≡ out.old }
+    ensures fine { OnOk result (O.failures out.new ≡ O.failures out.old) }
+    ensures write { IfErr result (λ e. e ≡ CommandFault.Write → O.failures out.new ≢ O.failures out.old) }
+    ensures memory { IfErr result (λ e. e ≡ CommandFault.OutOfMemory →
+        spec.IsCutShort (I.gives inputs.now) asked.entry.form asked.entry.states (map (λ name. name.now) files.now)
+        (O.taken out.old) (O.taken out.new)) }
+{
+    covered_texts_break_nothing();
+    driven_texts_break_nothing();
+    fails_exactly_where_nothing_is_spelled();
+    let mut contents = Contents::new(alloc);
+    let mut remark = Vec::new(alloc);
+    let said = explain_files(
+        alloc,
+        asked,
+        inputs,
+        files,
+        pictures,
+        out,
+        watch,
+        &mut contents,
+        &mut remark,
+    )?;
+    let before = explain_remark(alloc, remark, asked.journal, &said)?;
+    report_on_explanation(alloc, before, said, contents)
+}

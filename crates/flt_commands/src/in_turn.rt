@@ -1,0 +1,59 @@
+//! What is told line by line: the lines of each text go out as soon as they are made.
+
+ghost use Rattle.std.specs.Io.KnownBytes.{Appends};
+ghost use Rattle.std.specs.Prelude.{◌≡◌, ◌≢◌, [], IfErr, IfOk, OnOk};
+ghost use Rattle.flt_commands.specs.InTurn as spec;
+ghost use Rattle.flt_forms.specs.Lines.{AreLines};
+
+use crate::fault::CommandFault;
+use flt_details::{Explained, Source};
+use flt_forms::{Style, lines};
+use flt_model::{Sink, put_all};
+use std::alloc::Global;
+use std::cmp::max;
+
+/// Tells of one text more, behind what was told of others.
+#[tactic(auto, using(crate::proofs::InTurn::text_more))]
+fn put_text<O: Sink>(
+    alloc: Global,
+    style: Style,
+    source: Source<'_>,
+    told: &mut Explained,
+    out: &mut O,
+) -> Result<(), CommandFault>
+    ensures text { OnOk result (spec.IsTextMore style source.entry told.old told.new (O.taken out.old) (O.taken out.new)) }
+    ensures fine { OnOk result (O.failures out.new ≡ O.failures out.old) }
+    ensures write { IfErr result (λ e. e ≡ CommandFault.Write → O.failures out.new ≢ O.failures out.old) }
+    ensures memory { IfErr result (λ e. e ≡ CommandFault.OutOfMemory → out.new ≡ out.old) }
+{
+    let one = lines(alloc, style, &[source])?;
+    told.output.extend_from_slice(one.output.as_slice())?;
+    told.status = max(told.status, one.status);
+    put_all(out, one.output.as_slice())?;
+    Ok(())
+}
+
+/// What is wrong with some texts, line by line. All of it has gone out.
+#[tactic(auto, using(crate::proofs::InTurn::first_lines))]
+pub(crate) fn lines_in_turn<O: Sink>(
+    alloc: Global,
+    style: Style,
+    sources: &[Source<'_>],
+    out: &mut O,
+) -> Result<Explained, CommandFault>
+    ensures told { IfOk result (λ e. AreLines style sources.now [] e.output.items e.status) }
+    ensures sent { IfOk result (λ e. Appends (O.taken out.old) (O.taken out.new) e.output.items) }
+    ensures fine { OnOk result (O.failures out.new ≡ O.failures out.old) }
+    ensures write { IfErr result (λ e. e ≡ CommandFault.Write → O.failures out.new ≢ O.failures out.old) }
+    ensures memory { IfErr result (λ e. e ≡ CommandFault.OutOfMemory →
+        spec.AreFirstLines style sources.now (O.taken out.old) (O.taken out.new)) }
+{
+    let mut told = Explained {
+        output: Vec::new(alloc),
+        status: 0,
+    };
+    for source in sources {
+        put_text(alloc, style, *source, &mut told, out)?;
+    }
+    Ok(told)
+}

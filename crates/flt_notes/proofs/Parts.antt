@@ -1,0 +1,97 @@
+-- The reports of texts, of certificates, journals and scripts.
+use Rattle.std.proofs.Common.{inl, inr, ◌≡◌, ℕ, List, [], ◌∷◌, ◌++◌, refl, ap, length}
+use Rattle.flt_syntax.specs.declared.fault.SyntaxFault.{SyntaxFault}
+use Rattle.flt_tree.specs.Names.{Text}
+use Rattle.flt_tree.specs.declared.filter.Filter.{Filter}
+use Rattle.flt_tree.specs.declared.tree.Tree.{Tree}
+use Rattle.flt_reasons.specs.Notice as notices
+use Rattle.flt_reasons.specs.declared.notice.Kind.{Kind}
+use Rattle.flt_reasons.specs.declared.notice.Notice.{Notice}
+use Rattle.flt_details.specs.Closing.{findings_closing, syntax_line}
+use Rattle.flt_details.specs.Reports.{findings_status}
+use Rattle.flt_details.specs.declared.judged.Judged.TheVariants.{Unread, Known as Found}
+use Rattle.flt_reports.specs.Covering.{AreFirsts}
+use Rattle.flt_notes.specs.Noted.{one_more, numbers_in}
+use Rattle.flt_notes.specs.Parsed.{IsOther, IsUnread}
+use Rattle.flt_notes.specs.Printing.{ClosesNotice, HasNotes, HasReport, IsKnownIn, IsKnownPart, IsNotedOf, IsSaid}
+use Rattle.flt_notes.specs.Quiet.{quieted}
+use Rattle.flt_notes.specs.Reported.{faults_in, stack_of}
+use Rattle.flt_notes.specs.declared.noted.Noted.{Noted}
+use Rattle.flt_notes.specs.declared.output.Output.{Output}
+use Rattle.flt_notes.specs.declared.printing.Known.{Known}
+use Rattle.flt_notes.specs.declared.printing.Part.{Part}
+use Rattle.flt_notes.proofs.Closing.{quiet_fault, quiet_findings, quiet_notice}
+use Rattle.flt_notes.proofs.Said.{ends_quiet, said_more}
+
+-- of a text that doesn't parse
+pub report_fault : (filters : List Filter) (text : Text) (f : SyntaxFault) (before : List ℕ) (p : Part) → IsUnread text f → p.tally.status ≡ 2 →
+    p.tally.findings ≡ 1 → p.output.bytes.items ≡ before ++ quieted (syntax_line f ++ 10 ∷ []) → HasReport filters text p
+report_fault filters text f before p unread status count added = record {
+  is = inl (record {
+    judged = Unread f;
+    is = unread;
+    own = status;
+    counted = count;
+    ends = ends_quiet before p.output.bytes.items (syntax_line f ++ 10 ∷ []) (quiet_fault f) added;
+  });
+}
+
+-- of a certificate, a journal or a script
+pub closes_notice : (n : Notice) (before : List ℕ) (p : Part) → p.tally.status ≡ notices.status_of n → p.tally.findings ≡ faults_in n →
+    p.output.bytes.items ≡ before ++ quieted (notices.closing n) → ClosesNotice n p
+closes_notice n before p status count added =
+    record { status = status; count = count; ends = ends_quiet before p.output.bytes.items (notices.closing n) (quiet_notice n) added }
+
+pub report_notice : (filters : List Filter) (text : Text) (kind : Kind) (n : Notice) (p : Part) → IsOther text kind →
+    notices.IsNotice (stack_of filters) kind text n → ClosesNotice n p → HasReport filters text p
+report_notice filters text kind n p other is closes = record {
+  is = inr (record {
+    kind = kind;
+    other = other;
+    notice = n;
+    is = is;
+    own = closes.status;
+    counted = closes.count;
+    ends = closes.ends;
+  });
+}
+
+-- of a text that parses
+pub known_is : (trees : List Tree) (states : ℕ) (k : Known) (before : Output) (p : Part) → IsKnownIn trees k → IsSaid trees states before →
+    HasNotes trees k before.noted → AreFirsts k.found.now (numbers_in before.noted) →
+    p.output.bytes.items ≡ before.bytes.items ++ quieted (findings_closing k.found.now) → p.output.noted ≡ before.noted →
+    p.tally.status ≡ findings_status k.found.now → p.tally.findings ≡ length k.found.now → IsKnownPart trees states k p
+known_is trees states k before p known said notes firsts added same status count = record {
+  report = record {
+    is = inl (record {
+      judged = Found k.tree.now k.graph.now k.found.now;
+      is = known.known;
+      own = status;
+      counted = count;
+      ends = ends_quiet before.bytes.items p.output.bytes.items (findings_closing k.found.now) (quiet_findings k.found.now) added;
+    });
+  };
+  notes = record {
+    tree = k.tree.now;
+    own = known.own;
+    graph = k.graph.now;
+    found = k.found.now;
+    known = known.known;
+    each = rw same notes;
+    firsts = rw same firsts;
+  };
+  said = said_more trees states before p.output (findings_closing k.found.now) said added same;
+}
+
+-- one note more
+numbers_more : (notes : List Noted) (n : Noted) → numbers_in (notes ++ n ∷ []) ≡ numbers_in notes ++ n.finding ∷ []
+numbers_more [] n = refl
+numbers_more (m ∷ notes) n = ap (λ ns. m.finding ∷ ns) (numbers_more notes n)
+
+pub notes_more : (trees : List Tree) (k : Known) (old new : List Noted) (n : Noted) → HasNotes trees k old → IsNotedOf trees k old n →
+    new ≡ old ++ n ∷ [] → HasNotes trees k new
+notes_more trees k old new n notes is added = rw added (one_more notes is)
+
+pub numbers_with : (old new : List Noted) (n : Noted) (number : ℕ) → new ≡ old ++ n ∷ [] → n.finding ≡ number →
+    numbers_in new ≡ numbers_in old ++ number ∷ []
+numbers_with old new n number added is = rw (added, numbers_more old n, is) refl

@@ -1,0 +1,19 @@
+use Rattle.flt_notes.proofs.Said.{said_none}
+use Rattle.flt_notes.proofs.Several.{empty_notes, only_noted, only_sent}
+use Rattle.flt_notes.proofs.printing.Stage.put_all.Goals as goal
+
+pub returns-in-empty-clause-notes : goal.returns-in-empty-clause-notes
+returns-in-empty-clause-notes g c = empty_notes _ c.args.each.now _ c.in-empty.len_below c.new.ensures.noted
+
+pub returns-in-empty-clause-said : goal.returns-in-empty-clause-said
+returns-in-empty-clause-said g c = said_none _ _ c.new.result.output c.new.ensures.bytes c.new.ensures.noted
+
+pub returns-in_ok-put_only-in-len1-clause-notes : goal.returns-in_ok-put_only-in-len1-clause-notes
+returns-in_ok-put_only-in-len1-clause-notes g c =
+    only_noted c.args.self.now.trees.now c.args.self.now.states c.args.each.now _ c.in_ok-put_only-in-len1.field-0 c.in-len1.len_at_least
+    c.in-len1.len_below c.requires.texts c.in_ok-put_only-in-len1.ensures.part
+
+pub returns-in_ok-put_only-in-len1-clause-sent : goal.returns-in_ok-put_only-in-len1-clause-sent
+returns-in_ok-put_only-in-len1-clause-sent g c =
+    only_sent c.args.self.now.trees.now _ _ _ c.args.each.now _ c.in-len1.len_at_least c.in-len1.len_below c.requires.parsed
+    c.in_ok-put_only-in-len1.ensures.sent

@@ -1,0 +1,14 @@
+use Rattle.std.proofs.Common.{length}
+use Rattle.std.proofs.lemmas.List.{reverse-reverse}
+use Rattle.flt_notes.proofs.Runs.{within_all}
+use Rattle.flt_notes.proofs.printing.Stage.put_found.Goals as goal
+
+pub outcomes-requires-clause-within : goal.outcomes-requires-clause-within
+outcomes-requires-clause-within g c =
+    rw c.as_slice-reports.ensures (within_all (length c.args.known.found.now) c.in_ok-reports.reports c.in_ok-reports.ensures.within)
+
+pub put_reports-requires-clause-outcomes : goal.put_reports-requires-clause-outcomes
+put_reports-requires-clause-outcomes g c = rw (c.reverse.ensures.items, reverse-reverse c.in_ok-outcomes.outcomes.items) c.in_ok-outcomes.ensures
+
+pub returns-clause-firsts : goal.returns-clause-firsts
+returns-clause-firsts g c = rw (c.in_ok-put_reports.ensures.numbers, c.as_slice-reports.ensures) c.in_ok-reports.ensures
