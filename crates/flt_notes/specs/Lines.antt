@@ -83,12 +83,12 @@ never_started (place.Post operation) = codes "nothing that runs asks for this ca
 never_started place.Canceled = codes "nothing that runs puts an operation into the queue, so `canceled` never runs"
 never_started _ = codes "nothing that runs queues a work item for this routine, so it never runs"
 
--- these calls never succeed
+-- calls ask for contexts that nothing sets
 abbrev pub never_got : Bool → Bool → List ℕ
 never_got true true =
-    codes "no callback of this text sets a stream or an instance context, so neither `FltGetStreamContext` nor `FltGetInstanceContext` ever succeeds in a run"
-never_got true false = codes "no callback of this text sets a stream context, so `FltGetStreamContext` never succeeds in a run"
-never_got false instance = codes "no callback of this text sets an instance context, so `FltGetInstanceContext` never succeeds in a run"
+    codes "no callback of this text sets a stream or an instance context, and this isn't reached unless a call gets one"
+never_got true false = codes "no callback of this text sets a stream context, and this isn't reached unless a call gets one"
+never_got false instance = codes "no callback of this text sets an instance context, and this isn't reached unless a call gets one"
 
 -- a run that was shown before breaks this too
 abbrev pub also_words : Violation → List ℕ
@@ -117,7 +117,7 @@ abbrev pub reason : ℕ → Noted → Schedule → List ℕ
 reason states n (Breaks b) = []
 reason states n NotWithin = missing n.also n.is_behind None
 reason states n Cut = missing n.also n.is_behind (Some states)
-reason states n NeverHanded = codes "nothing hands this callback a context, so `arg` is never held in it"
+reason states n NeverHanded = codes "nothing in this text hands this callback a context, and nothing writes `arg`"
 reason states n NeverStarted = never_started n.place
 reason states n (NeverGot u) = never_got u.stream u.instance
 

@@ -21,7 +21,7 @@ const INDENT: usize = 4;
 const LEGEND: &str =
     "    (in front: entries; behind: lines, without those that nobody else sees; `yes` and `no`: how a call went)\n";
 
-/// That the rule asks for the release of `arg`, which is never held, all the same.
+/// That the rule asks for the release of `arg` all the same.
 const IS_STRICTER: &str =
     "   = note: stricter than the driver kit: this rule takes `arg` as possibly held in each callback that has one\n";
 
@@ -195,19 +195,19 @@ fn never_started(place: Place) -> &'static str
     }
 }
 
-/// Which calls never succeed, and why.
+/// Which contexts nothing sets that calls ask for.
 fn never_got(unset: Unset) -> &'static str
     ensures { result.now ≡ spec.never_got unset.stream unset.instance }
 {
     match (unset.stream, unset.instance) {
         (true, true) => {
-            "no callback of this text sets a stream or an instance context, so neither `FltGetStreamContext` nor `FltGetInstanceContext` ever succeeds in a run"
+            "no callback of this text sets a stream or an instance context, and this isn't reached unless a call gets one"
         }
         (true, false) => {
-            "no callback of this text sets a stream context, so `FltGetStreamContext` never succeeds in a run"
+            "no callback of this text sets a stream context, and this isn't reached unless a call gets one"
         }
         _ => {
-            "no callback of this text sets an instance context, so `FltGetInstanceContext` never succeeds in a run"
+            "no callback of this text sets an instance context, and this isn't reached unless a call gets one"
         }
     }
 }
@@ -290,7 +290,7 @@ fn reason(alloc: Global, states: u32, noted: &Noted) -> Result<String, AllocErro
         Schedule::Cut => missing(alloc, noted, Some(states)),
         Schedule::NeverHanded => String::from_str(
             alloc,
-            "nothing hands this callback a context, so `arg` is never held in it",
+            "nothing in this text hands this callback a context, and nothing writes `arg`",
         ),
         Schedule::NeverStarted => String::from_str(alloc, never_started(noted.place)),
         Schedule::NeverGot(unset) => String::from_str(alloc, never_got(*unset)),
