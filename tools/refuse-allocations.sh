@@ -86,7 +86,7 @@ file_of() {
 has_first_parts() {
     local size
     size=$(stat -c %s "$work/out")
-    [ "$1" = explain ] && [ "$size" -lt "$(stat -c %s "$work/wanted-out")" ] && cmp -s -n "$size" "$work/out" "$work/wanted-out" || return 1
+    [ "${1:-}" = explain ] && [ "$size" -lt "$(stat -c %s "$work/wanted-out")" ] && cmp -s -n "$size" "$work/out" "$work/wanted-out" || return 1
     case " $* " in
     *" --journal "* | *" sarif "*) return 1 ;;
     *" --form lines "* | *" --form short "*)
@@ -97,7 +97,7 @@ has_first_parts() {
 
 # has_several_parts WORD..: whether something is told of several files, one behind the other.
 has_several_parts() {
-    [ "$1" = explain ] || return 1
+    [ "${1:-}" = explain ] || return 1
     case " $* " in
     *" --journal "* | *" sarif "*) return 1 ;;
     *" --form lines "* | *" --form short "*) [ "$(file_of <"$work/wanted-out" | uniq | wc -l)" -gt 1 ] ;;
