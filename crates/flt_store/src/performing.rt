@@ -28,41 +28,45 @@ impl Store {
     {
         match change {
             Change::Nothing => {}
-            Change::Allocate(owner) => self.allocate(heap, owner)?,
             Change::AddReference(context) => self.add_reference(context),
             Change::DropReference(context) => self.drop_reference(context),
             Change::Write(context, value) => self.write(context, value),
-            Change::Link(context, filter, key, over, old) => self.link(
-                heap, context, filter, key, over, old,
-            )?,
             Change::Unlink(context, old) => self.unlink(context, old),
-            Change::TakeLock(filter, lock, activation, access) => self.take_lock(
-                heap, filter, lock, activation, access,
-            )?,
             Change::GiveUpLock(filter, lock, activation) => self.give_up_lock(
                 filter, lock, activation,
             ),
-            Change::Insert(filter, visit, context) => self.insert(heap, filter, visit, context)?,
             Change::RemoveNext(filter) => self.remove_next(filter),
             Change::RemoveOf(filter, serial, visit) => self.remove_of(filter, serial, visit),
-            Change::Queue(filter, routine, visit, context) => self.queue(
-                heap, filter, routine, visit, context,
-            )?,
             Change::Start(item) => self.start(item),
-            Change::Settle(visit, context, way) => self.settle(heap, visit, context, way)?,
-            Change::Arrive(kind, mode, file) => self.arrive(heap, kind, mode, file)?,
-            Change::StartPre(serial, filter) => self.start_pre(heap, serial, filter)?,
             Change::Skip(serial, filter) => self.skip(serial, filter),
             Change::Lower(serial) => self.lower(serial),
-            Change::StartPost(serial, filter, context) => self.start_post(
-                heap, serial, filter, context,
-            )?,
-            Change::StartDraining(serial, filter, context) => self.start_draining(
-                heap, serial, filter, context,
-            )?,
             Change::Cancel(serial) => self.cancel(serial),
             Change::Detach(filter) => self.detach(filter),
             Change::Finish(filter) => self.finish(filter),
+            Change::Allocate(owner) => return self.allocate(heap, owner),
+            Change::Link(context, filter, key, over, old) => {
+                return self.link(heap, context, filter, key, over, old);
+            }
+            Change::TakeLock(filter, lock, activation, access) => {
+                return self.take_lock(heap, filter, lock, activation, access);
+            }
+            Change::Insert(filter, visit, context) => {
+                return self.insert(heap, filter, visit, context);
+            }
+            Change::Queue(filter, routine, visit, context) => {
+                return self.queue(heap, filter, routine, visit, context);
+            }
+            Change::Settle(visit, context, way) => {
+                return self.settle(heap, visit, context, way);
+            }
+            Change::Arrive(kind, mode, file) => return self.arrive(heap, kind, mode, file),
+            Change::StartPre(serial, filter) => return self.start_pre(heap, serial, filter),
+            Change::StartPost(serial, filter, context) => {
+                return self.start_post(heap, serial, filter, context);
+            }
+            Change::StartDraining(serial, filter, context) => {
+                return self.start_draining(heap, serial, filter, context);
+            }
         }
         Ok(())
     }

@@ -1,11 +1,12 @@
 //! The store, and what is there.
 
-ghost use Rattle.std.specs.Prelude.{◌≡◌, ◌≢◌, ℕ, ◌<◌, ◌≤◌, ◌&&◌, ◌||◌, ◌==◌, not, set, true, false, [], ◌∷◌, drop, find, position, is_some, length, get_or, option_map, Some, None, OnOk, OnErr, IfOk, IfSome, IfNone, MatchOption, if◌then◌else◌};
+ghost use Rattle.std.specs.Prelude.{◌≡◌, ◌≢◌, ℕ, ◌<◌, ◌≤◌, ◌&&◌, ◌||◌, ◌==◌, not, set, true, false, [], ◌∷◌, drop, find, position, is_some, length, get_or, option_map, replicate, Some, None, OnOk, OnErr, IfOk, IfSome, IfNone, MatchOption, if◌then◌else◌};
 ghost use Rattle.std.specs.List.{list_any};
 ghost use Rattle.flt_model.specs.Locks as locks;
 ghost use Rattle.flt_model.specs.Moves as moves;
 ghost use Rattle.flt_model.specs.Settling as settling;
 ghost use Rattle.flt_model.specs.World as spec;
+ghost use Rattle.flt_model.specs.World.{Attached};
 ghost use Rattle.flt_ops.specs.Operating as operating;
 ghost use Rattle.flt_ops.specs.Parts.{position_of, outcome_of, way_of};
 ghost use Rattle.flt_model.specs.declared.moves.Key.{Key};
@@ -61,6 +62,36 @@ impl Model for Store {
     ghost invariant = { λ s. AreParts s.presences.items s.queues s.greatest_queued s.contexts s.operations s.holders.items };
 }
 
+/// So many filters, each attached.
+fn all_attached(heap: &mut Heap, filters: usize) -> Result<Vec<Instance>, AllocError>
+    ensures attached { IfOk result (λ presences. presences.items ≡ replicate filters Attached) }
+    ensures granted { OnOk result (heap.new ≡ heap.old) }
+    ensures memory { OnErr result (heap.new ≢ heap.old) }
+{
+    let mut presences = Vec::new(heap.alloc());
+    for _ in 0..filters {
+        let instance = Instance {
+            presence: Presence::Attached,
+        };
+        heap.push(&mut presences, instance)?;
+    }
+    Ok(presences)
+}
+
+/// The locks of so many filters, which nobody holds.
+fn all_unheld(heap: &mut Heap, filters: usize) -> Result<Vec<[Holders; 8]>, AllocError>
+    ensures unheld { IfOk result (λ holders. holders.items ≡ replicate filters (replicate 8 [])) }
+    ensures granted { OnOk result (heap.new ≡ heap.old) }
+    ensures memory { OnErr result (heap.new ≢ heap.old) }
+{
+    let alloc = heap.alloc();
+    let mut holders = Vec::new(alloc);
+    for _ in 0..filters {
+        heap.push(&mut holders, unheld(alloc))?;
+    }
+    Ok(holders)
+}
+
 impl Store {
     /// The store before the first move, of so many filters.
     pub fn new(heap: &mut Heap, filters: usize) -> Result<Store, AllocError>
@@ -68,24 +99,19 @@ impl Store {
         ensures granted { OnOk result (heap.new ≡ heap.old) }
         ensures memory { OnErr result (heap.new ≢ heap.old) }
     {
-        let alloc = heap.alloc();
-        let mut presences = Vec::new(alloc);
-        let mut holders = Vec::new(alloc);
-        for _ in 0..filters {
-            let instance = Instance {
-                presence: Presence::Attached,
-            };
-            heap.push(&mut presences, instance)?;
-            heap.push(&mut holders, unheld(alloc))?;
-        }
+        let presences = all_attached(heap, filters)?;
+        let queues = Queues::new(heap, filters)?;
+        let contexts = Contexts::new(heap, filters)?;
+        let items = WorkItems::new(heap, filters)?;
+        let holders = all_unheld(heap, filters)?;
         Ok(Store {
             presences,
-            queues: Queues::new(heap, filters)?,
+            queues,
             greatest_queued: 0,
             holders,
-            operations: Operations::new(alloc, filters),
-            contexts: Contexts::new(heap, filters)?,
-            items: WorkItems::new(heap, filters)?,
+            operations: Operations::new(heap.alloc(), filters),
+            contexts,
+            items,
         })
     }
 

@@ -1,10 +1,9 @@
-use Rattle.std.proofs.Common.{◌≡◌, replicate, []}
+use Rattle.std.proofs.Common.{◌≡◌, replicate}
 use Rattle.flt_model.specs.World.{Attached}
-use Rattle.flt_store.proofs.store.Store.new.Given as goal
+use Rattle.flt_store.proofs.store.all_attached.Given as goal
 
 abbrev pub invariant-loop : goal.invariant-loop
 invariant-loop l = record {
   presences : l.presences.items ≡ replicate l.counter Attached;
-  holders : l.holders.items ≡ replicate l.counter (replicate 8 []);
   granted : l.heap ≡ l.fn.heap;
 }
