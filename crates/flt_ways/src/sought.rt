@@ -2,6 +2,7 @@
 
 use crate::choices::Path;
 use crate::cover::Cover;
+use std::mem::swap;
 
 /// How many moments are looked at, at most: for all findings of a text, in one search, and for all in the searches that take ways which may
 /// not be shortest where these didn't come to an end.
@@ -88,8 +89,10 @@ pub(crate) struct Outcomes {
 impl Outcomes {
     /// Writes down what the searches for the finding of a number came to.
     pub(crate) fn put(&mut self, number: usize, sought: Sought) {
+        let mut sought = Some(sought);
         if let Some(place) = self.sought.get_mut(number) {
-            *place = Some(sought);
+            swap(place, &mut sought);
         }
+        drop(sought);
     }
 }
