@@ -1,4 +1,7 @@
 pub mod Declared
+pub mod Folds
+pub mod Nearer
 pub mod Placed
 pub mod Rare
 pub mod Tried
+pub mod Written

@@ -1,6 +1,7 @@
 -- What may stand in a place of a text. This project's own program.
-use Rattle.std.specs.Prelude.{◌≡◌, ◌↔◌, Bool, true, List, [], ◌∷◌, ◌++◌, codes, map}
-use Rattle.std.specs.List.{filter}
+use Rattle.std.specs.Prelude.{◌≡◌, ◌↔◌, ◌==◌, Bool, true, not, ◌&&◌, List, [], ◌∷◌, ◌++◌, codes, length, map}
+use Rattle.std.specs.List.{filter, list_any}
+use Rattle.flt_syntax.specs.Lex.{same_kind}
 use Rattle.flt_syntax.specs.Vocabulary.{vocabulary}
 use Rattle.flt_syntax.specs.declared.token.Kind.{Kind}
 use Rattle.flt_syntax.specs.declared.token.Kind.TheVariants as k
@@ -33,6 +34,14 @@ possible_names gap names = filter (may_stand gap) names
 -- a word as the table has it
 abbrev pub entry_of : Expected → Text × Kind
 entry_of e = (e.word.now, e.kind)
+
+-- whether a word or symbol of a kind may stand there
+unfoldable pub takes : Choices → Kind → Bool
+takes c kind = list_any (λ e. same_kind e.kind kind) c.expected
+
+-- whether nothing may stand there
+unfoldable pub are_none : Choices → Bool
+are_none c = length c.expected == 0 && (not c.takes_number && (not c.takes_name && length c.names == 0))
 
 -- the number that is tried for all: each limit allows it
 abbrev pub one : Text

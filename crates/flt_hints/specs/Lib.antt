@@ -1,6 +1,16 @@
+pub mod Kinds
+pub mod Hint
 pub mod Absences
 pub mod Spot
 pub mod Names
 pub mod Trial
 pub mod Choices
+pub mod Before
+pub mod Nearest
+pub mod Misspelt
+pub mod OpenCall
+pub mod Phrases
+pub mod Hinting
+pub mod Meant
 pub mod Trouble
+pub mod Telling

@@ -1,6 +1,7 @@
 -- The names that a text declares, and names that it hasn't. This project's own program.
-use Rattle.std.specs.Prelude.{◌≡◌, ℕ, ◌+◌, ◌≤◌, Bool, true, false, not, ◌&&◌, if◌then◌else◌, nat_eq, nat_lt, List, [], ◌∷◌, ◌++◌, length}
+use Rattle.std.specs.Prelude.{◌≡◌, ℕ, ◌+◌, ◌≤◌, Bool, true, false, not, ◌&&◌, ◌||◌, if◌then◌else◌, nat_eq, nat_lt, List, [], ◌∷◌, ◌++◌, length}
 use Rattle.std.specs.List.{starts_with}
+use Rattle.std.specs.Str.{bytes_eq}
 use Rattle.flt_syntax.specs.Cursor.{is_word, bytes_of}
 use Rattle.flt_syntax.specs.Lex.{lookup}
 use Rattle.flt_syntax.specs.Vocabulary.{vocabulary}
@@ -46,6 +47,16 @@ each_once others (n ∷ ns) = if is_looked_at others n then n ∷ each_once (oth
 -- the names of locks and routines that a text declares, each once, in their order, as many as are looked at
 unfoldable pub declared_names : Text → List Text
 declared_names text = each_once [] (names_behind text k.End (tokens_of text))
+
+-- whether one of some tokens is a name that is declared there, given the kind of the token before them
+abbrev pub is_declared_behind : Text → Text → Kind → List Token → Bool
+is_declared_behind text name before [] = false
+is_declared_behind text name before (t ∷ ts) =
+    (declares before && bytes_eq (bytes_of text t) name) || is_declared_behind text name t.word.kind ts
+
+-- whether a text declares a lock or a routine of a name, by its tokens
+unfoldable pub declares_name : Text → List Token → Text → Bool
+declares_name text tokens name = is_declared_behind text name k.End tokens
 
 -- ---- names that stand nowhere in a text
 

@@ -1,5 +1,6 @@
 -- How a word is tried in a place of a text: the proved parser says whether it may stand there. This project's own program.
-use Rattle.std.specs.Prelude.{◌≡◌, ℕ, ◌+◌, Bool, true, false, not, ◌&&◌, ◌==◌, if◌then◌else◌, min, [], ◌∷◌, ◌++◌, length, take, drop, Result, Ok, Err}
+use Rattle.std.specs.Prelude.{◌≡◌, ℕ, ◌+◌, Bool, true, false, not, ◌&&◌, ◌==◌, if◌then◌else◌, min, [], ◌∷◌, ◌++◌, length, take, drop, Option, Some, None, Result, Ok, Err}
+use Rattle.std.specs.Borrow.{Bor}
 use Rattle.flt_syntax.specs.File.{filter_of}
 use Rattle.flt_syntax.specs.TextFails.{Fails}
 use Rattle.flt_syntax.specs.declared.fault.FaultKind.{FaultKind}
@@ -64,3 +65,8 @@ MayStand gap word = (f : SyntaxFault) → Fails (tried gap word) f → is_past (
 -- the same as it is tried: the text with the word there is read past it
 unfoldable pub may_stand : Gap → Text → Bool
 may_stand gap word = reads_on (line_behind gap.before) (filter_of (tried gap word))
+
+-- a word, if it may stand in a place
+abbrev pub if_it_may : Gap → Option (Bor Text) → Option (Bor Text)
+if_it_may gap None = None
+if_it_may gap (Some word) = if may_stand gap word.now then Some word else None

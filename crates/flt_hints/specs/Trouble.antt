@@ -1,5 +1,6 @@
 -- What is said of a text that doesn't parse. This project's own program.
-use Rattle.std.specs.Prelude.{◌≡◌, true, [], Option, Some, None, IfSome}
+use Rattle.std.specs.Prelude.{◌≡◌, true, false, [], Option, Some, None, IfSome}
+use Rattle.std.specs.Borrow.{Bor}
 use Rattle.flt_syntax.specs.Spelling.{Spells}
 use Rattle.flt_syntax.specs.declared.fault.FaultKind.{FaultKind}
 use Rattle.flt_syntax.specs.declared.token.Token.{Token}
@@ -7,21 +8,44 @@ use Rattle.flt_tree.specs.Names.{Text}
 use Rattle.flt_tree.specs.declared.filter.Filter.{Filter}
 use Rattle.flt_hints.specs.Absences.{is_left_out}
 use Rattle.flt_hints.specs.Choices.{AreChoices}
-use Rattle.flt_hints.specs.Spot.{IsSpot}
+use Rattle.flt_hints.specs.Meant.{hint_at, meant_by}
+use Rattle.flt_hints.specs.OpenCall.{open_call}
+use Rattle.flt_hints.specs.Spot.{IsSpot, tokens_of}
 use Rattle.flt_hints.specs.Trial.{MayStand, gap_at}
+use Rattle.flt_hints.specs.declared.hint.Hint.{Hint}
+use Rattle.flt_hints.specs.declared.hint.Hint.TheVariants as hint
 use Rattle.flt_hints.specs.declared.spot.Spot.{Spot}
 use Rattle.flt_hints.specs.declared.troubles.Trouble.{Trouble}
 
--- nothing may stand where there is no token
+-- where there is no token nothing may stand, and no word is meant: the text is too large
 pub record AreNone (t : Trouble) : Type 0 where
   pub expected : t.choices.expected ≡ []
+  pub number : t.choices.takes_number ≡ false
+  pub name : t.choices.takes_name ≡ false
   pub names : t.choices.names ≡ []
   pub meant : t.meant ≡ None
+  pub open_call : t.open_call ≡ None
+  pub hint : t.hint ≡ Some hint.TooLarge
 
--- what may stand in the place of a token, and a word that is meant is one that may
+-- the word that is meant by a token, by what may stand there
+abbrev pub word_meant : FaultKind → Text → Token → Trouble → Option (Bor Text)
+word_meant kind text token t = meant_by (gap_at kind text token) kind token.word.kind t.spot.bytes.now t.choices
+
+-- what is wrong in the place of a token, by what may stand there and which word is meant
+abbrev pub what_is_wrong : FaultKind → Text → Token → Trouble → Option Hint
+what_is_wrong kind text token t = hint_at text (tokens_of text) kind token t.spot.bytes.now t.choices t.meant
+
+-- which word is meant by a token, which call before it lacks an operand, and what is probably wrong
+pub record IsExplained (kind : FaultKind) (text : Text) (token : Token) (t : Trouble) : Type 0 where
+  pub meant : t.meant ≡ word_meant kind text token t
+  pub open_call : t.open_call ≡ open_call kind (tokens_of text) token t.choices
+  pub hint : t.hint ≡ what_is_wrong kind text token t
+
+-- what may stand in the place of a token, what is said of it, and a word that is meant is one that may
 pub record AreFor (kind : FaultKind) (text : Text) (token : Token) (t : Trouble) : Type 0 where
   pub choices : AreChoices text (gap_at kind text token) t.choices
   pub meant : IfSome t.meant (λ w. MayStand (gap_at kind text token) w.now)
+  pub explained : IsExplained kind text token t
 
 -- no word is meant by one that names what the language leaves out
 pub record IsNotMistaken (s : Spot) (t : Trouble) : Type 0 where

@@ -1,6 +1,6 @@
 //! What the language leaves out, and what to write in its place.
 
-ghost use Rattle.std.specs.Prelude.{◌≡◌, is_some, map};
+ghost use Rattle.std.specs.Prelude.{◌≡◌, map};
 ghost use Rattle.flt_hints.specs.Absences as spec;
 
 /// What the language leaves out.
@@ -269,56 +269,56 @@ static SURROUNDINGS: [(&[u8], Absence); 29] = [
 
 #[tactic(auto, unfolding(crate::specs::Absences::contexts))]
 pub(crate) fn contexts() -> &'static [(&'static [u8], Absence)]
-    ensures { map (λ e. e.0.now) result.now ≡ spec.contexts }
+    ensures { map (λ e. (e.0.now, e.1)) result.now ≡ spec.contexts }
 {
     &CONTEXTS
 }
 
 #[tactic(auto, unfolding(crate::specs::Absences::operations))]
 pub(crate) fn operations() -> &'static [(&'static [u8], Absence)]
-    ensures { map (λ e. e.0.now) result.now ≡ spec.operations }
+    ensures { map (λ e. (e.0.now, e.1)) result.now ≡ spec.operations }
 {
     &OPERATIONS
 }
 
 #[tactic(auto, unfolding(crate::specs::Absences::waits))]
 pub(crate) fn waits() -> &'static [(&'static [u8], Absence)]
-    ensures { map (λ e. e.0.now) result.now ≡ spec.waits }
+    ensures { map (λ e. (e.0.now, e.1)) result.now ≡ spec.waits }
 {
     &WAITS
 }
 
 #[tactic(auto, unfolding(crate::specs::Absences::locks))]
 pub(crate) fn locks() -> &'static [(&'static [u8], Absence)]
-    ensures { map (λ e. e.0.now) result.now ≡ spec.locks }
+    ensures { map (λ e. (e.0.now, e.1)) result.now ≡ spec.locks }
 {
     &LOCKS
 }
 
 #[tactic(auto, unfolding(crate::specs::Absences::queueing))]
 pub(crate) fn queueing() -> &'static [(&'static [u8], Absence)]
-    ensures { map (λ e. e.0.now) result.now ≡ spec.queueing }
+    ensures { map (λ e. (e.0.now, e.1)) result.now ≡ spec.queueing }
 {
     &QUEUEING
 }
 
 #[tactic(auto, unfolding(crate::specs::Absences::contents))]
 pub(crate) fn contents() -> &'static [(&'static [u8], Absence)]
-    ensures { map (λ e. e.0.now) result.now ≡ spec.contents }
+    ensures { map (λ e. (e.0.now, e.1)) result.now ≡ spec.contents }
 {
     &CONTENTS
 }
 
 #[tactic(auto, unfolding(crate::specs::Absences::surroundings))]
 pub(crate) fn surroundings() -> &'static [(&'static [u8], Absence)]
-    ensures { map (λ e. e.0.now) result.now ≡ spec.surroundings }
+    ensures { map (λ e. (e.0.now, e.1)) result.now ≡ spec.surroundings }
 {
     &SURROUNDINGS
 }
 
 /// What the first entry of a table with which a word begins says.
 fn absence_among(table: &[(&'static [u8], Absence)], word: &[u8]) -> Option<Absence>
-    ensures { is_some result ≡ spec.begins_by_one (map (λ e. e.0.now) table.now) word.now }
+    ensures { result ≡ spec.named_among (map (λ e. (e.0.now, e.1)) table.now) word.now }
 {
     for entry in table {
         if word.starts_with(entry.0) {
@@ -329,9 +329,9 @@ fn absence_among(table: &[(&'static [u8], Absence)], word: &[u8]) -> Option<Abse
 }
 
 /// What the language leaves out, if a word names it.
-#[tactic(auto, unfolding(crate::specs::Absences::names_an_absence))]
+#[tactic(auto, unfolding(crate::specs::Absences::absence_of))]
 pub(crate) fn absence_of(word: &[u8]) -> Option<Absence>
-    ensures { is_some result ≡ spec.names_an_absence word.now }
+    ensures { result ≡ spec.absence_of word.now }
 {
     let found = absence_among(contexts(), word);
     if found.is_some() {
@@ -362,7 +362,9 @@ pub(crate) fn absence_of(word: &[u8]) -> Option<Absence>
 
 impl Absence {
     /// One sentence: that the language has no such thing, and what to write instead.
-    pub(crate) fn sentence(self) -> &'static str {
+    pub(crate) fn sentence(self) -> &'static str
+        ensures { result.now ≡ spec.sentence self }
+    {
         match self {
             Absence::StreamHandleContext =>
                 "there are no stream handle contexts: a stream context does instead, but all handles of the stream share it",

@@ -1,6 +1,6 @@
 //! What may stand in a place of a text.
 
-ghost use Rattle.std.specs.Prelude.{◌≡◌, ◌≤◌, [], ◌++◌, length, map, IfOk, OnOk};
+ghost use Rattle.std.specs.Prelude.{◌≡◌, ◌≤◌, false, [], ◌++◌, length, map, IfOk, OnOk};
 ghost use Rattle.flt_hints.specs.Choices as spec;
 ghost use Rattle.flt_hints.specs.Trial.{gap_of};
 ghost use Rattle.flt_hints.specs.Names as declared;
@@ -9,7 +9,7 @@ ghost use Rattle.flt_tree.specs.Limits.{max_text};
 
 use crate::new_name::new_name;
 use crate::trial::{Gap, may_stand};
-use flt_syntax::{Kind, keywords, the_fault_is_the_one_told};
+use flt_syntax::{Kind, keywords, same_kind, the_fault_is_the_one_told};
 use sqlite_items::Items;
 use std::alloc::{AllocError, Global};
 
@@ -137,6 +137,8 @@ impl<'a> Choices<'a> {
     /// Nothing.
     pub(crate) fn none(alloc: Global) -> Choices<'a>
         ensures expected { result.expected ≡ [] }
+        ensures number { result.takes_number ≡ false }
+        ensures name { result.takes_name ≡ false }
         ensures names { result.names ≡ [] }
     {
         Choices {
@@ -148,12 +150,23 @@ impl<'a> Choices<'a> {
     }
 
     /// Whether nothing may stand there.
-    pub(crate) fn are_none(&self) -> bool {
-        self.expected.is_empty() && !self.takes_number && !self.takes_name && self.names.is_empty()
+    #[tactic(auto, unfolding(crate::specs::Choices::are_none))]
+    pub(crate) fn are_none(&self) -> bool
+        ensures { result ≡ spec.are_none self.now }
+    {
+        self.expected.len() == 0 && !self.takes_number && !self.takes_name && self.names.len() == 0
     }
 
     /// Whether a word or symbol of a kind may stand there.
-    pub(crate) fn takes(&self, kind: Kind) -> bool {
-        self.expected.as_slice().iter().any(|e| e.kind == kind)
+    #[tactic(auto, unfolding(crate::specs::Choices::takes))]
+    pub(crate) fn takes(&self, kind: Kind) -> bool
+        ensures { result ≡ spec.takes self.now kind }
+    {
+        for one in self.expected.as_slice() {
+            if same_kind(one.kind, kind) {
+                return true;
+            }
+        }
+        false
     }
 }

@@ -1,5 +1,8 @@
 //! What is probably wrong, and how to mend it.
 
+ghost use Rattle.std.specs.Prelude.{◌≡◌};
+ghost use Rattle.flt_hints.specs.Hint as spec;
+
 /// What is probably wrong where a text doesn't parse.
 #[derive(Clone, Copy)]
 pub enum Hint {
@@ -75,7 +78,9 @@ pub enum Hint {
 
 impl Hint {
     /// One sentence on how to mend it.
-    pub(crate) fn sentence(self) -> &'static str {
+    pub(crate) fn sentence(self) -> &'static str
+        ensures { result.now ≡ spec.sentence self }
+    {
         match self {
             Hint::TooLarge => "a text has at most 65,536 bytes: split the filter",
             Hint::ByteOrderMark =>

@@ -1,13 +1,21 @@
 //! Finds out what is probably wrong, by what is found and what stands round it.
 
+ghost use Rattle.std.specs.Prelude.{◌≡◌, map};
+ghost use Rattle.std.specs.Char.{is_ascii_digit};
+ghost use Rattle.std.specs.List.{list_all};
+ghost use Rattle.flt_hints.specs.Hinting as spec;
+ghost use Rattle.flt_hints.specs.Hinting.{scene_of};
+
 use crate::absences::{Absence, absence_of};
+use crate::before::KindsBefore;
 use crate::choices::Choices;
 use crate::hint::Hint;
 use crate::kinds::{
     begins_callback, is_context_variable, is_fallible, is_final_status, is_plain, is_variable,
     takes_fast_mutex, takes_push_lock, takes_spin_lock,
 };
-use flt_syntax::{FaultKind, Kind, Token};
+use crate::names::has_name;
+use flt_syntax::{FaultKind, Kind, same_kind};
 
 /// What is found, and what stands round it.
 #[derive(Clone, Copy)]
@@ -27,103 +35,216 @@ pub(crate) struct Scene<'a> {
     pub(crate) is_declared: bool,
 }
 
-/// The kinds of the two tokens before another, that of the end where there is none.
-#[derive(Clone, Copy)]
-pub(crate) struct KindsBefore {
-    pub(crate) last: Kind,
-    pub(crate) earlier: Kind,
-    /// The line of the last one, from 1.
-    pub(crate) line: usize,
+// ---- bytes with which no token begins
+
+/// Signs that mean one thing wherever they stand.
+const SIGNS: [(u8, Hint); 15] = [
+    (b'*', Hint::Operator),
+    (b'%', Hint::Operator),
+    (b'^', Hint::Operator),
+    (b'~', Hint::Operator),
+    (b';', Hint::Semicolon),
+    (b'(', Hint::Bracket),
+    (b')', Hint::Bracket),
+    (b'[', Hint::Bracket),
+    (b']', Hint::Bracket),
+    (b',', Hint::Bracket),
+    (b'|', Hint::AndOr),
+    (b'!', Hint::Not),
+    (b'>', Hint::Greater),
+    (b'"', Hint::Quote),
+    (b'\'', Hint::Quote),
+];
+
+#[tactic(auto, unfolding(crate::specs::Hinting::signs))]
+fn signs() -> &'static [(u8, Hint)]
+    ensures { result.now ≡ spec.signs }
+{
+    &SIGNS
 }
 
-/// The kinds of the two tokens before another.
-pub(crate) fn kinds_before(tokens: &[Token], token: Token) -> KindsBefore {
-    let mut before = KindsBefore {
-        last: Kind::End,
-        earlier: Kind::End,
-        line: 0,
-    };
-    for other in tokens {
-        if other.start >= token.start {
-            return before;
+/// What a sign of a table means.
+fn meant_among(table: &[(u8, Hint)], byte: u8) -> Option<Hint>
+    ensures { result ≡ spec.meant_among table.now byte }
+{
+    for entry in table {
+        if entry.0 == byte {
+            return Some(entry.1);
         }
-        before = KindsBefore {
-            last: other.word.kind,
-            earlier: before.last,
-            line: other.position.line,
-        };
     }
-    before
+    None
 }
 
-fn begins_with(bytes: &[u8], first: u8) -> bool {
+fn begins_with(bytes: &[u8], first: u8) -> bool
+    ensures { result ≡ spec.begins_with bytes.now first }
+{
     match bytes {
         [byte, ..] => *byte == first,
         [] => false,
     }
 }
 
-fn is_byte_order_mark(scene: Scene<'_>) -> bool {
-    matches!(scene.bytes, [0xef]) && matches!(scene.behind, [0xbb, 0xbf, ..])
+/// Of a slash: of a comment of other languages, or of arithmetic.
+fn slash_hint(behind: &[u8]) -> Hint
+    ensures { result ≡ spec.slash_hint behind.now }
+{
+    if begins_with(behind, b'/') || begins_with(behind, b'*') {
+        Hint::Comment
+    } else {
+        Hint::Operator
+    }
+}
+
+/// Of an ampersand: half of an `and`, or the address of what follows.
+fn ampersand_hint(behind: &[u8]) -> Hint
+    ensures { result ≡ spec.ampersand_hint behind.now }
+{
+    if begins_with(behind, b'&') {
+        Hint::AndOr
+    } else {
+        Hint::Address
+    }
 }
 
 /// Of a point.
-fn point_hint(scene: Scene<'_>, choices: &Choices<'_>) -> Hint {
-    match scene.before.last {
-        Kind::Number if choices.takes(Kind::Lock) => Hint::AltitudeFraction,
-        Kind::Number => Hint::Fraction,
-        _ => Hint::Member,
+fn point_hint(scene: Scene<'_>, choices: &Choices<'_>) -> Hint
+    ensures { result ≡ spec.point_hint (scene_of scene.entry) choices.now }
+{
+    if !same_kind(scene.before.last, Kind::Number) {
+        Hint::Member
+    } else if choices.takes(Kind::Lock) {
+        Hint::AltitudeFraction
+    } else {
+        Hint::Fraction
+    }
+}
+
+fn is_byte_order_mark(scene: Scene<'_>) -> bool
+    ensures { result ≡ spec.is_byte_order_mark (scene_of scene.entry) }
+{
+    scene.bytes == b"\xef".as_slice() && scene.behind.starts_with(b"\xbb\xbf")
+}
+
+/// Of a byte that isn't ASCII.
+fn foreign_hint(scene: Scene<'_>, byte: u8) -> Option<Hint>
+    ensures { result ≡ spec.foreign_hint (scene_of scene.entry) byte }
+{
+    if is_byte_order_mark(scene) {
+        Some(Hint::ByteOrderMark)
+    } else if byte >= 128 {
+        Some(Hint::NotAscii)
+    } else {
+        None
     }
 }
 
 /// Of a byte with which no token begins.
-fn stray_hint(scene: Scene<'_>, choices: &Choices<'_>) -> Option<Hint> {
-    let [byte, ..] = scene.bytes else {
-        return None;
-    };
-    match *byte {
-        b'/' if begins_with(scene.behind, b'/') || begins_with(scene.behind, b'*') => {
-            Some(Hint::Comment)
-        }
-        b'/' | b'*' | b'%' | b'^' | b'~' => Some(Hint::Operator),
-        b';' => Some(Hint::Semicolon),
-        b'(' | b')' | b'[' | b']' | b',' => Some(Hint::Bracket),
-        b'&' if !begins_with(scene.behind, b'&') => Some(Hint::Address),
-        b'&' | b'|' => Some(Hint::AndOr),
-        b'!' => Some(Hint::Not),
-        b'>' => Some(Hint::Greater),
-        b'"' | b'\'' => Some(Hint::Quote),
-        b'.' => Some(point_hint(scene, choices)),
-        _ if is_byte_order_mark(scene) => Some(Hint::ByteOrderMark),
-        byte if byte >= 128 => Some(Hint::NotAscii),
-        _ => None,
+fn byte_hint(scene: Scene<'_>, choices: &Choices<'_>, byte: u8) -> Option<Hint>
+    ensures { result ≡ spec.byte_hint (scene_of scene.entry) choices.now byte }
+{
+    if byte == b'/' {
+        Some(slash_hint(scene.behind))
+    } else if byte == b'&' {
+        Some(ampersand_hint(scene.behind))
+    } else if byte == b'.' {
+        Some(point_hint(scene, choices))
+    } else {
+        meant_among(signs(), byte).or(foreign_hint(scene, byte))
     }
+}
+
+/// The same of what is found.
+fn stray_hint(scene: Scene<'_>, choices: &Choices<'_>) -> Option<Hint>
+    ensures { result ≡ spec.stray_hint (scene_of scene.entry) choices.now (scene_of scene.entry).bytes }
+{
+    match scene.bytes {
+        [byte, ..] => byte_hint(scene, choices, *byte),
+        [] => None,
+    }
+}
+
+// ---- runs that are no word or number
+
+/// Whether a run begins otherwise than a number does.
+fn begins_word(run: &[u8]) -> bool
+    ensures { result ≡ spec.begins_word run.now }
+{
+    match run {
+        [first, ..] => !first.is_ascii_digit(),
+        [] => false,
+    }
+}
+
+fn are_digits(run: &[u8]) -> bool
+    ensures { result ≡ list_all is_ascii_digit run.now }
+{
+    for byte in run {
+        if !byte.is_ascii_digit() {
+            return false;
+        }
+    }
+    true
 }
 
 /// Of a run that is no word or number.
-fn malformed_hint(run: &[u8]) -> Hint {
-    match run {
-        [b'0', b'x', ..] | [b'0', b'X', ..] => Hint::Hexadecimal,
-        [first, ..] if !first.is_ascii_digit() => Hint::TooLongWord,
-        _ if !run.iter().all(|byte| byte.is_ascii_digit()) => Hint::LettersInNumber,
-        [b'0', ..] => Hint::LeadingZero,
-        _ => Hint::TooGreat,
+fn malformed_hint(run: &[u8]) -> Hint
+    ensures { result ≡ spec.malformed_hint run.now }
+{
+    if run.starts_with(b"0x") || run.starts_with(b"0X") {
+        Hint::Hexadecimal
+    } else if begins_word(run) {
+        Hint::TooLongWord
+    } else if !are_digits(run) {
+        Hint::LettersInNumber
+    } else if begins_with(run, b'0') {
+        Hint::LeadingZero
+    } else {
+        Hint::TooGreat
     }
 }
 
+// ---- words that the language hasn't
+
 /// What the language leaves out, if a word that stands in a place names it.
-pub(crate) fn absence_in(bytes: &[u8], choices: &Choices<'_>) -> Option<Absence> {
-    match bytes {
-        [b'I', b'R', b'P', b'_', b'M', b'J', b'_', ..] => Some(Absence::Operation),
-        [b'S', b'T', b'A', b'T', b'U', b'S', b'_', ..] if choices.takes(Kind::StatusSuccess) => {
-            Some(Absence::FinalStatus)
-        }
-        _ => absence_of(bytes),
+pub(crate) fn absence_in(bytes: &[u8], choices: &Choices<'_>) -> Option<Absence>
+    ensures { result ≡ spec.absence_in bytes.now choices.now }
+{
+    if bytes.starts_with(b"IRP_MJ_") {
+        Some(Absence::Operation)
+    } else if bytes.starts_with(b"STATUS_") && choices.takes(Kind::StatusSuccess) {
+        Some(Absence::FinalStatus)
+    } else {
+        absence_of(bytes)
+    }
+}
+
+/// Whether a status takes a context.
+fn takes_context(kind: Kind) -> bool
+    ensures { result ≡ spec.takes_context kind }
+{
+    matches!(kind, Kind::WithCallback | Kind::Synchronize)
+}
+
+/// Of a name in place of what a status takes, behind it in its line.
+fn operand_hint(scene: Scene<'_>, choices: &Choices<'_>) -> Option<Hint>
+    ensures { result ≡ spec.operand_hint (scene_of scene.entry) choices.now }
+{
+    let last = scene.before.last;
+    if scene.is_meant || !scene.goes_on {
+        None
+    } else if takes_context(last) && choices.takes(Kind::Context) {
+        Some(Hint::NeedsContext)
+    } else if same_kind(last, Kind::Complete) && choices.takes(Kind::StatusSuccess) {
+        Some(Hint::NeedsFinalStatus)
+    } else {
+        None
     }
 }
 
 /// Of a word that names what the language leaves out.
-fn absence_hint(scene: Scene<'_>, choices: &Choices<'_>) -> Option<Hint> {
+fn absence_hint(scene: Scene<'_>, choices: &Choices<'_>) -> Option<Hint>
+    ensures { result ≡ spec.absence_hint (scene_of scene.entry) choices.now }
+{
     let is_named = scene.is_misspelt_absence || absence_in(scene.bytes, choices).is_some();
     if !scene.is_meant && is_named {
         Some(Hint::LeftOut)
@@ -132,157 +253,304 @@ fn absence_hint(scene: Scene<'_>, choices: &Choices<'_>) -> Option<Hint> {
     }
 }
 
-/// Of a name in place of what a status takes, behind it in its line.
-fn operand_hint(scene: Scene<'_>, choices: &Choices<'_>) -> Option<Hint> {
-    match scene.before.last {
-        _ if scene.is_meant || !scene.goes_on => None,
-        Kind::WithCallback | Kind::Synchronize if choices.takes(Kind::Context) => {
-            Some(Hint::NeedsContext)
-        }
-        Kind::Complete if choices.takes(Kind::StatusSuccess) => Some(Hint::NeedsFinalStatus),
-        _ => None,
+/// Words of C.
+const LOOP_WORDS: [&[u8]; 3] = [b"while", b"for", b"do"];
+
+const JUMP_WORDS: [&[u8]; 4] = [b"goto", b"break", b"continue", b"switch"];
+
+const JOINING_WORDS: [&[u8]; 2] = [b"and", b"or"];
+
+/// Of a word that the language hasn't.
+fn name_hint(scene: Scene<'_>, choices: &Choices<'_>) -> Option<Hint>
+    ensures { result ≡ spec.name_hint (scene_of scene.entry) choices.now }
+{
+    let word = scene.bytes;
+    if has_name(LOOP_WORDS.as_slice(), word) {
+        Some(Hint::Loop)
+    } else if has_name(JUMP_WORDS.as_slice(), word) {
+        Some(Hint::Jump)
+    } else if word == b"NT_SUCCESS".as_slice() {
+        Some(Hint::Success)
+    } else if has_name(JOINING_WORDS.as_slice(), word) {
+        Some(Hint::AndOr)
+    } else if word == b"not".as_slice() {
+        Some(Hint::Not)
+    } else if word.starts_with(b"STATUS_") && choices.takes(Kind::NoCallback) {
+        Some(Hint::FinalStatus)
+    } else {
+        absence_hint(scene, choices)
     }
 }
 
-/// Of a word that the language hasn't.
-fn name_hint(scene: Scene<'_>, choices: &Choices<'_>) -> Option<Hint> {
-    match scene.bytes {
-        b"while" | b"for" | b"do" => Some(Hint::Loop),
-        b"goto" | b"break" | b"continue" | b"switch" => Some(Hint::Jump),
-        b"NT_SUCCESS" => Some(Hint::Success),
-        b"and" | b"or" => Some(Hint::AndOr),
-        b"not" => Some(Hint::Not),
-        [b'S', b'T', b'A', b'T', b'U', b'S', b'_', ..] if choices.takes(Kind::NoCallback) => {
-            Some(Hint::FinalStatus)
-        }
-        _ => absence_hint(scene, choices),
-    }
+// ---- tokens that the grammar doesn't have there
+
+fn is_equality(kind: Kind) -> bool
+    ensures { result ≡ spec.is_equality kind }
+{
+    matches!(kind, Kind::Equal | Kind::Assign)
+}
+
+fn is_sum(kind: Kind) -> bool
+    ensures { result ≡ spec.is_sum kind }
+{
+    matches!(kind, Kind::Plus | Kind::Minus)
+}
+
+fn is_operator(kind: Kind) -> bool
+    ensures { result ≡ spec.is_operator kind }
+{
+    is_equality(kind) || same_kind(kind, Kind::NotEqual) || is_sum(kind)
 }
 
 /// Of an operator.
-fn operator_hint(found: Kind, choices: &Choices<'_>) -> Option<Hint> {
-    match found {
-        Kind::Equal | Kind::Assign if choices.takes(Kind::NotEqual) => Some(Hint::EqualsNull),
-        Kind::Equal if choices.takes(Kind::Assign) => Some(Hint::Assignment),
-        Kind::Assign if choices.takes(Kind::Equal) => Some(Hint::Comparison),
-        Kind::NotEqual if choices.takes(Kind::Equal) => Some(Hint::NotEqual),
-        Kind::Plus | Kind::Minus if choices.takes(Kind::Return) => Some(Hint::SecondOperator),
-        _ => None,
+fn operator_hint(found: Kind, choices: &Choices<'_>) -> Option<Hint>
+    ensures { result ≡ spec.operator_hint found choices.now }
+{
+    if is_equality(found) && choices.takes(Kind::NotEqual) {
+        Some(Hint::EqualsNull)
+    } else if same_kind(found, Kind::Equal) && choices.takes(Kind::Assign) {
+        Some(Hint::Assignment)
+    } else if same_kind(found, Kind::Assign) && choices.takes(Kind::Equal) {
+        Some(Hint::Comparison)
+    } else if same_kind(found, Kind::NotEqual) && choices.takes(Kind::Equal) {
+        Some(Hint::NotEqual)
+    } else if is_sum(found) && choices.takes(Kind::Return) {
+        Some(Hint::SecondOperator)
+    } else {
+        None
     }
 }
 
 /// Whether a variable behind a status that takes a context was read as the beginning of a statement.
-fn has_nameless_context(scene: Scene<'_>, choices: &Choices<'_>) -> bool {
-    matches!(scene.before.earlier, Kind::WithCallback | Kind::Synchronize)
+fn has_nameless_context(scene: Scene<'_>, choices: &Choices<'_>) -> bool
+    ensures { result ≡ spec.has_nameless_context (scene_of scene.entry) choices.now }
+{
+    takes_context(scene.before.earlier)
         && is_context_variable(scene.before.last)
         && choices.takes(Kind::Assign)
 }
 
 /// Whether a variable that was meant to begin a statement was read as the operand of the call before it.
-fn has_taken_operand(scene: Scene<'_>, choices: &Choices<'_>) -> bool {
+fn has_taken_operand(scene: Scene<'_>, choices: &Choices<'_>) -> bool
+    ensures { result ≡ spec.has_taken_operand (scene_of scene.entry) choices.now }
+{
     let earlier = scene.before.earlier;
-    (is_plain(earlier) || matches!(earlier, Kind::As))
+    (is_plain(earlier) || same_kind(earlier, Kind::As))
         && is_variable(scene.before.last)
         && choices.takes(Kind::Return)
 }
 
+/// Of a context variable that lacks a word before it.
+fn nameless_hint(scene: Scene<'_>, choices: &Choices<'_>) -> Option<Hint>
+    ensures { result ≡ spec.nameless_hint (scene_of scene.entry) choices.now }
+{
+    if !is_context_variable(scene.found) {
+        None
+    } else if choices.takes(Kind::As) {
+        Some(Hint::NamelessCopy)
+    } else if choices.takes(Kind::Context) {
+        Some(Hint::NamelessContext)
+    } else if choices.takes(Kind::Old) {
+        Some(Hint::NamelessOld)
+    } else {
+        None
+    }
+}
+
 /// Of a word that has its place elsewhere in the text, or behind another word.
-fn place_hint(scene: Scene<'_>, choices: &Choices<'_>) -> Option<Hint> {
+fn place_hint(scene: Scene<'_>, choices: &Choices<'_>) -> Option<Hint>
+    ensures { result ≡ spec.place_hint (scene_of scene.entry) choices.now }
+{
     let is_late = choices.takes(Kind::Pre) || choices.takes(Kind::Return);
-    match scene.found {
-        Kind::Lock if is_late => Some(Hint::LateLock),
-        Kind::Queue if is_late => Some(Hint::LateQueue),
-        _ if matches!(scene.before.last, Kind::Complete) && choices.takes(Kind::StatusSuccess) => {
-            Some(Hint::NeedsFinalStatus)
-        }
-        kind if !is_context_variable(kind) => None,
-        _ if choices.takes(Kind::As) => Some(Hint::NamelessCopy),
-        _ if choices.takes(Kind::Context) => Some(Hint::NamelessContext),
-        _ if choices.takes(Kind::Old) => Some(Hint::NamelessOld),
-        _ => None,
+    if same_kind(scene.found, Kind::Lock) && is_late {
+        Some(Hint::LateLock)
+    } else if same_kind(scene.found, Kind::Queue) && is_late {
+        Some(Hint::LateQueue)
+    } else if same_kind(scene.before.last, Kind::Complete) && choices.takes(Kind::StatusSuccess) {
+        Some(Hint::NeedsFinalStatus)
+    } else {
+        nameless_hint(scene, choices)
+    }
+}
+
+/// Of a word between statements.
+fn between_hint(scene: Scene<'_>, choices: &Choices<'_>) -> Option<Hint>
+    ensures { result ≡ spec.between_hint (scene_of scene.entry) choices.now }
+{
+    let found = scene.found;
+    if same_kind(found, Kind::If) && same_kind(scene.before.last, Kind::Else) {
+        Some(Hint::ElseIf)
+    } else if same_kind(found, Kind::Else) {
+        Some(Hint::LoneElse)
+    } else if (same_kind(found, Kind::End) || begins_callback(found))
+        && choices.takes(Kind::CloseBrace)
+    {
+        Some(Hint::MissingBrace)
+    } else if is_context_variable(found) && choices.takes(Kind::Null) {
+        Some(Hint::Copy)
+    } else if is_final_status(found) && choices.takes(Kind::NoCallback) {
+        Some(Hint::FinalStatus)
+    } else {
+        place_hint(scene, choices)
     }
 }
 
 /// Of a call, or a word between statements.
-fn statement_hint(scene: Scene<'_>, choices: &Choices<'_>) -> Option<Hint> {
-    match scene.found {
-        kind if is_fallible(kind) && choices.takes(Kind::Return) => Some(Hint::CanFail),
-        kind if is_plain(kind) && choices.takes(Kind::Draining) => Some(Hint::NeverFails),
-        Kind::If if matches!(scene.before.last, Kind::Else) => Some(Hint::ElseIf),
-        Kind::Else => Some(Hint::LoneElse),
-        Kind::End if choices.takes(Kind::CloseBrace) => Some(Hint::MissingBrace),
-        kind if begins_callback(kind) && choices.takes(Kind::CloseBrace) => {
-            Some(Hint::MissingBrace)
-        }
-        kind if is_context_variable(kind) && choices.takes(Kind::Null) => Some(Hint::Copy),
-        kind if is_final_status(kind) && choices.takes(Kind::NoCallback) => {
-            Some(Hint::FinalStatus)
-        }
-        _ => place_hint(scene, choices),
+fn statement_hint(scene: Scene<'_>, choices: &Choices<'_>) -> Option<Hint>
+    ensures { result ≡ spec.statement_hint (scene_of scene.entry) choices.now }
+{
+    if is_fallible(scene.found) && choices.takes(Kind::Return) {
+        Some(Hint::CanFail)
+    } else if is_plain(scene.found) && choices.takes(Kind::Draining) {
+        Some(Hint::NeverFails)
+    } else {
+        between_hint(scene, choices)
+    }
+}
+
+/// Which lock has to be declared for a call.
+fn needs_lock(kind: Kind) -> Option<Hint>
+    ensures { result ≡ spec.needs_lock kind }
+{
+    if takes_spin_lock(kind) {
+        Some(Hint::NeedsSpinLock)
+    } else if takes_fast_mutex(kind) {
+        Some(Hint::NeedsFastMutex)
+    } else if takes_push_lock(kind) {
+        Some(Hint::NeedsPushLock)
+    } else {
+        None
     }
 }
 
 /// Of what stands in place of a lock's name, where the filter declares no lock that the call takes: nothing may stand there.
-fn lock_hint(scene: Scene<'_>, choices: &Choices<'_>) -> Option<Hint> {
-    match scene.before.last {
-        _ if !choices.are_none() => None,
-        kind if takes_spin_lock(kind) => Some(Hint::NeedsSpinLock),
-        kind if takes_fast_mutex(kind) => Some(Hint::NeedsFastMutex),
-        kind if takes_push_lock(kind) => Some(Hint::NeedsPushLock),
-        _ => None,
+fn lock_hint(scene: Scene<'_>, choices: &Choices<'_>) -> Option<Hint>
+    ensures { result ≡ spec.lock_hint (scene_of scene.entry) choices.now }
+{
+    if choices.are_none() {
+        needs_lock(scene.before.last)
+    } else {
+        None
+    }
+}
+
+/// Of a name, an operator or another token.
+fn found_hint(scene: Scene<'_>, choices: &Choices<'_>) -> Option<Hint>
+    ensures { result ≡ spec.found_hint (scene_of scene.entry) choices.now }
+{
+    if same_kind(scene.found, Kind::Name) {
+        name_hint(scene, choices)
+    } else if is_operator(scene.found) {
+        operator_hint(scene.found, choices)
+    } else {
+        statement_hint(scene, choices)
+    }
+}
+
+/// Of a token by what stands before it.
+fn token_hint_behind(scene: Scene<'_>, choices: &Choices<'_>) -> Option<Hint>
+    ensures { result ≡ spec.token_hint_behind (scene_of scene.entry) choices.now }
+{
+    if has_nameless_context(scene, choices) {
+        Some(Hint::NamelessContext)
+    } else if same_kind(scene.found, Kind::Assign) && has_taken_operand(scene, choices) {
+        Some(Hint::TakenOperand)
+    } else {
+        found_hint(scene, choices)
     }
 }
 
 /// Of a token that the grammar doesn't have there.
-fn token_hint(scene: Scene<'_>, choices: &Choices<'_>) -> Option<Hint> {
-    let lock = lock_hint(scene, choices);
-    match scene.found {
-        _ if lock.is_some() => lock,
-        _ if has_nameless_context(scene, choices) => Some(Hint::NamelessContext),
-        Kind::Assign if has_taken_operand(scene, choices) => Some(Hint::TakenOperand),
-        Kind::Name => name_hint(scene, choices),
-        Kind::Equal | Kind::Assign | Kind::NotEqual | Kind::Plus | Kind::Minus => {
-            operator_hint(scene.found, choices)
-        }
-        _ => statement_hint(scene, choices),
-    }
+fn token_hint(scene: Scene<'_>, choices: &Choices<'_>) -> Option<Hint>
+    ensures { result ≡ spec.token_hint (scene_of scene.entry) choices.now }
+{
+    lock_hint(scene, choices).or(token_hint_behind(scene, choices))
+}
+
+// ---- names and limits
+
+/// Whether a call takes the filter's queue.
+fn takes_queue(kind: Kind) -> bool
+    ensures { result ≡ spec.takes_queue kind }
+{
+    matches!(kind, Kind::InsertIo | Kind::RemoveNextIo)
 }
 
 /// Of a name that isn't known there.
-fn unknown_hint(scene: Scene<'_>, choices: &Choices<'_>) -> Option<Hint> {
-    match scene.found {
-        Kind::InsertIo | Kind::RemoveNextIo => Some(Hint::NeedsQueue),
-        _ if scene.is_declared => Some(Hint::OtherKind),
-        _ => lock_hint(scene, choices),
+fn unknown_hint(scene: Scene<'_>, choices: &Choices<'_>) -> Option<Hint>
+    ensures { result ≡ spec.unknown_hint (scene_of scene.entry) choices.now }
+{
+    if takes_queue(scene.found) {
+        Some(Hint::NeedsQueue)
+    } else if scene.is_declared {
+        Some(Hint::OtherKind)
+    } else {
+        lock_hint(scene, choices)
     }
 }
 
+/// Of a name that is declared twice.
+fn twice_hint(scene: Scene<'_>) -> Hint
+    ensures { result ≡ spec.twice_hint (scene_of scene.entry) }
+{
+    if begins_callback(scene.found) && !begins_callback(scene.before.last) {
+        Hint::CallbackTwice
+    } else {
+        Hint::NameTwice
+    }
+}
+
+fn is_lock_kind(kind: Kind) -> bool
+    ensures { result ≡ spec.is_lock_kind kind }
+{
+    matches!(kind, Kind::Spin | Kind::Fast | Kind::Push)
+}
+
 /// Of a limit that is passed.
-fn limit_hint(scene: Scene<'_>) -> Hint {
-    match (scene.before.last, scene.found) {
-        (Kind::Altitude, Kind::Number) => Hint::Altitude,
-        (Kind::Repeat, Kind::Number) => Hint::Turns,
-        (Kind::Spin | Kind::Fast | Kind::Push, _) => Hint::Locks,
-        (_, Kind::OpenBrace) => Hint::NestedBlocks,
-        (_, Kind::Repeat) => Hint::NestedRepeats,
-        _ => Hint::Callbacks,
+fn limit_hint(scene: Scene<'_>) -> Hint
+    ensures { result ≡ spec.limit_hint (scene_of scene.entry) }
+{
+    let last = scene.before.last;
+    let found = scene.found;
+    if same_kind(last, Kind::Altitude) && same_kind(found, Kind::Number) {
+        Hint::Altitude
+    } else if same_kind(last, Kind::Repeat) && same_kind(found, Kind::Number) {
+        Hint::Turns
+    } else if is_lock_kind(last) {
+        Hint::Locks
+    } else if same_kind(found, Kind::OpenBrace) {
+        Hint::NestedBlocks
+    } else if same_kind(found, Kind::Repeat) {
+        Hint::NestedRepeats
+    } else {
+        Hint::Callbacks
+    }
+}
+
+/// Of a declaration that lacks another one.
+fn incomplete_hint(scene: Scene<'_>) -> Hint
+    ensures { result ≡ spec.incomplete_hint (scene_of scene.entry) }
+{
+    if same_kind(scene.found, Kind::Queue) {
+        Hint::NeedsCanceled
+    } else {
+        Hint::NeedsPre
     }
 }
 
 /// What is probably wrong.
-pub(crate) fn hint(kind: FaultKind, scene: Scene<'_>, choices: &Choices<'_>) -> Option<Hint> {
+#[tactic(auto, unfolding(crate::specs::Hinting::hint_of))]
+pub(crate) fn hint(kind: FaultKind, scene: Scene<'_>, choices: &Choices<'_>) -> Option<Hint>
+    ensures { result ≡ spec.hint_of kind (scene_of scene.entry) choices.now }
+{
     match kind {
         FaultKind::E01 => stray_hint(scene, choices),
         FaultKind::E02 => Some(malformed_hint(scene.bytes)),
         FaultKind::E03 => token_hint(scene, choices),
         FaultKind::E04 => unknown_hint(scene, choices),
-        FaultKind::E05 if begins_callback(scene.found) && !begins_callback(scene.before.last) => {
-            Some(Hint::CallbackTwice)
-        }
-        FaultKind::E05 => Some(Hint::NameTwice),
+        FaultKind::E05 => Some(twice_hint(scene)),
         FaultKind::E06 => Some(limit_hint(scene)),
-        FaultKind::E07 if matches!(scene.found, Kind::Queue) => Some(Hint::NeedsCanceled),
-        FaultKind::E07 => Some(Hint::NeedsPre),
+        FaultKind::E07 => Some(incomplete_hint(scene)),
         FaultKind::E08 => Some(Hint::VariableTwice),
     }
 }

@@ -1,8 +1,13 @@
 //! The kinds of words that stand in like places.
 
+ghost use Rattle.std.specs.Prelude.{◌≡◌};
+ghost use Rattle.flt_hints.specs.Kinds as spec;
+
 use flt_syntax::Kind;
 
-pub(crate) fn is_fallible(kind: Kind) -> bool {
+pub(crate) fn is_fallible(kind: Kind) -> bool
+    ensures { result ≡ spec.is_fallible kind }
+{
     matches!(
         kind,
         Kind::AllocateContext
@@ -19,7 +24,9 @@ pub(crate) fn is_fallible(kind: Kind) -> bool {
     )
 }
 
-pub(crate) fn is_plain(kind: Kind) -> bool {
+pub(crate) fn is_plain(kind: Kind) -> bool
+    ensures { result ≡ spec.is_plain kind }
+{
     matches!(
         kind,
         Kind::DeleteContext
@@ -37,12 +44,16 @@ pub(crate) fn is_plain(kind: Kind) -> bool {
     )
 }
 
-pub(crate) fn is_call(kind: Kind) -> bool {
+pub(crate) fn is_call(kind: Kind) -> bool
+    ensures { result ≡ spec.is_call kind }
+{
     is_fallible(kind) || is_plain(kind)
 }
 
 /// Whether it is a word that stands among the operands of calls and isn't a variable's or a status.
-pub(crate) fn is_operand_word(kind: Kind) -> bool {
+pub(crate) fn is_operand_word(kind: Kind) -> bool
+    ensures { result ≡ spec.is_operand_word kind }
+{
     matches!(
         kind,
         Kind::Name
@@ -55,7 +66,9 @@ pub(crate) fn is_operand_word(kind: Kind) -> bool {
     )
 }
 
-pub(crate) fn is_final_status(kind: Kind) -> bool {
+pub(crate) fn is_final_status(kind: Kind) -> bool
+    ensures { result ≡ spec.is_final_status kind }
+{
     matches!(
         kind,
         Kind::StatusSuccess
@@ -67,22 +80,30 @@ pub(crate) fn is_final_status(kind: Kind) -> bool {
     )
 }
 
-pub(crate) fn takes_spin_lock(kind: Kind) -> bool {
+pub(crate) fn takes_spin_lock(kind: Kind) -> bool
+    ensures { result ≡ spec.takes_spin_lock kind }
+{
     matches!(kind, Kind::AcquireSpinLock | Kind::ReleaseSpinLock)
 }
 
-pub(crate) fn takes_fast_mutex(kind: Kind) -> bool {
+pub(crate) fn takes_fast_mutex(kind: Kind) -> bool
+    ensures { result ≡ spec.takes_fast_mutex kind }
+{
     matches!(kind, Kind::AcquireFastMutex | Kind::ReleaseFastMutex)
 }
 
-pub(crate) fn takes_push_lock(kind: Kind) -> bool {
+pub(crate) fn takes_push_lock(kind: Kind) -> bool
+    ensures { result ≡ spec.takes_push_lock kind }
+{
     matches!(
         kind,
         Kind::AcquirePushLock | Kind::AcquirePushLockShared | Kind::ReleasePushLock
     )
 }
 
-pub(crate) fn begins_callback(kind: Kind) -> bool {
+pub(crate) fn begins_callback(kind: Kind) -> bool
+    ensures { result ≡ spec.begins_callback kind }
+{
     matches!(
         kind,
         Kind::Pre
@@ -94,14 +115,18 @@ pub(crate) fn begins_callback(kind: Kind) -> bool {
     )
 }
 
-pub(crate) fn is_number_variable(kind: Kind) -> bool {
+pub(crate) fn is_number_variable(kind: Kind) -> bool
+    ensures { result ≡ spec.is_number_variable kind }
+{
     matches!(
         kind,
         Kind::N0 | Kind::N1 | Kind::N2 | Kind::N3 | Kind::N4 | Kind::N5 | Kind::N6 | Kind::N7
     )
 }
 
-pub(crate) fn is_context_variable(kind: Kind) -> bool {
+pub(crate) fn is_context_variable(kind: Kind) -> bool
+    ensures { result ≡ spec.is_context_variable kind }
+{
     matches!(
         kind,
         Kind::C0
@@ -116,15 +141,21 @@ pub(crate) fn is_context_variable(kind: Kind) -> bool {
     )
 }
 
-pub(crate) fn is_operation_variable(kind: Kind) -> bool {
+pub(crate) fn is_operation_variable(kind: Kind) -> bool
+    ensures { result ≡ spec.is_operation_variable kind }
+{
     matches!(kind, Kind::O0 | Kind::O1 | Kind::O2 | Kind::O3)
 }
 
-pub(crate) fn is_variable(kind: Kind) -> bool {
+pub(crate) fn is_variable(kind: Kind) -> bool
+    ensures { result ≡ spec.is_variable kind }
+{
     is_number_variable(kind) || is_context_variable(kind) || is_operation_variable(kind)
 }
 
-pub(crate) fn is_status(kind: Kind) -> bool {
+pub(crate) fn is_status(kind: Kind) -> bool
+    ensures { result ≡ spec.is_status kind }
+{
     matches!(
         kind,
         Kind::WithCallback

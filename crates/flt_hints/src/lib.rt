@@ -3,10 +3,12 @@
 #![tactic(auto)]
 
 mod absences;
+mod before;
 mod choices;
 mod hint;
 mod hinting;
 mod kinds;
+mod meant;
 mod misspelt;
 mod names;
 mod nearest;

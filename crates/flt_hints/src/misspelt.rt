@@ -1,68 +1,119 @@
 //! Words that are misspelt, and name what the language leaves out.
 
+ghost use Rattle.std.specs.Prelude.{◌≡◌, map, IfOk};
+ghost use Rattle.flt_hints.specs.Misspelt as spec;
+
 use crate::absences::{
     Absence, contents, contexts, locks, operations, queueing, surroundings, waits,
 };
-use crate::nearest::distance;
-use flt_syntax::keywords;
+use flt_nearest::distance;
+use flt_syntax::{Kind, keywords};
 use std::alloc::{AllocError, Global};
 
 /// How many letters a beginning has at least: by a shorter one a word of the text's own would be taken for another.
 const LEAST: usize = 8;
 
-/// What is nearest to a word so far, of what the language leaves out, and how far it is.
+/// What a beginning names, and how many of its letters a word has otherwise.
 #[derive(Clone, Copy)]
-struct NearAbsence {
-    absence: Option<Absence>,
-    distance: usize,
+pub(crate) struct NearAbsence {
+    pub(crate) absence: Absence,
+    pub(crate) distance: usize,
 }
 
-fn begins_alike(word: &[u8], other: &[u8]) -> bool {
+fn begin_alike(word: &[u8], other: &[u8]) -> bool
+    ensures { result ≡ spec.begin_alike word.now other.now }
+{
     match (word, other) {
         ([one, ..], [two, ..]) => one.eq_ignore_ascii_case(two),
         _ => false,
     }
 }
 
-/// The nearer of what is nearest and an entry of a table. One letter in six may differ.
-fn nearer(
-    alloc: Global,
-    word: &[u8],
-    near: NearAbsence,
-    beginning: &[u8],
-    absence: Absence,
-) -> Result<NearAbsence, AllocError> {
-    if beginning.len() < LEAST || !begins_alike(word, beginning) {
-        return Ok(near);
-    }
-    let own = &word[..beginning.len().min(word.len())];
-    let distance = distance(alloc, own, beginning)?;
-    if distance > beginning.len() / 6 || distance >= near.distance {
-        return Ok(near);
-    }
-    Ok(NearAbsence {
-        absence: Some(absence),
-        distance,
-    })
+/// How many letters of a beginning a word has otherwise.
+fn difference(alloc: Global, word: &[u8], beginning: &[u8]) -> Result<usize, AllocError>
+    ensures { IfOk result (λ d. d ≡ spec.difference word.now beginning.now) }
+{
+    distance(alloc, &word[..beginning.len().min(word.len())], beginning)
 }
 
-/// The nearer of what is nearest and a table's entries.
+/// What a beginning names, if a word nearly begins so. One letter in six may differ.
+fn near(
+    alloc: Global,
+    word: &[u8],
+    beginning: &[u8],
+    absence: Absence,
+) -> Result<Option<NearAbsence>, AllocError>
+    ensures { IfOk result (λ near. near ≡ spec.near word.now beginning.now absence) }
+{
+    if !(LEAST <= beginning.len() && begin_alike(word, beginning)) {
+        return Ok(None);
+    }
+    let distance = difference(alloc, word, beginning)?;
+    if distance <= beginning.len() / 6 {
+        Ok(Some(NearAbsence { absence, distance }))
+    } else {
+        Ok(None)
+    }
+}
+
+/// The nearer of two, the first where both are as near.
+fn nearer(one: Option<NearAbsence>, other: Option<NearAbsence>) -> Option<NearAbsence>
+    ensures { result ≡ spec.nearer one other }
+{
+    match (one, other) {
+        (None, _) => other,
+        (_, None) => one,
+        (Some(near), Some(next)) => {
+            if next.distance < near.distance {
+                other
+            } else {
+                one
+            }
+        }
+    }
+}
+
+/// The nearest of what is nearest so far and what the beginnings of a table name.
+#[tactic(auto, using(crate::proofs::Nearer::nearer_in_turn))]
 fn nearest_among(
     alloc: Global,
     word: &[u8],
-    near: NearAbsence,
+    so_far: Option<NearAbsence>,
     table: &[(&'static [u8], Absence)],
-) -> Result<NearAbsence, AllocError> {
-    let mut near = near;
+) -> Result<Option<NearAbsence>, AllocError>
+    ensures { IfOk result (λ near. near ≡ spec.nearer so_far (spec.nearest_among word.now (map (λ e. (e.0.now, e.1)) table.now))) }
+{
+    let mut nearest = so_far;
     for entry in table {
-        near = nearer(alloc, word, near, entry.0, entry.1)?;
+        nearest = nearer(nearest, near(alloc, word, entry.0, entry.1)?);
     }
-    Ok(near)
+    Ok(nearest)
 }
 
-/// Whether no word of the language is as near.
-fn is_nearest(alloc: Global, word: &[u8], bound: usize) -> Result<bool, AllocError> {
-    for entry in keywords() {
+/// What the nearest beginning names, of all that the language leaves out.
+#[tactic(auto, unfolding(crate::specs::Misspelt::nearest), using(crate::proofs::Nearer::nearer_in_turn))]
+fn nearest(alloc: Global, word: &[u8]) -> Result<Option<NearAbsence>, AllocError>
+    ensures { IfOk result (λ near. near ≡ spec.nearest word.now) }
+{
+    let near = nearest_among(alloc, word, None, contexts())?;
+    let near = nearest_among(alloc, word, near, operations())?;
+    let near = nearest_among(alloc, word, near, waits())?;
+    let near = nearest_among(alloc, word, near, locks())?;
+    let near = nearest_among(alloc, word, near, queueing())?;
+    let near = nearest_among(alloc, word, near, contents())?;
+    nearest_among(alloc, word, near, surroundings())
+}
+
+/// Whether each word of a table differs in more letters.
+fn are_farther(
+    alloc: Global,
+    word: &[u8],
+    bound: usize,
+    table: &[(&'static [u8], Kind)],
+) -> Result<bool, AllocError>
+    ensures { IfOk result (λ b. b ≡ spec.are_farther bound word.now (map (λ e. (e.0.now, e.1)) table.now)) }
+{
+    for entry in table {
         if distance(alloc, word, entry.0)? <= bound {
             return Ok(false);
         }
@@ -72,20 +123,15 @@ fn is_nearest(alloc: Global, word: &[u8], bound: usize) -> Result<bool, AllocErr
 
 /// What the language leaves out, if a misspelt word probably names it: it begins nearly as a word does that names it, and no word of the
 /// language is as near.
-pub(crate) fn misspelt_absence(alloc: Global, word: &[u8]) -> Result<Option<Absence>, AllocError> {
-    let none = NearAbsence {
-        absence: None,
-        distance: usize::MAX,
+#[tactic(auto, unfolding(crate::specs::Misspelt::misspelt_absence))]
+pub(crate) fn misspelt_absence(alloc: Global, word: &[u8]) -> Result<Option<Absence>, AllocError>
+    ensures { IfOk result (λ absence. absence ≡ spec.misspelt_absence word.now) }
+{
+    let Some(near) = nearest(alloc, word)? else {
+        return Ok(None);
     };
-    let near = nearest_among(alloc, word, none, contexts())?;
-    let near = nearest_among(alloc, word, near, operations())?;
-    let near = nearest_among(alloc, word, near, waits())?;
-    let near = nearest_among(alloc, word, near, locks())?;
-    let near = nearest_among(alloc, word, near, queueing())?;
-    let near = nearest_among(alloc, word, near, contents())?;
-    let near = nearest_among(alloc, word, near, surroundings())?;
-    if near.absence.is_some() && is_nearest(alloc, word, near.distance)? {
-        Ok(near.absence)
+    if are_farther(alloc, word, near.distance, keywords())? {
+        Ok(Some(near.absence))
     } else {
         Ok(None)
     }

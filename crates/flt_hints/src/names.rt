@@ -81,7 +81,7 @@ fn names_behind<'a>(
 }
 
 /// Whether a name is among others.
-fn has_name(others: &[&[u8]], name: &[u8]) -> bool
+pub(crate) fn has_name(others: &[&[u8]], name: &[u8]) -> bool
     ensures { result ≡ names.has_name name.now (map (λ n. n.now) others.now) }
 {
     for other in others {
@@ -127,7 +127,10 @@ pub(crate) fn declared_names<'a>(
 }
 
 /// Whether a text declares a lock or a routine of a name.
-pub(crate) fn declares_name(text: &[u8], tokens: &[Token], name: &[u8]) -> bool {
+#[tactic(auto, unfolding(crate::specs::Names::declares_name))]
+pub(crate) fn declares_name(text: &[u8], tokens: &[Token], name: &[u8]) -> bool
+    ensures { result ≡ spec.declares_name text.now tokens.now name.now }
+{
     let mut before = Kind::End;
     for token in tokens {
         if declares(before) && bytes_of(text, *token) == name {

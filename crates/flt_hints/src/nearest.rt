@@ -1,80 +1,77 @@
 //! Which word is meant where another one stands.
 
-use crate::choices::Choices;
+ghost use Rattle.std.specs.Prelude.{◌≡◌, ◌≤◌, length, map, IfOk};
+ghost use Rattle.std.specs.List.{fold};
+ghost use Rattle.flt_hints.specs.Nearest as spec;
+
+use crate::choices::{Choices, Expected};
+use flt_nearest::Nearest;
 use std::alloc::{AllocError, Global};
-use strsim::osa_distance;
-
-/// The nearest word so far. None where several are as near.
-#[derive(Clone, Copy)]
-struct Nearest<'a> {
-    word: Option<&'a [u8]>,
-    distance: usize,
-}
-
-/// A word in lower case.
-fn lowered(alloc: Global, word: &[u8]) -> Result<String, AllocError> {
-    let mut text = String::new(alloc);
-    for byte in word {
-        text.push(char::from(byte.to_ascii_lowercase()))?;
-    }
-    Ok(text)
-}
-
-/// How many letters of two words differ, in lower case.
-pub(crate) fn distance(alloc: Global, one: &[u8], other: &[u8]) -> Result<usize, AllocError> {
-    let from = lowered(alloc, one)?;
-    let to = lowered(alloc, other)?;
-    osa_distance(alloc, from.as_str(), to.as_str())
-}
 
 /// How many letters of a word count: those behind what all final statuses begin with.
-fn letters(word: &[u8]) -> usize {
-    word.strip_prefix(b"STATUS_").unwrap_or(word).len()
+fn letters(word: &[u8]) -> usize
+    ensures { result ≡ spec.letters word.now }
+{
+    if word.starts_with(b"STATUS_") {
+        word.len().saturating_sub(7)
+    } else {
+        word.len()
+    }
 }
 
 /// How many letters may differ: a third of those that count, and always one.
-fn reach(a: &[u8], b: &[u8]) -> usize {
+fn reach(a: &[u8], b: &[u8]) -> usize
+    ensures { result ≡ spec.reach a.now b.now }
+{
     (letters(a).max(letters(b)) / 3).max(1)
 }
 
-/// The nearer of what is nearest and another word.
-fn nearer<'a>(
+/// The nearest of what is nearest so far and words of the language.
+fn nearest_expected<'a>(
     alloc: Global,
     written: &[u8],
     nearest: Nearest<'a>,
-    word: &'a [u8],
-) -> Result<Nearest<'a>, AllocError> {
-    let distance = distance(alloc, written, word)?;
-    if distance > reach(written, word) || distance > nearest.distance {
-        return Ok(nearest);
+    expected: &[Expected],
+) -> Result<Nearest<'a>, AllocError>
+    ensures { IfOk result (λ n. n ≡ fold (spec.or_nearer written.now) nearest.entry (map (λ e. e.word) expected.now)) }
+{
+    let mut nearest = nearest;
+    for one in expected {
+        nearest = nearest.or(alloc, written, one.word, reach(written, one.word))?;
     }
-    if distance == nearest.distance {
-        return Ok(Nearest {
-            word: None,
-            distance,
-        });
+    Ok(nearest)
+}
+
+/// The nearest of what is nearest so far and some names.
+fn nearest_name<'a>(
+    alloc: Global,
+    written: &[u8],
+    nearest: Nearest<'a>,
+    names: &[&'a [u8]],
+) -> Result<Nearest<'a>, AllocError>
+    ensures { IfOk result (λ n. n ≡ fold (spec.or_nearer written.now) nearest.entry names.now) }
+{
+    let mut nearest = nearest;
+    for name in names {
+        nearest = nearest.or(alloc, written, *name, reach(written, name))?;
     }
-    Ok(Nearest {
-        word: Some(word),
-        distance,
-    })
+    Ok(nearest)
 }
 
 /// The word that is nearest to what is written, of those that may stand there.
+#[tactic(auto, unfolding(crate::specs::Nearest::nearest_word), using(crate::proofs::Folds::fold_steps))]
 pub(crate) fn nearest_word<'a>(
     alloc: Global,
     written: &[u8],
     choices: &Choices<'a>,
-) -> Result<Option<&'a [u8]>, AllocError> {
-    let mut nearest = Nearest {
+) -> Result<Option<&'a [u8]>, AllocError>
+    ensures { IfOk result (λ word. word ≡ spec.nearest_word written.now choices.now) }
+{
+    let none_yet = Nearest {
         word: None,
         distance: usize::MAX,
     };
-    for expected in choices.expected.as_slice() {
-        nearest = nearer(alloc, written, nearest, expected.word)?;
-    }
-    for name in choices.names.as_slice() {
-        nearest = nearer(alloc, written, nearest, name)?;
-    }
+    let nearest = nearest_expected(alloc, written, none_yet, choices.expected.as_slice())?;
+    let nearest = nearest_name(alloc, written, nearest, choices.names.as_slice())?;
     Ok(nearest.word)
 }

@@ -1,11 +1,16 @@
 //! A call that isn't complete where the text goes on in another line.
 
+ghost use Rattle.std.specs.Prelude.{◌≡◌, map};
+ghost use Rattle.std.specs.Option.{option_map};
+ghost use Rattle.flt_hints.specs.OpenCall as spec;
+
+use crate::before::kinds_before;
 use crate::choices::Choices;
 use crate::kinds::{
     is_call, is_context_variable, is_operand_word, is_operation_variable, is_status,
     takes_fast_mutex, takes_push_lock, takes_spin_lock,
 };
-use flt_syntax::{FaultKind, Kind, Token, keywords};
+use flt_syntax::{FaultKind, Kind, Token, keywords, same_kind};
 
 /// A call that lacks an operand: its word, and the line where that stands, from 1.
 #[derive(Clone, Copy)]
@@ -15,7 +20,9 @@ pub struct OpenCall {
 }
 
 /// Whether a word may be a part of a call, behind the call's own word.
-fn is_part(kind: Kind) -> bool {
+fn is_part(kind: Kind) -> bool
+    ensures { result ≡ spec.is_part kind }
+{
     is_context_variable(kind)
         || is_operation_variable(kind)
         || is_status(kind)
@@ -23,7 +30,9 @@ fn is_part(kind: Kind) -> bool {
 }
 
 /// The call that a token leaves open, given the one that was open before it.
-fn open_behind(open: Option<OpenCall>, token: Token) -> Option<OpenCall> {
+fn open_behind(so_far: Option<OpenCall>, token: Token) -> Option<OpenCall>
+    ensures { result ≡ spec.open_behind so_far token }
+{
     let kind = token.word.kind;
     if is_call(kind) {
         Some(OpenCall {
@@ -31,32 +40,41 @@ fn open_behind(open: Option<OpenCall>, token: Token) -> Option<OpenCall> {
             line: token.position.line,
         })
     } else if is_part(kind) {
-        open
+        so_far
     } else {
         None
     }
 }
 
-/// The last call before a token, if nothing but its operands stands between, and all of them in lines above.
-fn call_above(tokens: &[Token], token: Token) -> Option<OpenCall> {
-    let mut open = None;
-    let mut line = 0;
+/// The call that the tokens before another leave open.
+fn open_before(tokens: &[Token], token: Token) -> Option<OpenCall>
+    ensures { result ≡ spec.open_before tokens.now token }
+{
+    let mut so_far = None;
     for other in tokens {
         if other.start >= token.start {
-            break;
+            return so_far;
         }
-        open = open_behind(open, *other);
-        line = other.position.line;
+        so_far = open_behind(so_far, *other);
     }
-    if line < token.position.line {
-        open
+    so_far
+}
+
+/// The last call before a token, if nothing but its operands stands between, and all of them in lines above.
+fn call_above(tokens: &[Token], token: Token) -> Option<OpenCall>
+    ensures { result ≡ spec.call_above tokens.now token }
+{
+    if kinds_before(tokens, token).line < token.position.line {
+        open_before(tokens, token)
     } else {
         None
     }
 }
 
 /// Whether an operand of a call is what may stand there: neither what follows a call nor what follows a variable that begins a statement.
-fn take_operand(choices: &Choices<'_>) -> bool {
+fn take_operand(choices: &Choices<'_>) -> bool
+    ensures { result ≡ spec.take_operand choices.now }
+{
     choices.takes_name
         || !(choices.takes(Kind::Return)
             || choices.takes(Kind::OpenBrace)
@@ -64,7 +82,9 @@ fn take_operand(choices: &Choices<'_>) -> bool {
 }
 
 /// Whether what is found is a word or a symbol of the language.
-fn is_of_the_language(kind: Kind) -> bool {
+fn is_of_the_language(kind: Kind) -> bool
+    ensures { result ≡ spec.is_of_the_language kind }
+{
     !matches!(
         kind,
         Kind::Name | Kind::Number | Kind::Stray | Kind::Malformed | Kind::End
@@ -77,7 +97,9 @@ pub(crate) fn open_call(
     tokens: &[Token],
     token: Token,
     choices: &Choices<'_>,
-) -> Option<OpenCall> {
+) -> Option<OpenCall>
+    ensures { result ≡ spec.open_call fault tokens.now token choices.now }
+{
     match fault {
         FaultKind::E03 | FaultKind::E04
             if is_of_the_language(token.word.kind) && take_operand(choices) => {
@@ -87,10 +109,12 @@ pub(crate) fn open_call(
     }
 }
 
-/// The word of a kind.
-fn word_of(kind: Kind) -> &'static [u8] {
-    for entry in keywords() {
-        if entry.1 == kind {
+/// The word of a kind, of those of a table.
+fn word_among(table: &[(&'static [u8], Kind)], kind: Kind) -> &'static [u8]
+    ensures { result.now ≡ spec.word_among (map (λ e. (e.0.now, e.1)) table.now) kind }
+{
+    for entry in table {
+        if same_kind(entry.1, kind) {
             return entry.0;
         }
     }
@@ -123,12 +147,16 @@ const PUSH_LOCK: LockWords = LockWords {
 
 impl OpenCall {
     /// The call's word.
-    pub(crate) fn word(self) -> &'static [u8] {
-        word_of(self.kind)
+    pub(crate) fn word(self) -> &'static [u8]
+        ensures { result.now ≡ spec.word_of self.kind }
+    {
+        word_among(keywords(), self.kind)
     }
 
     /// The lock that the call takes, if it takes one.
-    pub(crate) fn lock(self) -> Option<LockWords> {
+    pub(crate) fn lock(self) -> Option<LockWords>
+        ensures { option_map (λ lock. (lock.name.now, lock.declaration.now)) result ≡ spec.lock_words self.kind }
+    {
         if takes_spin_lock(self.kind) {
             Some(SPIN_LOCK)
         } else if takes_fast_mutex(self.kind) {

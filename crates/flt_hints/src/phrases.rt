@@ -1,6 +1,11 @@
 //! What may stand in a place, in words.
 
-use crate::choices::Choices;
+ghost use Rattle.std.specs.Prelude.{◌≡◌, ◌++◌, map, IfOk, OnOk};
+ghost use Rattle.std.specs.List.{list_any};
+ghost use Rattle.std.specs.Option.{option_map};
+ghost use Rattle.flt_hints.specs.Phrases as spec;
+
+use crate::choices::{Choices, Expected};
 use crate::kinds::{
     begins_callback, is_context_variable, is_number_variable, is_operation_variable, is_status,
     is_variable,
@@ -16,23 +21,33 @@ pub(crate) enum Phrase<'a> {
     Word(&'a [u8]),
 }
 
-fn is_call(word: &[u8]) -> bool {
-    matches!(
-        word,
-        [b'F', b'l', b't', ..] | [b'K', b'e', ..] | [b'E', b'x', ..]
-    )
+fn begins_statement(kind: Kind) -> bool
+    ensures { result ≡ spec.begins_statement kind }
+{
+    matches!(kind, Kind::If | Kind::Repeat | Kind::Return | Kind::Value)
 }
 
-/// The name of a word's kind, where words of its kind are told by that.
-fn kind_name(kind: Kind, word: &[u8], choices: &Choices<'_>) -> Option<&'static str> {
-    let begins_statement = matches!(kind, Kind::If | Kind::Repeat | Kind::Return | Kind::Value);
-    let begins_test = matches!(kind, Kind::Irp | Kind::Draining);
-    let begins_either = is_variable(kind) || is_call(word);
-    if choices.takes(Kind::Return) && (begins_statement || begins_either) {
-        Some("a statement")
-    } else if choices.takes(Kind::Draining) && (begins_test || begins_either) {
-        Some("a test or a call that can fail")
-    } else if begins_callback(kind) {
+fn begins_test(kind: Kind) -> bool
+    ensures { result ≡ spec.begins_test kind }
+{
+    matches!(kind, Kind::Irp | Kind::Draining)
+}
+
+/// Whether a variable or a call stands there, which begin statements and tests.
+fn begins_either(kind: Kind, word: &[u8]) -> bool
+    ensures { result ≡ spec.begins_either kind word.now }
+{
+    is_variable(kind)
+        || word.starts_with(b"Flt")
+        || word.starts_with(b"Ke")
+        || word.starts_with(b"Ex")
+}
+
+/// The name of a word's kind that it has wherever it stands.
+fn own_name(kind: Kind) -> Option<&'static str>
+    ensures { option_map (λ name. name.now) result ≡ spec.own_name kind }
+{
+    if begins_callback(kind) {
         Some("a callback")
     } else if is_status(kind) {
         Some("a status")
@@ -47,23 +62,87 @@ fn kind_name(kind: Kind, word: &[u8], choices: &Choices<'_>) -> Option<&'static 
     }
 }
 
-fn is_told(phrases: &[Phrase<'_>], name: &str) -> bool {
+/// The name of a word's kind, where words of its kind are told by that.
+fn kind_name(kind: Kind, word: &[u8], choices: &Choices<'_>) -> Option<&'static str>
+    ensures { option_map (λ name. name.now) result ≡ spec.kind_name kind word.now choices.now }
+{
+    let begins_either = begins_either(kind, word);
+    if choices.takes(Kind::Return) && (begins_statement(kind) || begins_either) {
+        Some("a statement")
+    } else if choices.takes(Kind::Draining) && (begins_test(kind) || begins_either) {
+        Some("a test or a call that can fail")
+    } else {
+        own_name(kind)
+    }
+}
+
+/// The phrase for a word of the language.
+fn phrase_for(expected: Expected, choices: &Choices<'_>) -> Phrase<'static>
+    ensures { spec.phrase_of result ≡ spec.phrase_for choices.now expected }
+{
+    match kind_name(expected.kind, expected.word, choices) {
+        Some(name) => Phrase::Kind(name),
+        None => Phrase::Word(expected.word),
+    }
+}
+
+fn is_kind(phrase: Phrase<'_>, name: &str) -> bool
+    ensures { result ≡ spec.is_kind name.now (spec.phrase_of phrase.entry) }
+{
+    match phrase {
+        Phrase::Kind(other) => other == name,
+        Phrase::Word(_) => false,
+    }
+}
+
+fn has_kind(phrases: &[Phrase<'_>], name: &str) -> bool
+    ensures { result ≡ list_any (spec.is_kind name.now) (map spec.phrase_of phrases.now) }
+{
     for phrase in phrases {
-        if let Phrase::Kind(other) = phrase {
-            if *other == name {
-                return true;
-            }
+        if is_kind(*phrase, name) {
+            return true;
         }
     }
     false
 }
 
+/// Whether a phrase is a kind that is among others already.
+fn is_said(phrases: &[Phrase<'_>], phrase: Phrase<'_>) -> bool
+    ensures { result ≡ spec.is_said (map spec.phrase_of phrases.now) (spec.phrase_of phrase.entry) }
+{
+    match phrase {
+        Phrase::Kind(name) => has_kind(phrases, name),
+        Phrase::Word(_) => false,
+    }
+}
+
+/// Adds the words of the language that may stand there, each kind once.
+fn add_expected(
+    phrases: &mut Items<Phrase<'static>>,
+    expected: &[Expected],
+    choices: &Choices<'_>,
+) -> Result<(), AllocError>
+    ensures { OnOk result (map spec.phrase_of phrases.new ≡ map spec.phrase_of phrases.old
+        ++ spec.each_once (map spec.phrase_of phrases.old) (map (spec.phrase_for choices.now) expected.now)) }
+{
+    for one in expected {
+        let phrase = phrase_for(*one, choices);
+        if !is_said(phrases.as_slice(), phrase) {
+            phrases.push(phrase)?;
+        }
+    }
+    Ok(())
+}
+
 /// What may stand in a place, each kind once.
+#[tactic(auto, unfolding(crate::specs::Phrases::phrases))]
 pub(crate) fn phrases(
     alloc: Global,
     choices: &Choices<'_>,
-) -> Result<Items<Phrase<'static>>, AllocError> {
-    let mut found = Items::new(alloc);
+) -> Result<Items<Phrase<'static>>, AllocError>
+    ensures { IfOk result (λ phrases. map spec.phrase_of phrases ≡ spec.phrases choices.now) }
+{
+    let mut found: Items<Phrase<'static>> = Items::new(alloc);
     if choices.takes_name {
         found.push(Phrase::Kind("a name"))?;
         return Ok(found);
@@ -71,12 +150,6 @@ pub(crate) fn phrases(
     if choices.takes_number {
         found.push(Phrase::Kind("a number"))?;
     }
-    for expected in choices.expected.as_slice() {
-        match kind_name(expected.kind, expected.word, choices) {
-            None => found.push(Phrase::Word(expected.word))?,
-            Some(name) if !is_told(found.as_slice(), name) => found.push(Phrase::Kind(name))?,
-            Some(_) => {}
-        }
-    }
+    add_expected(&mut found, choices.expected.as_slice(), choices)?;
     Ok(found)
 }

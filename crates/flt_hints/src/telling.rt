@@ -1,5 +1,11 @@
 //! What is said of a text that doesn't parse, in words for people.
 
+ghost use Rattle.std.specs.Prelude.{◌≡◌, ◌<◌, ◌+◌, ◌∷◌, [], ◌++◌, map, IfOk, OnOk};
+ghost use Rattle.std.specs.Fmt.{decimal};
+ghost use Rattle.std.specs.Option.{option_map};
+ghost use Rattle.flt_hints.specs.Phrases.{phrase_of};
+ghost use Rattle.flt_hints.specs.Telling as spec;
+
 use crate::absences::Absence;
 use crate::hint::Hint;
 use crate::hinting::absence_in;
@@ -24,47 +30,87 @@ pub struct Told {
 /// How many bytes of a token are shown at most.
 const MAX_SHOWN: usize = 80;
 
-fn text(out: &mut Vec<u8>, text: &str) -> Result<(), AllocError> {
+fn text(out: &mut Vec<u8>, text: &str) -> Result<(), AllocError>
+    ensures { OnOk result (out.new.items ≡ out.old.items ++ text.now) }
+{
     out.extend_from_slice(text.as_bytes())
 }
 
-/// Bytes of a text in marks. What isn't printed as it stands is a `?`.
-fn quoted(out: &mut Vec<u8>, bytes: &[u8]) -> Result<(), AllocError> {
-    text(out, "`")?;
-    for byte in &bytes[..bytes.len().min(MAX_SHOWN)] {
-        let is_shown = byte.is_ascii() && !byte.is_ascii_control();
-        out.push(if is_shown { *byte } else { b'?' })?;
+/// A byte as it is shown: `?` for one that isn't printed as it stands.
+fn shown(byte: u8) -> u8
+    ensures { result ≡ spec.shown byte }
+{
+    if byte.is_ascii() && !byte.is_ascii_control() {
+        byte
+    } else {
+        b'?'
     }
-    text(out, if bytes.len() > MAX_SHOWN { "..`" } else { "`" })
 }
 
-fn phrase(out: &mut Vec<u8>, phrase: Phrase<'_>) -> Result<(), AllocError> {
+fn all_shown(out: &mut Vec<u8>, bytes: &[u8]) -> Result<(), AllocError>
+    ensures { OnOk result (out.new.items ≡ out.old.items ++ map spec.shown bytes.now) }
+{
+    for byte in bytes {
+        out.push(shown(*byte))?;
+    }
+    Ok(())
+}
+
+/// What stands behind the bytes of a token.
+fn closing_mark(bytes: &[u8]) -> &'static str
+    ensures { result.now ≡ spec.closing_mark bytes.now }
+{
+    if bytes.len() > MAX_SHOWN { "..`" } else { "`" }
+}
+
+/// Bytes of a text in marks. What isn't printed as it stands is a `?`.
+#[tactic(auto, unfolding(crate::specs::Telling::quoted), using(crate::proofs::Written::joined))]
+fn quoted(out: &mut Vec<u8>, bytes: &[u8]) -> Result<(), AllocError>
+    ensures { OnOk result (out.new.items ≡ out.old.items ++ spec.quoted bytes.now) }
+{
+    text(out, "`")?;
+    all_shown(out, &bytes[..bytes.len().min(MAX_SHOWN)])?;
+    text(out, closing_mark(bytes))
+}
+
+fn said(out: &mut Vec<u8>, phrase: Phrase<'_>) -> Result<(), AllocError>
+    ensures { OnOk result (out.new.items ≡ out.old.items ++ spec.said (phrase_of phrase.entry)) }
+{
     match phrase {
         Phrase::Kind(name) => text(out, name),
         Phrase::Word(word) => quoted(out, word),
     }
 }
 
+/// What stands between a phrase and those behind it.
+fn joint(behind: &[Phrase<'_>]) -> &'static str
+    ensures { result.now ≡ spec.joint (map phrase_of behind.now) }
+{
+    match behind {
+        [] => "",
+        [_] => " or ",
+        _ => ", ",
+    }
+}
+
 /// Some phrases, with commas and an `or` between them.
-fn listed(out: &mut Vec<u8>, phrases: &[Phrase<'_>]) -> Result<(), AllocError> {
-    let mut left = phrases.len();
-    for one in phrases {
-        phrase(out, *one)?;
-        left = left.saturating_sub(1);
-        text(
-            out,
-            match left {
-                0 => "",
-                1 => " or ",
-                _ => ", ",
-            },
-        )?;
+#[tactic(auto, using(crate::proofs::Written::joined))]
+fn listed(out: &mut Vec<u8>, phrases: &[Phrase<'_>]) -> Result<(), AllocError>
+    ensures { OnOk result (out.new.items ≡ out.old.items ++ spec.listed (map phrase_of phrases.now)) }
+{
+    let mut left = phrases;
+    while let [one, behind @ ..] = left {
+        said(out, *one)?;
+        text(out, joint(behind))?;
+        left = behind;
     }
     Ok(())
 }
 
 /// What is found.
-fn found(out: &mut Vec<u8>, trouble: &Trouble<'_>) -> Result<(), AllocError> {
+fn found(out: &mut Vec<u8>, trouble: &Trouble<'_>) -> Result<(), AllocError>
+    ensures { OnOk result (out.new.items ≡ out.old.items ++ spec.found trouble.now) }
+{
     match trouble.spot.bytes {
         [] => text(out, "the end of the text"),
         [byte] if !byte.is_ascii() => text(out, "a byte that isn't ASCII"),
@@ -72,24 +118,38 @@ fn found(out: &mut Vec<u8>, trouble: &Trouble<'_>) -> Result<(), AllocError> {
     }
 }
 
+/// What may stand there.
+#[tactic(auto, using(crate::proofs::Written::joined))]
+fn awaited(out: &mut Vec<u8>, phrases: &[Phrase<'_>]) -> Result<(), AllocError>
+    ensures { OnOk result (out.new.items ≡ out.old.items ++ spec.awaited (map phrase_of phrases.now)) }
+{
+    match phrases {
+        [] => text(out, "expected a name that is declared"),
+        _ => {
+            text(out, "expected ")?;
+            listed(out, phrases)
+        }
+    }
+}
+
 /// What is expected, and what is found.
+#[tactic(auto, using(crate::proofs::Written::joined))]
 fn expected(
     out: &mut Vec<u8>,
     trouble: &Trouble<'_>,
     phrases: &[Phrase<'_>],
-) -> Result<(), AllocError> {
-    if phrases.is_empty() {
-        text(out, "expected a name that is declared")?;
-    } else {
-        text(out, "expected ")?;
-        listed(out, phrases)?;
-    }
+) -> Result<(), AllocError>
+    ensures { OnOk result (out.new.items ≡ out.old.items ++ spec.expected trouble.now (map phrase_of phrases.now)) }
+{
+    awaited(out, phrases)?;
     text(out, ", found ")?;
     found(out, trouble)
 }
 
 /// What a call lacks: the name of a lock, or else what may stand there.
-fn operand(out: &mut Vec<u8>, call: OpenCall, phrases: &[Phrase<'_>]) -> Result<(), AllocError> {
+fn operand(out: &mut Vec<u8>, call: OpenCall, phrases: &[Phrase<'_>]) -> Result<(), AllocError>
+    ensures { OnOk result (out.new.items ≡ out.old.items ++ spec.operand call (map phrase_of phrases.now)) }
+{
     match call.lock() {
         Some(lock) => text(out, lock.name),
         None => listed(out, phrases),
@@ -97,12 +157,15 @@ fn operand(out: &mut Vec<u8>, call: OpenCall, phrases: &[Phrase<'_>]) -> Result<
 }
 
 /// What a call lacks, and what is found in its place.
+#[tactic(auto, using(crate::proofs::Written::joined))]
 fn operand_expected(
     out: &mut Vec<u8>,
     trouble: &Trouble<'_>,
     call: OpenCall,
     phrases: &[Phrase<'_>],
-) -> Result<(), AllocError> {
+) -> Result<(), AllocError>
+    ensures { OnOk result (out.new.items ≡ out.old.items ++ spec.operand_expected trouble.now call (map phrase_of phrases.now)) }
+{
     text(out, "expected ")?;
     operand(out, call, phrases)?;
     text(out, ", found ")?;
@@ -110,15 +173,50 @@ fn operand_expected(
 }
 
 /// What is found, behind some words and before others.
+#[tactic(auto, using(crate::proofs::Written::joined))]
 fn around(
     out: &mut Vec<u8>,
     before: &str,
     trouble: &Trouble<'_>,
     behind: &str,
-) -> Result<(), AllocError> {
+) -> Result<(), AllocError>
+    ensures { OnOk result (out.new.items ≡ out.old.items ++ before.now ++ spec.found trouble.now ++ behind.now) }
+{
     text(out, before)?;
     found(out, trouble)?;
     text(out, behind)
+}
+
+fn needs_queue(hint: Option<Hint>) -> bool
+    ensures { result ≡ spec.needs_queue hint }
+{
+    matches!(hint, Some(Hint::NeedsQueue))
+}
+
+/// Whether nothing may stand there that has a phrase.
+fn is_nothing(phrases: &[Phrase<'_>]) -> bool
+    ensures { result ≡ spec.is_nothing (map phrase_of phrases.now) }
+{
+    match phrases {
+        [] => true,
+        [_, ..] => false,
+    }
+}
+
+/// Whether all that can be said of a name is that it isn't known.
+#[tactic(auto, unfolding(crate::specs::Telling::is_unknown))]
+fn is_unknown(hint: Option<Hint>, phrases: &[Phrase<'_>]) -> bool
+    ensures { result ≡ spec.is_unknown hint (map phrase_of phrases.now) }
+{
+    is_nothing(phrases) || needs_queue(hint)
+}
+
+/// The name that isn't known.
+fn unknown_name(out: &mut Vec<u8>, trouble: &Trouble<'_>) -> Result<(), AllocError>
+    ensures { OnOk result (out.new.items ≡ out.old.items ++ spec.unknown_name trouble.now) }
+{
+    text(out, "unknown name ")?;
+    found(out, trouble)
 }
 
 /// What is wrong with a name.
@@ -126,101 +224,218 @@ fn unknown(
     out: &mut Vec<u8>,
     trouble: &Trouble<'_>,
     phrases: &[Phrase<'_>],
-) -> Result<(), AllocError> {
-    if phrases.is_empty() || matches!(trouble.hint, Some(Hint::NeedsQueue)) {
-        around(out, "unknown name ", trouble, "")
+) -> Result<(), AllocError>
+    ensures { OnOk result (out.new.items ≡ out.old.items ++ spec.unknown trouble.now (map phrase_of phrases.now)) }
+{
+    if is_unknown(trouble.hint, phrases) {
+        unknown_name(out, trouble)
     } else {
         expected(out, trouble, phrases)
     }
 }
 
-/// What is wrong, in one line without its end: what is expected, and what is found.
-fn title(alloc: Global, out: &mut Vec<u8>, trouble: &Trouble<'_>) -> Result<(), AllocError> {
-    let phrases = phrases(alloc, &trouble.choices)?;
-    let phrases = phrases.as_slice();
-    if let Some(call) = trouble.open_call {
-        return operand_expected(out, trouble, call, phrases);
-    }
-    match (trouble.spot.fault.kind, trouble.hint) {
-        (_, Some(Hint::TooLarge)) => text(out, "the text is too large"),
-        (_, Some(Hint::ByteOrderMark)) => text(out, "the text begins with a byte order mark"),
-        (_, Some(Hint::NeedsCanceled)) => text(out, "`queue` without a `canceled` callback"),
-        (_, Some(Hint::NeedsPre)) => text(out, "`post` callback without its `pre` callback"),
-        (_, Some(Hint::CallbackTwice)) => around(out, "this ", trouble, " callback stands twice"),
-        (FaultKind::E02, _) => around(out, "", trouble, " is no word or number"),
-        (FaultKind::E04, _) => unknown(out, trouble, phrases),
-        (FaultKind::E05, _) => around(out, "the name ", trouble, " is declared twice"),
-        (FaultKind::E06, _) => around(out, "a limit is passed at ", trouble, ""),
-        (FaultKind::E08, _) => around(out, "", trouble, " stands twice in one call"),
-        (FaultKind::E01 | FaultKind::E03 | FaultKind::E07, _) => expected(out, trouble, phrases),
+/// What is wrong, where the hint alone says it.
+fn own_title(hint: Option<Hint>) -> Option<&'static str>
+    ensures { option_map (λ words. words.now) result ≡ spec.own_title hint }
+{
+    match hint {
+        Some(Hint::TooLarge) => Some("the text is too large"),
+        Some(Hint::ByteOrderMark) => Some("the text begins with a byte order mark"),
+        Some(Hint::NeedsCanceled) => Some("`queue` without a `canceled` callback"),
+        Some(Hint::NeedsPre) => Some("`post` callback without its `pre` callback"),
+        _ => None,
     }
 }
 
-/// Which word is probably meant, if one is.
-fn meant(out: &mut Vec<u8>, trouble: &Trouble<'_>) -> Result<(), AllocError> {
-    let Some(word) = trouble.meant else {
-        return Ok(());
-    };
+fn is_callback_twice(hint: Option<Hint>) -> bool
+    ensures { result ≡ spec.is_callback_twice hint }
+{
+    matches!(hint, Some(Hint::CallbackTwice))
+}
+
+/// What is wrong, by the fault.
+fn title_by_fault(
+    out: &mut Vec<u8>,
+    trouble: &Trouble<'_>,
+    phrases: &[Phrase<'_>],
+) -> Result<(), AllocError>
+    ensures { OnOk result (out.new.items ≡ out.old.items
+        ++ spec.title_by_fault trouble.now.spot.fault.kind trouble.now (map phrase_of phrases.now)) }
+{
+    match trouble.spot.fault.kind {
+        FaultKind::E02 => around(out, "", trouble, " is no word or number"),
+        FaultKind::E04 => unknown(out, trouble, phrases),
+        FaultKind::E05 => around(out, "the name ", trouble, " is declared twice"),
+        FaultKind::E06 => around(out, "a limit is passed at ", trouble, ""),
+        FaultKind::E08 => around(out, "", trouble, " stands twice in one call"),
+        FaultKind::E01 | FaultKind::E03 | FaultKind::E07 => expected(out, trouble, phrases),
+    }
+}
+
+/// What is wrong, by what the hint says, or else by the fault.
+fn title_by_hint(
+    out: &mut Vec<u8>,
+    trouble: &Trouble<'_>,
+    phrases: &[Phrase<'_>],
+) -> Result<(), AllocError>
+    ensures { OnOk result (out.new.items ≡ out.old.items
+        ++ spec.title_by_hint (spec.own_title trouble.now.hint) trouble.now (map phrase_of phrases.now)) }
+{
+    match own_title(trouble.hint) {
+        Some(words) => text(out, words),
+        None if is_callback_twice(trouble.hint) => {
+            around(out, "this ", trouble, " callback stands twice")
+        }
+        None => title_by_fault(out, trouble, phrases),
+    }
+}
+
+/// What is wrong, in one line without its end: what is expected, and what is found.
+#[tactic(auto, unfolding(crate::specs::Telling::title_of))]
+fn title(alloc: Global, out: &mut Vec<u8>, trouble: &Trouble<'_>) -> Result<(), AllocError>
+    ensures { OnOk result (out.new.items ≡ out.old.items ++ spec.title_of trouble.now) }
+{
+    let phrases = phrases(alloc, &trouble.choices)?;
+    match trouble.open_call {
+        Some(call) => operand_expected(out, trouble, call, phrases.as_slice()),
+        None => title_by_hint(out, trouble, phrases.as_slice()),
+    }
+}
+
+/// Whether this word is meant.
+fn question(out: &mut Vec<u8>, word: &[u8]) -> Result<(), AllocError>
+    ensures { OnOk result (out.new.items ≡ out.old.items ++ spec.question word.now) }
+{
     text(out, "did you mean ")?;
     quoted(out, word)?;
     text(out, "?")
 }
 
-/// The names that may stand there.
-fn names(out: &mut Vec<u8>, names: &[&[u8]]) -> Result<(), AllocError> {
-    if names.is_empty() {
-        return Ok(());
+/// Which word is probably meant, if one is.
+#[tactic(auto, unfolding(crate::specs::Telling::meant_of))]
+fn meant(out: &mut Vec<u8>, trouble: &Trouble<'_>) -> Result<(), AllocError>
+    ensures { OnOk result (out.new.items ≡ out.old.items ++ spec.meant_of trouble.now) }
+{
+    match trouble.meant {
+        Some(word) => question(out, word),
+        None => Ok(()),
     }
-    let mut before = "   = note: declared here: ";
-    for name in names {
-        text(out, before)?;
-        quoted(out, name)?;
-        before = ", ";
-    }
-    text(out, "\n")
 }
 
-/// A number in decimal digits.
-fn number(out: &mut Vec<u8>, value: usize) -> Result<(), AllocError> {
-    if value >= 10 {
-        number(out, value / 10)?;
+/// Further names.
+#[tactic(auto, using(crate::proofs::Written::joined))]
+fn further(out: &mut Vec<u8>, names: &[&[u8]]) -> Result<(), AllocError>
+    ensures { OnOk result (out.new.items ≡ out.old.items ++ spec.further names.now) }
+{
+    for name in names {
+        text(out, ", ")?;
+        quoted(out, name)?;
     }
-    out.push(b'0' + (value % 10) as u8)?;
     Ok(())
 }
 
-/// That a call isn't complete: its word, its line, and what it lacks.
-fn lacking(out: &mut Vec<u8>, call: OpenCall, phrases: &[Phrase<'_>]) -> Result<(), AllocError> {
+/// A name and further ones, in a line.
+fn declared_here(out: &mut Vec<u8>, name: &[u8], names: &[&[u8]]) -> Result<(), AllocError>
+    ensures { OnOk result (out.new.items ≡ out.old.items ++ spec.declared_here name.now names.now) }
+{
+    text(out, "   = note: declared here: ")?;
+    quoted(out, name)?;
+    further(out, names)?;
+    text(out, "\n")
+}
+
+/// The names that may stand there, in a line.
+fn names(out: &mut Vec<u8>, names: &[&[u8]]) -> Result<(), AllocError>
+    ensures { OnOk result (out.new.items ≡ out.old.items ++ spec.names_line names.now) }
+{
+    match names {
+        [first, rest @ ..] => declared_here(out, first, rest),
+        [] => Ok(()),
+    }
+}
+
+fn digit(out: &mut Vec<u8>, digit: u8) -> Result<(), AllocError>
+    requires { digit < 10 }
+    ensures { OnOk result (out.new.items ≡ out.old.items ++ (48 + digit) ∷ []) }
+{
+    out.push(b'0' + digit)?;
+    Ok(())
+}
+
+/// A number in decimal digits.
+#[tactic(auto, using(crate::proofs::Written::digit_steps))]
+fn number(out: &mut Vec<u8>, value: usize) -> Result<(), AllocError>
+    ensures { OnOk result (out.new.items ≡ out.old.items ++ decimal value) }
+{
+    if value < 10 {
+        return digit(out, value as u8);
+    }
+    number(out, value / 10)?;
+    digit(out, (value % 10) as u8)
+}
+
+/// That a call isn't complete: its word, and its line.
+fn incomplete(out: &mut Vec<u8>, call: OpenCall) -> Result<(), AllocError>
+    ensures { OnOk result (out.new.items ≡ out.old.items ++ spec.incomplete call) }
+{
     text(out, "the call before this isn't complete: ")?;
     quoted(out, call.word())?;
     text(out, " in line ")?;
-    number(out, call.line)?;
+    number(out, call.line)
+}
+
+/// The same with what it lacks.
+#[tactic(auto, unfolding(crate::specs::Telling::lacking), using(crate::proofs::Written::joined))]
+fn lacking(out: &mut Vec<u8>, call: OpenCall, phrases: &[Phrase<'_>]) -> Result<(), AllocError>
+    ensures { OnOk result (out.new.items ≡ out.old.items ++ spec.lacking call (map phrase_of phrases.now)) }
+{
+    incomplete(out, call)?;
     text(out, " lacks ")?;
     operand(out, call, phrases)
 }
 
 /// How a lock is declared, where a call takes one and the filter declares none.
-fn declaration(call: OpenCall, trouble: &Trouble<'_>) -> &'static str {
+#[tactic(auto, unfolding(crate::specs::Telling::declaration))]
+fn declaration(call: OpenCall, trouble: &Trouble<'_>) -> &'static str
+    ensures { result.now ≡ spec.declaration call trouble.now }
+{
     match call.lock() {
         Some(lock) if trouble.choices.are_none() => lock.declaration,
         _ => "",
     }
 }
 
+/// What a call lacks, by what may stand there.
+fn lacking_there(
+    alloc: Global,
+    out: &mut Vec<u8>,
+    trouble: &Trouble<'_>,
+    call: OpenCall,
+) -> Result<(), AllocError>
+    ensures { OnOk result (out.new.items ≡ out.old.items ++ spec.lacking_there trouble.now call) }
+{
+    let phrases = phrases(alloc, &trouble.choices)?;
+    lacking(out, call, phrases.as_slice())
+}
+
 /// How to complete a call.
+#[tactic(auto, using(crate::proofs::Written::joined))]
 fn call_help(
     alloc: Global,
     out: &mut Vec<u8>,
     trouble: &Trouble<'_>,
     call: OpenCall,
-) -> Result<(), AllocError> {
-    let phrases = phrases(alloc, &trouble.choices)?;
-    lacking(out, call, phrases.as_slice())?;
+) -> Result<(), AllocError>
+    ensures { OnOk result (out.new.items ≡ out.old.items ++ spec.call_help trouble.now call) }
+{
+    lacking_there(alloc, out, trouble, call)?;
     text(out, declaration(call, trouble))
 }
 
 /// What the language leaves out, by the word that names it, be it misspelt.
-fn absence_at(alloc: Global, trouble: &Trouble<'_>) -> Result<Option<Absence>, AllocError> {
+fn absence_at(alloc: Global, trouble: &Trouble<'_>) -> Result<Option<Absence>, AllocError>
+    ensures { IfOk result (λ absence. absence ≡ spec.absence_at trouble.now) }
+{
     let absence = absence_in(trouble.spot.bytes, &trouble.choices);
     if absence.is_some() {
         return Ok(absence);
@@ -229,23 +444,36 @@ fn absence_at(alloc: Global, trouble: &Trouble<'_>) -> Result<Option<Absence>, A
 }
 
 /// What to write in place of what the language leaves out.
-fn absence_sentence(alloc: Global, trouble: &Trouble<'_>) -> Result<&'static str, AllocError> {
+fn absence_sentence(alloc: Global, trouble: &Trouble<'_>) -> Result<&'static str, AllocError>
+    ensures { IfOk result (λ words. words.now ≡ spec.absence_sentence (spec.absence_at trouble.now)) }
+{
     match absence_at(alloc, trouble)? {
         Some(absence) => Ok(absence.sentence()),
         None => Ok(Hint::LeftOut.sentence()),
     }
 }
 
+fn is_left_out(hint: Hint) -> bool
+    ensures { result ≡ spec.is_left_out hint }
+{
+    matches!(hint, Hint::LeftOut)
+}
+
 /// The sentence of a hint.
-fn sentence(alloc: Global, trouble: &Trouble<'_>, hint: Hint) -> Result<&'static str, AllocError> {
-    match hint {
-        Hint::LeftOut => absence_sentence(alloc, trouble),
-        _ => Ok(hint.sentence()),
+fn sentence(alloc: Global, trouble: &Trouble<'_>, hint: Hint) -> Result<&'static str, AllocError>
+    ensures { IfOk result (λ words. words.now ≡ spec.sentence_of trouble.now hint) }
+{
+    if is_left_out(hint) {
+        absence_sentence(alloc, trouble)
+    } else {
+        Ok(hint.sentence())
     }
 }
 
 /// How to mend what is wrong.
-fn help(alloc: Global, out: &mut Vec<u8>, trouble: &Trouble<'_>) -> Result<(), AllocError> {
+fn help(alloc: Global, out: &mut Vec<u8>, trouble: &Trouble<'_>) -> Result<(), AllocError>
+    ensures { OnOk result (out.new.items ≡ out.old.items ++ spec.help_by trouble.now.open_call trouble.now.hint trouble.now) }
+{
     match (trouble.open_call, trouble.hint) {
         (Some(call), _) => call_help(alloc, out, trouble, call),
         (None, Some(hint)) => text(out, sentence(alloc, trouble, hint)?),
@@ -253,11 +481,11 @@ fn help(alloc: Global, out: &mut Vec<u8>, trouble: &Trouble<'_>) -> Result<(), A
     }
 }
 
-/// Which declared names may stand there, and how to mend what is wrong.
-fn notes(alloc: Global, out: &mut Vec<u8>, trouble: &Trouble<'_>) -> Result<(), AllocError> {
-    if !trouble.choices.takes_name {
-        names(out, trouble.choices.names.as_slice())?;
-    }
+/// How to mend what is wrong, in a line.
+#[tactic(auto, using(crate::proofs::Written::joined))]
+fn help_line(alloc: Global, out: &mut Vec<u8>, trouble: &Trouble<'_>) -> Result<(), AllocError>
+    ensures { OnOk result (out.new.items ≡ out.old.items ++ spec.help_line trouble.now) }
+{
     if trouble.open_call.is_none() && trouble.hint.is_none() {
         return Ok(());
     }
@@ -266,12 +494,27 @@ fn notes(alloc: Global, out: &mut Vec<u8>, trouble: &Trouble<'_>) -> Result<(), 
     text(out, "\n")
 }
 
+/// Which declared names may stand there, and how to mend what is wrong.
+#[tactic(auto, unfolding(crate::specs::Telling::notes_of), using(crate::proofs::Written::joined))]
+fn notes(alloc: Global, out: &mut Vec<u8>, trouble: &Trouble<'_>) -> Result<(), AllocError>
+    ensures { OnOk result (out.new.items ≡ out.old.items ++ spec.notes_of trouble.now) }
+{
+    if !trouble.choices.takes_name {
+        names(out, trouble.choices.names.as_slice())?;
+    }
+    help_line(alloc, out, trouble)
+}
+
 /// What is said of a text that doesn't parse, in words for people.
 ///
 /// # Errors
 ///
 /// Where a growth was refused.
-pub fn tell(alloc: Global, trouble: &Trouble<'_>) -> Result<Told, AllocError> {
+pub fn tell(alloc: Global, trouble: &Trouble<'_>) -> Result<Told, AllocError>
+    ensures title { IfOk result (λ told. told.title.items ≡ spec.title_of trouble.now) }
+    ensures meant { IfOk result (λ told. told.meant.items ≡ spec.meant_of trouble.now) }
+    ensures notes { IfOk result (λ told. told.notes.items ≡ spec.notes_of trouble.now) }
+{
     let mut told = Told {
         title: Vec::new(alloc),
         meant: Vec::new(alloc),

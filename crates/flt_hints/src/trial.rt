@@ -91,7 +91,8 @@ pub(crate) fn if_it_may<'a>(
     gap: Gap<'_>,
     word: Option<&'a [u8]>,
 ) -> Result<Option<&'a [u8]>, AllocError>
-    ensures { IfOk result (λ o. IfSome o (λ w. spec.MayStand (gap_of gap.entry) w.now)) }
+    ensures tried { IfOk result (λ o. o ≡ spec.if_it_may (gap_of gap.entry) word.entry) }
+    ensures stands { IfOk result (λ o. IfSome o (λ w. spec.MayStand (gap_of gap.entry) w.now)) }
 {
     the_fault_is_the_one_told();
     let Some(word) = word else {

@@ -1,7 +1,8 @@
 use Rattle.std.proofs.Common.{◌≡◌, map, drop}
-use Rattle.flt_hints.specs.Absences.{begins_by_one}
+use Rattle.flt_hints.specs.Absences.{named_among}
 use Rattle.flt_hints.proofs.absences.absence_among.Given as goal
 
 abbrev pub invariant-loop-entry : goal.invariant-loop-entry
 invariant-loop-entry l =
-    begins_by_one (map (λ e. e.0.now) (drop l.entry-index l.table)) l.word ≡ begins_by_one (map (λ e. e.0.now) l.table) l.word
+    named_among (map (λ e. (e.0.now, e.1)) (drop l.entry-index l.table)) l.word
+    ≡ named_among (map (λ e. (e.0.now, e.1)) l.table) l.word
