@@ -1,10 +1,13 @@
 pub mod Bits
+pub mod FollowedBack
 pub mod Gathering
 pub mod HeldLocks
 pub mod Last
 pub mod OnWays
 pub mod Parts
 pub mod Reading
+pub mod Searched
+pub mod Searching
 pub mod Situations
 pub mod Steps
 pub mod Subjects

@@ -2,3 +2,4 @@ pub mod Facts
 pub mod Gathering
 pub mod Grouping
 pub mod Origins
+pub mod Search

@@ -6,11 +6,14 @@ use Rattle.flt_rules.specs.declared.held.HeldLock.{HeldLock}
 use Rattle.flt_rules.specs.declared.place.Mode.{Mode}
 use Rattle.flt_rules.specs.declared.place.Mode.TheVariants.{Irp, Fast}
 use Rattle.flt_rules.specs.Held.{holds_lock}
+use Rattle.flt_rules.specs.Table.{row}
 use Rattle.flt_graph.specs.Graph.{place_at, instruction_at}
 use Rattle.flt_graph.specs.Points.{successor}
 use Rattle.flt_graph.specs.declared.graph.Graph.{Graph}
+use Rattle.flt_graph.specs.declared.instruction.Instruction.{Instruction}
+use Rattle.flt_graph.specs.declared.instruction.Instruction.TheVariants as instruction
 use Rattle.flt_abs.specs.Entry.{entry}
-use Rattle.flt_abs.specs.Outcome.{context_now, operation_now, agrees}
+use Rattle.flt_abs.specs.Outcome.{context_now, operation_now, agrees, can_fail}
 use Rattle.flt_abs.specs.Sets.{StatusSet, ModeSet, DrainingSet, status_bits, mode_bits, draining_bits}
 use Rattle.flt_abs.specs.State.{Status, Null, Held, Stale, Situation, State, has_mode, has_draining}
 use Rattle.flt_abs.specs.Variables.{context_in, operation_in}
@@ -133,6 +136,37 @@ HasNone g k f steps p = (c : Cause) (later : List Step) → IsLast g k f steps c
 abbrev pub HaveOrigins : Type 0
 HaveOrigins = (g : Graph) (k : ℕ) (clean : Bool) (w : Way) (f : Fact) → IsWay g k clean w → IsTrue (is_so f w.end.situation) →
     IsTrue (is_some (origin_on g k f w.steps w.end.point))
+
+-- ---- by the graph alone
+
+-- whether an instruction may come out so, whatever is so
+abbrev pub is_outcome : Instruction → Bool → Bool
+is_outcome (instruction.Act a next) outcome = outcome
+is_outcome (instruction.Call c granted refused) true = true
+is_outcome (instruction.Call c granted refused) false = can_fail (row c.call).on_fail
+is_outcome (instruction.Test t granted refused) outcome = true
+is_outcome (instruction.Repeat turns block next) outcome = true
+is_outcome (instruction.Return status) outcome = false
+is_outcome instruction.End outcome = false
+
+-- whether a step is of a point, whose instruction may come out so
+abbrev pub is_step_from : Graph → ℕ → ℕ → Step → Bool
+is_step_from g k p s = (s.point == p) && is_outcome (instruction_at g k s.point) s.granted
+
+-- where steps lead along the graph from a point
+abbrev pub path_end : Graph → ℕ → Option ℕ → List Step → Option ℕ
+path_end g k p [] = p
+path_end g k None (s ∷ steps) = None
+path_end g k (Some p) (s ∷ steps) =
+    if is_step_from g k p s then path_end g k (successor (instruction_at g k s.point) s.granted) steps else None
+
+-- no path of the graph from the callback's entry to a point has an origin of a fact there
+abbrev pub HasNoneAt : Graph → ℕ → Fact → ℕ → Type 0
+HasNoneAt g k f p = (steps : List Step) → path_end g k (Some 0) steps ≡ Some p → HasNone g k f steps p
+
+-- on some path of the graph from the callback's entry to a point this is what made a fact last
+abbrev pub IsOnPath : Graph → ℕ → Fact → ℕ → Origin → Type 0
+IsOnPath g k f p o = (steps : List Step) × (path_end g k (Some 0) steps ≡ Some p) × IsLast g k f steps o.cause o.later
 
 -- ---- what a finding is about
 

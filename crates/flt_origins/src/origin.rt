@@ -76,7 +76,7 @@ fn leads(
     at
 }
 
-fn is_made_by(graph: &Graph, callback: usize, fact: Fact, step: Step) -> bool
+pub(crate) fn is_made_by(graph: &Graph, callback: usize, fact: Fact, step: Step) -> bool
     ensures { result ≡ spec.is_made_by graph.now callback fact step }
 {
     makes(

@@ -1,23 +1,25 @@
-//! Where a fact may come from by the graph alone, where no way is known. Nothing is proved of the search but that it comes to an end: what
-//! it finds is looked at once more.
+//! Where a fact may come from by the graph alone, where no path is known: a search of the graph for a shortest path on which the fact is so
+//! at its end. Each point is reached once with the fact and once without it at most, so that the search comes to an end.
 
-ghost use Rattle.std.specs.Prelude.{IfOk, IfSome};
-ghost use Rattle.flt_origins.specs.Origins as spec;
+ghost use Rattle.std.specs.Prelude.{◌≡◌, None, IfOk, IfSome, replicate, reverse};
+ghost use Rattle.flt_origins.specs.Origins as origins;
+ghost use Rattle.flt_origins.specs.Search as spec;
 
 use crate::entered::may_be_at_entry;
 use crate::facts::{Fact, keeps, makes};
-use crate::origin::{Origin, next, origin_on};
+use crate::origin::{Cause, Origin, is_made_by, next};
 use flt_graph::{Graph, Instruction};
 use flt_rules::row;
 use flt_ways::Step;
 use sqlite_items::Items;
 use std::alloc::{AllocError, Global};
 
-/// How many points are looked at, at most: those of a callback, each with the fact and without it.
-const LIMIT: usize = 1_026;
-
-/// How a point can come out: granted or not, and a context given or not.
-const OUTCOMES: [(bool, bool); 4] = [(true, true), (true, false), (false, true), (false, false)];
+/// Whether a point is reached: without the fact, and with it.
+#[derive(Clone, Copy)]
+struct Mark {
+    absent: bool,
+    present: bool,
+}
 
 /// A point that is reached, whether the fact is so there, and the step that leads there, from the point of a number.
 #[derive(Clone, Copy)]
@@ -28,7 +30,9 @@ struct Reached {
 }
 
 /// Whether an instruction may come out so, whatever is so.
-fn may_come_out(instruction: &Instruction, granted: bool) -> bool {
+fn may_come_out(instruction: &Instruction, granted: bool) -> bool
+    ensures { result ≡ origins.is_outcome instruction.now granted }
+{
     match instruction {
         Instruction::Act(_, _) => granted,
         Instruction::Call(call, _, _) => granted || row(call.call).on_fail.is_some(),
@@ -37,46 +41,107 @@ fn may_come_out(instruction: &Instruction, granted: bool) -> bool {
     }
 }
 
+fn is_marked(mark: Mark, so: bool) -> bool
+    ensures { result ≡ spec.is_marked mark so }
+{
+    if so { mark.present } else { mark.absent }
+}
+
+fn marked(mark: Mark, so: bool) -> Mark
+    ensures { result ≡ spec.marked mark so }
+{
+    if so {
+        Mark {
+            present: true,
+            ..mark
+        }
+    } else {
+        Mark {
+            absent: true,
+            ..mark
+        }
+    }
+}
+
+/// Marks for so many points, none of which is reached.
+fn unmarked(alloc: Global, count: usize) -> Result<Items<Mark>, AllocError>
+    ensures { IfOk result (λ marks. marks ≡ replicate count spec.unmarked) }
+{
+    let mut marks = Items::new(alloc);
+    for _point in 0..count {
+        marks.push(Mark {
+            absent: false,
+            present: false,
+        })?;
+    }
+    Ok(marks)
+}
+
 /// The points that are reached, in order, and for each point whether it is without the fact and with it.
 #[derive(Drop)]
 struct Search {
-    found: Vec<Reached>,
-    seen: Vec<(bool, bool)>,
+    found: Items<Reached>,
+    seen: Items<Mark>,
 }
 
 impl Search {
-    /// No point of a callback is reached.
-    fn none(alloc: Global, points: usize) -> Result<Search, AllocError> {
-        let mut seen = Vec::new(alloc);
-        for _point in 0..points {
-            seen.push((false, false))?;
-        }
+    /// No point is reached. There is a mark for each point of a callback, and for the one that is looked for.
+    fn none(alloc: Global, points: usize, point: usize) -> Result<Search, AllocError>
+        ensures { IfOk result (spec.IsUnsearched points point) }
+    {
+        let mut seen = unmarked(alloc, if points < point { point } else { points })?;
+        seen.push(Mark {
+            absent: false,
+            present: false,
+        })?;
         Ok(Search {
-            found: Vec::new(alloc),
+            found: Items::new(alloc),
             seen,
         })
     }
 
-    /// Whether it is reached already; a point that isn't there needn't be.
-    fn is_seen(&self, one: Reached) -> bool {
-        match self.seen.get(one.point) {
-            Some((without, with)) => { if one.is_so { *with } else { *without } }
-            None => true,
-        }
-    }
-
-    /// A point is reached, with the fact or without it.
-    fn arrive(&mut self, one: Reached) -> Result<(), AllocError> {
-        if self.is_seen(one) {
+    /// A point is reached, with the fact or without it; once is enough.
+    fn arrive(&mut self, one: Reached) -> Result<(), AllocError>
+        ensures { IfOk result (λ _. self.new ≡ spec.arrived self.old one) }
+    {
+        let Some(mark) = self.seen.get(one.point) else {
+            return Ok(());
+        };
+        let mark = *mark;
+        if is_marked(mark, one.is_so) {
             return Ok(());
         }
         self.found.push(one)?;
-        if let Some(seen) = self.seen.get_mut(one.point) {
-            let (without, with) = *seen;
-            *seen = (without || !one.is_so, with || one.is_so);
-        }
+        self.seen.set(one.point, marked(mark, one.is_so));
         Ok(())
     }
+
+    /// The entry is reached, with the fact if it may be so there, and without it.
+    fn enter(&mut self, so: bool) -> Result<(), AllocError>
+        ensures { IfOk result (λ _. self.new ≡ spec.entered so self.old) }
+    {
+        if so {
+            self.arrive(Reached {
+                point: 0,
+                is_so: true,
+                arrival: None,
+            })?;
+        }
+        self.arrive(Reached {
+            point: 0,
+            is_so: false,
+            arrival: None,
+        })
+    }
+}
+
+/// Whether a fact may be so after a step.
+fn may_be_after(graph: &Graph, callback: usize, fact: Fact, from: Reached, step: Step) -> bool
+    ensures { result ≡ spec.may_be_after graph.now callback fact from step }
+{
+    let instruction = graph.instruction_ref(callback, step.point);
+    makes(instruction, step.granted, step.gives, fact)
+        || (from.is_so && keeps(instruction, step.granted, fact))
 }
 
 /// Reaches what a step from the point of a number leads to.
@@ -88,7 +153,9 @@ fn take(
     number: usize,
     from: Reached,
     step: Step,
-) -> Result<(), AllocError> {
+) -> Result<(), AllocError>
+    ensures { IfOk result (λ _. search.new ≡ spec.taken graph.now callback fact number from step search.old) }
+{
     let instruction = graph.instruction_ref(callback, step.point);
     let Some(point) = next(instruction, step.granted) else {
         return Ok(());
@@ -97,8 +164,7 @@ fn take(
         return Ok(());
     }
     let arrival = Some((number, step));
-    let is_kept = from.is_so && keeps(instruction, step.granted, fact);
-    if is_kept || makes(instruction, step.granted, step.gives, fact) {
+    if may_be_after(graph, callback, fact, from, step) {
         search.arrive(Reached {
             point,
             is_so: true,
@@ -112,6 +178,16 @@ fn take(
     })
 }
 
+fn step(point: usize, granted: bool, gives: bool) -> Step
+    ensures { result ≡ spec.step point granted gives }
+{
+    Step {
+        point,
+        granted,
+        gives,
+    }
+}
+
 /// Reaches what follows the point of a number.
 fn go_on(
     graph: &Graph,
@@ -120,85 +196,139 @@ fn go_on(
     search: &mut Search,
     number: usize,
     from: Reached,
-) -> Result<(), AllocError> {
-    for (granted, gives) in OUTCOMES {
-        let step = Step {
-            point: from.point,
-            granted,
-            gives,
-        };
-        take(graph, callback, fact, search, number, from, step)?;
-    }
-    Ok(())
+) -> Result<(), AllocError>
+    ensures { IfOk result (λ _. search.new ≡ spec.gone_on graph.now callback fact number from search.old) }
+{
+    let point = from.point;
+    take(
+        graph,
+        callback,
+        fact,
+        search,
+        number,
+        from,
+        step(point, true, true),
+    )?;
+    take(
+        graph,
+        callback,
+        fact,
+        search,
+        number,
+        from,
+        step(point, true, false),
+    )?;
+    take(
+        graph,
+        callback,
+        fact,
+        search,
+        number,
+        from,
+        step(point, false, true),
+    )?;
+    take(
+        graph,
+        callback,
+        fact,
+        search,
+        number,
+        from,
+        step(point, false, false),
+    )
 }
 
-/// The steps that lead to the point of a number.
-fn steps_to(alloc: Global, found: &[Reached], number: usize) -> Result<Items<Step>, AllocError> {
-    let mut steps = Vec::new(alloc);
-    let mut number = number;
-    for _step in 0..found.len() {
-        if let Some(
-            Reached {
-                arrival: Some((from, step)),
-                ..
-            },
-        ) = found.get(number)
-        {
-            steps.push(*step)?;
-            number = *from;
-        }
-    }
-    steps.reverse();
-    Ok(Items::from_vec(steps))
-}
-
-/// The entry of a callback is reached, with the fact if it may be so there, and without it.
+/// A search for a point that has reached no more than the entry of the callback.
 fn entered(
     alloc: Global,
     graph: &Graph,
     callback: usize,
     fact: Fact,
-) -> Result<Search, AllocError> {
-    let mut search = Search::none(alloc, graph.points(callback))?;
-    let entry = Reached {
-        point: 0,
-        is_so: false,
-        arrival: None,
-    };
-    if may_be_at_entry(alloc, graph.place(callback), fact) {
-        search.arrive(Reached {
-            is_so: true,
-            ..entry
-        })?;
-    }
-    search.arrive(entry)?;
+    point: usize,
+) -> Result<Search, AllocError>
+    ensures { IfOk result (λ search. spec.IsSearched graph.now callback fact point search 0) }
+{
+    let mut search = Search::none(alloc, graph.points(callback), point)?;
+    search.enter(may_be_at_entry(alloc, graph.place(callback), fact))?;
     Ok(search)
 }
 
-/// The steps of a shortest path to a point, at which the fact is so.
-fn path_to(
-    alloc: Global,
+/// Whether this is the point that is looked for, with the fact.
+fn is_sought(one: Reached, point: usize) -> bool
+    ensures { result ≡ spec.is_sought one point }
+{
+    one.point == point && one.is_so
+}
+
+/// Follows each point that is reached, in order, until it is the one that is looked for, with the fact: its number.
+fn reach(
     graph: &Graph,
     callback: usize,
     fact: Fact,
     point: usize,
-) -> Result<Option<Items<Step>>, AllocError> {
-    let mut search = entered(alloc, graph, callback, fact)?;
-    for number in 0..LIMIT {
+    search: &mut Search,
+) -> Result<Option<usize>, AllocError>
+    requires { spec.IsSearched graph.now callback fact point search.old 0 }
+    ensures found { IfOk result (λ n. IfSome n (spec.IsFound graph.now callback fact point search.new)) }
+    ensures none { IfOk result (λ n. n ≡ None → origins.HasNoneAt graph.now callback fact point) }
+{
+    let mut number: usize = 0;
+    while number < search.found.len() {
         let Some(from) = search.found.get(number) else {
             return Ok(None);
         };
         let from = *from;
-        if from.point == point && from.is_so {
-            return Ok(Some(steps_to(alloc, search.found.as_slice(), number)?));
+        if is_sought(from, point) {
+            return Ok(Some(number));
         }
-        go_on(graph, callback, fact, &mut search, number, from)?;
+        go_on(graph, callback, fact, search, number, from)?;
+        number += 1;
     }
     Ok(None)
 }
 
-/// Where a fact may come from that may be so at a point: a path of the graph leads from what makes it to the point, and each step of it
-/// keeps it. Whether a situation allows that path isn't asked. No clause says that one is found where there is one.
+/// An origin, by its cause and the steps since, the last one first.
+fn origin_back(fact: Fact, cause: Cause, later: Vec<Step>) -> Origin
+    ensures { result ≡ origins.origin fact cause (reverse later.items) }
+{
+    let mut later = later;
+    later.reverse();
+    Origin {
+        fact,
+        cause,
+        later: Items::from_vec(later),
+    }
+}
+
+/// Where a fact comes from that is so at the point of a number, by the steps that led there.
+fn traced(
+    alloc: Global,
+    graph: &Graph,
+    callback: usize,
+    fact: Fact,
+    found: &Items<Reached>,
+    number: usize,
+) -> Result<Origin, AllocError>
+    requires { spec.AreArrivals graph.now callback fact found.now }
+    ensures { IfOk result (spec.IsFollowedBack graph.now callback fact found.now number) }
+{
+    let mut number = number;
+    let mut later = Vec::new(alloc);
+    while let Some(one) = found.get(number) {
+        let Some((from, step)) = one.arrival else {
+            return Ok(origin_back(fact, Cause::Entry, later));
+        };
+        if is_made_by(graph, callback, fact, step) {
+            return Ok(origin_back(fact, Cause::Made(step), later));
+        }
+        later.push(step)?;
+        number = from;
+    }
+    Ok(origin_back(fact, Cause::Entry, later))
+}
+
+/// Where a fact may come from that may be so at a point: a path of the graph leads from the callback's entry to the point, something on it
+/// makes the fact, and each step since keeps it. Whether a situation allows that path isn't asked. None where no path has such an origin.
 ///
 /// # Errors
 ///
@@ -210,10 +340,16 @@ pub fn origin_at(
     fact: Fact,
     point: usize,
 ) -> Result<Option<Origin>, AllocError>
-    ensures { IfOk result (λ o. IfSome o (spec.IsOrigin graph.now callback fact point)) }
+    ensures meaning { IfOk result (λ o. IfSome o (origins.IsOrigin graph.now callback fact point)) }
+    ensures path { IfOk result (λ o. IfSome o (origins.IsOnPath graph.now callback fact point)) }
+    ensures none { IfOk result (λ o. o ≡ None → origins.HasNoneAt graph.now callback fact point) }
 {
-    match path_to(alloc, graph, callback, fact, point)? {
-        Some(steps) => origin_on(alloc, graph, callback, fact, steps.as_slice(), point),
+    let mut search = entered(alloc, graph, callback, fact, point)?;
+    match reach(graph, callback, fact, point, &mut search)? {
+        Some(number) => {
+            let found = traced(alloc, graph, callback, fact, &search.found, number)?;
+            Ok(Some(found))
+        }
         None => Ok(None),
     }
 }
