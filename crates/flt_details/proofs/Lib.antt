@@ -1,2 +1,3 @@
 pub mod MoreDetails
 pub mod Pages
+pub mod MoreShown

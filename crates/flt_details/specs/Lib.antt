@@ -1,6 +1,9 @@
+pub mod Advice
 pub mod Alike
 pub mod Branches
+pub mod Case
 pub mod Closing
+pub mod Names
 pub mod Operands
 pub mod Page
 pub mod Reports

@@ -137,11 +137,19 @@ numbered [] ns = []
 numbered (t ∷ ts) [] = t.now ++ numbered ts []
 numbered (t ∷ ts) (n ∷ ns) = t.now ++ (decimal n ++ numbered ts ns)
 
+-- words of a text between marks
+abbrev pub quoted : Text → Text
+quoted z = codes "`" ++ (shown z ++ codes "`")
+
+-- a word of the language between marks
+abbrev pub marked : Text → Text
+marked z = codes "`" ++ (z ++ codes "`")
+
 -- a part of a sentence
 abbrev pub said : Part → Text
 said (part.Text t) = t.now
-said (part.Quoted name) = codes "`" ++ (shown name.now ++ codes "`")
-said (part.Word w) = codes "`" ++ (w.now ++ codes "`")
+said (part.Quoted name) = quoted name.now
+said (part.Word w) = marked w.now
 said (part.Marked m) = shown m.0.now ++ (shown m.1.now ++ shown m.0.now)
 said (part.Number n) = decimal n
 said (part.Value n) = decimal n

@@ -4,6 +4,9 @@ use Rattle.flt_rules.specs.Held.{holds_lock}
 use Rattle.flt_rules.specs.declared.place.Mode.TheVariants.{Irp, Fast}
 use Rattle.flt_tree.specs.Names.{Text}
 use Rattle.flt_tree.specs.Variable.{context_place, operation_place}
+use Rattle.flt_tree.specs.declared.filter.Callback.{Callback}
+use Rattle.flt_tree.specs.declared.filter.Filter.{Filter}
+use Rattle.flt_places.specs.Places.{bytes_of}
 use Rattle.flt_abs.specs.Sets.{StatusSet, status_bits, mode_bits, draining_bits}
 use Rattle.flt_abs.specs.State.{State}
 use Rattle.flt_explain.specs.declared.finding.Subject.{Subject}
@@ -14,6 +17,36 @@ use Rattle.flt_origins.specs.declared.facts.VariableStatus.{VariableStatus}
 use Rattle.flt_origins.specs.declared.facts.VariableStatus.TheVariants as is
 use Rattle.flt_ways.specs.Alone.{alone}
 use Rattle.flt_ways.specs.declared.answer.Way.{Way}
+use Rattle.flt_details.specs.Operands.{word_of}
+use Rattle.flt_details.specs.Page.{quoted, shown}
+
+-- ---- heads and subjects
+
+-- the head of a callback; nothing where it isn't there
+abbrev pub head_by : Text → Option Callback → Text
+head_by text None = []
+head_by text (Some c) = bytes_of text c.span
+
+abbrev pub head_of : Text → Filter → ℕ → Text
+head_of text f callback = head_by text (slice_get f.callbacks callback)
+
+-- what a finding is about that no word of a text names
+abbrev pub phrase : Subject → Option Text
+phrase about.Mode = Some (codes "the mode of the operation")
+phrase about.Draining = Some (codes "FLTFL_POST_OPERATION_DRAINING")
+phrase about.Call = Some (codes "this call")
+phrase about.Status = Some (codes "this status")
+phrase _ = None
+
+abbrev pub subject_by : Option Text → Text → Text
+subject_by None word = quoted word
+subject_by (Some phrase) word = shown phrase
+
+-- what a finding is about: a word of the text between marks, or a phrase
+abbrev pub subject_told : Filter → Subject → Text
+subject_told f u = subject_by (phrase u) (word_of f u)
+
+-- ---- what is so
 
 -- a set of one status; nothing of another one
 abbrev pub word_of_status : ℕ → Option Text

@@ -1,41 +1,36 @@
--- The words of a finding that come from its text. This project's own program.
-use Rattle.std.specs.Prelude.{◌≡◌, ℕ, List, [], ◌∷◌, ◌++◌, Option, Some, None, codes, slice_get}
+-- The words of a finding. This project's own program.
+use Rattle.std.specs.Prelude.{◌≡◌, Option}
 use Rattle.flt_tree.specs.Names.{Text}
-use Rattle.flt_tree.specs.declared.filter.Callback.{Callback}
 use Rattle.flt_tree.specs.declared.filter.Filter.{Filter}
-use Rattle.flt_places.specs.Places.{bytes_of}
+use Rattle.flt_graph.specs.declared.graph.Graph.{Graph}
 use Rattle.flt_explain.specs.declared.finding.Finding.{Finding}
-use Rattle.flt_explain.specs.declared.finding.Subject.{Subject}
-use Rattle.flt_explain.specs.declared.finding.Subject.TheVariants as about
-use Rattle.flt_details.specs.Operands.{word_of}
-use Rattle.flt_details.specs.Page.{shown}
+use Rattle.flt_details.specs.Advice.ByRule.{help, title}
+use Rattle.flt_details.specs.Advice.Notes.{note}
+use Rattle.flt_details.specs.Case.{Circumstances}
+use Rattle.flt_details.specs.Subjects.{head_of, subject_told}
 use Rattle.flt_details.specs.declared.study.Words.{Words}
+use Rattle.flt_details.specs.declared.tracing.Shown.{Shown}
 
--- the head of a callback; nothing where it isn't there
-abbrev pub head_by : Text → Option Callback → Text
-head_by text None = []
-head_by text (Some c) = bytes_of text c.span
+-- what is known of a finding
+abbrev pub known : Text → Filter → Graph → Finding → Option Shown → Circumstances
+known text f g found shown = record { text = text; filter = f; graph = g; finding = found; shown = shown }
 
-abbrev pub head_of : Text → Filter → ℕ → Text
-head_of text f callback = head_by text (slice_get f.callbacks callback)
+-- what is wrong
+unfoldable pub title_of : Text → Filter → Graph → Finding → Option Shown → Text
+title_of text f g found shown = title (known text f g found shown)
 
--- what a finding is about that no word of a text names
-abbrev pub phrase : Subject → Option Text
-phrase about.Mode = Some (codes "the mode of the operation")
-phrase about.Draining = Some (codes "FLTFL_POST_OPERATION_DRAINING")
-phrase about.Call = Some (codes "this call")
-phrase about.Status = Some (codes "this status")
-phrase _ = None
+-- how to fix it
+unfoldable pub help_of : Text → Filter → Graph → Finding → Option Shown → Text
+help_of text f g found shown = help (known text f g found shown)
 
-abbrev pub subject_by : Option Text → Text → Text
-subject_by None word = codes "`" ++ (shown word ++ codes "`")
-subject_by (Some phrase) word = shown phrase
+-- that the rule is stricter there than the driver kit, or that numbers rule out the path; or nothing
+unfoldable pub note_of : Text → Filter → Graph → Finding → Option Shown → Text
+note_of text f g found shown = note (known text f g found shown)
 
--- what a finding is about: a word of the text between marks, or a phrase
-abbrev pub subject_told : Filter → Subject → Text
-subject_told f u = subject_by (phrase u) (word_of f u)
-
--- These are a finding's head and subject. What is wrong and how to fix it is in no definition.
-pub record AreWords (text : Text) (f : Filter) (found : Finding) (w : Words) : Type 0 where
+-- what is said of a finding of a graph, by what shows it
+pub record AreWords (text : Text) (f : Filter) (g : Graph) (found : Finding) (shown : Option Shown) (w : Words) : Type 0 where
+  pub title : w.title.items ≡ title_of text f g found shown
+  pub help : w.help.items ≡ help_of text f g found shown
+  pub note : w.note.items ≡ note_of text f g found shown
   pub head : w.head.items ≡ head_of text f found.callback
   pub subject : w.subject.items ≡ subject_told f found.subject

@@ -1,47 +1,74 @@
-//! What is wrong by a rule, how to mend it, and where the rule is stricter than the driver kit: a sentence for each case.
+//! What is wrong by a rule, how to fix it, and where the rule is stricter than the driver kit: a sentence for each case.
+
+ghost use Rattle.flt_details.specs.Advice.ByRule as spec;
+ghost use Rattle.flt_details.specs.Case.{of_case};
+ghost use Rattle.flt_details.specs.Page.{Writes};
 
 mod levels;
 mod locks;
 mod notes;
 mod places;
 mod reasons;
+mod sentences;
 mod statuses;
 mod variables;
 
 use crate::case::Case;
-use crate::page::{Page, Part};
+use crate::page::Page;
 use flt_rules::Rule;
 pub(crate) use notes::tell_note;
+use sentences::{around, of_callback};
 use std::alloc::AllocError;
 
 /// Writes what is wrong.
-pub(crate) fn tell_title(page: &mut Page, case: &Case<'_>) -> Result<(), AllocError> {
+#[tactic(auto, unfolding(crate::specs::Advice::ByRule::title))]
+pub(crate) fn tell_title(page: &mut Page, case: &Case<'_>) -> Result<(), AllocError>
+    ensures { Writes result page.old page.new (spec.title (of_case case.now)) }
+{
     match case.finding.rule {
-        Rule::R01 | Rule::R02 | Rule::R03 | Rule::R04 | Rule::R05 | Rule::R13 => {
-            variables::tell_title(page, case)
-        }
+        Rule::R01 => variables::tell_use_title(page, case),
+        Rule::R02 | Rule::R05 => variables::tell_end_title(page, case),
+        Rule::R03 => around(page, case, "", " might be held where it is overwritten"),
+        Rule::R04 => variables::tell_operation_title(page, case),
         Rule::R06 => statuses::tell_title(page, case),
         Rule::R07 => levels::tell_title(page, case),
         Rule::R08 => places::tell_title(page, case),
-        Rule::R09 | Rule::R10 | Rule::R11 | Rule::R12 => locks::tell_title(page, case),
+        Rule::R09 => locks::tell_release_title(page, case),
+        Rule::R10 => locks::tell_end_title(page, case),
+        Rule::R11 => around(page, case, "", " is taken twice"),
+        Rule::R12 => around(page, case, "two paths join with different locks held: ", ""),
+        Rule::R13 => around(page, case, "", " might not be held where it is handed over"),
         Rule::R14 => page.texts(&["the certificate doesn't cover this point"]),
-        Rule::R15 => page.say(&[
-            Part::Quoted(case.head()),
-            Part::Text(" ends without a status"),
-        ]),
+        Rule::R15 => of_callback(page, case, " ends without a status"),
     }
 }
 
-/// Writes how to mend what is found.
-pub(crate) fn tell_advice(page: &mut Page, case: &Case<'_>) -> Result<(), AllocError> {
+/// Writes how to fix what is found.
+#[tactic(auto, unfolding(crate::specs::Advice::ByRule::help))]
+pub(crate) fn tell_help(page: &mut Page, case: &Case<'_>) -> Result<(), AllocError>
+    ensures { Writes result page.old page.new (spec.help (of_case case.now)) }
+{
     match case.finding.rule {
-        Rule::R01 | Rule::R02 | Rule::R03 | Rule::R04 | Rule::R05 | Rule::R13 => {
-            variables::tell_advice(page, case)
+        Rule::R01 => variables::tell_missing_help(page, case, variables::context_remedy(case)),
+        Rule::R02 => variables::tell_release_help(page, case),
+        Rule::R03 => variables::tell_overwriting_help(page, case),
+        Rule::R04 => variables::tell_missing_help(page, case, variables::operation_remedy(case)),
+        Rule::R05 => variables::tell_completion_help(page, case),
+        Rule::R06 => statuses::tell_help(page, case),
+        Rule::R07 => levels::tell_help(page, case),
+        Rule::R08 => places::tell_help(page, case),
+        Rule::R09 => locks::tell_release_help(page, case),
+        Rule::R10 => around(page, case, "release ", " on this path"),
+        Rule::R11 => locks::tell_twice_help(page, case),
+        Rule::R12 => around(
+            page,
+            case,
+            "release ",
+            " on both paths before they join, or on none",
+        ),
+        Rule::R13 => {
+            variables::tell_missing_help(page, case, ": hand it over only where it is held")
         }
-        Rule::R06 => statuses::tell_advice(page, case),
-        Rule::R07 => levels::tell_advice(page, case),
-        Rule::R08 => places::tell_advice(page, case),
-        Rule::R09 | Rule::R10 | Rule::R11 | Rule::R12 => locks::tell_advice(page, case),
         Rule::R14 => page.texts(&["let `fltstack analyse` write the certificate"]),
         Rule::R15 => {
             page.texts(&["end the callback with `return` and a status, on this path too"])

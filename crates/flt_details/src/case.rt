@@ -1,18 +1,19 @@
 //! What is known of a finding, by which its words are chosen: all of it is in the graph, or in what is so where a path ends.
 
-ghost use Rattle.std.specs.Prelude.{◌≡◌, ◌++◌};
+ghost use Rattle.std.specs.Prelude.{◌≡◌, ◌++◌, option_copied};
+ghost use Rattle.flt_details.specs.Case as spec;
 ghost use Rattle.flt_details.specs.Page.{shown};
-ghost use Rattle.flt_details.specs.Words as words;
 
+use crate::operands::lock_word;
 use crate::scene::Scene;
-use crate::subjects::{lock_name, subject_words};
+use crate::subjects::subject_words;
 use crate::tracing::Shown;
 use flt_abs::Abs;
 use flt_explain::{Finding, Subject};
 use flt_graph::{Instruction, Invocation, Status};
 use flt_origins::{Cause, VariableStatus};
 use flt_rules::{LockKind, LockNumber, Operation, Place};
-use flt_ways::Step;
+use flt_ways::{Step, Way};
 
 /// A finding of a text, and what shows it.
 #[derive(Clone, Copy)]
@@ -23,7 +24,9 @@ pub(crate) struct Case<'a> {
 }
 
 /// The only status in a set.
-fn only_status(digit: u8) -> Option<VariableStatus> {
+fn only_status(digit: u8) -> Option<VariableStatus>
+    ensures { result ≡ spec.only_status digit }
+{
     match digit {
         1 => Some(VariableStatus::Null),
         2 => Some(VariableStatus::Held),
@@ -36,6 +39,7 @@ impl<'a> Case<'a> {
     pub(crate) fn of(scene: &Scene<'a>, finding: &Finding, shown: Option<&'a Shown>) -> Case<'a>
         ensures scene { result.scene ≡ scene.now }
         ensures finding { result.finding ≡ finding.now }
+        ensures shown { result.shown ≡ shown.entry }
     {
         Case {
             scene: *scene,
@@ -45,25 +49,33 @@ impl<'a> Case<'a> {
     }
 
     /// Where the callback runs.
-    pub(crate) fn place(&self) -> Place {
+    #[tactic(auto, unfolding(crate::specs::Case::place))]
+    pub(crate) fn place(&self) -> Place
+        ensures { result ≡ spec.place (spec.of_case self.now) }
+    {
         self.scene.graph.place(self.finding.callback)
     }
 
     /// The head of the callback.
     pub(crate) fn head(&self) -> &'a [u8]
-        ensures { result.now ≡ words.head_of self.now.scene.lines.now self.now.scene.tree.now.filter self.now.finding.callback }
+        ensures { result.now ≡ spec.head (spec.of_case self.now) }
     {
         self.scene.head(self.finding.callback)
     }
 
     /// What is done where the finding is.
-    pub(crate) fn instruction(&self) -> Instruction {
+    #[tactic(auto, unfolding(crate::specs::Case::instruction))]
+    pub(crate) fn instruction(&self) -> Instruction
+        ensures { result ≡ spec.instruction (spec.of_case self.now) }
+    {
         self.scene
             .instruction(self.finding.callback, self.finding.point)
     }
 
     /// The call where the finding is.
-    pub(crate) fn call(&self) -> Option<Invocation> {
+    pub(crate) fn call(&self) -> Option<Invocation>
+        ensures { result ≡ spec.call_in (spec.instruction (spec.of_case self.now)) }
+    {
         match self.instruction() {
             Instruction::Call(call, _, _) => Some(call),
             _ => None,
@@ -71,7 +83,9 @@ impl<'a> Case<'a> {
     }
 
     /// The status that is returned where the finding is, or given to a call.
-    pub(crate) fn status(&self) -> Option<Status> {
+    pub(crate) fn status(&self) -> Option<Status>
+        ensures { result ≡ spec.status_in (spec.instruction (spec.of_case self.now)) }
+    {
         match self.instruction() {
             Instruction::Call(call, _, _) => call.status,
             Instruction::Return(status) => status,
@@ -82,19 +96,33 @@ impl<'a> Case<'a> {
     /// What the finding is about, as `subject_words` has it.
     pub(crate) fn subject(&self) -> (&'a [u8], &'a [u8])
         ensures { shown result.0.now ++ (shown result.1.now ++ shown result.0.now)
-            ≡ words.subject_told self.now.scene.tree.now.filter self.now.finding.subject }
+            ≡ spec.subject (spec.of_case self.now) }
     {
         subject_words(self.scene.tree, self.finding.subject)
     }
 
-    /// What is so where a path to the finding ends.
-    pub(crate) fn state(&self) -> Option<&'a Abs> {
+    /// The path that shows it.
+    #[tactic(auto, unfolding(crate::specs::Case::path))]
+    pub(crate) fn path(&self) -> Option<&'a Way>
+        ensures { option_copied result ≡ spec.path (spec.of_case self.now) }
+    {
         let (way, _) = self.shown?.ways();
-        Some(way?.end.situation.state())
+        way
+    }
+
+    /// What is so where a path to the finding ends.
+    #[tactic(auto, unfolding(crate::specs::Case::state))]
+    pub(crate) fn state(&self) -> Option<&'a Abs>
+        ensures { option_copied result ≡ spec.state (spec.of_case self.now) }
+    {
+        Some(self.path()?.end.situation.state())
     }
 
     /// What the variable that the finding is about is there.
-    pub(crate) fn variable_status(&self) -> Option<VariableStatus> {
+    #[tactic(auto, unfolding(crate::specs::Case::variable_status))]
+    pub(crate) fn variable_status(&self) -> Option<VariableStatus>
+        ensures { result ≡ spec.variable_status (spec.of_case self.now) }
+    {
         let state = self.state()?;
         let set = match self.finding.subject {
             Subject::Context(variable) => state.contexts().get(variable.place())?,
@@ -105,7 +133,10 @@ impl<'a> Case<'a> {
     }
 
     /// The step that made it so.
-    pub(crate) fn cause(&self) -> Option<Step> {
+    #[tactic(auto, unfolding(crate::specs::Case::cause))]
+    pub(crate) fn cause(&self) -> Option<Step>
+        ensures { result ≡ spec.cause (spec.of_case self.now) }
+    {
         let origin = self.shown?.origin.as_ref()?;
         match origin.cause {
             Cause::Made(step) => Some(step),
@@ -114,28 +145,52 @@ impl<'a> Case<'a> {
     }
 
     /// What is done at a step of the callback.
-    pub(crate) fn step_instruction(&self, step: Step) -> Instruction {
+    #[tactic(auto, unfolding(crate::specs::Case::done_at))]
+    pub(crate) fn step_instruction(&self, step: Step) -> Instruction
+        ensures { result ≡ spec.done_at (spec.of_case self.now) step }
+    {
         self.scene.instruction(self.finding.callback, step.point)
     }
 
+    /// The call at a step of the callback.
+    pub(crate) fn call_at(&self, step: Step) -> Option<Invocation>
+        ensures { result ≡ spec.call_at (spec.of_case self.now) step }
+    {
+        match self.step_instruction(step) {
+            Instruction::Call(call, _, _) => Some(call),
+            _ => None,
+        }
+    }
+
     /// The line of a step of the callback.
-    pub(crate) fn step_line(&self, step: Step) -> usize {
+    #[tactic(auto, unfolding(crate::specs::Case::line_of))]
+    pub(crate) fn step_line(&self, step: Step) -> usize
+        ensures { result ≡ spec.line_of (spec.of_case self.now) step }
+    {
         self.scene.line(self.finding.callback, step.point)
     }
 
     /// The kind of a lock.
-    pub(crate) fn lock_kind(&self, lock: LockNumber) -> Option<LockKind> {
+    #[tactic(auto, unfolding(crate::specs::Case::lock_kind))]
+    pub(crate) fn lock_kind(&self, lock: LockNumber) -> Option<LockKind>
+        ensures { result ≡ spec.lock_kind (spec.of_case self.now) lock }
+    {
         let kinds = self.scene.graph.locks.as_slice();
         kinds.get(usize::from(lock.place())).copied()
     }
 
     /// The name of a lock.
-    pub(crate) fn lock_name(&self, lock: LockNumber) -> &'a [u8] {
-        lock_name(self.scene.tree, usize::from(lock.place()))
+    #[tactic(auto, unfolding(crate::specs::Case::lock_name))]
+    pub(crate) fn lock_name(&self, lock: LockNumber) -> &'a [u8]
+        ensures { result.now ≡ spec.lock_name (spec.of_case self.now) lock }
+    {
+        lock_word(self.scene.tree, lock)
     }
 
     /// The operation of a `pre` or a `post` callback.
-    pub(crate) fn operation(&self) -> Option<Operation> {
+    pub(crate) fn operation(&self) -> Option<Operation>
+        ensures { result ≡ spec.operation_at (spec.place (spec.of_case self.now)) }
+    {
         match self.place() {
             Place::Pre(operation) | Place::Post(operation) => Some(operation),
             _ => None,

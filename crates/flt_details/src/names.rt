@@ -1,9 +1,14 @@
 //! The names of calls, statuses and levels, as texts have them.
 
+ghost use Rattle.std.specs.Prelude.{◌≡◌};
+ghost use Rattle.flt_details.specs.Names as spec;
+
 use flt_rules::{Anchor, Call, Level, LockKind, Operation, StatusWord};
 
 /// The name of a call on the stream or on the instance.
-fn anchored_name<'a>(anchor: Anchor, of_stream: &'a str, of_instance: &'a str) -> &'a str {
+fn anchored_name<'a>(anchor: Anchor, of_stream: &'a str, of_instance: &'a str) -> &'a str
+    ensures { result.now ≡ spec.anchored_name anchor of_stream.now of_instance.now }
+{
     match anchor {
         Anchor::Stream => of_stream,
         Anchor::Instance => of_instance,
@@ -11,7 +16,9 @@ fn anchored_name<'a>(anchor: Anchor, of_stream: &'a str, of_instance: &'a str) -
 }
 
 /// The name of a call that takes a lock.
-fn acquire_name(kind: LockKind) -> &'static str {
+fn acquire_name(kind: LockKind) -> &'static str
+    ensures { result.now ≡ spec.acquire_name kind }
+{
     match kind {
         LockKind::Spin => "KeAcquireSpinLock",
         LockKind::Fast => "ExAcquireFastMutex",
@@ -20,7 +27,9 @@ fn acquire_name(kind: LockKind) -> &'static str {
 }
 
 /// The name of a call that releases a lock.
-fn release_name(kind: LockKind) -> &'static str {
+fn release_name(kind: LockKind) -> &'static str
+    ensures { result.now ≡ spec.release_name kind }
+{
     match kind {
         LockKind::Spin => "KeReleaseSpinLock",
         LockKind::Fast => "ExReleaseFastMutex",
@@ -29,7 +38,10 @@ fn release_name(kind: LockKind) -> &'static str {
 }
 
 /// The name of a call.
-pub(crate) fn call_name(call: Call) -> &'static str {
+#[tactic(auto, unfolding(crate::specs::Names::call_name))]
+pub(crate) fn call_name(call: Call) -> &'static str
+    ensures { result.now ≡ spec.call_name call }
+{
     match call {
         Call::AllocateContext => "FltAllocateContext",
         Call::GetContext(anchor) => {
@@ -57,7 +69,10 @@ pub(crate) fn call_name(call: Call) -> &'static str {
 }
 
 /// The name of a status.
-pub(crate) fn status_name(word: StatusWord) -> &'static str {
+#[tactic(auto, unfolding(crate::specs::Names::status_name))]
+pub(crate) fn status_name(word: StatusWord) -> &'static str
+    ensures { result.now ≡ spec.status_name word }
+{
     match word {
         StatusWord::WithCallback => "WITH_CALLBACK",
         StatusWord::Synchronize => "SYNCHRONIZE",
@@ -71,7 +86,10 @@ pub(crate) fn status_name(word: StatusWord) -> &'static str {
 }
 
 /// The name of a level.
-pub(crate) fn level_name(level: Level) -> &'static str {
+#[tactic(auto, unfolding(crate::specs::Names::level_name))]
+pub(crate) fn level_name(level: Level) -> &'static str
+    ensures { result.now ≡ spec.level_name level }
+{
     match level {
         Level::Passive => "PASSIVE_LEVEL",
         Level::Apc => "APC_LEVEL",
@@ -80,7 +98,10 @@ pub(crate) fn level_name(level: Level) -> &'static str {
 }
 
 /// The word of an operation.
-pub(crate) fn operation_name(operation: Operation) -> &'static str {
+#[tactic(auto, unfolding(crate::specs::Names::operation_name))]
+pub(crate) fn operation_name(operation: Operation) -> &'static str
+    ensures { result.now ≡ spec.operation_name operation }
+{
     match operation {
         Operation::Create => "create",
         Operation::Read => "read",
@@ -90,7 +111,10 @@ pub(crate) fn operation_name(operation: Operation) -> &'static str {
 }
 
 /// What a lock of a kind is called.
-pub(crate) fn kind_name(kind: LockKind) -> &'static str {
+#[tactic(auto, unfolding(crate::specs::Names::kind_name))]
+pub(crate) fn kind_name(kind: LockKind) -> &'static str
+    ensures { result.now ≡ spec.kind_name kind }
+{
     match kind {
         LockKind::Spin => "a spin lock",
         LockKind::Fast => "a fast mutex",

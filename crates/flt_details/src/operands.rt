@@ -60,7 +60,8 @@ fn operation_word(variable: OperationVariable) -> &'static [u8]
     }
 }
 
-fn lock_word(tree: &Tree, lock: LockNumber) -> &[u8]
+/// The name of a lock; nothing where it isn't declared.
+pub(crate) fn lock_word(tree: &Tree, lock: LockNumber) -> &[u8]
     ensures { result.now ≡ declarations.lock_name tree.now.filter.locks lock }
 {
     match tree.filter.locks.get(usize::from(lock.place())) {

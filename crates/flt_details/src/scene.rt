@@ -3,7 +3,7 @@
 ghost use Rattle.std.specs.Prelude.{◌≡◌};
 ghost use Rattle.flt_graph.specs.Graph.{instruction_at, line_at, span_at};
 ghost use Rattle.flt_details.specs.Stages.{place_of};
-ghost use Rattle.flt_details.specs.Words.{head_of};
+ghost use Rattle.flt_details.specs.Subjects.{head_of};
 ghost use Rattle.flt_places.specs.Places.{bytes_of, site_of};
 
 use flt_graph::{Graph, Instruction};

@@ -1,11 +1,13 @@
 //! What other forms of reports say of a finding: its words and its places.
 
-ghost use Rattle.std.specs.Prelude.{◌≡◌, [], None, option_copied, IfOk, IfSome};
+ghost use Rattle.std.specs.Prelude.{◌≡◌, Some, option_copied, IfOk};
+ghost use Rattle.flt_details.specs.Branches.{step_outcome};
 ghost use Rattle.flt_details.specs.Stages as spec;
 ghost use Rattle.flt_details.specs.Subjects as about;
+ghost use Rattle.flt_details.specs.Tracing as tracing;
 ghost use Rattle.flt_details.specs.Words as words;
 
-use crate::advice::{tell_advice, tell_note, tell_title};
+use crate::advice::{tell_help, tell_note, tell_title};
 use crate::alike::{firsts_of, like};
 use crate::branches::{step_outcome, tell_branch};
 use crate::case::Case;
@@ -106,7 +108,10 @@ fn branch_of(
     scene: &Scene<'_>,
     callback: usize,
     step: Step,
-) -> Result<Vec<u8>, AllocError> {
+) -> Result<Vec<u8>, AllocError>
+    ensures { IfOk result (λ words. words.items ≡
+        spec.branch_words scene.now.lines.now scene.now.graph.now callback step.point (step_outcome scene.now.graph.now callback step)) }
+{
     let mut page = Page::new(alloc);
     if let Some(outcome) = step_outcome(scene, callback, step) {
         tell_branch(&mut page, scene, callback, step.point, outcome)?;
@@ -120,7 +125,7 @@ fn stage_of(
     callback: usize,
     step: Step,
 ) -> Result<Stage, AllocError>
-    ensures { IfOk result (spec.IsPlaced scene.now.lines.now scene.now.graph.now callback) }
+    ensures { IfOk result (spec.IsStage scene.now.lines.now scene.now.graph.now callback step) }
 {
     Ok(Stage {
         point: step.point,
@@ -136,7 +141,7 @@ fn stages(
     callback: usize,
     steps: &[Step],
 ) -> Result<Items<Stage>, AllocError>
-    ensures { IfOk result (spec.ArePlaced scene.now.lines.now scene.now.graph.now callback) }
+    ensures { IfOk result (spec.AreStages scene.now.lines.now scene.now.graph.now callback steps.now) }
 {
     let mut all = Items::new(alloc);
     for step in steps {
@@ -145,7 +150,9 @@ fn stages(
     Ok(all)
 }
 
-fn kind_of(answer: &Answer) -> WayKind {
+fn kind_of(answer: &Answer) -> WayKind
+    ensures { result ≡ spec.kind_of answer.now }
+{
     match answer {
         Answer::Clean(_) => WayKind::Clean,
         Answer::Behind(_) => WayKind::Behind,
@@ -161,7 +168,7 @@ fn stages_on(
     callback: usize,
     way: Option<&Way>,
 ) -> Result<Items<Stage>, AllocError>
-    ensures { IfOk result (spec.ArePlaced scene.now.lines.now scene.now.graph.now callback) }
+    ensures { IfOk result (spec.AreStagesOn scene.now.lines.now scene.now.graph.now callback (option_copied way.entry)) }
 {
     match way {
         Some(way) => stages(alloc, scene, callback, way.steps.as_slice()),
@@ -176,7 +183,7 @@ fn other_stages(
     callback: usize,
     way: Option<&Way>,
 ) -> Result<Option<Items<Stage>>, AllocError>
-    ensures { IfOk result (λ other. IfSome other (spec.ArePlaced scene.now.lines.now scene.now.graph.now callback)) }
+    ensures { IfOk result (spec.AreOtherStages scene.now.lines.now scene.now.graph.now callback (option_copied way.entry)) }
 {
     match way {
         Some(way) => Ok(Some(stages(alloc, scene, callback, way.steps.as_slice())?)),
@@ -192,10 +199,10 @@ fn maker_of(
     subject: Subject,
     step: Step,
 ) -> Result<Maker, AllocError>
-    ensures { IfOk result (spec.IsMaker scene.now.lines.now scene.now.tree.now.filter scene.now.graph.now callback subject) }
+    ensures { IfOk result (spec.IsMaker scene.now.lines.now scene.now.tree.now.filter scene.now.graph.now callback subject step) }
 {
     let stage = stage_of(alloc, scene, callback, step)?;
-    let marks = scene.marks(alloc, callback, stage.point, subject)?;
+    let marks = scene.marks(alloc, callback, step.point, subject)?;
     Ok(Maker { stage, marks })
 }
 
@@ -207,7 +214,9 @@ fn origin_of(
     subject: Subject,
     shown: &Shown,
 ) -> Result<Option<Maker>, AllocError>
-    ensures { IfOk result (λ origin. IfSome origin (spec.IsMaker scene.now.lines.now scene.now.tree.now.filter scene.now.graph.now callback subject)) }
+    ensures { IfOk result
+        (spec.IsMadeBy scene.now.lines.now scene.now.tree.now.filter scene.now.graph.now callback subject
+        (tracing.cause_of (Some shown.now))) }
 {
     let Some(origin) = shown.origin.as_ref() else {
         return Ok(None);
@@ -220,26 +229,38 @@ fn origin_of(
 
 // ---- words
 
-fn title_of(alloc: Global, case: &Case<'_>) -> Result<Vec<u8>, AllocError> {
+#[tactic(auto, unfolding(crate::specs::Words::title_of))]
+fn title_of(alloc: Global, case: &Case<'_>) -> Result<Vec<u8>, AllocError>
+    ensures { IfOk result (λ v. v.items ≡ words.title_of case.now.scene.lines.now case.now.scene.tree.now.filter case.now.scene.graph.now
+        case.now.finding (option_copied case.now.shown)) }
+{
     let mut page = Page::new(alloc);
     tell_title(&mut page, case)?;
     Ok(page.out)
 }
 
-fn help_of(alloc: Global, case: &Case<'_>) -> Result<Vec<u8>, AllocError> {
+#[tactic(auto, unfolding(crate::specs::Words::help_of))]
+fn help_of(alloc: Global, case: &Case<'_>) -> Result<Vec<u8>, AllocError>
+    ensures { IfOk result (λ v. v.items ≡ words.help_of case.now.scene.lines.now case.now.scene.tree.now.filter case.now.scene.graph.now
+        case.now.finding (option_copied case.now.shown)) }
+{
     let mut page = Page::new(alloc);
-    tell_advice(&mut page, case)?;
+    tell_help(&mut page, case)?;
     Ok(page.out)
 }
 
-fn note_of(alloc: Global, case: &Case<'_>) -> Result<Vec<u8>, AllocError> {
+#[tactic(auto, unfolding(crate::specs::Words::note_of))]
+fn note_of(alloc: Global, case: &Case<'_>) -> Result<Vec<u8>, AllocError>
+    ensures { IfOk result (λ v. v.items ≡ words.note_of case.now.scene.lines.now case.now.scene.tree.now.filter case.now.scene.graph.now
+        case.now.finding (option_copied case.now.shown)) }
+{
     let mut page = Page::new(alloc);
     tell_note(&mut page, case)?;
     Ok(page.out)
 }
 
 fn subject_of(alloc: Global, case: &Case<'_>) -> Result<Vec<u8>, AllocError>
-    ensures { IfOk result (λ v. v.items ≡ words.subject_told case.now.scene.tree.now.filter case.now.finding.subject) }
+    ensures { IfOk result (λ v. v.items ≡ about.subject_told case.now.scene.tree.now.filter case.now.finding.subject) }
 {
     let mut page = Page::new(alloc);
     let (mark, name) = case.subject();
@@ -249,7 +270,8 @@ fn subject_of(alloc: Global, case: &Case<'_>) -> Result<Vec<u8>, AllocError>
 
 /// The words of a case.
 fn words_in(alloc: Global, case: &Case<'_>) -> Result<Words, AllocError>
-    ensures { IfOk result (words.AreWords case.now.scene.lines.now case.now.scene.tree.now.filter case.now.finding) }
+    ensures { IfOk result (words.AreWords case.now.scene.lines.now case.now.scene.tree.now.filter case.now.scene.graph.now case.now.finding
+        (option_copied case.now.shown)) }
 {
     let title = title_of(alloc, case)?;
     let help = help_of(alloc, case)?;
@@ -272,7 +294,8 @@ pub fn words_of(
     finding: &Finding,
     shown: Option<&Shown>,
 ) -> Result<Words, AllocError>
-    ensures { IfOk result (words.AreWords scene.now.lines.now scene.now.tree.now.filter finding.now) }
+    ensures { IfOk result
+        (words.AreWords scene.now.lines.now scene.now.tree.now.filter scene.now.graph.now finding.now (option_copied shown.entry)) }
 {
     words_in(alloc, &Case::of(scene, finding, shown))
 }
@@ -289,49 +312,27 @@ pub fn state_at_end(finding: &Finding, way: Option<&Way>) -> Option<&'static str
 
 // ---- findings
 
-/// How a finding is reached, before its stages are told.
-fn bare_route(alloc: Global, finding: &Finding, shown: &Shown, like: Option<usize>) -> Route
-    ensures like { result.like ≡ like }
-    ensures stages { result.stages ≡ [] }
-    ensures other { result.other ≡ None }
+/// The stages of what shows a finding, and of the other way where two do; none where another finding's serve.
+fn shown_stages(
+    alloc: Global,
+    scene: &Scene<'_>,
+    callback: usize,
+    shown: &Shown,
+    like: Option<usize>,
+) -> Result<(Items<Stage>, Option<Items<Stage>>), AllocError>
+    ensures { IfOk result (λ all.
+        spec.AreShownStages scene.now.lines.now scene.now.graph.now callback shown.now.answer like all.0 all.1) }
 {
-    let (way, _) = shown.ways();
-    Route {
-        kind: kind_of(&shown.answer),
-        like,
-        stages: Items::new(alloc),
-        other: None,
-        origin: None,
-        state: state_at_end(finding, way),
+    if like.is_some() {
+        return Ok((Items::new(alloc), None));
     }
+    let (way, other) = shown.ways();
+    let stages = stages_on(alloc, scene, callback, way)?;
+    let other = other_stages(alloc, scene, callback, other)?;
+    Ok((stages, other))
 }
 
-impl Route {
-    /// Tells the stages of what shows a finding, unless another finding's serve.
-    fn tell(
-        &mut self,
-        alloc: Global,
-        scene: &Scene<'_>,
-        finding: &Finding,
-        shown: &Shown,
-    ) -> Result<(), AllocError>
-        requires stages { self.old.stages ≡ [] }
-        requires other { self.old.other ≡ None }
-        ensures route { IfOk result (λ _.
-            spec.IsRoute scene.now.lines.now scene.now.tree.now.filter scene.now.graph.now finding.now.callback finding.now.subject self.new) }
-        ensures like { IfOk result (λ _. self.new.like ≡ self.old.like) }
-    {
-        if self.like.is_none() {
-            let (way, other) = shown.ways();
-            self.stages = stages_on(alloc, scene, finding.callback, way)?;
-            self.other = other_stages(alloc, scene, finding.callback, other)?;
-        }
-        self.origin = origin_of(alloc, scene, finding.callback, finding.subject, shown)?;
-        Ok(())
-    }
-}
-
-/// How a finding is reached, by what shows it.
+/// How a finding is reached, by what shows it, where the way of another one serves, if that is given.
 fn route_by(
     alloc: Global,
     scene: &Scene<'_>,
@@ -340,12 +341,20 @@ fn route_by(
     like: Option<usize>,
 ) -> Result<Route, AllocError>
     ensures route { IfOk result
-        (spec.IsRoute scene.now.lines.now scene.now.tree.now.filter scene.now.graph.now finding.now.callback finding.now.subject) }
+        (spec.IsRoute scene.now.lines.now scene.now.tree.now.filter scene.now.graph.now finding.now shown.now) }
     ensures like { IfOk result (λ r. r.like ≡ like) }
 {
-    let mut route = bare_route(alloc, finding, shown, like);
-    route.tell(alloc, scene, finding, shown)?;
-    Ok(route)
+    let (stages, other) = shown_stages(alloc, scene, finding.callback, shown, like)?;
+    let origin = origin_of(alloc, scene, finding.callback, finding.subject, shown)?;
+    let (way, _) = shown.ways();
+    Ok(Route {
+        kind: kind_of(&shown.answer),
+        like,
+        stages,
+        other,
+        origin,
+        state: state_at_end(finding, way),
+    })
 }
 
 /// What is said of a finding, by what shows it, where the way of another one serves, if that is given.
@@ -356,7 +365,7 @@ fn detail_by(
     shown: &Shown,
     like: Option<usize>,
 ) -> Result<Detail, AllocError>
-    ensures detail { IfOk result (spec.IsDetail scene.now.lines.now scene.now.tree.now.filter scene.now.graph.now finding.now) }
+    ensures detail { IfOk result (spec.IsDetail scene.now.lines.now scene.now.tree.now.filter scene.now.graph.now finding.now shown.now) }
     ensures like { IfOk result (λ d. d.route.like ≡ like) }
 {
     let words = words_of(alloc, scene, finding, Some(shown))?;
@@ -368,32 +377,6 @@ fn detail_by(
         words,
         route,
     })
-}
-
-/// What is said of a finding, by what shows it, or else as one to which the search for ways was ended.
-fn detail_of(
-    alloc: Global,
-    scene: &Scene<'_>,
-    finding: &Finding,
-    shown: Option<&Shown>,
-    like: Option<usize>,
-) -> Result<Detail, AllocError>
-    ensures detail { IfOk result (spec.IsDetail scene.now.lines.now scene.now.tree.now.filter scene.now.graph.now finding.now) }
-    ensures like { IfOk result (λ d. d.route.like ≡ like) }
-{
-    match shown {
-        Some(shown) => detail_by(alloc, scene, finding, shown, like),
-        None => detail_by(
-            alloc,
-            scene,
-            finding,
-            &Shown {
-                answer: Answer::Unknown,
-                origin: None,
-            },
-            like,
-        ),
-    }
 }
 
 /// What is said of each finding of a text that parses, in their order. The ways of the first one of each origin serve the others.
@@ -422,8 +405,8 @@ pub fn details(
     for finding in found {
         let number = all.len();
         let like = like(found, firsts.as_slice(), number);
-        let shown = traces.shown_at(number);
-        all.push(detail_of(alloc, &scene, finding, shown, like)?)?;
+        let shown = traces.at(number);
+        all.push(detail_by(alloc, &scene, finding, shown, like)?)?;
     }
     Ok(all)
 }

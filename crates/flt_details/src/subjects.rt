@@ -3,7 +3,6 @@
 ghost use Rattle.std.specs.Prelude.{◌≡◌, ◌++◌, option_copied};
 ghost use Rattle.flt_details.specs.Page.{shown};
 ghost use Rattle.flt_details.specs.Subjects as spec;
-ghost use Rattle.flt_details.specs.Words as words;
 
 use crate::operands::word_of;
 use flt_abs::{Abs, Statuses};
@@ -12,17 +11,9 @@ use flt_origins::{Fact, VariableStatus};
 use flt_rules::Mode;
 use flt_syntax::Tree;
 
-/// The name of a lock; nothing where it isn't there.
-pub(crate) fn lock_name(tree: &Tree, place: usize) -> &[u8] {
-    match tree.filter.locks.get(place) {
-        Some(lock) => lock.name.as_slice(),
-        None => &[],
-    }
-}
-
 /// What a finding is about that no word of a text names.
 fn phrase(subject: Subject) -> Option<&'static [u8]>
-    ensures { option_copied result ≡ words.phrase subject }
+    ensures { option_copied result ≡ spec.phrase subject }
 {
     match subject {
         Subject::Mode => Some(b"the mode of the operation"),
@@ -35,7 +26,7 @@ fn phrase(subject: Subject) -> Option<&'static [u8]>
 
 /// What a finding is about, in words, behind the mark that stands round them where they are those of the text.
 pub(crate) fn subject_words(tree: &Tree, subject: Subject) -> (&[u8], &[u8])
-    ensures { shown result.0.now ++ (shown result.1.now ++ shown result.0.now) ≡ words.subject_told tree.now.filter subject }
+    ensures { shown result.0.now ++ (shown result.1.now ++ shown result.0.now) ≡ spec.subject_told tree.now.filter subject }
 {
     match phrase(subject) {
         Some(phrase) => (b"", phrase),

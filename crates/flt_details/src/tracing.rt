@@ -1,8 +1,10 @@
 //! What shows each finding, where it comes from, and which are put together.
 
-ghost use Rattle.std.specs.Prelude.{◌≡◌, option_copied, slice_get, IfOk};
+ghost use Rattle.std.specs.List.{AllZip};
+ghost use Rattle.std.specs.Prelude.{◌≡◌, ◌<◌, Some, length, option_copied, slice_get, IfOk};
 ghost use Rattle.flt_details.specs.Tracing as spec;
 ghost use Rattle.flt_origins.specs.Grouping.{groups_of};
+ghost use Rattle.flt_ways.specs.Told.{IsAnswer};
 
 use flt_explain::{Finding, Subject};
 use flt_graph::Graph;
@@ -30,7 +32,9 @@ pub struct Traces {
 }
 
 /// What of a situation breaks the rule of a finding. A call that isn't legal at its place is wrong whatever is so.
-fn offence(finding: &Finding, situation: &Situation) -> Option<Fact> {
+fn offence(finding: &Finding, situation: &Situation) -> Option<Fact>
+    ensures { result ≡ spec.offence finding.now situation.now }
+{
     match (finding.rule, finding.subject) {
         (Rule::R07, _) => fact_about(finding.subject, situation),
         (_, Subject::Call) => None,
@@ -44,7 +48,9 @@ fn origin_at_end(
     graph: &Graph,
     finding: &Finding,
     way: &Way,
-) -> Result<Option<Origin>, AllocError> {
+) -> Result<Option<Origin>, AllocError>
+    ensures { IfOk result (λ o. o ≡ spec.origin_on_way graph.now finding.now way.now) }
+{
     match offence(finding, &way.end.situation) {
         Some(fact) => origin_on(
             alloc,
@@ -59,43 +65,81 @@ fn origin_at_end(
 }
 
 /// Whether this is the fact that a lock is held.
-fn is_held_lock(fact: Option<Fact>) -> bool {
+fn is_held_lock(fact: Option<Fact>) -> bool
+    ensures { result ≡ spec.is_held_lock fact }
+{
     matches!(fact, Some(Fact::Lock(_, true)))
 }
 
-/// Where what ways show comes from: where they meet with other locks, on the one on which the lock is held.
+/// Of the ways that show a finding the one that says where it comes from: where they meet with other locks, the one on which the lock is
+/// held.
+fn telling_way<'a>(finding: &Finding, found: &'a Ways) -> &'a Way
+    ensures { result.now ≡ spec.telling_way finding.now found.now.way found.now.other }
+{
+    match &found.other {
+        Some(other) => {
+            if is_held_lock(offence(finding, &found.way.end.situation)) {
+                &found.way
+            } else {
+                other
+            }
+        }
+        None => &found.way,
+    }
+}
+
+/// Where what ways show comes from.
 fn origin_of(
     alloc: Global,
     graph: &Graph,
     finding: &Finding,
     found: &Ways,
-) -> Result<Option<Origin>, AllocError> {
-    let way = match &found.other {
-        Some(other) if !is_held_lock(offence(finding, &found.way.end.situation)) => other,
-        _ => &found.way,
-    };
-    origin_at_end(alloc, graph, finding, way)
+) -> Result<Option<Origin>, AllocError>
+    ensures { IfOk result (λ o. o ≡ spec.origin_on_ways graph.now finding.now found.now) }
+{
+    origin_at_end(alloc, graph, finding, telling_way(finding, found))
 }
 
 /// That a variable has a status, if a finding is about one.
-fn has(finding: &Finding, status: VariableStatus) -> Option<Fact> {
-    match finding.subject {
+fn has(subject: Subject, status: VariableStatus) -> Option<Fact>
+    ensures { result ≡ spec.status_fact subject status }
+{
+    match subject {
         Subject::Context(variable) => Some(Fact::Context(variable, status)),
         Subject::Operation(variable) => Some(Fact::Operation(variable, status)),
         _ => None,
     }
 }
 
-/// What may break the rule of a finding, by the rule alone: one thing, or else another.
-fn offences(finding: &Finding) -> (Option<Fact>, Option<Fact>) {
-    match (finding.rule, finding.subject) {
-        (Rule::R01 | Rule::R04 | Rule::R13, _) => (
-            has(finding, VariableStatus::Stale),
-            has(finding, VariableStatus::Null),
-        ),
-        (Rule::R02 | Rule::R03 | Rule::R05, _) => (has(finding, VariableStatus::Held), None),
-        (Rule::R10 | Rule::R11, Subject::Lock(lock)) => (Some(Fact::Lock(lock, true)), None),
-        _ => (None, None),
+/// That a lock is held, if a finding is about one.
+fn is_held(subject: Subject) -> Option<Fact>
+    ensures { result ≡ spec.lock_fact subject }
+{
+    match subject {
+        Subject::Lock(lock) => Some(Fact::Lock(lock, true)),
+        _ => None,
+    }
+}
+
+/// What may break a rule, whatever the situation.
+fn offence_of(rule: Rule, subject: Subject) -> Option<Fact>
+    ensures { result ≡ spec.offence_of rule subject }
+{
+    match rule {
+        Rule::R01 | Rule::R04 | Rule::R13 => has(subject, VariableStatus::Stale),
+        Rule::R02 | Rule::R03 | Rule::R05 => has(subject, VariableStatus::Held),
+        Rule::R10 | Rule::R11 => is_held(subject),
+        _ => None,
+    }
+}
+
+/// What else may break it.
+fn other_offence_of(rule: Rule, subject: Subject) -> Option<Fact>
+    ensures { result ≡ spec.other_offence_of rule subject }
+{
+    match rule {
+        Rule::R01 | Rule::R04 | Rule::R13 => has(subject, VariableStatus::Null),
+        _ => None,
     }
 }
 
@@ -105,7 +149,9 @@ fn origin_by_graph(
     graph: &Graph,
     finding: &Finding,
     fact: Option<Fact>,
-) -> Result<Option<Origin>, AllocError> {
+) -> Result<Option<Origin>, AllocError>
+    ensures { IfOk result (spec.IsByGraph graph.now finding.now fact) }
+{
     match fact {
         Some(fact) => origin_at(alloc, graph, finding.callback, fact, finding.point),
         None => Ok(None),
@@ -117,13 +163,17 @@ fn origin_without_way(
     alloc: Global,
     graph: &Graph,
     finding: &Finding,
-) -> Result<Option<Origin>, AllocError> {
-    let (fact, other) = offences(finding);
-    let found = origin_by_graph(alloc, graph, finding, fact)?;
-    if found.is_some() {
-        return Ok(found);
+) -> Result<Option<Origin>, AllocError>
+    ensures { IfOk result (spec.IsWithoutWay graph.now finding.now) }
+{
+    let fact = offence_of(finding.rule, finding.subject);
+    match origin_by_graph(alloc, graph, finding, fact)? {
+        Some(origin) => Ok(Some(origin)),
+        None => {
+            let other = other_offence_of(finding.rule, finding.subject);
+            origin_by_graph(alloc, graph, finding, other)
+        }
     }
-    origin_by_graph(alloc, graph, finding, other)
 }
 
 /// Where what is found comes from.
@@ -132,30 +182,48 @@ fn origin_by(
     graph: &Graph,
     finding: &Finding,
     answer: &Answer,
-) -> Result<Option<Origin>, AllocError> {
+) -> Result<Option<Origin>, AllocError>
+    ensures { IfOk result (spec.IsOriginBy graph.now finding.now answer.now) }
+{
     match answer {
         Answer::Clean(found) | Answer::Behind(found) => origin_of(alloc, graph, finding, found),
         Answer::Unreached | Answer::Unknown => origin_without_way(alloc, graph, finding),
     }
 }
 
-/// What shows a finding with its origin, if memory was there for this.
+/// What shows a finding, with its origin.
 fn shown_by(
+    alloc: Global,
+    graph: &Graph,
+    finding: &Finding,
     answer: Answer,
-    origin: Result<Option<Origin>, AllocError>,
-) -> Result<Shown, AllocError> {
-    let origin = origin?;
+) -> Result<Shown, AllocError>
+    requires { IsAnswer graph.now finding.now answer }
+    ensures { IfOk result (spec.IsShown graph.now finding.now) }
+{
+    let origin = origin_by(alloc, graph, finding, &answer)?;
     Ok(Shown { answer, origin })
 }
 
+/// The finding of a number that is there.
+#[tactic(auto, using(crate::proofs::MoreShown::found_there))]
+fn finding_at(found: &[Finding], number: usize) -> &Finding
+    requires { number < length found.now }
+    ensures { slice_get found.now number ≡ Some result.now }
+{
+    &found[number]
+}
+
 /// What shows each finding of a text, with its origin.
-fn trace_all(alloc: Global, graph: &Graph, found: &[Finding]) -> Result<Items<Shown>, AllocError> {
+fn trace_all(alloc: Global, graph: &Graph, found: &[Finding]) -> Result<Items<Shown>, AllocError>
+    ensures { IfOk result (AllZip (spec.IsShown graph.now) found.now) }
+{
     let mut answers = ways(alloc, graph, found)?;
     let mut all = Vec::new(alloc);
-    for finding in found.iter().rev() {
-        let answer = answers.pop().unwrap_or(Answer::Unknown);
-        let origin = origin_by(alloc, graph, finding, &answer);
-        all.push(shown_by(answer, origin)?)?;
+    while let Some(answer) = answers.pop() {
+        let number = answers.len();
+        let finding = finding_at(found, number);
+        all.push(shown_by(alloc, graph, finding, answer)?)?;
     }
     all.reverse();
     Ok(Items::from_vec(all))
@@ -211,11 +279,20 @@ impl Shown {
 impl Traces {
     /// What shows the findings of a text, put together by their origins.
     pub fn of(alloc: Global, graph: &Graph, found: &[Finding]) -> Result<Traces, AllocError>
-        ensures { IfOk result (spec.AreTraces found.now) }
+        ensures { IfOk result (spec.AreTraces graph.now found.now) }
     {
         let shown = trace_all(alloc, graph, found)?;
         let groups = grouped(alloc, found, &shown)?;
         Ok(Traces { shown, groups })
+    }
+
+    /// What shows the finding of a number that is there.
+    #[tactic(auto, using(std::proofs::lemmas::Option::slice_get_read))]
+    pub(crate) fn at(&self, number: usize) -> &Shown
+        requires { number < length self.now.shown }
+        ensures { slice_get self.now.shown number ≡ Some result.now }
+    {
+        &self.shown.as_slice()[number]
     }
 
     /// What shows the finding of a number.

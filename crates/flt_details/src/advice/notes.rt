@@ -1,77 +1,131 @@
 //! What else is said of a finding: that the rule is this project's own there, and stricter than the driver kit; or that numbers rule out
 //! the path, which the rules don't trace.
 
+ghost use Rattle.std.specs.List.{find};
+ghost use Rattle.std.specs.Prelude.{◌≡◌, option_copied};
+ghost use Rattle.flt_details.specs.Advice.Notes as spec;
+ghost use Rattle.flt_details.specs.Case.{of_case};
+ghost use Rattle.flt_details.specs.Page.{Writes};
+
 use crate::advice::locks::{Release, release_of};
+use crate::advice::statuses::is_pre_of;
 use crate::case::Case;
 use crate::page::{Page, Part};
 use flt_explain::Subject;
 use flt_graph::{
-    Action, CallbackGraph, Graph, Instruction, LockKind, LockNumber, Operation, Place, Status, Test,
+    Action, CallbackGraph, Graph, Instruction, LockKind, Operation, Place, Status, Test,
 };
 use flt_rules::{Level, Rule, entry_level};
 use flt_tree::{Atom, Expression};
 use flt_ways::Step;
 use std::alloc::AllocError;
 
-/// Whether a point returns SYNCHRONIZE.
-fn synchronizes(instruction: &Instruction) -> bool {
-    matches!(
-        instruction,
-        Instruction::Return(Some(Status::Synchronize(_)))
-    )
+// ---- where the rule is stricter
+
+fn is_synchronize(status: Option<Status>) -> bool
+    ensures { result ≡ spec.is_synchronize status }
+{
+    matches!(status, Some(Status::Synchronize(_)))
+}
+
+/// Whether an instruction returns SYNCHRONIZE.
+fn synchronizes(instruction: &Instruction) -> bool
+    ensures { result ≡ spec.synchronizes instruction.now }
+{
+    match instruction {
+        Instruction::Return(status) => is_synchronize(*status),
+        _ => false,
+    }
+}
+
+/// Whether some point of a callback does.
+#[tactic(auto, unfolding(crate::specs::Advice::Notes::returns_synchronize))]
+fn returns_synchronize(callback: &CallbackGraph) -> bool
+    ensures { result ≡ spec.returns_synchronize callback.now }
+{
+    let points = callback.points.as_slice();
+    points.iter().any(|p| synchronizes(&p.instruction))
 }
 
 /// Whether a callback is the `pre` callback of an operation and returns SYNCHRONIZE.
-fn synchronizes_in(callback: &CallbackGraph, operation: Operation) -> bool {
-    match callback.place {
-        Place::Pre(own) => {
-            let points = callback.points.as_slice();
-            own.is_same(operation) && points.iter().any(|p| synchronizes(&p.instruction))
-        }
-        _ => false,
-    }
+fn synchronizes_in(operation: Operation, callback: &CallbackGraph) -> bool
+    ensures { result ≡ spec.synchronizes_in operation callback.now }
+{
+    is_pre_of(operation, callback.place) && returns_synchronize(callback)
 }
 
 /// Whether the `pre` callback of an operation returns SYNCHRONIZE.
-fn is_synchronized(graph: &Graph, operation: Operation) -> bool {
+#[tactic(auto, unfolding(crate::specs::Advice::Notes::is_synchronized))]
+fn is_synchronized(graph: &Graph, operation: Operation) -> bool
+    ensures { result ≡ spec.is_synchronized graph.now operation }
+{
     let callbacks = graph.callbacks.as_slice();
-    callbacks.iter().any(|c| synchronizes_in(c, operation))
+    callbacks.iter().any(|c| synchronizes_in(operation, c))
 }
 
-/// Whether a call is above its level in a `post` callback behind SYNCHRONIZE.
-fn is_behind_synchronize(case: &Case<'_>) -> bool {
-    match case.place() {
+/// Whether a `post` callback runs above APC_LEVEL, but not after SYNCHRONIZE.
+fn runs_lower(graph: &Graph, place: Place) -> bool
+    ensures { result ≡ spec.runs_lower graph.now place }
+{
+    match place {
         Place::Post(operation) => {
-            matches!(entry_level(case.place()), Level::Dispatch)
-                && is_synchronized(case.scene.graph, operation)
+            entry_level(Place::Post(operation)).is_above(Level::Apc)
+                && is_synchronized(graph, operation)
         }
         _ => false,
     }
 }
 
-fn is_spin(case: &Case<'_>, lock: LockNumber) -> bool {
-    matches!(case.lock_kind(lock), Some(LockKind::Spin))
+fn is_spin(kind: Option<LockKind>) -> bool
+    ensures { result ≡ spec.is_spin kind }
+{
+    matches!(kind, Some(LockKind::Spin))
 }
 
 /// Whether locks are released in another order, none of which is a spin lock.
-fn is_other_order(case: &Case<'_>) -> bool {
-    match (case.finding.subject, release_of(case)) {
+fn is_other_order(case: &Case<'_>, subject: Subject, release: Release) -> bool
+    ensures { result ≡ spec.is_other_order (of_case case.now) subject release }
+{
+    match (subject, release) {
         (Subject::Lock(lock), Release::Under(later)) => {
-            !is_spin(case, lock) && !is_spin(case, later)
+            !is_spin(case.lock_kind(lock)) && !is_spin(case.lock_kind(later))
         }
         _ => false,
+    }
+}
+
+fn level_note(runs_lower: bool) -> Option<&'static str>
+    ensures { option_copied result ≡ spec.level_note runs_lower }
+{
+    if runs_lower {
+        Some(
+            "stricter than the driver kit: there a `post` callback after `SYNCHRONIZE` runs at APC_LEVEL or below",
+        )
+    } else {
+        None
+    }
+}
+
+fn order_note(is_other_order: bool) -> Option<&'static str>
+    ensures { option_copied result ≡ spec.order_note is_other_order }
+{
+    if is_other_order {
+        Some(
+            "stricter than the driver kit: only spin locks must be released in reverse order there",
+        )
+    } else {
+        None
     }
 }
 
 /// That the rule is stricter than the driver kit; none where it isn't.
-fn stricter(case: &Case<'_>) -> Option<&'static str> {
+#[tactic(auto, unfolding(crate::specs::Advice::Notes::stricter))]
+fn stricter(case: &Case<'_>) -> Option<&'static str>
+    ensures { option_copied result ≡ spec.stricter (of_case case.now) }
+{
     match case.finding.rule {
-        Rule::R07 if is_behind_synchronize(case) => Some(
-            "stricter than the driver kit: there a `post` callback after `SYNCHRONIZE` runs at APC_LEVEL or below",
-        ),
-        Rule::R09 if is_other_order(case) => Some(
-            "stricter than the driver kit: only spin locks must be released in reverse order there",
-        ),
+        Rule::R07 => level_note(runs_lower(case.scene.graph, case.place())),
+        Rule::R09 => order_note(is_other_order(case, case.finding.subject, release_of(case))),
         _ => None,
     }
 }
@@ -79,76 +133,162 @@ fn stricter(case: &Case<'_>) -> Option<&'static str> {
 // ---- numbers that no statement stores
 
 /// Whether a number or a variable might be stored as this value. A variable has what was stored before, or 0.
-fn is_value(atom: Atom, value: u64) -> bool {
-    matches!(atom, Atom::Number(number) if number == value)
-}
-
-/// Whether a statement might store a value.
-fn stores(instruction: &Instruction, value: u64) -> bool {
-    match instruction {
-        Instruction::Act(Action::SetNumber(_, Expression::Atom(atom)), _) => is_value(*atom, value),
-        Instruction::Act(Action::SetNumber(_, _) | Action::ReadFile(_, _), _) => true,
-        Instruction::Act(Action::WriteValue(_, atom), _) => is_value(*atom, value),
+fn is_value(atom: Atom, value: u64) -> bool
+    ensures { result ≡ spec.is_value atom value }
+{
+    match atom {
+        Atom::Number(number) => number == value,
         _ => false,
     }
 }
 
-/// Whether some statement of the text might store a value.
-fn is_stored(graph: &Graph, value: u64) -> bool {
-    let callbacks = graph.callbacks.as_slice();
-    callbacks.iter().any(|c| {
-        let points = c.points.as_slice();
-        points.iter().any(|p| stores(&p.instruction, value))
-    })
+/// Whether an expression might have a value; a sum or a difference might have any.
+fn may_be(expression: Expression, value: u64) -> bool
+    ensures { result ≡ spec.may_be expression value }
+{
+    match expression {
+        Expression::Atom(atom) => is_value(atom, value),
+        _ => true,
+    }
 }
 
-/// The value that a step asks for, if no statement stores it.
-fn unstored(case: &Case<'_>, step: Step) -> Option<u64> {
-    match case.step_instruction(step) {
-        Instruction::Test(Test::Equal(_, Atom::Number(value)), _, _) if step.granted => {
-            let is_there = value == 0 || is_stored(case.scene.graph, value);
-            if is_there { None } else { Some(value) }
-        }
+/// Whether an action might store a value.
+fn may_store(action: Action, value: u64) -> bool
+    ensures { result ≡ spec.may_store action value }
+{
+    match action {
+        Action::SetNumber(_, expression) => may_be(expression, value),
+        Action::ReadFile(_, _) => true,
+        Action::WriteValue(_, atom) => is_value(atom, value),
+        _ => false,
+    }
+}
+
+fn stores(instruction: &Instruction, value: u64) -> bool
+    ensures { result ≡ spec.stores instruction.now value }
+{
+    match instruction {
+        Instruction::Act(action, _) => may_store(*action, value),
+        _ => false,
+    }
+}
+
+/// Whether some statement of a callback might store a value.
+#[tactic(auto, unfolding(crate::specs::Advice::Notes::is_stored_in))]
+fn is_stored_in(value: u64, callback: &CallbackGraph) -> bool
+    ensures { result ≡ spec.is_stored_in value callback.now }
+{
+    let points = callback.points.as_slice();
+    points.iter().any(|p| stores(&p.instruction, value))
+}
+
+/// Whether some statement of the text might store a value.
+#[tactic(auto, unfolding(crate::specs::Advice::Notes::is_stored))]
+fn is_stored(graph: &Graph, value: u64) -> bool
+    ensures { result ≡ spec.is_stored graph.now value }
+{
+    let callbacks = graph.callbacks.as_slice();
+    callbacks.iter().any(|c| is_stored_in(value, c))
+}
+
+/// The number that an instruction asks for.
+fn asked(instruction: &Instruction) -> Option<u64>
+    ensures { result ≡ spec.asked instruction.now }
+{
+    match instruction {
+        Instruction::Test(Test::Equal(_, Atom::Number(value)), _, _) => Some(*value),
         _ => None,
     }
 }
 
-/// The first step of the path that asks for a value that no statement stores, with this value.
-fn first_unstored(case: &Case<'_>) -> Option<(Step, u64)> {
-    let (way, _) = case.shown?.ways();
-    for step in way?.steps.as_slice() {
-        if let Some(value) = unstored(case, *step) {
-            return Some((*step, value));
+/// A number that no variable might have.
+fn missing_in(graph: &Graph, value: u64) -> Option<u64>
+    ensures { result ≡ spec.missing_in graph.now value }
+{
+    if value == 0 || is_stored(graph, value) {
+        None
+    } else {
+        Some(value)
+    }
+}
+
+/// The value for which a step asks and finds it, if no statement stores it.
+#[tactic(auto, unfolding(crate::specs::Advice::Notes::unstored))]
+fn unstored(case: &Case<'_>, step: Step) -> Option<u64>
+    ensures { result ≡ spec.unstored (of_case case.now) step }
+{
+    if !step.granted {
+        return None;
+    }
+    match asked(&case.step_instruction(step)) {
+        Some(value) => missing_in(case.scene.graph, value),
+        None => None,
+    }
+}
+
+fn is_unstored(case: &Case<'_>, step: Step) -> bool
+    ensures { result ≡ spec.is_unstored (of_case case.now) step }
+{
+    unstored(case, step).is_some()
+}
+
+fn first_among(case: &Case<'_>, steps: &[Step]) -> Option<Step>
+    ensures { result ≡ find (spec.is_unstored (of_case case.now)) steps.now }
+{
+    for step in steps {
+        if is_unstored(case, *step) {
+            return Some(*step);
         }
     }
     None
 }
 
-/// Writes that a test on the path asks for a value that no statement stores.
-fn tell_unstored(
-    page: &mut Page,
-    case: &Case<'_>,
-    step: Step,
-    value: u64,
-) -> Result<(), AllocError> {
+/// The first step of the path that asks for a value that no statement stores, and finds it.
+#[tactic(auto, unfolding(crate::specs::Advice::Notes::first_unstored))]
+fn first_unstored(case: &Case<'_>) -> Option<Step>
+    ensures { result ≡ spec.first_unstored (of_case case.now) }
+{
+    match case.path() {
+        Some(path) => first_among(case, path.steps.as_slice()),
+        None => None,
+    }
+}
+
+/// Writes that no statement stores a value for which a line asks.
+fn tell_unstored(page: &mut Page, value: u64, line: usize) -> Result<(), AllocError>
+    ensures { Writes result page.old page.new (spec.unstored_note value line) }
+{
     page.say(&[
         Part::Text("no statement stores "),
         Part::Value(value),
         Part::Text(", which line "),
-        Part::Number(case.step_line(step)),
+        Part::Number(line),
         Part::Text(
             " asks for; the rules don't trace numbers, and `n0 = file data` stands for an unknown one",
         ),
     ])
 }
 
-/// Writes what else is said of a finding; nothing where there is no more.
-pub(crate) fn tell_note(page: &mut Page, case: &Case<'_>) -> Result<(), AllocError> {
-    if let Some(words) = stricter(case) {
-        return page.texts(&[words]);
-    }
-    match first_unstored(case) {
-        Some((step, value)) => tell_unstored(page, case, step, value),
+/// Writes that a step asks for a value that no statement stores; nothing where there is no such step.
+fn tell_numbers(page: &mut Page, case: &Case<'_>, step: Option<Step>) -> Result<(), AllocError>
+    ensures { Writes result page.old page.new (spec.step_note (of_case case.now) step) }
+{
+    let Some(step) = step else {
+        return Ok(());
+    };
+    match unstored(case, step) {
+        Some(value) => tell_unstored(page, value, case.step_line(step)),
         None => Ok(()),
+    }
+}
+
+/// Writes what else is said of a finding; nothing where there is no more.
+#[tactic(auto, unfolding(crate::specs::Advice::Notes::note))]
+pub(crate) fn tell_note(page: &mut Page, case: &Case<'_>) -> Result<(), AllocError>
+    ensures { Writes result page.old page.new (spec.note (of_case case.now)) }
+{
+    match stricter(case) {
+        Some(words) => page.texts(&[words]),
+        None => tell_numbers(page, case, first_unstored(case)),
     }
 }

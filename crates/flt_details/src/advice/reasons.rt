@@ -1,136 +1,161 @@
 //! Why a variable isn't held: what made it so, in words.
 
+ghost use Rattle.std.specs.Prelude.{◌≡◌, option_copied};
+ghost use Rattle.flt_details.specs.Advice.Reasons as spec;
+ghost use Rattle.flt_details.specs.Case.{of_case};
+ghost use Rattle.flt_details.specs.Page.{Writes};
+
+use crate::advice::sentences::{in_line, on_line, since};
 use crate::case::Case;
 use crate::names::call_name;
 use crate::page::{Page, Part};
-use flt_graph::{Call, Instruction, Invocation};
+use flt_explain::Subject;
+use flt_graph::Call;
 use flt_origins::VariableStatus;
 use flt_ways::Step;
 use std::alloc::AllocError;
 
-/// Who has what a call hands over.
-pub(crate) fn new_owner(call: &Invocation) -> Option<&'static str> {
-    match call.call {
-        Call::InsertIo => Some("the queue"),
-        Call::QueueDeferredIoWorkItem | Call::QueueGenericWorkItem => Some("the work item"),
-        Call::CompletePendedPreOperation(_) => Some("the `post` callback"),
+/// The step that made a variable what it is where the finding is.
+#[derive(Clone, Copy)]
+pub(crate) enum Reason {
+    /// It gave the variable away, released or completed it.
+    Lost(Step),
+    /// It left NULL in it.
+    Emptied(Step),
+}
+
+/// Why a variable isn't held where the finding is; none where that isn't known.
+#[tactic(auto, unfolding(crate::specs::Advice::Reasons::reason))]
+pub(crate) fn reason_of(case: &Case<'_>) -> Option<Reason>
+    ensures { result ≡ spec.reason (of_case case.now) }
+{
+    match (case.variable_status(), case.cause()) {
+        (Some(VariableStatus::Stale), Some(step)) => Some(Reason::Lost(step)),
+        (Some(VariableStatus::Null), Some(step)) => Some(Reason::Emptied(step)),
         _ => None,
     }
 }
 
-/// What became of a context that a call gave away or released.
-fn tell_lost_context(
-    page: &mut Page,
-    case: &Case<'_>,
-    call: &Invocation,
-    line: usize,
-) -> Result<(), AllocError> {
-    let subject = Part::Marked(case.subject());
-    match new_owner(call) {
-        Some(owner) => page.say(&[
-            Part::Text(owner),
-            Part::Text(" owns "),
-            subject,
-            Part::Text(" since line "),
-            Part::Number(line),
-        ]),
-        None => page.say(&[
-            Part::Text("line "),
-            Part::Number(line),
-            Part::Text(" released "),
-            subject,
-        ]),
+/// Who owns the context that a call hands over, and that it does.
+pub(crate) fn new_owner(call: Call) -> Option<&'static str>
+    ensures { option_copied result ≡ spec.new_owner call }
+{
+    match call {
+        Call::InsertIo => Some("the queue owns "),
+        Call::QueueDeferredIoWorkItem | Call::QueueGenericWorkItem => Some("the work item owns "),
+        Call::CompletePendedPreOperation(_) => Some("the `post` callback owns "),
+        _ => None,
     }
 }
 
-/// What became of an operation that a call gave away or completed.
-fn tell_lost_operation(
-    page: &mut Page,
-    case: &Case<'_>,
-    call: &Invocation,
-    line: usize,
-) -> Result<(), AllocError> {
-    let subject = Part::Marked(case.subject());
-    match call.call {
-        Call::InsertIo | Call::QueueDeferredIoWorkItem => page.say(&[
-            Part::Text(if let Call::InsertIo = call.call {
-                "the queue has "
-            } else {
-                "the work item has "
-            }),
-            subject,
-            Part::Text(" since line "),
-            Part::Number(line),
-        ]),
-        _ => page.say(&[
-            Part::Text("line "),
-            Part::Number(line),
-            Part::Text(" completed "),
-            subject,
-        ]),
+/// Who has the operation that a call gives away, and that it does.
+fn new_holder(call: Call) -> Option<&'static str>
+    ensures { option_copied result ≡ spec.new_holder call }
+{
+    match call {
+        Call::InsertIo => Some("the queue has "),
+        Call::QueueDeferredIoWorkItem => Some("the work item has "),
+        _ => None,
     }
 }
 
-/// Whether the finding is about an operation.
-fn is_operation(case: &Case<'_>) -> bool {
-    matches!(case.finding.subject, flt_explain::Subject::Operation(_))
+/// Writes who has the variable since a line, or what that line did with it.
+fn tell_lost_to(
+    page: &mut Page,
+    case: &Case<'_>,
+    line: usize,
+    owns: Option<&'static str>,
+    verb: &'static str,
+) -> Result<(), AllocError>
+    ensures { Writes result page.old page.new (spec.lost_to (of_case case.now) line (option_copied owns.entry) verb.now) }
+{
+    match owns {
+        Some(owns) => since(page, case, owns, line),
+        None => on_line(page, case, line, verb, ""),
+    }
 }
 
-/// What made a variable stale.
-fn tell_lost(page: &mut Page, case: &Case<'_>, step: Step) -> Result<(), AllocError> {
+/// Writes what became of a variable by a call.
+fn tell_lost_by_call(
+    page: &mut Page,
+    case: &Case<'_>,
+    call: Call,
+    line: usize,
+) -> Result<(), AllocError>
+    ensures { Writes result page.old page.new (spec.lost_by_call (of_case case.now) case.now.finding.subject call line) }
+{
+    match case.finding.subject {
+        Subject::Operation(_) => tell_lost_to(page, case, line, new_holder(call), " completed "),
+        _ => tell_lost_to(page, case, line, new_owner(call), " released "),
+    }
+}
+
+/// Writes what made a variable stale.
+#[tactic(auto, unfolding(crate::specs::Advice::Reasons::lost))]
+fn tell_lost(page: &mut Page, case: &Case<'_>, step: Step) -> Result<(), AllocError>
+    ensures { Writes result page.old page.new (spec.lost (of_case case.now) step) }
+{
     let line = case.step_line(step);
-    match case.step_instruction(step) {
-        Instruction::Call(call, _, _) => {
-            if is_operation(case) {
-                tell_lost_operation(page, case, &call, line)
-            } else {
-                tell_lost_context(page, case, &call, line)
-            }
-        }
-        _ => page.say(&[
-            Part::Marked(case.subject()),
-            Part::Text(" is given away in line "),
-            Part::Number(line),
-        ]),
+    match case.call_at(step) {
+        Some(call) => tell_lost_by_call(page, case, call.call, line),
+        None => in_line(page, case, " is given away in line ", line),
     }
 }
 
-/// What made a variable NULL: a call that gives nothing by this outcome, or a statement.
-fn tell_null(page: &mut Page, case: &Case<'_>, step: Step) -> Result<(), AllocError> {
-    let line = Part::Number(case.step_line(step));
-    let subject = Part::Marked(case.subject());
-    match case.step_instruction(step) {
-        Instruction::Call(call, _, _) => page.say(&[
-            subject,
-            Part::Text(" is NULL where "),
-            Part::Word(call_name(call.call)),
-            Part::Text(" in line "),
-            line,
-            Part::Text(if step.granted {
-                " succeeds and gives none"
-            } else {
-                " fails"
-            }),
-        ]),
-        _ => page.say(&[
-            Part::Text("line "),
-            line,
-            Part::Text(" sets "),
-            subject,
-            Part::Text(" to NULL"),
-        ]),
+/// How a call comes out that gives none.
+fn emptying_outcome(succeeds: bool) -> &'static str
+    ensures { result.now ≡ spec.emptying_outcome succeeds }
+{
+    if succeeds {
+        " succeeds and gives none"
+    } else {
+        " fails"
     }
 }
 
-/// Writes why a variable isn't held where the finding is; whether that is known.
-pub(crate) fn tell_reason(page: &mut Page, case: &Case<'_>) -> Result<bool, AllocError> {
-    let Some(step) = case.cause() else {
-        return Ok(false);
-    };
-    match case.variable_status() {
-        Some(VariableStatus::Stale) => tell_lost(page, case, step)?,
-        Some(VariableStatus::Null) => tell_null(page, case, step)?,
-        Some(VariableStatus::Held) | None => return Ok(false),
+/// Writes that a call gives none.
+#[tactic(auto, unfolding(crate::specs::Advice::Reasons::emptied_by_call))]
+fn tell_emptied_by_call(
+    page: &mut Page,
+    case: &Case<'_>,
+    call: Call,
+    line: usize,
+    succeeds: bool,
+) -> Result<(), AllocError>
+    ensures { Writes result page.old page.new (spec.emptied_by_call (of_case case.now) call line succeeds) }
+{
+    page.say(&[
+        Part::Marked(case.subject()),
+        Part::Text(" is NULL where "),
+        Part::Word(call_name(call)),
+        Part::Text(" in line "),
+        Part::Number(line),
+        Part::Text(emptying_outcome(succeeds)),
+    ])
+}
+
+/// Writes what made a variable NULL: a call that gives nothing by this outcome, or a statement.
+#[tactic(auto, unfolding(crate::specs::Advice::Reasons::emptied))]
+fn tell_emptied(page: &mut Page, case: &Case<'_>, step: Step) -> Result<(), AllocError>
+    ensures { Writes result page.old page.new (spec.emptied (of_case case.now) step) }
+{
+    let line = case.step_line(step);
+    match case.call_at(step) {
+        Some(call) => tell_emptied_by_call(page, case, call.call, line, step.granted),
+        None => on_line(page, case, line, " sets ", " to NULL"),
     }
-    Ok(true)
+}
+
+/// Writes why a variable isn't held.
+pub(crate) fn tell_reason(
+    page: &mut Page,
+    case: &Case<'_>,
+    reason: Reason,
+) -> Result<(), AllocError>
+    ensures { Writes result page.old page.new (spec.reason_told (of_case case.now) reason) }
+{
+    match reason {
+        Reason::Lost(step) => tell_lost(page, case, step),
+        Reason::Emptied(step) => tell_emptied(page, case, step),
+    }
 }
