@@ -1,2 +1,7 @@
+pub mod Codes
 pub mod Covering
+pub mod Lines
 pub mod MoreReports
+pub mod Placing
+pub mod Promise
+pub mod Widths

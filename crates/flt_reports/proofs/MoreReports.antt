@@ -1,13 +1,16 @@
 -- One group more is reported, and which findings have reports.
-use Rattle.std.proofs.Common.{◌≡◌, ◌<◌, ◌+◌, ℕ, zero, suc, List, [], ◌∷◌, ◌++◌, length, map, take, get_or, arith, subst, sym, refl, ap, ◌∙◌}
+use Rattle.std.proofs.Common.{◌≡◌, ◌<◌, ◌+◌, Bool, ℕ, zero, suc, List, [], ◌∷◌, ◌++◌, length, map, take, get_or, arith, subst, sym, refl, ap, ◌∙◌}
 use Rattle.std.specs.List.{AllZip}
 use Rattle.flt_explain.specs.declared.finding.Finding.{Finding}
+use Rattle.flt_graph.specs.declared.graph.Graph.{Graph}
 use Rattle.flt_origins.specs.declared.grouping.Group.{Group}
+use Rattle.flt_tree.specs.Names.{Text}
+use Rattle.flt_tree.specs.declared.filter.Filter.{Filter}
 use Rattle.flt_details.specs.Tracing.{AreTraces}
 use Rattle.flt_details.specs.declared.tracing.Traces.{Traces}
 use Rattle.flt_reports.proofs.Covering.{are_firsts, number_of}
 use Rattle.flt_reports.specs.Covering.{AreFirsts}
-use Rattle.flt_reports.specs.Reports.{numbers_of, IsReport}
+use Rattle.flt_reports.specs.Reports.{numbers_of, AreReports, IsReport}
 use Rattle.flt_reports.specs.declared.reports.Report.{Report}
 
 one_more : {A B : Type 0} (R : A → B → Type 0) (xs : List A) (ys : List B) (i : ℕ) (x : A) (y : B) → i < length xs → x ≡ get_or xs i x →
@@ -18,15 +21,16 @@ one_more R (z ∷ xs) (w ∷ ys) zero x y less is all new = absurd all
 one_more R (z ∷ xs) [] (suc i) x y less is all new = absurd all
 one_more R (z ∷ xs) (w ∷ ys) (suc i) x y less is all new = (all.0, one_more R xs ys i x y (omega (arith, less)) is all.1 new)
 
-pub one_report_more : (traces : Traces) (groups : List Group) (i : ℕ) (one : Group) (r : Report) (all more : List Report) → i < length groups →
-    one ≡ get_or groups i one → AllZip (IsReport traces) (take i groups) all → IsReport traces one r → more ≡ all ++ r ∷ [] →
-    AllZip (IsReport traces) (take (i + 1) groups) more
-one_report_more traces groups i one r all more less is kept new after =
+pub one_report_more : (R : Group → Report → Type 0) (groups : List Group) (i : ℕ) (one : Group) (r : Report) (all more : List Report) →
+    i < length groups → one ≡ get_or groups i one → AllZip R (take i groups) all → R one r → more ≡ all ++ r ∷ [] →
+    AllZip R (take (i + 1) groups) more
+one_report_more R groups i one r all more less is kept new after =
     let next : i + 1 ≡ suc i = omega arith in
-    rw (next, after) (one_more (IsReport traces) groups all i one r less is kept new)
+    rw (next, after) (one_more R groups all i one r less is kept new)
 
-module _ (traces : Traces) where
-  numbers_are : (groups : List Group) (all : List Report) → AllZip (IsReport traces) groups all → numbers_of all ≡ map number_of groups
+module _ (coloured : Bool) (name text : Text) (f : Filter) (g : Graph) (traces : Traces) where
+  numbers_are : (groups : List Group) (all : List Report) → AllZip (IsReport coloured name text f g traces) groups all →
+      numbers_of all ≡ map number_of groups
   numbers_are [] [] each = refl
   numbers_are [] (r ∷ all) each = absurd each
   numbers_are (x ∷ groups) [] each = absurd each
@@ -34,7 +38,22 @@ module _ (traces : Traces) where
       ap (λ n. n ∷ numbers_of all) (each.0).finding ∙ ap (λ ns. x.first.number ∷ ns) (numbers_are groups all each.1)
 
   -- the findings that have reports are the firsts of the groups
-  pub reports_are_firsts : (found : List Finding) (all : List Report) → AreTraces found traces →
-      AllZip (IsReport traces) traces.groups all → AreFirsts found (numbers_of all)
-  reports_are_firsts found all traced each =
+  firsts_of : (found : List Finding) (all : List Report) → AreTraces g found traces →
+      AllZip (IsReport coloured name text f g traces) traces.groups all → AreFirsts found (numbers_of all)
+  firsts_of found all traced each =
       subst (AreFirsts found) (sym (numbers_are traces.groups all each ∙ ap (map number_of) traced.groups)) (are_firsts found traces.shown)
+
+-- the findings of reports are the firsts of the groups
+pub reports_are_firsts : (coloured : Bool) (name text : Text) (f : Filter) (g : Graph) (found : List Finding) (all : List Report) →
+    AreReports coloured name text f g found all → AreFirsts found (numbers_of all)
+reports_are_firsts coloured name text f g found all are = firsts_of coloured name text f g are.traces found all are.traced are.each
+
+-- the same where the lines are those of the text
+pub reports_are : (coloured : Bool) (name text lines : Text) (f : Filter) (g : Graph) (found : List Finding) (traces : Traces)
+    (all : List Report) → lines ≡ text → AreTraces g found traces → AllZip (IsReport coloured name lines f g traces) traces.groups all →
+    AreReports coloured name text f g found all
+reports_are coloured name text lines f g found traces all same traced each = record {
+  traces = traces;
+  traced = traced;
+  each = subst (λ t. AllZip (IsReport coloured name t f g traces) traces.groups all) same each;
+}

@@ -1,2 +1,12 @@
+pub mod Colours
 pub mod Covering
+pub mod Fault
+pub mod Finding
+pub mod Heading
+pub mod Indents
+pub mod Line
+pub mod MarkWords
+pub mod Marks
 pub mod Reports
+pub mod Shown
+pub mod Ways

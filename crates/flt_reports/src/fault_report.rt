@@ -1,69 +1,164 @@
 //! The report of a text that doesn't parse.
 
-use crate::heading::tell_heading;
+ghost use Rattle.std.specs.Prelude.{◌≡◌, ◌++◌, ◌∷◌, [], IfOk};
+ghost use Rattle.flt_details.specs.Page.{Writes};
+ghost use Rattle.flt_reports.specs.Fault as spec;
+
+use crate::heading::{tell_heading, tell_place};
 use crate::marks::Drawing;
 use flt_details::{Page, Source, fault_name};
-use flt_hints::{Told, Trouble, describe, tell};
+use flt_hints::{Spot, Told, Trouble, describe, tell};
 use flt_places::{Lines, Site};
 use flt_tree::Position;
 use std::alloc::{AllocError, Global};
 
+/// Where a text is refused.
+fn place_of(spot: &Spot<'_>) -> Position
+    ensures { result ≡ spec.place_of spot.now }
+{
+    Position {
+        line: spot.fault.line,
+        column: spot.fault.column,
+    }
+}
+
+/// Writes which word is probably meant, and ends the line.
+fn tell_meant(page: &mut Page, meant: &[u8]) -> Result<(), AllocError>
+    ensures { Writes result page.old page.new (spec.meant_told meant.now ++ 10 ∷ []) }
+{
+    if meant.is_empty() {
+        page.bytes(b"\n")
+    } else {
+        page.line(&[b" ", meant])
+    }
+}
+
 /// Draws the line with marks under what stands there, and behind them which word is probably meant.
+#[tactic(auto, unfolding(crate::specs::Fault::spot_drawn))]
 fn draw_spot(
     page: &mut Page,
     coloured: bool,
     lines: &Lines<'_>,
-    trouble: &Trouble<'_>,
-    told: &Told,
-) -> Result<(), AllocError> {
-    let fault = trouble.spot.fault;
-    let mut drawing = Drawing::new(coloured, fault.line);
+    spot: &Spot<'_>,
+    meant: &[u8],
+) -> Result<(), AllocError>
+    ensures { Writes result page.old page.new (spec.spot_drawn coloured lines.now spot.now meant.now) }
+{
+    let line = spot.fault.line;
     let site = Site {
-        place: Position {
-            line: fault.line,
-            column: fault.column,
-        },
-        length: trouble.spot.bytes.len(),
+        place: place_of(spot),
+        length: spot.bytes.len(),
     };
-    drawing.draw(page, lines.line(fault.line), &site, b'^')?;
-    if told.meant.is_empty() {
-        page.bytes(b"\n")
-    } else {
-        page.line(&[b" ", told.meant.as_slice()])
+    Drawing::new(coloured, line).draw(page, lines.line(line), &site, b'^')?;
+    tell_meant(page, meant)
+}
+
+/// The same; nothing where the text is too large.
+#[tactic(auto, unfolding(crate::specs::Fault::picture))]
+fn draw(
+    alloc: Global,
+    page: &mut Page,
+    coloured: bool,
+    text: &[u8],
+    spot: &Spot<'_>,
+    meant: &[u8],
+) -> Result<(), AllocError>
+    ensures { Writes result page.old page.new (spec.picture coloured text.now spot.now meant.now spot.now.token) }
+{
+    match spot.token {
+        Some(_) => {
+            let lines = Lines::of(alloc, text)?;
+            draw_spot(page, coloured, &lines, spot, meant)
+        }
+        None => Ok(()),
     }
 }
 
-/// Writes what is wrong, where that is, what stands there, and how to mend it. The line isn't drawn where the text is too large.
-fn report_trouble(
+/// Writes what is wrong, where that is, what stands there, and how to fix it.
+#[tactic(auto, unfolding(crate::specs::Fault::fault_report))]
+fn report_spot(
     alloc: Global,
     page: &mut Page,
     coloured: bool,
     source: Source<'_>,
-    trouble: &Trouble<'_>,
+    spot: &Spot<'_>,
     told: &Told,
-) -> Result<(), AllocError> {
-    let fault = trouble.spot.fault;
-    let code = Some(fault_name(fault.kind));
+) -> Result<(), AllocError>
+    ensures { Writes result page.old page.new
+        (spec.fault_report coloured source.entry.name.now source.entry.text.now spot.now told.now.title.items told.now.meant.items
+        told.now.notes.items) }
+{
+    let code = Some(fault_name(spot.fault.kind));
     tell_heading(page, coloured, code, told.title.as_slice(), source.name)?;
-    page.numbers(&[":", ":", "\n"], &[fault.line, fault.column])?;
-    if trouble.spot.token.is_some() {
-        let lines = Lines::of(alloc, source.text)?;
-        draw_spot(page, coloured, &lines, trouble, told)?;
-    }
+    tell_place(page, place_of(spot))?;
+    page.bytes(b"\n")?;
+    draw(
+        alloc,
+        page,
+        coloured,
+        source.text,
+        spot,
+        told.meant.as_slice(),
+    )?;
     page.bytes(told.notes.as_slice())
 }
 
-/// Writes where a text is refused, what stands there, what may stand there in its place, and how to mend it; nothing of a text that
-/// parses.
-pub(crate) fn report_fault(
+/// The lines of the report of a text's trouble in these words.
+fn lines_in(
     alloc: Global,
-    page: &mut Page,
     coloured: bool,
     source: Source<'_>,
-) -> Result<(), AllocError> {
-    let Some(trouble) = describe(alloc, source.text)? else {
-        return Ok(());
-    };
-    let told = tell(alloc, &trouble)?;
-    report_trouble(alloc, page, coloured, source, &trouble, &told)
+    spot: &Spot<'_>,
+    told: &Told,
+) -> Result<Vec<u8>, AllocError>
+    ensures { IfOk result (λ lines. lines.items ≡
+        spec.fault_report coloured source.entry.name.now source.entry.text.now spot.now told.now.title.items told.now.meant.items
+        told.now.notes.items) }
+{
+    let mut page = Page::new(alloc);
+    report_spot(alloc, &mut page, coloured, source, spot, told)?;
+    Ok(page.out)
+}
+
+/// The report of a text's trouble.
+#[tactic(auto, unfolding(crate::specs::Fault::trouble_report))]
+fn report_trouble(
+    alloc: Global,
+    coloured: bool,
+    source: Source<'_>,
+    trouble: &Trouble<'_>,
+) -> Result<Vec<u8>, AllocError>
+    ensures { IfOk result (λ lines. lines.items ≡ spec.trouble_report coloured source.entry.name.now source.entry.text.now trouble.now) }
+{
+    let told = tell(alloc, trouble)?;
+    let lines = lines_in(alloc, coloured, source, &trouble.spot, &told)?;
+    Ok(lines)
+}
+
+/// The report of a text's trouble, if it has one.
+fn report_described(
+    alloc: Global,
+    coloured: bool,
+    source: Source<'_>,
+    trouble: &Option<Trouble<'_>>,
+) -> Result<Vec<u8>, AllocError>
+    ensures { IfOk result (λ lines. lines.items ≡ spec.report_of coloured source.entry.name.now source.entry.text.now trouble.now) }
+{
+    match trouble {
+        Some(trouble) => report_trouble(alloc, coloured, source, trouble),
+        None => Ok(Vec::new(alloc)),
+    }
+}
+
+/// Where a text is refused, what stands there, what may stand there in its place, and how to fix it; nothing of a text that parses.
+pub(crate) fn report_fault(
+    alloc: Global,
+    coloured: bool,
+    source: Source<'_>,
+) -> Result<Vec<u8>, AllocError>
+    ensures { IfOk result (λ lines. spec.IsFaultReport coloured source.entry.name.now source.entry.text.now lines.items) }
+{
+    let described = describe(alloc, source.text)?;
+    let lines = report_described(alloc, coloured, source, &described)?;
+    Ok(lines)
 }

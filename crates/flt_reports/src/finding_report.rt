@@ -1,6 +1,14 @@
 //! The report of findings that are put together.
 
-use crate::heading::tell_heading;
+ghost use Rattle.std.specs.Prelude.{◌≡◌, ◌==◌, ◌+◌, ◌<◌, ◌≤◌, drop, length, map, option_copied, position, take, IfOk};
+ghost use Rattle.std.specs.List.{position_or_len, slice_split};
+ghost use Rattle.flt_details.specs.Closing.{rule_name};
+ghost use Rattle.flt_details.specs.Page.{Writes};
+ghost use Rattle.flt_reports.specs.Finding as spec;
+ghost use Rattle.flt_reports.specs.Indents.{headed};
+
+use crate::heading::{tell_heading, tell_place};
+use crate::indents::begin;
 use crate::shown_lines::draw_shown;
 use crate::way_lines::tell_way;
 use flt_details::{Page, Scene, Shown, Words};
@@ -10,8 +18,13 @@ use flt_rules::Rule;
 use flt_ways::Answer;
 use std::alloc::{AllocError, Global};
 
+// ---- what is wrong, and where
+
 /// `R01` to `R15`.
-fn code(rule: Rule) -> &'static str {
+#[tactic(auto, using(crate::proofs::Codes::named))]
+fn code(rule: Rule) -> &'static str
+    ensures { result.now ≡ rule_name rule }
+{
     match rule {
         Rule::R01 => "R01",
         Rule::R02 => "R02",
@@ -31,7 +44,24 @@ fn code(rule: Rule) -> &'static str {
     }
 }
 
+/// Writes the head of a callback between marks.
+#[tactic(auto, unfolding(crate::specs::Finding::head_told))]
+fn tell_callback(page: &mut Page, head: &[u8]) -> Result<(), AllocError>
+    ensures { Writes result page.old page.new (spec.head_told head.now) }
+{
+    page.words(&[b", `", head, b"`"])
+}
+
+/// Writes the numbers of a callback and a point.
+#[tactic(auto, unfolding(crate::specs::Finding::numbers_told))]
+fn tell_numbers(page: &mut Page, callback: usize, point: usize) -> Result<(), AllocError>
+    ensures { Writes result page.old page.new (spec.numbers_told callback point) }
+{
+    page.numbers(&[" (callback ", " point ", ")\n"], &[callback, point])
+}
+
 /// Writes what is wrong, and where.
+#[tactic(auto, unfolding(crate::specs::Finding::head_lines))]
 fn tell_head(
     page: &mut Page,
     coloured: bool,
@@ -39,18 +69,25 @@ fn tell_head(
     scene: &Scene<'_>,
     finding: &Finding,
     words: &Words,
-) -> Result<(), AllocError> {
+) -> Result<(), AllocError>
+    ensures { Writes result page.old page.new
+        (spec.head_lines coloured name.now scene.now.lines.now scene.now.graph.now finding.now words.now) }
+{
     let code = Some(code(finding.rule));
-    let place = scene.site(finding.callback, finding.point).place;
-    let places = [finding.callback, finding.point];
+    let site = scene.site(finding.callback, finding.point);
     tell_heading(page, coloured, code, words.title.as_slice(), name)?;
-    page.numbers(&[":", ":", ", `"], &[place.line, place.column])?;
-    page.words(&[words.head.as_slice()])?;
-    page.numbers(&["` (callback ", " point ", ")\n"], &places)
+    tell_place(page, site.place)?;
+    tell_callback(page, words.head.as_slice())?;
+    tell_numbers(page, finding.callback, finding.point)
 }
 
-/// What is said of the ways to a finding.
-fn notes(answer: &Answer) -> &'static str {
+// ---- the paths to it
+
+/// What is said of the paths to a finding.
+#[tactic(auto, unfolding(crate::specs::Finding::notes))]
+fn notes(answer: &Answer) -> &'static str
+    ensures { result.now ≡ spec.notes answer.now }
+{
     match answer {
         Answer::Clean(_) => "",
         Answer::Behind(_) =>
@@ -62,57 +99,161 @@ fn notes(answer: &Answer) -> &'static str {
     }
 }
 
-/// Writes the ways to a finding, and what is said of them.
+/// Writes the paths to a finding, and what is said of them.
+#[tactic(auto, unfolding(crate::specs::Finding::paths_told))]
 fn tell_ways(
     page: &mut Page,
     scene: &Scene<'_>,
     callback: usize,
     shown: &Shown,
-) -> Result<(), AllocError> {
+) -> Result<(), AllocError>
+    ensures { Writes result page.old page.new
+        (spec.paths_told scene.now.lines.now scene.now.graph.now callback shown.now.answer) }
+{
     let (way, other) = shown.ways();
     tell_way(page, scene, callback, "   = path: ", way)?;
     tell_way(page, scene, callback, "   = other path: ", other)?;
     page.texts(&[notes(&shown.answer)])
 }
 
+/// Writes what shows a finding, where that is known.
+#[tactic(auto, unfolding(crate::specs::Finding::shown_part))]
+fn tell_shown(
+    alloc: Global,
+    page: &mut Page,
+    coloured: bool,
+    scene: &Scene<'_>,
+    finding: &Finding,
+    subject: &[u8],
+    shown: Option<&Shown>,
+) -> Result<(), AllocError>
+    ensures { Writes result page.old page.new
+        (spec.shown_part coloured scene.now.lines.now scene.now.graph.now finding.now subject.now (option_copied shown.entry)) }
+{
+    let Some(shown) = shown else {
+        return Ok(());
+    };
+    draw_shown(alloc, page, coloured, scene, finding, subject, shown)?;
+    tell_ways(page, scene, finding.callback, shown)
+}
+
+// ---- the others of its group
+
+/// What stands before the number of a line: a comma where another one is before it.
+#[tactic(auto, unfolding(crate::specs::Finding::before_line))]
+fn before_line(is_below: bool) -> &'static str
+    ensures { result.now ≡ spec.before_line is_below }
+{
+    if is_below {
+        ", "
+    } else {
+        "   = note: also at line "
+    }
+}
+
 /// Writes the lines on which the others of a group stand, each once.
-fn tell_others(page: &mut Page, others: &[Traced]) -> Result<(), AllocError> {
+#[tactic(auto, unfolding(crate::specs::Finding::others_told))]
+fn tell_others(page: &mut Page, others: &[Traced]) -> Result<(), AllocError>
+    ensures { Writes result page.old page.new (spec.others_told others.now) }
+{
     let mut last: usize = 0;
+    let mut told = false;
     for other in others {
         let line = other.finding.line;
         if line != last {
-            let word = if last == 0 {
-                "   = note: also at line "
-            } else {
-                ", "
-            };
-            page.numbers(&[word], &[line])?;
+            page.numbers(&[before_line(told)], &[line])?;
             last = line;
+            told = true;
         }
     }
-    page.texts(&[if last == 0 { "" } else { "\n" }])
+    page.texts(&[if told { "\n" } else { "" }])
 }
 
-/// Writes how to mend it: further lines stand under the first.
-fn tell_help(page: &mut Page, help: &[u8]) -> Result<(), AllocError> {
-    let mut before: &[u8] = b"   = help: ";
-    for line in help.split(|byte| *byte == b'\n') {
-        page.line(&[before, line])?;
-        before = b"           ";
+// ---- how to fix it
+
+/// Where the first line feed is, if there is one.
+fn line_feed(text: &[u8]) -> Option<usize>
+    ensures { result ≡ position (λ b. b == 10) text.now }
+{
+    text.iter().position(|byte| *byte == b'\n')
+}
+
+/// How many bytes the first line has, without its end.
+fn line_length(text: &[u8]) -> usize
+    ensures value { result ≡ position_or_len (λ b. b == 10) text.now }
+    ensures within { result ≤ length text.now }
+{
+    line_feed(text).unwrap_or(text.len())
+}
+
+fn line_up_to(text: &[u8], end: usize) -> &[u8]
+    requires { end < length text.now }
+    ensures { result.now ≡ take end text.now }
+{
+    &text[..end]
+}
+
+fn after_line(text: &[u8], end: usize) -> &[u8]
+    requires { end < length text.now }
+    ensures { result.now ≡ drop (end + 1) text.now }
+{
+    &text[end + 1..]
+}
+
+/// The lines of a text, without their ends.
+fn lines_of<'a>(alloc: Global, text: &'a [u8]) -> Result<Vec<&'a [u8]>, AllocError>
+    ensures { IfOk result (λ lines. map (λ l. l.now) lines.items ≡ slice_split (λ b. b == 10) text.now) }
+{
+    let mut lines = Vec::new(alloc);
+    let mut rest = text;
+    let mut end = line_length(rest);
+    while end < rest.len() {
+        lines.push(line_up_to(rest, end))?;
+        rest = after_line(rest, end);
+        end = line_length(rest);
+    }
+    lines.push(rest)?;
+    Ok(lines)
+}
+
+/// Writes lines behind a word that stands before the first of them alone.
+fn tell_lines(page: &mut Page, word: &str, lines: &[&[u8]]) -> Result<(), AllocError>
+    ensures { Writes result page.old page.new (headed word.now (map spec.shown_line (map (λ l. l.now) lines.now))) }
+{
+    let mut told = false;
+    for line in lines {
+        begin(page, word, told)?;
+        page.line(&[line])?;
+        told = true;
     }
     Ok(())
 }
 
+/// Writes how to fix it: further lines stand under the first.
+#[tactic(auto, unfolding(crate::specs::Finding::help_told))]
+fn tell_help(alloc: Global, page: &mut Page, help: &[u8]) -> Result<(), AllocError>
+    ensures { Writes result page.old page.new (spec.help_told help.now) }
+{
+    let lines = lines_of(alloc, help)?;
+    tell_lines(page, "   = help: ", lines.as_slice())
+}
+
 /// Writes what else is said of it, if there is more.
-fn tell_note(page: &mut Page, note: &[u8]) -> Result<(), AllocError> {
+#[tactic(auto, unfolding(crate::specs::Finding::note_told))]
+fn tell_note(page: &mut Page, note: &[u8]) -> Result<(), AllocError>
+    ensures { Writes result page.old page.new (spec.note_told note.now) }
+{
     if note.is_empty() {
         Ok(())
     } else {
-        page.line(&[b"   = note: ", note])
+        tell_lines(page, "   = note: ", &[note])
     }
 }
 
-/// Writes the report of a finding: what is wrong and where, what shows it, where the others of its group are, and how to mend it.
+// ---- all of it
+
+/// Writes the report of a finding: what is wrong and where, what shows it, where the others of its group are, and how to fix it.
+#[tactic(auto, unfolding(crate::specs::Finding::finding_report))]
 pub(crate) fn report_finding(
     alloc: Global,
     page: &mut Page,
@@ -123,13 +264,15 @@ pub(crate) fn report_finding(
     words: &Words,
     shown: Option<&Shown>,
     others: &[Traced],
-) -> Result<(), AllocError> {
+) -> Result<(), AllocError>
+    ensures { Writes result page.old page.new
+        (spec.finding_report coloured name.now scene.now.lines.now scene.now.graph.now finding.now words.now (option_copied shown.entry)
+        others.now) }
+{
+    let subject = words.subject.as_slice();
     tell_head(page, coloured, name, scene, finding, words)?;
-    if let Some(shown) = shown {
-        draw_shown(alloc, page, coloured, scene, finding, words, shown)?;
-        tell_ways(page, scene, finding.callback, shown)?;
-    }
+    tell_shown(alloc, page, coloured, scene, finding, subject, shown)?;
     tell_others(page, others)?;
-    tell_help(page, words.help.as_slice())?;
+    tell_help(alloc, page, words.help.as_slice())?;
     tell_note(page, words.note.as_slice())
 }

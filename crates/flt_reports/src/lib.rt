@@ -1,12 +1,15 @@
-//! Reports for people: what is wrong with a text, with the lines that show it, a way that leads there, and how to mend it. It exports
+//! Reports for people: what is wrong with a text, with the lines that show it, a path that leads there, and how to fix it. It exports
 //! the parts of a text's report, which `flt_notes` puts together, and the report of a line of another file. What is found and in which
 //! words it is said, `flt_details` has.
 #![tactic(auto)]
 
+mod colours;
 mod fault_report;
 mod finding_report;
 mod heading;
+mod indents;
 mod line_report;
+mod mark_words;
 mod marks;
 mod reports;
 mod shown_lines;

@@ -1,6 +1,10 @@
 //! The report of a line of a file that isn't the text of a filter.
 
-use crate::heading::tell_heading;
+ghost use Rattle.std.specs.Prelude.{◌≡◌, ◌++◌, ◌∷◌, [], IfOk};
+ghost use Rattle.flt_details.specs.Page.{Writes};
+ghost use Rattle.flt_reports.specs.Line as spec;
+
+use crate::heading::{tell_heading, tell_place};
 use crate::marks::Drawing;
 use flt_details::Page;
 use flt_places::Site;
@@ -22,12 +26,25 @@ pub struct MarkedLine<'a> {
     pub message: &'a [u8],
     /// Which word is probably meant; or nothing.
     pub meant: &'a [u8],
-    /// How to mend it; or nothing.
+    /// How to fix it; or nothing.
     pub help: &'a str,
 }
 
+/// Where it is wrong.
+fn place_of(marked: &MarkedLine<'_>) -> Position
+    ensures { result ≡ spec.place_of marked.now }
+{
+    Position {
+        line: marked.line,
+        column: marked.column,
+    }
+}
+
 /// Writes which word is probably meant, and ends the line.
-fn tell_meant(page: &mut Page, meant: &[u8]) -> Result<(), AllocError> {
+#[tactic(auto, unfolding(crate::specs::Line::meant))]
+fn tell_meant(page: &mut Page, meant: &[u8]) -> Result<(), AllocError>
+    ensures { Writes result page.old page.new (spec.meant meant.now ++ 10 ∷ []) }
+{
     if meant.is_empty() {
         page.bytes(b"\n")
     } else {
@@ -36,23 +53,26 @@ fn tell_meant(page: &mut Page, meant: &[u8]) -> Result<(), AllocError> {
 }
 
 /// Draws the line, and behind the marks which word is probably meant; nothing where nothing is shown.
-fn draw(page: &mut Page, coloured: bool, marked: &MarkedLine<'_>) -> Result<(), AllocError> {
+#[tactic(auto, unfolding(crate::specs::Line::picture))]
+fn draw(page: &mut Page, coloured: bool, marked: &MarkedLine<'_>) -> Result<(), AllocError>
+    ensures { Writes result page.old page.new (spec.picture coloured marked.now) }
+{
     if marked.shown.is_empty() {
         return Ok(());
     }
     let site = Site {
-        place: Position {
-            line: marked.line,
-            column: marked.column,
-        },
+        place: place_of(marked),
         length: marked.marked,
     };
     Drawing::new(coloured, marked.line).draw(page, marked.shown, &site, b'^')?;
     tell_meant(page, marked.meant)
 }
 
-/// Writes how to mend it.
-fn tell_help(page: &mut Page, help: &str) -> Result<(), AllocError> {
+/// Writes how to fix it.
+#[tactic(auto, unfolding(crate::specs::Line::help_line))]
+fn tell_help(page: &mut Page, help: &str) -> Result<(), AllocError>
+    ensures { Writes result page.old page.new (spec.help_line help.now) }
+{
     if help.is_empty() {
         Ok(())
     } else {
@@ -60,14 +80,18 @@ fn tell_help(page: &mut Page, help: &str) -> Result<(), AllocError> {
     }
 }
 
-fn tell(page: &mut Page, coloured: bool, marked: &MarkedLine<'_>) -> Result<(), AllocError> {
+#[tactic(auto, unfolding(crate::specs::Line::line_report))]
+fn tell(page: &mut Page, coloured: bool, marked: &MarkedLine<'_>) -> Result<(), AllocError>
+    ensures { Writes result page.old page.new (spec.line_report coloured marked.now) }
+{
     tell_heading(page, coloured, None, marked.message, marked.name)?;
-    page.numbers(&[":", ":", "\n"], &[marked.line, marked.column])?;
+    tell_place(page, place_of(marked))?;
+    page.bytes(b"\n")?;
     draw(page, coloured, marked)?;
     tell_help(page, marked.help)
 }
 
-/// What is reported of a line of a file that isn't the text of a filter: what is wrong and where, and how to mend it. Whole lines. With
+/// What is reported of a line of a file that isn't the text of a filter: what is wrong and where, and how to fix it. Whole lines. With
 /// `coloured`, marks of a terminal colour them.
 ///
 /// # Errors
@@ -77,7 +101,9 @@ pub fn report_line(
     alloc: Global,
     coloured: bool,
     marked: &MarkedLine<'_>,
-) -> Result<Vec<u8>, AllocError> {
+) -> Result<Vec<u8>, AllocError>
+    ensures { IfOk result (λ lines. lines.items ≡ spec.line_report coloured marked.now) }
+{
     let mut page = Page::new(alloc);
     tell(&mut page, coloured, marked)?;
     Ok(page.out)

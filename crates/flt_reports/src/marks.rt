@@ -1,68 +1,48 @@
 //! Lines of a text with marks under them.
 
+ghost use Rattle.std.specs.Prelude.{◌≡◌, ◌+◌, ◌≤◌, option_copied, OnOk};
+ghost use Rattle.flt_details.specs.Page.{Writes};
+ghost use Rattle.flt_reports.specs.Marks as spec;
+
+use crate::colours::{blue, plain, red};
 use flt_details::Page;
 use flt_places::Site;
 use std::alloc::AllocError;
 
-/// What stands round the numbers of lines and round marks.
-#[derive(Clone, Copy)]
-struct Frame {
-    number: &'static str,
-    behind_number: &'static str,
-    bar: &'static str,
-    mark: &'static str,
-    /// What stands before marks that show what led there.
-    other_mark: &'static str,
-    behind_mark: &'static str,
-}
-
-impl Frame {
-    /// What stands before marks of a sign.
-    fn before(self, sign: u8) -> &'static str {
-        if sign == b'^' {
-            self.mark
-        } else {
-            self.other_mark
-        }
-    }
-}
-
-const COLOURED: Frame = Frame {
-    number: "\x1b[1;34m",
-    behind_number: " | \x1b[0m",
-    bar: "\x1b[1;34m | \x1b[0m",
-    mark: "\x1b[1;31m",
-    other_mark: "\x1b[1;34m",
-    behind_mark: "\x1b[0m",
-};
-
-const PLAIN: Frame = Frame {
-    number: "",
-    behind_number: " | ",
-    bar: " | ",
-    mark: "",
-    other_mark: "",
-    behind_mark: "",
-};
-
-/// The lines that are drawn: their frame, the width of their numbers, and the last of them, 0 where none is.
+/// The lines that are drawn: whether in colours, the width of their numbers, and the last of them, 0 where none is.
 #[derive(Clone, Copy)]
 pub(crate) struct Drawing {
-    frame: Frame,
+    coloured: bool,
     margin: usize,
     last: usize,
 }
 
+fn is_return(byte: Option<&u8>) -> bool
+    ensures { result ≡ spec.is_return (option_copied byte.entry) }
+{
+    match byte {
+        Some(byte) => *byte == b'\r',
+        None => false,
+    }
+}
+
 /// A line without the carriage return that may end it.
-fn without_return(line: &[u8]) -> &[u8] {
-    match line {
-        [rest @ .., b'\r'] => rest,
-        _ => line,
+#[tactic(auto, unfolding(crate::specs::Marks::without_return))]
+fn without_return(line: &[u8]) -> &[u8]
+    ensures { result.now ≡ spec.without_return line.now }
+{
+    if is_return(line.last()) {
+        &line[..line.len().saturating_sub(1)]
+    } else {
+        line
     }
 }
 
 /// How many signs mark a site: what of it stands on its first line.
-fn marks(line: &[u8], site: &Site) -> usize {
+#[tactic(auto, unfolding(crate::specs::Marks::signs))]
+fn signs(line: &[u8], site: &Site) -> usize
+    ensures { result ≡ spec.signs line.now site.now }
+{
     let rest = line
         .len()
         .saturating_sub(site.place.column.saturating_sub(1));
@@ -70,70 +50,117 @@ fn marks(line: &[u8], site: &Site) -> usize {
 }
 
 /// How many digits a number has.
-fn width(number: usize) -> usize {
+#[tactic(auto, using(crate::proofs::Widths::one_digit, crate::proofs::Widths::one_digit_more))]
+fn width(number: usize) -> usize
+    ensures value { result ≡ spec.width number }
+    ensures within { result ≤ number + 1 }
+{
     if number < 10 {
         1
     } else {
-        width(number / 10).saturating_add(1)
+        width(number / 10) + 1
+    }
+}
+
+/// The colour of a sign: what led there is blue.
+#[tactic(auto, unfolding(crate::specs::Marks::colour_of))]
+fn colour(coloured: bool, sign: u8) -> &'static str
+    ensures { result.now ≡ spec.colour_of coloured sign }
+{
+    if sign == b'^' {
+        red(coloured)
+    } else {
+        blue(coloured)
     }
 }
 
 impl Drawing {
     /// For lines up to this one.
-    pub(crate) fn new(coloured: bool, greatest: usize) -> Drawing {
+    pub(crate) fn new(coloured: bool, greatest: usize) -> Drawing
+        ensures coloured { result.coloured ≡ coloured }
+        ensures margin { result.margin ≡ spec.width greatest }
+        ensures last { result.last ≡ 0 }
+    {
         Drawing {
-            frame: if coloured { COLOURED } else { PLAIN },
+            coloured,
             margin: width(greatest),
             last: 0,
         }
     }
 
     /// What stands between the last line and another one.
-    fn gap(self, number: usize) -> &'static str {
-        if self.last != 0 && number != self.last.saturating_add(1) {
-            "...\n"
-        } else {
+    #[tactic(auto, unfolding(crate::specs::Marks::gap))]
+    fn gap(self, number: usize) -> &'static str
+        ensures { result.now ≡ spec.gap self.last number }
+    {
+        if self.last == 0 || number.saturating_sub(1) == self.last {
             ""
+        } else {
+            "...\n"
         }
     }
 
     /// Draws a line of the text.
-    fn draw_line(self, page: &mut Page, line: &[u8], number: usize) -> Result<(), AllocError> {
+    #[tactic(auto, unfolding(crate::specs::Marks::numbered_line))]
+    fn draw_line(self, page: &mut Page, line: &[u8], number: usize) -> Result<(), AllocError>
+        ensures { Writes result page.old page.new (spec.numbered_line self.coloured self.margin number line.now) }
+    {
         let blanks = self.margin.saturating_sub(width(number));
-        page.texts(&[self.gap(number)])?;
-        page.run(b' ', blanks, self.frame.number)?;
-        page.numbers(&["", self.frame.behind_number], &[number])?;
+        page.run(b' ', blanks, blue(self.coloured))?;
+        page.numbers(&["", " | "], &[number])?;
+        page.texts(&[plain(self.coloured)])?;
         page.line(&[line])
     }
 
+    /// Draws the line of a site, where it isn't the last that was drawn.
+    #[tactic(auto, unfolding(crate::specs::Marks::line_once))]
+    fn draw_once(self, page: &mut Page, line: &[u8], number: usize) -> Result<(), AllocError>
+        ensures { Writes result page.old page.new (spec.line_once self.coloured self.margin self.last line.now number) }
+    {
+        if number == self.last {
+            return Ok(());
+        }
+        page.texts(&[self.gap(number)])?;
+        self.draw_line(page, line, number)
+    }
+
     /// Draws signs under a site.
+    #[tactic(auto, unfolding(crate::specs::Marks::marked))]
     fn draw_marks(
         self,
         page: &mut Page,
         line: &[u8],
         site: &Site,
         sign: u8,
-    ) -> Result<(), AllocError> {
-        page.run(b' ', self.margin, self.frame.bar)?;
-        let mark = self.frame.before(sign);
-        page.run(b' ', site.place.column.saturating_sub(1), mark)?;
-        page.run(sign, marks(line, site), self.frame.behind_mark)
+    ) -> Result<(), AllocError>
+        ensures { Writes result page.old page.new (spec.marked self.coloured self.margin line.now site.now sign) }
+    {
+        page.run(b' ', self.margin, blue(self.coloured))?;
+        page.texts(&[" | ", plain(self.coloured)])?;
+        let before = site.place.column.saturating_sub(1);
+        page.run(b' ', before, colour(self.coloured, sign))?;
+        page.run(sign, signs(line, site), plain(self.coloured))
     }
 
     /// Draws a site in its line with signs under it; the line only where it isn't the last that was drawn. What it says follows on the
     /// page.
+    #[tactic(auto, unfolding(crate::specs::Marks::drawn))]
     pub(crate) fn draw(
         &mut self,
         page: &mut Page,
         line: &[u8],
         site: &Site,
         sign: u8,
-    ) -> Result<(), AllocError> {
+    ) -> Result<(), AllocError>
+        ensures drawn { Writes result page.old page.new
+            (spec.drawn self.old.coloured self.old.margin self.old.last line.now site.now sign) }
+        ensures coloured { OnOk result (self.new.coloured ≡ self.old.coloured) }
+        ensures margin { OnOk result (self.new.margin ≡ self.old.margin) }
+        ensures last { OnOk result (self.new.last ≡ site.now.place.line) }
+    {
         let line = without_return(line);
-        if site.place.line != self.last {
-            self.draw_line(page, line, site.place.line)?;
-            self.last = site.place.line;
-        }
+        self.draw_once(page, line, site.place.line)?;
+        self.last = site.place.line;
         self.draw_marks(page, line, site, sign)
     }
 }

@@ -1,13 +1,16 @@
 //! Reports of texts, part by part.
 
-ghost use Rattle.std.specs.Prelude.{IfOk};
+ghost use Rattle.std.specs.Prelude.{◌≡◌, slice_get, IfOk};
 ghost use Rattle.std.specs.List.{AllZip};
+ghost use Rattle.flt_details.specs.Page.{Writes};
 ghost use Rattle.flt_reports.specs.Covering.{AreFirsts};
+ghost use Rattle.flt_reports.specs.Fault.{IsFaultReport};
+ghost use Rattle.flt_reports.specs.Finding.{finding_report};
 ghost use Rattle.flt_reports.specs.Reports as spec;
 
 use crate::fault_report::report_fault;
 use crate::finding_report::report_finding;
-use flt_details::{Page, Scene, Source, Traces, words_of};
+use flt_details::{Page, Scene, Source, Traces, Words, words_of};
 use flt_explain::Finding;
 use flt_graph::Graph;
 use flt_origins::Group;
@@ -27,7 +30,30 @@ pub struct Report {
     pub lines: Vec<u8>,
 }
 
-/// The lines of a report of a group of findings: that of the first, and where the others are.
+/// The lines of the report of a group of findings in these words: that of the first, and where the others are.
+fn lines_in(
+    alloc: Global,
+    coloured: bool,
+    name: &str,
+    scene: &Scene<'_>,
+    traces: &Traces,
+    group: &Group,
+    words: &Words,
+) -> Result<Vec<u8>, AllocError>
+    ensures { IfOk result (λ lines. lines.items ≡ finding_report coloured name.now scene.now.lines.now scene.now.graph.now
+        group.now.first.finding words.now (slice_get traces.now.shown group.now.first.number) group.now.others) }
+{
+    let mut page = Page::new(alloc);
+    let finding = group.first.finding;
+    let shown = traces.shown(&group.first);
+    let others = group.others.as_slice();
+    report_finding(
+        alloc, &mut page, coloured, name, scene, &finding, words, shown, others,
+    )?;
+    Ok(page.out)
+}
+
+/// The lines of the report of a group of findings.
 fn group_lines(
     alloc: Global,
     coloured: bool,
@@ -35,29 +61,14 @@ fn group_lines(
     scene: &Scene<'_>,
     traces: &Traces,
     group: &Group,
-) -> Result<Vec<u8>, AllocError> {
-    let mut page = Page::new(alloc);
-    report_group(alloc, &mut page, coloured, name, scene, traces, group)?;
-    Ok(page.out)
-}
-
-/// Writes the report of a group of findings.
-fn report_group(
-    alloc: Global,
-    page: &mut Page,
-    coloured: bool,
-    name: &str,
-    scene: &Scene<'_>,
-    traces: &Traces,
-    group: &Group,
-) -> Result<(), AllocError> {
+) -> Result<Vec<u8>, AllocError>
+    ensures { IfOk result (λ lines. spec.AreLines coloured name.now scene.now.lines.now scene.now.tree.now.filter scene.now.graph.now
+        traces.now group.now lines.items) }
+{
     let finding = group.first.finding;
-    let shown = traces.shown(&group.first);
-    let words = words_of(alloc, scene, &finding, shown)?;
-    let others = group.others.as_slice();
-    report_finding(
-        alloc, page, coloured, name, scene, &finding, &words, shown, others,
-    )
+    let words = words_of(alloc, scene, &finding, traces.shown(&group.first))?;
+    let lines = lines_in(alloc, coloured, name, scene, traces, group, &words)?;
+    Ok(lines)
 }
 
 /// The report of a group of findings.
@@ -69,7 +80,8 @@ fn report_of(
     traces: &Traces,
     group: &Group,
 ) -> Result<Report, AllocError>
-    ensures { IfOk result (spec.IsReport traces.now group.now) }
+    ensures { IfOk result
+        (spec.IsReport coloured name.now scene.now.lines.now scene.now.tree.now.filter scene.now.graph.now traces.now group.now) }
 {
     let lines = group_lines(alloc, coloured, name, scene, traces, group)?;
     Ok(Report {
@@ -87,7 +99,9 @@ fn report_groups(
     scene: &Scene<'_>,
     traces: &Traces,
 ) -> Result<Items<Report>, AllocError>
-    ensures { IfOk result (AllZip (spec.IsReport traces.now) traces.now.groups) }
+    ensures { IfOk result
+        (AllZip (spec.IsReport coloured name.now scene.now.lines.now scene.now.tree.now.filter scene.now.graph.now traces.now)
+        traces.now.groups) }
 {
     let mut all = Items::new(alloc);
     for group in traces.groups.as_slice() {
@@ -97,8 +111,8 @@ fn report_groups(
 }
 
 /// The reports of the findings of a text that parses, in their order, those of one origin in one report: each with the lines that show
-/// it, a way that leads there, and how to mend it. Each finding has a report or is akin to one before it that has. With `coloured`, marks of
-/// a terminal colour them.
+/// it, a path that leads there, and how to fix it. Each finding has a report or is akin to one before it that has. With `coloured`, signs
+/// of a terminal colour them.
 ///
 /// # Errors
 ///
@@ -111,7 +125,9 @@ pub fn report_findings(
     graph: &Graph,
     found: &[Finding],
 ) -> Result<Items<Report>, AllocError>
-    ensures { IfOk result (λ all. AreFirsts found.now (spec.numbers_of all)) }
+    ensures reports { IfOk result
+        (spec.AreReports coloured source.entry.name.now source.entry.text.now tree.now.filter graph.now found.now) }
+    ensures firsts { IfOk result (λ all. AreFirsts found.now (spec.numbers_of all)) }
 {
     let lines = Lines::of(alloc, source.text)?;
     let scene = Scene {
@@ -124,27 +140,32 @@ pub fn report_findings(
     Ok(reports)
 }
 
+/// Writes what a text promises of which nothing is found, and how to see the certificate.
+fn tell_nothing(page: &mut Page, name: &[u8]) -> Result<(), AllocError>
+    ensures { Writes result page.old page.new (spec.nothing_report name.now) }
+{
+    page.words(&[name])?;
+    page.bytes(b": a certificate covers this text, so that no run of it breaks V1 to V8\n")?;
+    page.bytes(b"   = help: `fltstack analyse ")?;
+    page.words(&[name])?;
+    page.bytes(b"` prints the certificate\n")?;
+    Ok(())
+}
+
 /// What is reported of a text of which nothing is found, and what that promises; whole lines.
 ///
 /// # Errors
 ///
 /// Where a growth was refused.
-pub fn report_nothing(alloc: Global, source: Source<'_>) -> Result<Vec<u8>, AllocError> {
+pub fn report_nothing(alloc: Global, source: Source<'_>) -> Result<Vec<u8>, AllocError>
+    ensures { IfOk result (λ lines. lines.items ≡ spec.nothing_report source.entry.name.now) }
+{
     let mut page = Page::new(alloc);
-    let name = source.name.as_bytes();
-    page.line(&[
-        name,
-        b": a certificate covers this text, so that no run of it breaks V1 to V8",
-    ])?;
-    page.line(&[
-        b"   = help: `fltstack analyse ",
-        name,
-        b"` prints the certificate",
-    ])?;
+    tell_nothing(&mut page, source.name.as_bytes())?;
     Ok(page.out)
 }
 
-/// What is reported of a text that doesn't parse: where and why, and how to mend it; nothing of one that parses. Whole lines.
+/// What is reported of a text that doesn't parse: where and why, and how to fix it; nothing of one that parses. Whole lines.
 ///
 /// # Errors
 ///
@@ -153,8 +174,8 @@ pub fn report_unread(
     alloc: Global,
     coloured: bool,
     source: Source<'_>,
-) -> Result<Vec<u8>, AllocError> {
-    let mut page = Page::new(alloc);
-    report_fault(alloc, &mut page, coloured, source)?;
-    Ok(page.out)
+) -> Result<Vec<u8>, AllocError>
+    ensures { IfOk result (λ lines. IsFaultReport coloured source.entry.name.now source.entry.text.now lines.items) }
+{
+    report_fault(alloc, coloured, source)
 }

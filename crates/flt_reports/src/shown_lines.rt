@@ -1,41 +1,59 @@
-//! The lines of a text that show a finding, with marks: its point, where what is found comes from, and where ways meet.
+//! The lines of a text that show a finding, with marks: its point, where what is found comes from, and where paths meet.
 
+ghost use Rattle.std.specs.Prelude.{◌≡◌, ◌≤◌, length, option_copied, position, IfOk, OnOk};
+ghost use Rattle.std.specs.List.{position_or_len};
+ghost use Rattle.flt_details.specs.Tracing.{other_way, way_of};
+ghost use Rattle.flt_details.specs.Page.{Writes};
+ghost use Rattle.flt_reports.specs.Shown as spec;
+
+use crate::mark_words::{Sign, tell_mark};
 use crate::marks::Drawing;
-use flt_details::{Page, Scene, Shown, Words, fact_word, state_at_end, step_call_outcome};
-use flt_explain::{Finding, Subject};
-use flt_graph::{Call, Instruction};
-use flt_origins::{Cause, Fact, Origin, VariableStatus};
+use flt_details::{Page, Scene, Shown};
+use flt_explain::Finding;
+use flt_origins::{Cause, Origin};
 use flt_places::Site;
-use flt_rules::Rule;
-use flt_ways::{Step, Way};
 use std::alloc::{AllocError, Global};
 
-/// What a mark shows.
 #[derive(Clone, Copy)]
-enum Sign {
-    /// The step that made what is found.
-    Origin(Fact, Step),
-    Point,
-    /// Where ways meet with other locks.
-    Meeting,
+pub(crate) struct Mark {
+    pub(crate) sign: Sign,
+    pub(crate) site: Site,
 }
 
-#[derive(Clone, Copy)]
-struct Mark {
-    sign: Sign,
-    site: Site,
-}
+// ---- which marks
 
-/// Adds a mark at a point.
-fn add_mark(
-    marks: &mut Vec<Mark>,
-    scene: &Scene<'_>,
-    callback: usize,
-    point: usize,
-    sign: Sign,
-) -> Result<(), AllocError> {
+/// A mark at a point.
+fn mark_at(scene: &Scene<'_>, callback: usize, point: usize, sign: Sign) -> Mark
+    ensures { result ≡ spec.mark_at scene.now.lines.now scene.now.graph.now callback point sign }
+{
     let site = scene.site(callback, point);
-    marks.push(Mark { sign, site })?;
+    Mark { sign, site }
+}
+
+/// The place of the first mark that stands on a later line than another one.
+fn first_later(marks: &[Mark], mark: Mark) -> Option<usize>
+    ensures { result ≡ position (spec.is_later mark) marks.now }
+{
+    marks
+        .iter()
+        .position(|other| mark.site.place.line < other.site.place.line)
+}
+
+/// How many marks, from the first on, stand before that.
+fn count_before(marks: &[Mark], mark: Mark) -> usize
+    ensures value { result ≡ position_or_len (spec.is_later mark) marks.now }
+    ensures within { result ≤ length marks.now }
+{
+    first_later(marks, mark).unwrap_or(marks.len())
+}
+
+/// Adds a mark behind those that don't stand on a later line.
+#[tactic(auto, unfolding(crate::specs::Shown::placed))]
+fn add_mark(marks: &mut Vec<Mark>, mark: Mark) -> Result<(), AllocError>
+    ensures { OnOk result (marks.new.items ≡ spec.placed marks.old.items mark) }
+{
+    let place = count_before(marks.as_slice(), mark);
+    marks.insert(place, mark)?;
     Ok(())
 }
 
@@ -45,234 +63,126 @@ fn add_origin(
     scene: &Scene<'_>,
     callback: usize,
     origin: Option<&Origin>,
-) -> Result<(), AllocError> {
+) -> Result<(), AllocError>
+    ensures { OnOk result (marks.new.items ≡ spec.all_placed marks.old.items
+        (spec.origin_marks scene.now.lines.now scene.now.graph.now callback (option_copied origin.entry))) }
+{
     let Some(origin) = origin else {
         return Ok(());
     };
     match origin.cause {
         Cause::Made(step) => {
             let sign = Sign::Origin(origin.fact, step);
-            add_mark(marks, scene, callback, step.point, sign)
+            add_mark(marks, mark_at(scene, callback, step.point, sign))
         }
         Cause::Entry => Ok(()),
     }
 }
 
-/// Adds the mark of the point where two ways meet, if two are shown.
+/// Adds the mark of the point where two paths meet, if two are shown.
 fn add_meeting(
     marks: &mut Vec<Mark>,
     scene: &Scene<'_>,
     callback: usize,
     shown: &Shown,
-) -> Result<(), AllocError> {
+) -> Result<(), AllocError>
+    ensures { OnOk result (marks.new.items ≡ spec.all_placed marks.old.items
+        (spec.meeting_marks scene.now.lines.now scene.now.graph.now callback (way_of shown.now.answer) (other_way shown.now.answer))) }
+{
     match shown.ways() {
-        (Some(way), Some(_)) => add_mark(marks, scene, callback, way.end.point, Sign::Meeting),
+        (Some(way), Some(_)) => {
+            add_mark(
+                marks,
+                mark_at(scene, callback, way.end.point, Sign::Meeting),
+            )
+        }
         _ => Ok(()),
     }
 }
 
-/// Adds the marks that show a finding, in the order of their lines.
-fn add_marks(
-    marks: &mut Vec<Mark>,
+/// The marks that show a finding, in the order of their lines.
+#[tactic(auto, unfolding(crate::specs::Shown::marks_of))]
+fn marks_of(
+    alloc: Global,
     scene: &Scene<'_>,
     finding: &Finding,
     shown: &Shown,
-) -> Result<(), AllocError> {
-    add_origin(marks, scene, finding.callback, shown.origin.as_ref())?;
-    add_mark(marks, scene, finding.callback, finding.point, Sign::Point)?;
-    add_meeting(marks, scene, finding.callback, shown)?;
-    marks.sort_by_key(|mark| mark.site.place.line)
+) -> Result<Vec<Mark>, AllocError>
+    ensures { IfOk result (λ marks. marks.items ≡ spec.marks_of scene.now.lines.now scene.now.graph.now finding.now shown.now) }
+{
+    let mut marks = Vec::new(alloc);
+    add_origin(&mut marks, scene, finding.callback, shown.origin.as_ref())?;
+    let point = mark_at(scene, finding.callback, finding.point, Sign::Point);
+    add_mark(&mut marks, point)?;
+    add_meeting(&mut marks, scene, finding.callback, shown)?;
+    Ok(marks)
 }
 
-/// What a call does to what it gives away or releases.
-fn lost_by(call: Call, is_operation: bool) -> &'static str {
-    match (call, is_operation) {
-        (Call::InsertIo, _) => "queued",
-        (Call::QueueDeferredIoWorkItem | Call::QueueGenericWorkItem, _) => "handed to a work item",
-        (Call::CompletePendedPreOperation(_), false) => "handed to the `post` callback",
-        (_, false) => "released",
-        (_, true) => "completed",
-    }
-}
-
-/// What is done to a subject at a step that makes it stale; none where the step does something else to it.
-fn lost(scene: &Scene<'_>, finding: &Finding, fact: Fact, step: Step) -> Option<&'static str> {
-    let is_operation = match fact {
-        Fact::Context(_, VariableStatus::Stale) => false,
-        Fact::Operation(_, VariableStatus::Stale) => true,
-        _ => return None,
-    };
-    match scene.graph.instruction(finding.callback, step.point) {
-        Instruction::Call(call, _, _) => Some(lost_by(call.call, is_operation)),
-        _ => None,
-    }
-}
-
-/// What becomes of a subject: on a path, or where none is known.
-fn becomes(
-    scene: &Scene<'_>,
-    finding: &Finding,
-    way: Option<&Way>,
-    fact: Fact,
-    step: Step,
-) -> (&'static str, &'static str) {
-    match (lost(scene, finding, fact, step), way) {
-        (Some(lost), Some(_)) => (" is ", lost),
-        (Some(lost), None) => (" might be ", lost),
-        (None, Some(_)) => match state_at_end(finding, way) {
-            Some(word) => (" becomes ", word),
-            None => ("", ""),
-        },
-        (None, None) => (" might become ", fact_word(fact)),
-    }
-}
-
-/// How the call of an origin comes out, and what stands before that.
-fn call_side(scene: &Scene<'_>, finding: &Finding, step: Step) -> (&'static str, &'static str) {
-    match step_call_outcome(scene, finding.callback, step) {
-        Some(outcome) => (", where this ", outcome),
-        None => ("", ""),
-    }
-}
-
-/// Writes what the mark of an origin says: on a path what becomes of the subject, else what might become of it.
-fn tell_origin(
-    page: &mut Page,
-    scene: &Scene<'_>,
-    finding: &Finding,
-    words: &Words,
-    way: Option<&Way>,
-    fact: Fact,
-    step: Step,
-) -> Result<(), AllocError> {
-    if let Fact::Lock(_, held) = fact {
-        return page.texts(&[if held {
-            " taken here\n"
-        } else {
-            " released here\n"
-        }]);
-    }
-    let (becomes, word) = becomes(scene, finding, way, fact, step);
-    let (before, outcome) = call_side(scene, finding, step);
-    page.words(&[b" ", words.subject.as_slice()])?;
-    page.texts(&[becomes, word, " here", before, outcome, "\n"])
-}
-
-/// Writes what a subject is at a point. What a callback is entered with is only possible.
-fn tell_state(
-    page: &mut Page,
-    subject: Subject,
-    words: &[u8],
-    state: &str,
-) -> Result<(), AllocError> {
-    match subject {
-        Subject::Mode => {
-            let article = if state == "IRP" { "an " } else { "" };
-            page.texts(&[" the operation might be ", article, state, " here\n"])
-        }
-        Subject::Draining => page.line(&[b" ", words, b" might be ", state.as_bytes(), b" here"]),
-        _ => page.line(&[b" ", words, b" is ", state.as_bytes(), b" here"]),
-    }
-}
-
-/// Writes which locks a path brings to where it joins another one.
-fn tell_joining(
-    page: &mut Page,
-    finding: &Finding,
-    words: &Words,
-    shown: &Shown,
-) -> Result<(), AllocError> {
-    let (way, other) = shown.ways();
-    let behind = match (state_at_end(finding, way), state_at_end(finding, other)) {
-        (Some("taken"), Some("not taken")) => " is held on this path",
-        (Some("not taken"), Some("taken")) => " isn't held on this path",
-        _ => return page.bytes(b" this path leads on with other locks held\n"),
-    };
-    page.line(&[b" ", words.subject.as_slice(), behind.as_bytes()])
-}
-
-/// Writes what the mark of the finding's point says.
-fn tell_point(
-    page: &mut Page,
-    finding: &Finding,
-    words: &Words,
-    shown: &Shown,
-) -> Result<(), AllocError> {
-    if let Rule::R12 = finding.rule {
-        return tell_joining(page, finding, words, shown);
-    }
-    let (way, _) = shown.ways();
-    match state_at_end(finding, way) {
-        Some(state) => tell_state(page, finding.subject, words.subject.as_slice(), state),
-        None => page.bytes(b"\n"),
-    }
-}
-
-/// Writes what a mark says.
-fn tell_mark(
-    page: &mut Page,
-    scene: &Scene<'_>,
-    finding: &Finding,
-    words: &Words,
-    shown: &Shown,
-    sign: Sign,
-) -> Result<(), AllocError> {
-    let (way, _) = shown.ways();
-    match sign {
-        Sign::Origin(fact, step) => tell_origin(page, scene, finding, words, way, fact, step),
-        Sign::Point => tell_point(page, finding, words, shown),
-        Sign::Meeting => page.bytes(b" the paths join here\n"),
-    }
-}
+// ---- how they are drawn
 
 /// The byte that is drawn under a site.
-fn stroke(sign: Sign) -> u8 {
+#[tactic(auto, unfolding(crate::specs::Shown::stroke))]
+fn stroke(sign: Sign) -> u8
+    ensures { result ≡ spec.stroke sign }
+{
     match sign {
         Sign::Point => b'^',
         Sign::Origin(_, _) | Sign::Meeting => b'-',
     }
 }
 
+/// The line on which the last of some marks stands; another one where there is none.
+#[tactic(auto, unfolding(crate::specs::Shown::last_line))]
+fn last_line(line: usize, marks: &[Mark]) -> usize
+    ensures { result ≡ spec.last_line line marks.now }
+{
+    let mut last = line;
+    for mark in marks {
+        last = mark.site.place.line;
+    }
+    last
+}
+
 /// Draws marks, in their order, with what they say.
+#[tactic(auto, unfolding(crate::specs::Shown::all_drawn))]
 fn draw_marks(
     page: &mut Page,
     drawing: &mut Drawing,
     scene: &Scene<'_>,
     finding: &Finding,
-    words: &Words,
+    subject: &[u8],
     shown: &Shown,
     marks: &[Mark],
-) -> Result<(), AllocError> {
+) -> Result<(), AllocError>
+    ensures { Writes result page.old page.new
+        (spec.all_drawn drawing.old.coloured drawing.old.margin scene.now.lines.now scene.now.graph.now finding.now subject.now
+        shown.now.answer drawing.old.last marks.now) }
+{
     for mark in marks {
         let line = scene.lines.line(mark.site.place.line);
         drawing.draw(page, line, &mark.site, stroke(mark.sign))?;
-        tell_mark(page, scene, finding, words, shown, mark.sign)?;
+        tell_mark(page, scene, finding, subject, shown, mark.sign)?;
     }
     Ok(())
 }
 
-/// The greatest line on which a mark stands; that of the finding where there is none.
-fn greatest_line(finding: &Finding, marks: &[Mark]) -> usize {
-    match marks {
-        [.., last] => last.site.place.line,
-        [] => finding.line,
-    }
-}
-
-/// Draws the lines that show a finding, in their order in the text: on a way, or where no way is known its point and where what is found
-/// may come from.
+/// Draws the lines that show a finding, in their order in the text: on a path, or where no path is known its point and where what is
+/// found may come from.
+#[tactic(auto, unfolding(crate::specs::Shown::shown_lines))]
 pub(crate) fn draw_shown(
     alloc: Global,
     page: &mut Page,
     coloured: bool,
     scene: &Scene<'_>,
     finding: &Finding,
-    words: &Words,
+    subject: &[u8],
     shown: &Shown,
-) -> Result<(), AllocError> {
-    let mut marks = Vec::new(alloc);
-    add_marks(&mut marks, scene, finding, shown)?;
+) -> Result<(), AllocError>
+    ensures { Writes result page.old page.new
+        (spec.shown_lines coloured scene.now.lines.now scene.now.graph.now finding.now subject.now shown.now) }
+{
+    let marks = marks_of(alloc, scene, finding, shown)?;
     let marks = marks.as_slice();
-    let mut drawing = Drawing::new(coloured, greatest_line(finding, marks));
-    draw_marks(page, &mut drawing, scene, finding, words, shown, marks)
+    let mut drawing = Drawing::new(coloured, last_line(finding.line, marks));
+    draw_marks(page, &mut drawing, scene, finding, subject, shown, marks)
 }

@@ -1,48 +1,67 @@
-//! The branches of a way.
+//! The branches of a path, in lines.
 
+ghost use Rattle.std.specs.Prelude.{option_copied};
+ghost use Rattle.flt_details.specs.Page.{Writes};
+ghost use Rattle.flt_reports.specs.Indents.{headed};
+ghost use Rattle.flt_reports.specs.Ways as spec;
+
+use crate::indents::begin;
 use flt_details::{Page, Scene, step_outcome, tell_branch};
 use flt_ways::{Step, Way};
 use std::alloc::AllocError;
 
-/// Writes the branches of a way, a line each, behind a word for it; nothing where there is no way.
+/// Writes the line of a statement, what it asks, and how that comes out.
+#[tactic(auto, unfolding(crate::specs::Ways::branch_line))]
+fn tell_step(
+    page: &mut Page,
+    scene: &Scene<'_>,
+    callback: usize,
+    point: usize,
+    outcome: &str,
+) -> Result<(), AllocError>
+    ensures { Writes result page.old page.new (spec.branch_line scene.now.lines.now scene.now.graph.now callback point outcome.now) }
+{
+    page.numbers(&["", ": "], &[scene.line(callback, point)])?;
+    tell_branch(page, scene, callback, point, outcome)?;
+    page.bytes(b"\n")
+}
+
+/// Writes the branches among some steps, a line each, behind a word for them.
+fn tell_steps(
+    page: &mut Page,
+    scene: &Scene<'_>,
+    callback: usize,
+    word: &str,
+    steps: &[Step],
+) -> Result<(), AllocError>
+    ensures { Writes result page.old page.new
+        (headed word.now (spec.branch_lines scene.now.lines.now scene.now.graph.now callback steps.now)) }
+{
+    let mut told = false;
+    for step in steps {
+        if let Some(outcome) = step_outcome(scene, callback, *step) {
+            begin(page, word, told)?;
+            tell_step(page, scene, callback, step.point, outcome)?;
+            told = true;
+        }
+    }
+    Ok(())
+}
+
+/// Writes the branches of a path, a line each, behind a word for it; nothing where there is no path.
+#[tactic(auto, unfolding(crate::specs::Ways::path_lines))]
 pub(crate) fn tell_way(
     page: &mut Page,
     scene: &Scene<'_>,
     callback: usize,
     word: &str,
     way: Option<&Way>,
-) -> Result<(), AllocError> {
-    let Some(way) = way else {
-        return Ok(());
-    };
-    let mut told = false;
-    for step in way.steps.as_slice() {
-        if let Some(outcome) = step_outcome(scene, callback, *step) {
-            begin(page, word, told)?;
-            told = true;
-            tell_step(page, scene, callback, *step, outcome)?;
-        }
+) -> Result<(), AllocError>
+    ensures { Writes result page.old page.new
+        (spec.path_lines scene.now.lines.now scene.now.graph.now callback word.now (option_copied way.entry)) }
+{
+    match way {
+        Some(way) => tell_steps(page, scene, callback, word, way.steps.as_slice()),
+        None => Ok(()),
     }
-    Ok(())
-}
-
-/// Writes what stands before a branch: the word before the first, and else as many blanks.
-fn begin(page: &mut Page, word: &str, told: bool) -> Result<(), AllocError> {
-    if told {
-        page.run(b' ', word.len(), "")
-    } else {
-        page.texts(&[word])
-    }
-}
-
-fn tell_step(
-    page: &mut Page,
-    scene: &Scene<'_>,
-    callback: usize,
-    step: Step,
-    outcome: &str,
-) -> Result<(), AllocError> {
-    page.numbers(&["", ": "], &[scene.line(callback, step.point)])?;
-    tell_branch(page, scene, callback, step.point, outcome)?;
-    page.bytes(b"\n")
 }

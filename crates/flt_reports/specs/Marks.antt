@@ -1,0 +1,61 @@
+-- Lines of a text with marks under them. This project's own program.
+use Rattle.std.specs.Prelude.{ℕ, ◌==◌, ◌||◌, ◌-◌, Bool, false, if◌then◌else◌, [], ◌∷◌, ◌++◌, Option, Some, None, codes, length, max, min, replicate, slice_get, take}
+use Rattle.std.specs.Fmt.{decimal}
+use Rattle.flt_tree.specs.Names.{Text}
+use Rattle.flt_details.specs.Page.{shown}
+use Rattle.flt_places.specs.declared.places.Site.{Site}
+use Rattle.flt_reports.specs.Colours.{blue, plain, red}
+
+-- ---- lines
+
+-- how many digits a number has
+abbrev pub width : ℕ → ℕ
+width n = length (decimal n)
+
+-- whether a line's last byte is a carriage return
+abbrev pub is_return : Option ℕ → Bool
+is_return None = false
+is_return (Some b) = b == 13
+
+-- a line without the carriage return that may end it
+unfoldable pub without_return : Text → Text
+without_return line = if is_return (slice_get line (length line - 1)) then take (length line - 1) line else line
+
+-- the bar behind the numbers of lines
+abbrev pub bar : Bool → Text
+bar coloured = blue coloured ++ codes " | " ++ plain coloured
+
+-- dots between lines that aren't neighbours in the text; 0 for the line before where there is none
+unfoldable pub gap : ℕ → ℕ → Text
+gap before number = if before == 0 || number - 1 == before then [] else codes "..." ++ 10 ∷ []
+
+-- a line of the text, with its number as far right as the margin is wide
+unfoldable pub numbered_line : Bool → ℕ → ℕ → Text → Text
+numbered_line coloured margin number line =
+    replicate (margin - width number) 32 ++ blue coloured ++ decimal number ++ codes " | " ++ plain coloured ++ shown line ++ 10 ∷ []
+
+-- ---- marks
+
+-- `^` is red, other signs are blue
+unfoldable pub colour_of : Bool → ℕ → Text
+colour_of coloured sign = if sign == 94 then red coloured else blue coloured
+
+-- how many signs mark a site: as many as it has bytes on its first line, at least one
+unfoldable pub signs : Text → Site → ℕ
+signs line site = max (min (length line - (site.place.column - 1)) site.length) 1
+
+-- signs under a site
+unfoldable pub marked : Bool → ℕ → Text → Site → ℕ → Text
+marked coloured margin line site sign =
+    replicate margin 32 ++ bar coloured ++ replicate (site.place.column - 1) 32
+    ++ colour_of coloured sign ++ replicate (signs line site) sign ++ plain coloured
+
+-- the line of a site; nothing where it is the one that was drawn before
+unfoldable pub line_once : Bool → ℕ → ℕ → Text → ℕ → Text
+line_once coloured margin before line number =
+    if number == before then [] else gap before number ++ numbered_line coloured margin number line
+
+-- a site in its line with signs under it
+unfoldable pub drawn : Bool → ℕ → ℕ → Text → Site → ℕ → Text
+drawn coloured margin before line site sign =
+    line_once coloured margin before (without_return line) site.place.line ++ marked coloured margin (without_return line) site sign
