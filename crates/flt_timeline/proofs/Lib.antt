@@ -1,1 +1,4 @@
+pub mod Alike
 pub mod Appending
+pub mod Cuts
+pub mod Texts

@@ -1,6 +1,7 @@
 //! What repeats: a block of rows that comes several times, one behind the other.
 
-ghost use Rattle.std.specs.Prelude.{◌≡◌, ◌≤◌, ◌+◌, ◌<◌, length, slice_get, IfOk, IsTrue};
+ghost use Rattle.std.specs.Prelude.{◌≡◌, ◌≤◌, ◌+◌, ◌*◌, ◌/◌, ◌<◌, drop, length, slice_get, take, IfOk, IsTrue};
+ghost use Rattle.std.specs.Str.{bytes_eq};
 ghost use Rattle.flt_timeline.specs.Folds as spec;
 
 use crate::rows::Row;
@@ -21,18 +22,32 @@ pub struct Fold {
     pub repeated: usize,
 }
 
+/// What stands from a place on.
+pub(crate) fn from<T>(items: &[T], first: usize) -> &[T]
+    ensures { result.now ≡ drop first items.now }
+{
+    if first > items.len() {
+        return &[];
+    }
+    &items[first..]
+}
+
+/// So much from a place on, or less where less is there.
+pub(crate) fn stretch<T>(items: &[T], first: usize, count: usize) -> &[T]
+    ensures { result.now ≡ take count (drop first items.now) }
+{
+    let behind = from(items, first);
+    if count > behind.len() {
+        return behind;
+    }
+    &behind[..count]
+}
+
 /// What is told in a row, by number.
 pub(crate) fn part(told: &[usize], row: Row) -> &[usize]
     ensures { result.now ≡ spec.part told.now row }
 {
-    if row.first > told.len() {
-        return &[];
-    }
-    let behind = &told[row.first..];
-    if row.count > behind.len() {
-        return behind;
-    }
-    &behind[..row.count]
+    stretch(told, row.first, row.count)
 }
 
 /// What is told in the row of a number; nothing where there is none.
@@ -47,17 +62,20 @@ fn part_of<'a>(told: &'a [usize], rows: &[Row], number: usize) -> &'a [usize]
 
 /// Whether the rows of two numbers tell the same.
 fn are_alike(told: &[usize], rows: &[Row], one: usize, other: usize) -> bool
-    ensures { IsTrue result →
+    ensures same { IsTrue result →
         spec.part_of told.now (slice_get rows.now one) ≡ spec.part_of told.now (slice_get rows.now other) }
+    ensures exact { result ≡ bytes_eq (spec.part_of told.now (slice_get rows.now one)) (spec.part_of told.now (slice_get rows.now other)) }
 {
     part_of(told, rows, one) == part_of(told, rows, other)
 }
 
 /// How many rows from behind a block on tell the same as those that stand a block before them.
+#[tactic(auto, using(crate::proofs::Alike::alike_steps))]
 fn repeated(told: &[usize], rows: &[Row], first: usize, block: usize) -> usize
     requires { first + block ≤ length rows.now }
     ensures within { first + block + result ≤ length rows.now }
     ensures repeats { spec.Repeats told.now rows.now first block result }
+    ensures exact { result ≡ spec.alike told.now (drop first rows.now) (drop (first + block) rows.now) }
 {
     let most = rows.len() - first - block;
     let mut alike = 0;
@@ -71,39 +89,33 @@ fn repeated(told: &[usize], rows: &[Row], first: usize, block: usize) -> usize
 }
 
 /// As many of some rows as are whole blocks.
+#[tactic(auto, using(crate::proofs::Alike::whole_le))]
 fn whole_blocks(rows: usize, block: usize) -> usize
     requires { 1 ≤ block }
-    ensures { result ≤ rows }
+    ensures within { result ≤ rows }
+    ensures exact { result ≡ rows / block * block }
 {
     (rows / block).saturating_mul(block).min(rows)
 }
 
-/// What is told first in the row of a number.
-fn first_told(told: &[usize], rows: &[Row], number: usize) -> Option<usize> {
-    told.get(rows.get(number)?.first).copied()
-}
-
-/// The shortest block at a place that comes three times, or the row alone. Most rows differ by what is told first, which is looked at
-/// before all else.
+/// The shortest block at a place that comes three times, or the row alone.
 fn fold_at(told: &[usize], rows: &[Row], first: usize) -> Fold
     requires { first < length rows.now }
     ensures first { result.first ≡ first }
     ensures fold { spec.IsFold told.now rows.now result }
+    ensures exact { result ≡ spec.first_fold told.now first (drop first rows.now) }
 {
-    let own = first_told(told, rows, first);
     for block in 1..LONGEST {
         if block > rows.len() - first {
             break;
         }
-        if first_told(told, rows, first + block) == own {
-            let alike = whole_blocks(repeated(told, rows, first, block), block);
-            if alike / 2 >= block {
-                return Fold {
-                    first,
-                    block,
-                    repeated: alike,
-                };
-            }
+        let alike = whole_blocks(repeated(told, rows, first, block), block);
+        if alike / 2 >= block {
+            return Fold {
+                first,
+                block,
+                repeated: alike,
+            };
         }
     }
     Fold {
@@ -114,13 +126,14 @@ fn fold_at(told: &[usize], rows: &[Row], first: usize) -> Fold
 }
 
 /// The blocks of some rows.
-#[tactic(auto, using(crate::proofs::Appending::folds_append))]
+#[tactic(auto, using(crate::proofs::Appending::folds_append, crate::proofs::Alike::folds_more))]
 pub(crate) fn folds_of(
     alloc: Global,
     told: &[usize],
     rows: &[Row],
 ) -> Result<Items<Fold>, AllocError>
-    ensures { IfOk result (λ folds. spec.AreFolds told.now rows.now 0 folds (length rows.now)) }
+    ensures folds { IfOk result (λ folds. spec.AreFolds told.now rows.now 0 folds (length rows.now)) }
+    ensures exact { IfOk result (λ folds. folds ≡ spec.folds told.now rows.now) }
 {
     let mut folds = Items::new(alloc);
     let mut first = 0;

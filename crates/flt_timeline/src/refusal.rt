@@ -1,5 +1,7 @@
 //! Why an entry isn't enabled: which condition of its move or step fails, in the world in which it comes.
 
+ghost use Rattle.std.specs.Prelude.{◌≡◌};
+
 use flt_course::is_local;
 use flt_model::{Move, fits_mode};
 use flt_records::{Position, Upcoming};
@@ -47,8 +49,22 @@ pub(crate) enum Refusal {
 }
 
 impl Refusal {
+    ghost use Rattle.flt_timeline.specs.Reasons as spec;
+
+    /// The number of the step that others see first, where that is the reason.
+    pub(crate) fn step(self) -> Option<u32>
+        ensures { result ≡ spec.step_of self }
+    {
+        match self {
+            Refusal::IsSeen(step) => Some(step),
+            _ => None,
+        }
+    }
+
     /// Why, in words; of a step that is seen, what stands before its number.
-    pub(crate) fn words(self) -> &'static str {
+    pub(crate) fn words(self) -> &'static str
+        ensures { result.now ≡ spec.reason self }
+    {
         match self {
             Refusal::IsPacket => "`create` and `cleanup` are `irp`",
             Refusal::NoFile => "files are numbered below 1,024",

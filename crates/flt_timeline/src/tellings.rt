@@ -1,5 +1,7 @@
 //! What is told of entries, each once, so that it goes by its number.
 
+ghost use Rattle.std.specs.Prelude.{◌≡◌};
+
 use crate::telling::{Happening, Telling};
 use std::alloc::{AllocError, Global};
 
@@ -33,6 +35,8 @@ fn chain_of(telling: &Telling) -> usize {
 }
 
 impl Tellings {
+    ghost use Rattle.flt_timeline.specs.Tellings as spec;
+
     pub(crate) fn new(alloc: Global) -> Tellings {
         Tellings {
             all: Vec::new(alloc),
@@ -80,7 +84,9 @@ impl Tellings {
     }
 
     /// What is told by a number.
-    pub(crate) fn at(&self, number: usize) -> Option<Telling> {
+    pub(crate) fn at(&self, number: usize) -> Option<Telling>
+        ensures { result ≡ spec.told_by self.now number }
+    {
         match self.all.get(number) {
             Some(link) => Some(link.telling),
             None => None,

@@ -1,320 +1,589 @@
 //! A timeline as text: a line for each row that is no repetition, and one for what repeats.
 
+ghost use Rattle.std.specs.Prelude.{◌≡◌, ◌+◌, ◌-◌, ◌/◌, ◌++◌, ◌==◌, codes, drop, flat_map, length, map, option_copied, replicate, slice_get, string_bytes, take, IfOk};
+ghost use Rattle.std.specs.Fmt.{decimal};
+ghost use Rattle.std.specs.List.{range_with_len};
+ghost use Rattle.flt_timeline.specs.Folds.{part as told_in};
+ghost use Rattle.flt_timeline.specs.Reasons.{refusal_words};
+ghost use Rattle.flt_timeline.specs.Text as spec;
+ghost use Rattle.flt_timeline.specs.Words.{Puts, violation_word as violation_code};
+
 use crate::columns::COLUMNS;
-use crate::folds::{Fold, folds_of};
+use crate::folds::{Fold, folds_of, from, part, stretch};
 use crate::refusal::Refusal;
 use crate::rows::Row;
-use crate::telling::{Column, Happening, Telling, Who};
+use crate::telling::{Column, Happening, Started, Telling, Who};
 use crate::timeline::Timeline;
-use crate::words::{put_callback, put_happening, put_one, violation_word};
-use flt_model::Verdict;
+use crate::words::{put_callback, put_happening, put_one, put_operation, violation_word};
+use flt_model::{Verdict, Violation};
+use flt_tree::Filter;
 use sqlite_items::Items;
 use std::alloc::{AllocError, Global};
 use std::fmt::Write;
 
-const NOBODY: Who = Who {
-    operation: None,
-    activation: None,
-    ends: false,
-};
+// ---- entries
 
-const NOTHING: Row = Row { first: 0, count: 0 };
+/// The last entry of a row, which may have a greater number than entries have.
+fn last_entry(row: Row) -> u128
+    ensures { result ≡ spec.last_entry row }
+{
+    row.first as u128 + row.count.saturating_sub(1) as u128
+}
 
-/// How many digits a number has.
-fn width(number: usize) -> usize {
-    if number < 10 {
-        1
-    } else {
-        width(number / 10).saturating_add(1)
+/// Whether an entry is the last of a row.
+fn is_last(row: Row, entry: usize) -> bool
+    ensures { result ≡ (entry == spec.last_entry row) }
+{
+    entry as u128 == last_entry(row)
+}
+
+/// Whether a run breaks something by a row's last entry.
+fn breaks(verdict: Verdict, row: Row) -> bool
+    ensures { result ≡ spec.is_break verdict (spec.last_entry row) }
+{
+    match verdict {
+        Verdict::Breaks(_, entry) => is_last(row, entry),
+        _ => false,
     }
 }
 
-fn put_blanks(out: &mut String, count: usize) -> Result<(), AllocError> {
-    for _ in 0..count {
+/// Whether an entry stands behind the one that ends the run.
+fn is_left_out(happening: Happening) -> bool
+    ensures { result ≡ spec.is_left_out happening }
+{
+    matches!(happening, Happening::IsLeftOut)
+}
+
+/// Whether an entry isn't enabled.
+fn is_refused(happening: Happening) -> bool
+    ensures { result ≡ spec.is_refused happening }
+{
+    matches!(happening, Happening::IsRefused(_))
+}
+
+/// What came of an entry; one of which nothing is told was left out.
+fn happening_in(telling: Option<Telling>) -> Happening
+    ensures { result ≡ spec.happening_in telling }
+{
+    match telling {
+        Some(telling) => telling.happening,
+        None => Happening::IsLeftOut,
+    }
+}
+
+// ---- parts of lines
+
+fn put_blanks(out: &mut String, count: usize) -> Result<(), AllocError>
+    ensures { Puts result (string_bytes out.old) (string_bytes out.new) (replicate count 32) }
+{
+    for _blank in 0..count {
         out.push_str(" ")?;
     }
     Ok(())
 }
 
-/// What stands between words.
-fn put_comma(out: &mut String, number: usize) -> Result<(), AllocError> {
-    out.push_str(if number > 0 { ", " } else { "" })
+/// A text to the right of a field, and two blanks.
+fn put_right(out: &mut String, field: usize, text: &str) -> Result<(), AllocError>
+    ensures { Puts result (string_bytes out.old) (string_bytes out.new) (spec.to_right field text.now) }
+{
+    put_blanks(out, field.saturating_sub(text.len()))?;
+    out.push_str(text)?;
+    out.push_str("  ")
 }
 
-/// The signs of columns up to one that is on; alive are those that the bits say, column 0 as the lowest.
-fn put_bars(out: &mut String, alive: u32, columns: usize) -> Result<(), AllocError> {
+/// Two numbers with a dash between them.
+fn put_span(out: &mut String, first: u128, last: u128) -> Result<(), AllocError>
+    ensures { Puts result (string_bytes out.old) (string_bytes out.new) (decimal first ++ codes "-" ++ decimal last) }
+{
+    write!(out, "{first}-{last}")
+}
+
+/// The numbers of a first and a last entry.
+fn put_numbers(out: &mut String, first: usize, last: u128) -> Result<(), AllocError>
+    ensures { Puts result (string_bytes out.old) (string_bytes out.new) (spec.numbers first last) }
+{
+    if (first as u128) < last {
+        put_span(out, first as u128, last)
+    } else {
+        write!(out, "{first}")
+    }
+}
+
+fn numbers(alloc: Global, first: usize, last: u128) -> Result<String, AllocError>
+    ensures { IfOk result (λ text. string_bytes text ≡ spec.numbers first last) }
+{
+    let mut out = String::new(alloc);
+    put_numbers(&mut out, first, last)?;
+    Ok(out)
+}
+
+/// How wide the numbers of entries are at most, where this is the last.
+fn field_to(alloc: Global, last: u128) -> Result<usize, AllocError>
+    ensures { IfOk result (λ width. width ≡ spec.field_to last) }
+{
+    let mut out = String::new(alloc);
+    put_span(&mut out, last, last)?;
+    Ok(out.len())
+}
+
+/// The last entry of some rows.
+fn end_of(rows: &[Row]) -> u128
+    ensures { result ≡ spec.end_of rows.now }
+{
+    match rows.last() {
+        Some(row) => last_entry(*row),
+        None => 0,
+    }
+}
+
+/// The first entry of some rows.
+fn start_of(rows: &[Row]) -> usize
+    ensures { result ≡ spec.first_in (slice_get rows.now 0) }
+{
+    match rows.first() {
+        Some(row) => row.first,
+        None => 0,
+    }
+}
+
+/// The sign of an operation that isn't on.
+fn bar(alive: bool) -> &'static str
+    ensures { result.now ≡ spec.bar alive }
+{
+    if alive { "|   " } else { "    " }
+}
+
+/// The signs of the first columns, of which those are alive that the bits say, column 0 as the lowest.
+fn put_bars(out: &mut String, alive: u32, columns: usize) -> Result<(), AllocError>
+    ensures { Puts result (string_bytes out.old) (string_bytes out.new) (spec.bars alive columns) }
+{
     let mut left = alive;
-    for _ in 0..columns {
-        out.push_str(if left % 2 == 1 { "|   " } else { "    " })?;
+    for _column in 0..columns {
+        out.push_str(bar(left % 2 == 1))?;
         left /= 2;
     }
     Ok(())
 }
 
-/// Each word of a row, as a row.
-fn words_of(alloc: Global, row: Row) -> Result<Items<Row>, AllocError> {
-    let mut words = Items::new(alloc);
-    for number in 0..row.count {
-        words.push(Row {
-            first: row.first.saturating_add(number),
-            count: 1,
-        })?;
+/// Whether a bit is set, of which the lowest is bit 0.
+#[tactic(auto, using(crate::proofs::Texts::halves))]
+fn has_bit(bits: u32, bit: usize) -> bool
+    ensures { result ≡ spec.is_alive bits bit }
+{
+    let mut left = bits;
+    for _place in 0..bit {
+        left /= 2;
     }
-    Ok(words)
+    left % 2 == 1
 }
 
-/// How often a block comes in all.
-fn times(fold: Fold) -> usize {
-    if fold.block == 0 {
-        return 1;
+/// The columns up to the one of an entry about this operation.
+fn put_columns(
+    out: &mut String,
+    operation: Option<usize>,
+    telling: Telling,
+) -> Result<(), AllocError>
+    ensures { Puts result (string_bytes out.old) (string_bytes out.new) (spec.columns_by telling.alive operation telling.column) }
+{
+    match telling.column {
+        Column::Margin => out.push_str("* "),
+        Column::Own(own) => {
+            put_bars(out, telling.alive, own)?;
+            out.push_str("o ")
+        }
+        Column::Beyond => {
+            put_bars(out, telling.alive, COLUMNS)?;
+            put_operation(out, "+ ", operation)?;
+            out.push_str(": ")
+        }
     }
-    (fold.repeated / fold.block).saturating_add(1)
 }
 
-/// How wide the numbers of some rows are at most. The last row has the greatest number.
-fn widest(rows: &[Row]) -> usize {
-    let digits = match rows.last() {
-        Some(row) => width(row.first.saturating_add(row.count.saturating_sub(1))),
-        None => 1,
-    };
-    digits.saturating_mul(2).saturating_add(1)
-}
-
-/// That an entry isn't enabled, and why.
-fn put_refusal(out: &mut String, refusal: Option<Refusal>) -> Result<(), AllocError> {
-    let Some(refusal) = refusal else {
-        return out.push_str("  <- isn't enabled");
-    };
-    out.push_str("  <- isn't enabled: ")?;
+/// Why an entry isn't enabled.
+fn put_reason(out: &mut String, refusal: Option<Refusal>) -> Result<(), AllocError>
+    ensures { Puts result (string_bytes out.old) (string_bytes out.new) (spec.reason_words refusal) }
+{
     match refusal {
-        Refusal::IsSeen(step) => put_one(out, refusal.words(), step),
-        _ => out.push_str(refusal.words()),
+        Some(refusal) => put_known(out, refusal),
+        None => out.push_str("  <- isn't enabled"),
     }
+}
+
+fn put_known(out: &mut String, refusal: Refusal) -> Result<(), AllocError>
+    ensures { Puts result (string_bytes out.old) (string_bytes out.new) (codes "  <- isn't enabled: " ++ refusal_words refusal) }
+{
+    out.push_str("  <- isn't enabled: ")?;
+    put_refusal(out, refusal)
+}
+
+fn put_refusal(out: &mut String, refusal: Refusal) -> Result<(), AllocError>
+    ensures { Puts result (string_bytes out.old) (string_bytes out.new) (refusal_words refusal) }
+{
+    let reason = refusal.words();
+    match refusal.step() {
+        Some(step) => put_one(out, reason, step),
+        None => out.push_str(reason),
+    }
+}
+
+fn put_violation(out: &mut String, violation: Violation) -> Result<(), AllocError>
+    ensures { Puts result (string_bytes out.old) (string_bytes out.new) (violation_code violation) }
+{
+    out.push_str(violation_word(violation))
+}
+
+/// What the run breaks.
+fn put_broken(out: &mut String, verdict: Verdict) -> Result<(), AllocError>
+    ensures { Puts result (string_bytes out.old) (string_bytes out.new) (spec.broken_words verdict) }
+{
+    match verdict {
+        Verdict::Breaks(violation, _) => put_break(out, violation),
+        _ => Ok(()),
+    }
+}
+
+fn put_break(out: &mut String, violation: Violation) -> Result<(), AllocError>
+    ensures { Puts result (string_bytes out.old) (string_bytes out.new) (codes "  <- breaks " ++ violation_code violation) }
+{
+    out.push_str("  <- breaks ")?;
+    put_violation(out, violation)
+}
+
+/// The callback that goes on, if another was on before.
+fn put_resumed(
+    out: &mut String,
+    filters: &[&Filter],
+    resumed: Option<Started>,
+) -> Result<(), AllocError>
+    ensures { Puts result (string_bytes out.old) (string_bytes out.new) (spec.resumed_words filters.now resumed) }
+{
+    match resumed {
+        Some(started) => {
+            put_callback(out, filters, started)?;
+            out.push_str(": ")
+        }
+        None => Ok(()),
+    }
+}
+
+/// So many entries, each as a row.
+#[tactic(auto, using(crate::proofs::Texts::singles_more))]
+fn singles(alloc: Global, count: usize) -> Result<Items<Row>, AllocError>
+    ensures { IfOk result (λ rows. rows ≡ map spec.single (range_with_len 0 count)) }
+{
+    let mut rows = Items::new(alloc);
+    for first in 0..count {
+        rows.push(Row { first, count: 1 })?;
+    }
+    Ok(rows)
+}
+
+/// How often a block comes again.
+fn more_of(fold: Fold) -> usize
+    ensures { result ≡ spec.more_of fold }
+{
+    if fold.block == 0 {
+        return 0;
+    }
+    fold.repeated / fold.block
+}
+
+/// That a block of so many rows comes so many times more.
+fn put_same(out: &mut String, block: usize, more: usize) -> Result<(), AllocError>
+    ensures { Puts result (string_bytes out.old) (string_bytes out.new) (spec.same_words block more) }
+{
+    out.push_str("the same ")?;
+    if block != 1 {
+        write!(out, "{block} rows ")?;
+    }
+    write!(out, "{more} times more\n")
+}
+
+/// The line of what repeats a block, if something does.
+fn put_again(
+    alloc: Global,
+    out: &mut String,
+    indent: usize,
+    field: usize,
+    fold: Fold,
+    rows: &[Row],
+) -> Result<(), AllocError>
+    ensures { Puts result (string_bytes out.old) (string_bytes out.new) (spec.again_line indent field fold rows.now) }
+{
+    if fold.repeated == 0 {
+        return Ok(());
+    }
+    let numbers = numbers(alloc, start_of(rows), end_of(rows))?;
+    put_blanks(out, indent)?;
+    put_right(out, field, numbers.as_str())?;
+    put_same(out, fold.block, more_of(fold))
 }
 
 impl<'a> Timeline<'a> {
-    fn row(&self, number: usize) -> Row {
-        match self.rows.get(number) {
-            Some(row) => *row,
-            None => NOTHING,
-        }
+    // ---- what is told
+
+    /// What is told by a number.
+    fn telling_by(&self, number: usize) -> Option<Telling>
+        ensures { result ≡ spec.telling_by self.now number }
+    {
+        self.tellings.at(number)
     }
 
-    /// Who is on in an entry.
-    fn who(&self, entry: usize) -> Who {
-        match self.whos.get(entry) {
-            Some(who) => *who,
-            None => NOBODY,
-        }
+    /// What is told of an entry; none behind the last.
+    fn telling(&self, entry: usize) -> Option<Telling>
+        ensures { result ≡ spec.telling_of self.now entry }
+    {
+        self.telling_by(self.told.get(entry).copied()?)
     }
 
-    /// The number of an entry's operation, as a journal has it.
-    fn serial(&self, entry: usize) -> u32 {
-        match self.who(entry).operation {
-            Some(operation) => u32::try_from(operation).unwrap_or(u32::MAX),
-            None => u32::MAX,
+    /// What is told of a row's last entry.
+    fn last_telling(&self, row: Row) -> Option<Telling>
+        ensures { result ≡ spec.telling_of self.now (spec.last_entry row) }
+    {
+        let behind = row.count.saturating_sub(1);
+        if row.first >= self.told.len() || behind >= self.told.len() - row.first {
+            return None;
         }
+        self.telling(row.first + behind)
+    }
+
+    /// The operation that an entry is about.
+    fn operation(&self, entry: usize) -> Option<usize>
+        ensures { result ≡ spec.operation_of self.now entry }
+    {
+        self.whos.get(entry)?.operation
+    }
+
+    /// Who is on in a row's last entry.
+    fn last_who(&self, row: Row) -> Option<Who>
+        ensures { result ≡ slice_get self.now.whos (spec.last_entry row) }
+    {
+        let behind = row.count.saturating_sub(1);
+        if row.first >= self.whos.len() || behind >= self.whos.len() - row.first {
+            return None;
+        }
+        self.whos.get(row.first + behind).copied()
     }
 
     // ---- words
 
-    /// What is told of an entry; none behind the last.
-    fn telling(&self, entry: usize) -> Option<Telling> {
-        self.tellings.at(self.told.get(entry).copied()?)
+    /// What is told by a number, in a row about this operation.
+    fn put_telling(
+        &self,
+        out: &mut String,
+        operation: Option<usize>,
+        number: usize,
+    ) -> Result<(), AllocError>
+        ensures { Puts result (string_bytes out.old) (string_bytes out.new) (spec.telling_words self.now operation number) }
+    {
+        let happening = happening_in(self.telling_by(number));
+        put_happening(out, self.filters.as_slice(), operation, happening)
     }
 
-    /// The callback that goes on in a row, where the column was another's.
-    fn put_resumed(&self, out: &mut String, row: Row) -> Result<(), AllocError> {
-        let Some(telling) = self.telling(row.first) else {
+    /// What is told by some numbers.
+    fn put_tellings(
+        &self,
+        out: &mut String,
+        operation: Option<usize>,
+        told: &[usize],
+    ) -> Result<(), AllocError>
+        ensures { Puts result (string_bytes out.old) (string_bytes out.new) (spec.listed (spec.telling_words self.now operation) told.now) }
+    {
+        let Some((first, rest)) = told.split_first() else {
             return Ok(());
         };
-        if let Some(started) = telling.resumed {
-            put_callback(out, self.filters.as_slice(), started)?;
-            out.push_str(": ")?;
+        self.put_telling(out, operation, *first)?;
+        for number in rest {
+            out.push_str(", ")?;
+            self.put_telling(out, operation, *number)?;
         }
         Ok(())
     }
 
-    /// An entry's words.
-    fn put_entry(&self, out: &mut String, entry: usize) -> Result<(), AllocError> {
-        let happening = self.happening(entry);
-        put_happening(out, self.filters.as_slice(), self.serial(entry), happening)
-    }
-
-    /// Some entries' words.
-    fn put_words(&self, out: &mut String, row: Row) -> Result<(), AllocError> {
-        for number in 0..row.count {
-            put_comma(out, number)?;
-            self.put_entry(out, row.first.saturating_add(number))?;
+    /// A block of what is told, and how often it comes.
+    fn put_block(
+        &self,
+        out: &mut String,
+        operation: Option<usize>,
+        told: &[usize],
+        fold: Fold,
+    ) -> Result<(), AllocError>
+        ensures { Puts result (string_bytes out.old) (string_bytes out.new) (spec.block_words self.now operation told.now fold) }
+    {
+        let block = stretch(told, fold.first, fold.block);
+        let more = more_of(fold);
+        if more == 0 {
+            return self.put_tellings(out, operation, block);
         }
-        Ok(())
-    }
-
-    /// A block of a row's words, and how often it comes.
-    fn put_block(&self, out: &mut String, row: Row, fold: Fold) -> Result<(), AllocError> {
-        let block = Row {
-            first: row.first.saturating_add(fold.first),
-            count: fold.block,
-        };
-        let count = times(fold);
-        if count == 1 {
-            return self.put_words(out, block);
-        }
-        write!(out, "{count} times (")?;
-        self.put_words(out, block)?;
+        let times = more as u128 + 1;
+        write!(out, "{times} times (")?;
+        self.put_tellings(out, operation, block)?;
         out.push_str(")")
     }
 
-    /// What repeats among a row's words.
-    fn folds_in(&self, alloc: Global, row: Row) -> Result<Items<Fold>, AllocError> {
-        let words = words_of(alloc, row)?;
-        folds_of(alloc, self.told.as_slice(), words.as_slice())
-    }
-
-    fn put_blocks(&self, out: &mut String, row: Row, folds: &[Fold]) -> Result<(), AllocError> {
-        for fold in folds {
-            put_comma(out, fold.first)?;
-            self.put_block(out, row, *fold)?;
+    fn put_blocks(
+        &self,
+        out: &mut String,
+        operation: Option<usize>,
+        told: &[usize],
+        folds: &[Fold],
+    ) -> Result<(), AllocError>
+        ensures { Puts result (string_bytes out.old) (string_bytes out.new) (spec.listed (spec.block_words self.now operation told.now) folds.now) }
+    {
+        let Some((first, rest)) = folds.split_first() else {
+            return Ok(());
+        };
+        self.put_block(out, operation, told, *first)?;
+        for fold in rest {
+            out.push_str(", ")?;
+            self.put_block(out, operation, told, *fold)?;
         }
         Ok(())
     }
 
-    /// A row's words, of which what repeats is told once.
-    fn put_row(&self, alloc: Global, out: &mut String, row: Row) -> Result<(), AllocError> {
-        if matches!(self.happening(row.first), Happening::IsLeftOut) {
-            return out.push_str("not judged");
+    /// All that is told in a row, of which what repeats is told once.
+    fn put_told(
+        &self,
+        alloc: Global,
+        out: &mut String,
+        operation: Option<usize>,
+        told: &[usize],
+    ) -> Result<(), AllocError>
+        ensures { Puts result (string_bytes out.old) (string_bytes out.new) (spec.told_words self.now operation told.now) }
+    {
+        let singles = singles(alloc, told.len())?;
+        let folds = folds_of(alloc, told, singles.as_slice())?;
+        self.put_blocks(out, operation, told, folds.as_slice())
+    }
+
+    /// What a row's entries came to, of which the first is told so.
+    fn put_row_by(
+        &self,
+        alloc: Global,
+        out: &mut String,
+        row: Row,
+        telling: Telling,
+    ) -> Result<(), AllocError>
+        ensures { Puts result (string_bytes out.old) (string_bytes out.new)
+            (spec.resumed_words self.now.filters.items telling.resumed
+            ++ spec.told_words self.now (spec.operation_of self.now row.first) (told_in self.now.told row)) }
+    {
+        put_resumed(out, self.filters.as_slice(), telling.resumed)?;
+        let told = part(self.told.as_slice(), row);
+        self.put_told(alloc, out, self.operation(row.first), told)
+    }
+
+    /// What a row's entries came to.
+    fn put_row(&self, alloc: Global, out: &mut String, row: Row) -> Result<(), AllocError>
+        ensures { Puts result (string_bytes out.old) (string_bytes out.new) (spec.row_words self.now row) }
+    {
+        match self.telling(row.first) {
+            None => out.push_str("not judged"),
+            Some(telling) => {
+                if is_left_out(telling.happening) {
+                    return out.push_str("not judged");
+                }
+                self.put_row_by(alloc, out, row, telling)
+            }
         }
-        self.put_resumed(out, row)?;
-        let folds = self.folds_in(alloc, row)?;
-        self.put_blocks(out, row, folds.as_slice())
+    }
+
+    /// What the run comes to, behind the row of its last entry.
+    fn put_end(&self, out: &mut String, row: Row) -> Result<(), AllocError>
+        ensures { Puts result (string_bytes out.old) (string_bytes out.new) (spec.end_words self.now row) }
+    {
+        if self.is_broken(row) {
+            return put_broken(out, self.verdict);
+        }
+        if is_refused(happening_in(self.last_telling(row))) {
+            return put_reason(out, self.refusal);
+        }
+        Ok(())
+    }
+
+    /// What is said in the line of a row.
+    fn put_words(&self, alloc: Global, out: &mut String, row: Row) -> Result<(), AllocError>
+        ensures { Puts result (string_bytes out.old) (string_bytes out.new) (spec.words self.now row) }
+    {
+        self.put_row(alloc, out, row)?;
+        self.put_end(out, row)
     }
 
     // ---- lines
 
-    /// What an entry came to; behind the last it was left out.
-    fn happening(&self, entry: usize) -> Happening {
-        match self.telling(entry) {
-            Some(telling) => telling.happening,
-            None => Happening::IsLeftOut,
+    /// The columns of a row.
+    fn put_signs(&self, out: &mut String, row: Row) -> Result<(), AllocError>
+        ensures { Puts result (string_bytes out.old) (string_bytes out.new)
+            (spec.columns_of (spec.operation_of self.now row.first) (spec.telling_of self.now row.first)) }
+    {
+        match self.telling(row.first) {
+            Some(telling) => put_columns(out, self.operation(row.first), telling),
+            None => Ok(()),
         }
-    }
-
-    /// The numbers of some entries, to the right of a field.
-    fn put_numbers(out: &mut String, field: usize, row: Row) -> Result<(), AllocError> {
-        let first = row.first;
-        if row.count <= 1 {
-            put_blanks(out, field.saturating_sub(width(first)))?;
-            return write!(out, "{first}  ");
-        }
-        let last = row.first.saturating_add(row.count.saturating_sub(1));
-        let taken = width(first).saturating_add(width(last)).saturating_add(1);
-        put_blanks(out, field.saturating_sub(taken))?;
-        write!(out, "{first}-{last}  ")
-    }
-
-    /// The sign of a row's own column.
-    fn put_own(&self, out: &mut String, entry: usize, own: usize) -> Result<(), AllocError> {
-        if own < COLUMNS {
-            return out.push_str("o ");
-        }
-        let serial = self.serial(entry);
-        write!(out, "+ {serial}: ")
-    }
-
-    /// The signs of the columns before a row's own, and its own.
-    fn put_columns(&self, out: &mut String, entry: usize) -> Result<(), AllocError> {
-        let Some(telling) = self.telling(entry) else {
-            return Ok(());
-        };
-        let own = match telling.column {
-            Column::Margin => return out.push_str("* "),
-            Column::Own(own) => own,
-            Column::Beyond => COLUMNS,
-        };
-        put_bars(out, telling.alive, own)?;
-        self.put_own(out, entry, own)
-    }
-
-    /// What the run comes to, behind the row of its last entry.
-    fn put_end(&self, out: &mut String, row: Row) -> Result<(), AllocError> {
-        let last = row.first.saturating_add(row.count.saturating_sub(1));
-        match self.verdict {
-            Verdict::Breaks(violation, entry) if entry == last => {
-                let word = violation_word(violation);
-                write!(out, "  <- breaks {word}")
-            }
-            _ if matches!(self.happening(last), Happening::IsRefused(_)) => {
-                put_refusal(out, self.refusal)
-            }
-            _ => Ok(()),
-        }
-    }
-
-    /// What a row's entries came to, and what the run comes to behind them.
-    fn put_told(&self, alloc: Global, out: &mut String, row: Row) -> Result<(), AllocError> {
-        self.put_row(alloc, out, row)?;
-        self.put_end(out, row)
     }
 
     fn put_line(
         &self,
         alloc: Global,
         out: &mut String,
+        indent: usize,
         field: usize,
         row: Row,
-    ) -> Result<(), AllocError> {
-        Self::put_numbers(out, field, row)?;
-        self.put_columns(out, row.first)?;
-        self.put_told(alloc, out, row)?;
+    ) -> Result<(), AllocError>
+        ensures { Puts result (string_bytes out.old) (string_bytes out.new) (spec.line self.now indent field row) }
+    {
+        let numbers = numbers(alloc, row.first, last_entry(row))?;
+        put_blanks(out, indent)?;
+        put_right(out, field, numbers.as_str())?;
+        self.put_signs(out, row)?;
+        self.put_words(alloc, out, row)?;
         out.push_str("\n")
     }
 
-    /// How many entries some rows have.
-    fn count(&self, first: usize, rows: usize) -> usize {
-        let mut count: usize = 0;
-        for number in 0..rows {
-            count = count.saturating_add(self.row(first.saturating_add(number)).count);
+    fn put_lines(
+        &self,
+        alloc: Global,
+        out: &mut String,
+        indent: usize,
+        field: usize,
+        rows: &[Row],
+    ) -> Result<(), AllocError>
+        ensures { Puts result (string_bytes out.old) (string_bytes out.new) (flat_map (spec.line self.now indent field) rows.now) }
+    {
+        for row in rows {
+            self.put_line(alloc, out, indent, field, *row)?;
         }
-        count
-    }
-
-    /// The line of what repeats a block.
-    fn put_repetition(&self, out: &mut String, field: usize, fold: Fold) -> Result<(), AllocError> {
-        let first = fold.first.saturating_add(fold.block);
-        let numbers = Row {
-            first: self.row(first).first,
-            count: self.count(first, fold.repeated),
-        };
-        Self::put_numbers(out, field, numbers)?;
-        let more = times(fold).saturating_sub(1);
-        if fold.block == 1 {
-            return write!(out, "the same {more} times more\n");
-        }
-        let rows = fold.block;
-        write!(out, "the same {rows} rows {more} times more\n")
+        Ok(())
     }
 
     fn put_fold(
         &self,
         alloc: Global,
         out: &mut String,
+        indent: usize,
         field: usize,
         fold: Fold,
-    ) -> Result<(), AllocError> {
-        for number in 0..fold.block {
-            let row = self.row(fold.first.saturating_add(number));
-            self.put_line(alloc, out, field, row)?;
-        }
-        if fold.repeated > 0 {
-            self.put_repetition(out, field, fold)?;
-        }
-        Ok(())
+    ) -> Result<(), AllocError>
+        ensures { Puts result (string_bytes out.old) (string_bytes out.new) (spec.fold_lines self.now indent field fold) }
+    {
+        let rows = self.rows.as_slice();
+        let block = stretch(rows, fold.first, fold.block);
+        let again = stretch(from(rows, fold.first), fold.block, fold.repeated);
+        self.put_lines(alloc, out, indent, field, block)?;
+        put_again(alloc, out, indent, field, fold, again)
     }
 
-    fn put_folds(&self, alloc: Global, out: &mut String, indent: usize) -> Result<(), AllocError> {
-        let field = widest(self.rows.as_slice()).saturating_add(indent);
+    fn put_folds(
+        &self,
+        alloc: Global,
+        out: &mut String,
+        indent: usize,
+        field: usize,
+    ) -> Result<(), AllocError>
+        ensures { Puts result (string_bytes out.old) (string_bytes out.new) (flat_map (spec.fold_lines self.now indent field) self.now.folds) }
+    {
         for fold in self.folds.as_slice() {
-            self.put_fold(alloc, out, field, *fold)?;
+            self.put_fold(alloc, out, indent, field, *fold)?;
         }
         Ok(())
     }
@@ -326,14 +595,18 @@ impl<'a> Timeline<'a> {
     /// # Errors
     ///
     /// Where a growth was refused.
-    pub fn words(&self, alloc: Global, row: Row) -> Result<String, AllocError> {
+    pub fn words(&self, alloc: Global, row: Row) -> Result<String, AllocError>
+        ensures { IfOk result (λ words. string_bytes words ≡ spec.words self.now row) }
+    {
         let mut out = String::new(alloc);
-        self.put_told(alloc, &mut out, row)?;
+        self.put_words(alloc, &mut out, row)?;
         Ok(out)
     }
 
     /// The column of a row, from 0; none for one in the margin. Behind all columns it is their number.
-    pub fn column(&self, row: Row) -> Option<usize> {
+    pub fn column(&self, row: Row) -> Option<usize>
+        ensures { result ≡ spec.column_of self.now row }
+    {
         match self.telling(row.first)?.column {
             Column::Margin => None,
             Column::Own(own) => Some(own),
@@ -342,31 +615,30 @@ impl<'a> Timeline<'a> {
     }
 
     /// Whether the operation of a column isn't done when a row begins.
-    pub fn is_alive(&self, row: Row, column: usize) -> bool {
-        let Some(telling) = self.telling(row.first) else {
-            return false;
-        };
-        let mut left = telling.alive;
-        for _ in 0..column {
-            left /= 2;
+    pub fn is_alive(&self, row: Row, column: usize) -> bool
+        ensures { result ≡ spec.is_alive_in column (spec.telling_of self.now row.first) }
+    {
+        match self.telling(row.first) {
+            Some(telling) => has_bit(telling.alive, column),
+            None => false,
         }
-        left % 2 == 1
     }
 
     /// Whether a callback is on in a row.
-    pub fn is_running(&self, row: Row) -> bool {
-        let last = row.first.saturating_add(row.count.saturating_sub(1));
-        self.who(last).activation.is_some()
+    pub fn is_running(&self, row: Row) -> bool
+        ensures { result ≡ spec.is_running self.now row }
+    {
+        match self.last_who(row) {
+            Some(who) => who.activation.is_some(),
+            None => false,
+        }
     }
 
     /// Whether the run breaks something by a row's last entry.
-    pub fn is_broken(&self, row: Row) -> bool {
-        match self.verdict {
-            Verdict::Breaks(_, entry) => {
-                entry == row.first.saturating_add(row.count.saturating_sub(1))
-            }
-            _ => false,
-        }
+    pub fn is_broken(&self, row: Row) -> bool
+        ensures { result ≡ spec.is_break self.now.verdict (spec.last_entry row) }
+    {
+        breaks(self.verdict, row)
     }
 
     /// The timeline as text, each line behind so many blanks: the numbers of a row's entries, the columns, and what they came to.
@@ -374,9 +646,12 @@ impl<'a> Timeline<'a> {
     /// # Errors
     ///
     /// Where a growth was refused.
-    pub fn text(&self, alloc: Global, indent: usize) -> Result<String, AllocError> {
+    pub fn text(&self, alloc: Global, indent: usize) -> Result<String, AllocError>
+        ensures { IfOk result (λ text. string_bytes text ≡ spec.text self.now indent) }
+    {
         let mut out = String::new(alloc);
-        self.put_folds(alloc, &mut out, indent)?;
+        let field = field_to(alloc, end_of(self.rows.as_slice()))?;
+        self.put_folds(alloc, &mut out, indent, field)?;
         Ok(out)
     }
 }

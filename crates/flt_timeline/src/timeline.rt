@@ -133,7 +133,8 @@ impl<'a> Timeline<'a> {
         journal: &Journal,
         verdict: Verdict,
     ) -> Result<Timeline<'a>, AllocError>
-        ensures { IfOk result (spec.IsTimeline (length journal.now)) }
+        ensures told { IfOk result (spec.IsTimeline (length journal.now)) }
+        ensures verdict { IfOk result (λ t. t.verdict ≡ verdict) }
     {
         let stack = Stack::of(alloc, trees)?;
         let filters = filters_of(alloc, &stack, trees)?;

@@ -1,5 +1,9 @@
 //! Words of journals and callbacks.
 
+ghost use Rattle.std.specs.Prelude.{◌≡◌, ◌++◌, ◌<◌, ◌≤◌, codes, length, map, slice_get, option_copied, string_bytes};
+ghost use Rattle.std.specs.Fmt.{decimal};
+ghost use Rattle.flt_timeline.specs.Words as spec;
+
 use crate::telling::{Happening, Started};
 use flt_model::{JournalEntry, Key, Move, Violation};
 use flt_rules::{Mode, Operation};
@@ -7,7 +11,9 @@ use flt_tree::{Filter, Head};
 use std::alloc::AllocError;
 use std::fmt::Write;
 
-pub(crate) fn kind_word(kind: Operation) -> &'static str {
+pub(crate) fn kind_word(kind: Operation) -> &'static str
+    ensures { result.now ≡ spec.kind_word kind }
+{
     match kind {
         Operation::Create => "create",
         Operation::Read => "read",
@@ -17,14 +23,18 @@ pub(crate) fn kind_word(kind: Operation) -> &'static str {
 }
 
 /// The word of a mode, between blanks.
-fn mode_word(mode: Mode) -> &'static str {
+fn mode_word(mode: Mode) -> &'static str
+    ensures { result.now ≡ spec.mode_word mode }
+{
     match mode {
         Mode::Irp => " irp ",
         Mode::Fast => " fast ",
     }
 }
 
-pub(crate) fn violation_word(violation: Violation) -> &'static str {
+pub(crate) fn violation_word(violation: Violation) -> &'static str
+    ensures { result.now ≡ spec.violation_word violation }
+{
     match violation {
         Violation::V1 => "V1",
         Violation::V2 => "V2",
@@ -38,27 +48,37 @@ pub(crate) fn violation_word(violation: Violation) -> &'static str {
 }
 
 /// What was chosen or came out, behind a blank.
-fn choice_word(choice: bool) -> &'static str {
+fn choice_word(choice: bool) -> &'static str
+    ensures { result.now ≡ spec.choice_word choice }
+{
     if choice { " yes" } else { " no" }
 }
 
 /// A word, which ends with a blank, and a number.
-pub(crate) fn put_one(out: &mut String, word: &str, number: u32) -> Result<(), AllocError> {
+pub(crate) fn put_one(out: &mut String, word: &str, number: u32) -> Result<(), AllocError>
+    ensures { spec.Puts result (string_bytes out.old) (string_bytes out.new) (word.now ++ decimal number) }
+{
     write!(out, "{word}{number}")
 }
 
 /// A word, which ends with a blank, and two numbers.
-fn put_two(out: &mut String, word: &str, one: u32, other: u32) -> Result<(), AllocError> {
+fn put_two(out: &mut String, word: &str, one: u32, other: u32) -> Result<(), AllocError>
+    ensures { spec.Puts result (string_bytes out.old) (string_bytes out.new) (spec.two_words word.now one other) }
+{
     write!(out, "{word}{one} {other}")
 }
 
-fn put_arrival(out: &mut String, kind: Operation, mode: Mode, file: u32) -> Result<(), AllocError> {
+fn put_arrival(out: &mut String, kind: Operation, mode: Mode, file: u32) -> Result<(), AllocError>
+    ensures { spec.Puts result (string_bytes out.old) (string_bytes out.new) (spec.arrival_words kind mode file) }
+{
     let kind = kind_word(kind);
     let mode = mode_word(mode);
     write!(out, "arrive {kind}{mode}{file}")
 }
 
-fn put_unlink(out: &mut String, altitude: u32, key: Key) -> Result<(), AllocError> {
+fn put_unlink(out: &mut String, altitude: u32, key: Key) -> Result<(), AllocError>
+    ensures { spec.Puts result (string_bytes out.old) (string_bytes out.new) (spec.unlink_words altitude key) }
+{
     match key {
         Key::Stream(file) => write!(out, "unlink {altitude} stream {file}"),
         Key::Instance => write!(out, "unlink {altitude} instance"),
@@ -66,7 +86,9 @@ fn put_unlink(out: &mut String, altitude: u32, key: Key) -> Result<(), AllocErro
 }
 
 /// A move as its line in a journal.
-pub(crate) fn put_move(out: &mut String, step: Move) -> Result<(), AllocError> {
+pub(crate) fn put_move(out: &mut String, step: Move) -> Result<(), AllocError>
+    ensures { spec.Puts result (string_bytes out.old) (string_bytes out.new) (spec.move_words step) }
+{
     match step {
         Move::Arrive {
             operation,
@@ -88,7 +110,9 @@ pub(crate) fn put_move(out: &mut String, step: Move) -> Result<(), AllocError> {
 }
 
 /// An entry as its line in a journal.
-fn put_entry(out: &mut String, entry: JournalEntry) -> Result<(), AllocError> {
+fn put_entry(out: &mut String, entry: JournalEntry) -> Result<(), AllocError>
+    ensures { spec.Puts result (string_bytes out.old) (string_bytes out.new) (spec.entry_words entry) }
+{
     match entry {
         JournalEntry::Move(step) => put_move(out, step),
         JournalEntry::Go {
@@ -102,16 +126,28 @@ fn put_entry(out: &mut String, entry: JournalEntry) -> Result<(), AllocError> {
     }
 }
 
-fn put_name(out: &mut String, name: &[u8]) -> Result<(), AllocError> {
+/// A byte of a name; `?` for what isn't printed.
+fn shown(byte: u8) -> u8
+    ensures value { result ≡ spec.shown byte }
+    ensures ascii { result < 128 }
+{
+    if byte.is_ascii_graphic() { byte } else { b'?' }
+}
+
+fn put_name(out: &mut String, name: &[u8]) -> Result<(), AllocError>
+    ensures { spec.Puts result (string_bytes out.old) (string_bytes out.new) (map spec.shown name.now) }
+{
     for byte in name {
-        let shown = if byte.is_ascii_graphic() { *byte } else { b'?' };
-        out.push(shown as char)?;
+        out.push(shown(*byte) as char)?;
     }
     Ok(())
 }
 
 /// A name behind a word, in quotes with it.
-fn put_named(out: &mut String, word: &str, name: &[u8]) -> Result<(), AllocError> {
+#[tactic(auto, unfolding(crate::specs::Words::head_named))]
+fn put_named(out: &mut String, word: &str, name: &[u8]) -> Result<(), AllocError>
+    ensures { spec.Puts result (string_bytes out.old) (string_bytes out.new) (spec.head_named word.now name.now) }
+{
     out.push_str("`")?;
     out.push_str(word)?;
     put_name(out, name)?;
@@ -119,13 +155,18 @@ fn put_named(out: &mut String, word: &str, name: &[u8]) -> Result<(), AllocError
 }
 
 /// The head of an operation's callback, in quotes.
-fn put_head_on(out: &mut String, word: &str, kind: Operation) -> Result<(), AllocError> {
+#[tactic(auto, unfolding(crate::specs::Words::head_on))]
+fn put_head_on(out: &mut String, word: &str, kind: Operation) -> Result<(), AllocError>
+    ensures { spec.Puts result (string_bytes out.old) (string_bytes out.new) (spec.head_on word.now kind) }
+{
     let kind = kind_word(kind);
     write!(out, "`{word}{kind}`")
 }
 
 /// The head of a callback as its text has it, in quotes.
-fn put_head(out: &mut String, head: &Head) -> Result<(), AllocError> {
+fn put_head(out: &mut String, head: &Head) -> Result<(), AllocError>
+    ensures { spec.Puts result (string_bytes out.old) (string_bytes out.new) (spec.head_words head.now) }
+{
     match head {
         Head::Pre(kind) => put_head_on(out, "pre ", *kind),
         Head::Post(kind) => put_head_on(out, "post ", *kind),
@@ -137,11 +178,24 @@ fn put_head(out: &mut String, head: &Head) -> Result<(), AllocError> {
 }
 
 /// The head of a filter's callback.
-fn put_head_of(out: &mut String, filter: &Filter, callback: usize) -> Result<(), AllocError> {
+fn put_head_of(out: &mut String, filter: &Filter, callback: usize) -> Result<(), AllocError>
+    ensures { spec.Puts result (string_bytes out.old) (string_bytes out.new) (spec.callback_head (slice_get filter.now.callbacks callback)) }
+{
     match filter.callbacks.get(callback) {
         Some(callback) => put_head(out, &callback.head),
         None => out.push_str("``"),
     }
+}
+
+/// A filter's name, where there are several.
+fn put_filter(out: &mut String, filters: usize, filter: &Filter) -> Result<(), AllocError>
+    ensures { spec.Puts result (string_bytes out.old) (string_bytes out.new) (spec.of_filter filters filter.now) }
+{
+    if filters > 1 {
+        out.push_str(" of ")?;
+        return put_name(out, filter.name.as_slice());
+    }
+    Ok(())
 }
 
 /// A callback by its head, with the name of its filter where there are several.
@@ -149,19 +203,19 @@ pub(crate) fn put_callback(
     out: &mut String,
     filters: &[&Filter],
     started: Started,
-) -> Result<(), AllocError> {
+) -> Result<(), AllocError>
+    ensures { spec.Puts result (string_bytes out.old) (string_bytes out.new) (spec.callback_words filters.now started) }
+{
     let Some(filter) = filters.get(started.filter) else {
         return Ok(());
     };
     put_head_of(out, filter, started.callback)?;
-    if filters.len() > 1 {
-        out.push_str(" of ")?;
-        return put_name(out, filter.name.as_slice());
-    }
-    Ok(())
+    put_filter(out, filters.len(), filter)
 }
 
-fn put_start(out: &mut String, filters: &[&Filter], started: Started) -> Result<(), AllocError> {
+fn put_start(out: &mut String, filters: &[&Filter], started: Started) -> Result<(), AllocError>
+    ensures { spec.Puts result (string_bytes out.old) (string_bytes out.new) (spec.callback_words filters.now started ++ spec.starts_word started.draining) }
+{
     put_callback(out, filters, started)?;
     out.push_str(if started.draining {
         " starts, draining"
@@ -170,7 +224,9 @@ fn put_start(out: &mut String, filters: &[&Filter], started: Started) -> Result<
     })
 }
 
-fn put_run(out: &mut String, line: usize, outcome: Option<bool>) -> Result<(), AllocError> {
+fn put_run(out: &mut String, line: usize, outcome: Option<bool>) -> Result<(), AllocError>
+    ensures { spec.Puts result (string_bytes out.old) (string_bytes out.new) (decimal line ++ spec.outcome_word outcome) }
+{
     let came_out = match outcome {
         Some(outcome) => choice_word(outcome),
         None => "",
@@ -178,18 +234,34 @@ fn put_run(out: &mut String, line: usize, outcome: Option<bool>) -> Result<(), A
     write!(out, "{line}{came_out}")
 }
 
-/// What an entry came to that is about an operation of this number, if it is about one.
+/// A word, which ends with a blank, and the number of an operation, if there is one.
+pub(crate) fn put_operation(
+    out: &mut String,
+    word: &str,
+    operation: Option<usize>,
+) -> Result<(), AllocError>
+    ensures { spec.Puts result (string_bytes out.old) (string_bytes out.new) (spec.operation_words word.now operation) }
+{
+    match operation {
+        Some(number) => write!(out, "{word}{number}"),
+        None => out.push_str(word),
+    }
+}
+
+/// What an entry came to that is about this operation, if it is about one.
 pub(crate) fn put_happening(
     out: &mut String,
     filters: &[&Filter],
-    serial: u32,
+    operation: Option<usize>,
     happening: Happening,
-) -> Result<(), AllocError> {
+) -> Result<(), AllocError>
+    ensures { spec.Puts result (string_bytes out.old) (string_bytes out.new) (spec.happening_words filters.now operation happening) }
+{
     match happening {
         Happening::Arrives(kind, mode, file) => put_arrival(out, kind, mode, file),
-        Happening::Skips => put_one(out, "skip ", serial),
-        Happening::Lowers => put_one(out, "lower ", serial),
-        Happening::Cancels => put_one(out, "cancel ", serial),
+        Happening::Skips => put_operation(out, "skip ", operation),
+        Happening::Lowers => put_operation(out, "lower ", operation),
+        Happening::Cancels => put_operation(out, "cancel ", operation),
         Happening::Detaches(altitude) => put_one(out, "detach ", altitude),
         Happening::Unlinks(altitude, key) => put_unlink(out, altitude, key),
         Happening::IsDetached(altitude) => put_one(out, "detached ", altitude),

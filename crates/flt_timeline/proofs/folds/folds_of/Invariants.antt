@@ -1,4 +1,4 @@
-use Rattle.std.proofs.Common.{length, ◌-◌, ◌≤◌}
+use Rattle.std.proofs.Common.{drop, length, ◌-◌, ◌≡◌, ◌≤◌, ◌++◌}
 use Rattle.flt_timeline.specs.Folds as spec
 use Rattle.flt_timeline.proofs.folds.folds_of.Given as goal
 
@@ -6,6 +6,7 @@ use Rattle.flt_timeline.proofs.folds.folds_of.Given as goal
 abbrev pub invariant-loop-first : goal.invariant-loop-first
 invariant-loop-first l = record {
   folded : spec.AreFolds l.told l.rows 0 l.folds l.first;
+  exact : l.folds ++ spec.folds_after l.told l.first 0 (drop l.first l.rows) ≡ spec.folds l.told l.rows;
   within : l.first ≤ length l.rows;
 }
 
