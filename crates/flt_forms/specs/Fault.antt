@@ -1,5 +1,8 @@
 -- What is said of a text that doesn't parse, as JSON. This project's own format.
-use Rattle.std.specs.Prelude.{◌≡◌, ℕ, List, [], ◌∷◌, ◌++◌, Some, codes, map}
+use Rattle.std.specs.Prelude.{◌≡◌, ◌==◌, ℕ, List, [], ◌∷◌, ◌++◌, Option, Some, None, codes, drop, if◌then◌else◌, length, map, take}
+use Rattle.std.specs.Cmp.Lexicographic.{pointwise}
+use Rattle.std.specs.List.{slice_split}
+use Rattle.flt_hints.specs.Telling.{notes_of, title_of}
 use Rattle.flt_hints.specs.Trouble.{IsDescribed}
 use Rattle.flt_hints.specs.declared.choices.Choices.{Choices}
 use Rattle.flt_hints.specs.declared.choices.Expected.{Expected}
@@ -8,6 +11,32 @@ use Rattle.flt_details.specs.Closing.{fault_name}
 use Rattle.flt_syntax.specs.declared.fault.SyntaxFault.{SyntaxFault}
 use Rattle.json.specs.Token.{Token, begin_object, end_object}
 use Rattle.flt_forms.specs.Members.{array_member, bytes_member, filled_member, line_of, number_member, string_member, text_items, text_member}
+
+-- ---- how to fix it
+
+-- what stands behind a word with which a line begins
+abbrev pub behind : List ℕ → List ℕ → Option (List ℕ)
+behind word line = if pointwise (λ a b. a == b) (take (length word) line) word then Some (drop (length word) line) else None
+
+-- the same of the first of some lines, or of the others
+abbrev pub or_else : Option (List ℕ) → List ℕ → List ℕ
+or_else (Some found) others = found
+or_else None others = others
+
+-- what stands behind a word in the first line that begins with it; nothing where none does
+abbrev pub first_behind : List ℕ → List (List ℕ) → List ℕ
+first_behind word [] = []
+first_behind word (line ∷ lines) = or_else (behind word line) (first_behind word lines)
+
+-- what notes say of how to fix it
+unfoldable pub help_in : List ℕ → List ℕ
+help_in notes = first_behind (codes "   = help: ") (slice_split (λ b. b == 10) notes)
+
+-- the same of a trouble
+unfoldable pub help_of : Trouble → List ℕ
+help_of t = help_in (notes_of t)
+
+-- ---- the members
 
 -- where a text is refused, and by which fault
 abbrev pub place : SyntaxFault → List Token
@@ -21,17 +50,15 @@ choices c =
     array_member (codes "expected") (text_items (map (λ (e : Expected). e.word.now) c.expected))
     ++ array_member (codes "names") (text_items (map (λ name. name.now) c.names))
 
--- a fault of a file, with what is said of it and how to mend it
+-- a fault of a file, with what is said of it and how to fix it
 abbrev pub fault : List ℕ → Trouble → List ℕ → List ℕ → List Token
 fault name t message help =
     begin_object ∷ string_member (codes "file") name ++ (place t.spot.fault ++ (bytes_member (codes "found") (Some t.spot.bytes)
     ++ (choices t.choices ++ (bytes_member (codes "meant") t.meant ++ (text_member (codes "message") message
     ++ (filled_member (codes "help") help ++ end_object ∷ []))))))
 
--- the line of a text that doesn't parse; which words stand in it is in no definition
+-- the line of a text that doesn't parse: its first fault, what is said of it, and how to fix it
 pub record IsFaultLine (name text printed : List ℕ) : Type 0 where
   pub trouble : Trouble
   pub described : IsDescribed text (Some trouble)
-  pub message : List ℕ
-  pub help : List ℕ
-  pub line : printed ≡ line_of (fault name trouble message help)
+  pub line : printed ≡ line_of (fault name trouble (title_of trouble) (help_of trouble))

@@ -1,6 +1,7 @@
 -- What is found of texts, as SARIF 2.1.0 (OASIS).
 use Rattle.std.specs.Prelude.{◌≡◌, ℕ, List, [], ◌∷◌, ◌++◌, Option, Some, None, codes, false, flat_map, max, string_bytes}
 use Rattle.flt_explain.specs.declared.finding.Finding.{Finding}
+use Rattle.flt_hints.specs.Telling.{title_of}
 use Rattle.flt_hints.specs.Trouble.{IsDescribed}
 use Rattle.flt_hints.specs.declared.troubles.Trouble.{Trouble}
 use Rattle.flt_details.specs.Closing.{fault_name, rule_name}
@@ -26,6 +27,7 @@ use Rattle.flt_syntax.specs.declared.fault.FaultKind.TheVariants.{E01, E02, E03,
 use Rattle.flt_tree.specs.Names.{Text}
 use Rattle.flt_tree.specs.declared.filter.Filter.{Filter}
 use Rattle.json.specs.Token.{Token, begin_object, boolean, end_object, key}
+use Rattle.flt_forms.specs.Fault.{help_of}
 use Rattle.flt_forms.specs.Members.{array_member, filled_member, line_of, number_member, object_member, string_member, text_member}
 use Rattle.flt_forms.specs.Uri.{uri_of}
 use Rattle.flt_forms.specs.declared.unread.UnreadFile.{UnreadFile}
@@ -179,13 +181,11 @@ fault_members uri f words help =
 abbrev pub fault_result : List ℕ → SyntaxFault → List ℕ → List ℕ → List Token
 fault_result uri f words help = item (fault_members uri f words help)
 
--- the result of a text that doesn't parse; which words stand in it is in no definition
+-- the result of a text that doesn't parse: its first fault, what is said of it, and how to fix it
 pub record IsFaultResult (name source : List ℕ) (tokens : List Token) : Type 0 where
   pub trouble : Trouble
   pub described : IsDescribed source (Some trouble)
-  pub words : List ℕ
-  pub help : List ℕ
-  pub result : tokens ≡ fault_result (uri_of name) trouble.spot.fault words help
+  pub result : tokens ≡ fault_result (uri_of name) trouble.spot.fault (title_of trouble) (help_of trouble)
 
 -- one result for each of these findings, in their order
 pub record AreFindingResults (name : List ℕ) (text : Text) (filter : Filter) (graph : Graph) (found : List Finding) (tokens : List Token) : Type 0 where

@@ -1,9 +1,11 @@
 -- What is found of texts, a sentence a line, as compilers say it. This project's own format.
-use Rattle.std.specs.Prelude.{◌≡◌, ℕ, List, [], ◌∷◌, ◌++◌, codes}
+use Rattle.std.specs.Prelude.{◌≡◌, ℕ, List, [], ◌∷◌, ◌++◌, Some, codes}
+use Rattle.flt_hints.specs.Telling.{title_of}
+use Rattle.flt_hints.specs.Trouble.{IsDescribed}
+use Rattle.flt_hints.specs.declared.troubles.Trouble.{Trouble}
 use Rattle.std.specs.Fmt.{decimal}
 use Rattle.flt_details.specs.Closing.{fault_name, rule_name}
 use Rattle.flt_details.specs.declared.study.Detail.{Detail}
-use Rattle.flt_syntax.specs.TextFails.{Fails}
 use Rattle.flt_syntax.specs.declared.fault.SyntaxFault.{SyntaxFault}
 
 -- words behind a head, and a line feed
@@ -23,9 +25,8 @@ finding_line name d = sentence (head name d.marks.statement.first.line d.marks.s
 abbrev pub fault_line : List ℕ → SyntaxFault → List ℕ → List ℕ
 fault_line name f words = sentence (head name f.line f.column (fault_name f.kind)) words
 
--- the line of a text that doesn't parse: its first fault; which words stand in it is in no definition
+-- the line of a text that doesn't parse: its first fault, and what is said of it
 pub record IsFaultLine (name text printed : List ℕ) : Type 0 where
-  pub fault : SyntaxFault
-  pub first : Fails text fault
-  pub words : List ℕ
-  pub line : printed ≡ fault_line name fault words
+  pub trouble : Trouble
+  pub described : IsDescribed text (Some trouble)
+  pub line : printed ≡ fault_line name trouble.spot.fault (title_of trouble)

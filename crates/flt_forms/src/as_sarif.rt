@@ -179,7 +179,8 @@ fn put_unread(
     let told = tell(alloc, &trouble)?;
     let help = help_of(alloc, &told)?;
     let uri = uri(alloc, source.name)?;
-    put_fault_result(alloc, writer, &uri, trouble.spot.fault, &told.title, &help)
+    put_fault_result(alloc, writer, &uri, trouble.spot.fault, &told.title, &help)?;
+    Ok(())
 }
 
 /// The results of a text that parses.

@@ -1,6 +1,7 @@
 //! What is said of a text that doesn't parse, as JSON.
 
-ghost use Rattle.std.specs.Prelude.{◌≡◌, ◌++◌, IfOk, codes, map};
+ghost use Rattle.std.specs.Prelude.{◌≡◌, ◌==◌, ◌++◌, ◌+◌, ◌<◌, ◌≤◌, IfOk, codes, drop, length, map, option_copied, position, take};
+ghost use Rattle.std.specs.List.{position_or_len, slice_split};
 ghost use Rattle.flt_forms.specs.Fault as spec;
 ghost use Rattle.flt_forms.specs.Members.{Adds, line_of, array_member, text_items};
 
@@ -14,17 +15,82 @@ use json::Writer;
 use sqlite_items::Items;
 use std::alloc::{AllocError, Global};
 
-/// What begins the line that says how to mend a fault.
+/// What begins the line that says how to fix a fault.
 const HELP: &[u8] = b"   = help: ";
 
-/// How to mend a fault; empty where that isn't said.
-pub(crate) fn help_of(alloc: Global, told: &Told) -> Result<Vec<u8>, AllocError> {
-    for line in told.notes.as_slice().split(|byte| *byte == b'\n') {
-        if let Some(help) = line.strip_prefix(HELP) {
-            return Vec::from_slice(alloc, help);
-        }
+/// Where the first line feed is, if there is one.
+fn line_feed(text: &[u8]) -> Option<usize>
+    ensures { result ≡ position (λ b. b == 10) text.now }
+{
+    text.iter().position(|byte| *byte == b'\n')
+}
+
+/// How many bytes the first line has, without its end.
+fn line_length(text: &[u8]) -> usize
+    ensures value { result ≡ position_or_len (λ b. b == 10) text.now }
+    ensures within { result ≤ length text.now }
+{
+    line_feed(text).unwrap_or(text.len())
+}
+
+fn line_up_to(text: &[u8], end: usize) -> &[u8]
+    requires { end < length text.now }
+    ensures { result.now ≡ take end text.now }
+{
+    &text[..end]
+}
+
+fn after_line(text: &[u8], end: usize) -> &[u8]
+    requires { end < length text.now }
+    ensures { result.now ≡ drop (end + 1) text.now }
+{
+    &text[end + 1..]
+}
+
+/// The lines of some notes, without their ends.
+fn lines_of<'a>(alloc: Global, text: &'a [u8]) -> Result<Vec<&'a [u8]>, AllocError>
+    ensures { IfOk result (λ lines. map (λ l. l.now) lines.items ≡ slice_split (λ b. b == 10) text.now) }
+{
+    let mut lines = Vec::new(alloc);
+    let mut rest = text;
+    let mut end = line_length(rest);
+    while end < rest.len() {
+        lines.push(line_up_to(rest, end))?;
+        rest = after_line(rest, end);
+        end = line_length(rest);
     }
-    Ok(Vec::new(alloc))
+    lines.push(rest)?;
+    Ok(lines)
+}
+
+/// What stands behind the word for help with which a line begins.
+fn help_on(line: &[u8]) -> Option<&[u8]>
+    ensures { option_copied result ≡ spec.behind (codes "   = help: ") line.now }
+{
+    line.strip_prefix(HELP)
+}
+
+/// The same of the first line that begins so; nothing where none does.
+fn first_help<'a>(lines: &[&'a [u8]]) -> &'a [u8]
+    ensures { result.now ≡ spec.first_behind (codes "   = help: ") (map (λ l. l.now) lines.now) }
+{
+    let mut rest = lines;
+    while let [line, others @ ..] = rest {
+        if let Some(help) = help_on(line) {
+            return help;
+        }
+        rest = others;
+    }
+    b""
+}
+
+/// How to fix a fault; empty where that isn't said.
+#[tactic(auto, unfolding(crate::specs::Fault::help_in))]
+pub(crate) fn help_of(alloc: Global, told: &Told) -> Result<Vec<u8>, AllocError>
+    ensures { IfOk result (λ help. help.items ≡ spec.help_in told.now.notes.items) }
+{
+    let lines = lines_of(alloc, told.notes.as_slice())?;
+    Vec::from_slice(alloc, first_help(lines.as_slice()))
 }
 
 fn put_place(writer: &mut Writer, fault: SyntaxFault) -> Result<(), AllocError>
@@ -72,7 +138,7 @@ fn put_choices(alloc: Global, writer: &mut Writer, choices: &Choices<'_>) -> Res
     put_names(alloc, writer, &choices.names)
 }
 
-/// A fault of a file, with how to mend it.
+/// A fault of a file, with how to fix it.
 fn put_fault(
     alloc: Global,
     writer: &mut Writer,

@@ -133,6 +133,12 @@ pub(crate) fn put_short_fault(
         return Ok(out);
     };
     let told = tell(alloc, &trouble)?;
-    let written = put_fault(alloc, out, source.name, fault, told.title.as_slice())?;
+    let written = put_fault(
+        alloc,
+        out,
+        source.name,
+        trouble.spot.fault,
+        told.title.as_slice(),
+    )?;
     Ok(written)
 }
